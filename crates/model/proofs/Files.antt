@@ -1,0 +1,197 @@
+-- Files as bytes: Check's verdict and the judgements, and the turned file.
+use Prim.Native.Nat.{ℕ, zero, suc}
+use mathlib.Core.Path.{_≡_, refl, sym, ap, ap₂, _∙_, subst}
+use mathlib.Core.Logic.{_↔_, _⊎_, inl, inr}
+use mathlib.Core.Bool.{Bool, true, false, cond, _||_}
+use mathlib.Core.Option.{Option, none, some}
+use mathlib.Core.List.{List, List·Memᴰ}
+use lib.Dec.{ltb}
+use lib.ListN.{length, length-map}
+use Rattle.model.specs.Limits.{maxBytes, maxLines}
+use Rattle.model.specs.Trees.{left, right}
+use Rattle.model.specs.Refusals.{Refusal, number, shortArea, tooLong, badLine, misplaced, badField, badName, ceiling, variable, letShape, badType, overlap, gap, noIso, noValue, spent}
+use Rattle.model.specs.Lines.{Row, lines, print, printRows}
+use Rattle.model.specs.Judge.{start, Reading, rows, faulty, readFrom}
+use Rattle.model.specs.Unfold.{isosOf, turnRows}
+use Rattle.model.specs.Clauses.{fault, sigsOf}
+use Rattle.model.specs.Services.{Verdict, accepted, refused, judged, afterReading, over, verdict, Answer, answerOf, turned, turnedOf}
+use Rattle.model.specs.Paper.{FileOk}
+use Rattle.model.specs.Answers.{FirstIso}
+use Rattle.model.proofs.Basic.{none≢some, some-inj, not-both, bool-cases}
+use Rattle.model.proofs.Formed.{Formed}
+use Rattle.model.proofs.Checking.{file-ok, file-fault}
+use Rattle.model.proofs.Inverted.{file-invert}
+use Rattle.model.proofs.Passing.{Passes, formed}
+use Rattle.model.proofs.Turning.{turn-turn, isos-turn, passes-turn}
+use Rattle.model.proofs.Printing.{WellFormed, read-rows, lines-print, reading-printed, printed-reading, length-printRows-turn, wellformed-turn, length-turnRows}
+
+-- ---- verdicts
+
+-- two verdicts that differ
+abbrev isAccepted : Verdict → Bool
+isAccepted (accepted rs) = true
+isAccepted (refused f n) = false
+
+pub refused≢accepted : {f : Refusal} {n : ℕ} {rs : List Row} → refused f n ≡ accepted rs → ⊥
+refused≢accepted e = not-both refl (sym (ap isAccepted e))
+
+abbrev rowsOf : List Row → Verdict → List Row
+rowsOf d (accepted rs) = rs
+rowsOf d (refused f n) = d
+
+pub accepted-inj : {rs qs : List Row} → accepted rs ≡ accepted qs → rs ≡ qs
+accepted-inj {rs} e = ap (rowsOf rs) e
+
+-- "the lines are in form": not too long, and read as rows
+pub record InForm (bs : List ℕ) (rs : List Row) : Type 0 where
+  pub fits : over bs ≡ false
+  pub reads : readFrom start 1 (lines bs) ≡ rows rs
+
+pub passes : (bs : List ℕ) (rs : List Row) → InForm bs rs → Passes start rs
+passes bs rs h = read-rows start 1 (lines bs) rs (h .reads) .2
+
+-- what reading guarantees of the isos
+pub formed-of : (bs : List ℕ) (rs : List Row) → InForm bs rs → Formed (isosOf rs)
+formed-of bs rs h = formed (passes bs rs h)
+
+-- the verdict of a file whose lines are in form
+pub verdict-in-form : (bs : List ℕ) (rs : List Row) → InForm bs rs → verdict bs ≡ judged rs (fault (isosOf rs))
+unfolding verdict
+verdict-in-form bs rs h =
+    ap (λ b. cond b (refused tooLong 0) (afterReading (readFrom start 1 (lines bs)))) (h .fits) ∙ ap afterReading (h .reads)
+
+judged-accepted : (rs qs : List Row) (x : Option (Refusal × ℕ)) → judged rs x ≡ accepted qs → (rs ≡ qs) × (x ≡ none)
+judged-accepted rs qs none e = (accepted-inj e, refl)
+judged-accepted rs qs (some f) e = absurd (refused≢accepted e)
+
+-- an accepted file is in form, and no iso of it has a fault
+pub accepted-form : (bs : List ℕ) (rs : List Row) → verdict bs ≡ accepted rs → InForm bs rs × (fault (isosOf rs) ≡ none)
+unfolding verdict
+accepted-form bs rs = go (over bs) (readFrom start 1 (lines bs)) refl refl
+  where
+    go : (b : Bool) (r : Reading) → over bs ≡ b → readFrom start 1 (lines bs) ≡ r → cond b (refused tooLong 0) (afterReading r) ≡ accepted rs
+        → InForm bs rs × (fault (isosOf rs) ≡ none)
+    go true r hb hr e = absurd (refused≢accepted e)
+    go false (faulty f n) hb hr e = absurd (refused≢accepted e)
+    go false (rows qs) hb hr e =
+        let j = judged-accepted qs rs (fault (isosOf qs)) e in
+        (record { fits = hb; reads = hr ∙ ap rows (j .0) }, subst (λ q. fault (isosOf q) ≡ none) (j .0) (j .1))
+
+-- Check's verdict is "accepted" exactly when the lines are in form and the judgements hold of the unfolded file.
+pub accepted-iff : (bs : List ℕ) (rs : List Row) → (verdict bs ≡ accepted rs) ↔ (InForm bs rs × FileOk (isosOf rs))
+accepted-iff bs rs = (
+  (λ e. let h = accepted-form bs rs e in (h .0, file-ok (isosOf rs) (formed-of bs rs (h .0)) .0 (h .1))),
+  (λ h. verdict-in-form bs rs (h .0) ∙ ap (judged rs) (file-ok (isosOf rs) (formed-of bs rs (h .0)) .1 (h .1))),
+)
+
+-- Each of 8 to 14 is given, at its line, exactly when its condition is the first that fails.
+refusalOf : Refusal → Verdict → Refusal
+refusalOf d (accepted rs) = d
+refusalOf d (refused f n) = f
+
+lineOf : Verdict → ℕ
+lineOf (accepted rs) = 0
+lineOf (refused f n) = n
+
+judged-refused : (rs : List Row) (x : Option (Refusal × ℕ)) (f : Refusal) (n : ℕ) → judged rs x ≡ refused f n → x ≡ some (f, n)
+unfolding refusalOf lineOf
+judged-refused rs none f n e = absurd (refused≢accepted (sym e))
+judged-refused rs (some g) f n e = λ i. some (ap (refusalOf f) e i, ap lineOf e i)
+
+pub refused-iff : (bs : List ℕ) (rs : List Row) → InForm bs rs → (f : Refusal) (n : ℕ)
+    → (verdict bs ≡ refused f n) ↔ FirstIso (sigsOf (isosOf rs)) (isosOf rs) f n
+refused-iff bs rs h f n =
+    let k = file-fault (isosOf rs) (formed-of bs rs h) f n in (
+      (λ e. k .0 (judged-refused rs (fault (isosOf rs)) f n (sym (verdict-in-form bs rs h) ∙ e))),
+      (λ j. verdict-in-form bs rs h ∙ ap (judged rs) (k .1 j)),
+    )
+
+-- no refusal has the number 0, so that `0,0` is the answer of accepted files alone
+abbrev isZero : ℕ → Bool
+isZero zero = true
+isZero (suc n) = false
+
+number-positive : (f : Refusal) → isZero (number f) ≡ false
+number-positive shortArea = refl
+number-positive tooLong = refl
+number-positive badLine = refl
+number-positive (misplaced k) = refl
+number-positive (badField k) = refl
+number-positive (badName k) = refl
+number-positive (ceiling k) = refl
+number-positive variable = refl
+number-positive letShape = refl
+number-positive badType = refl
+number-positive (overlap left) = refl
+number-positive (overlap right) = refl
+number-positive (gap left) = refl
+number-positive (gap right) = refl
+number-positive noIso = refl
+number-positive noValue = refl
+number-positive spent = refl
+
+answer-zero : (v : Verdict) → answerOf v .number ≡ 0 → (rs : List Row) × (v ≡ accepted rs)
+answer-zero (accepted rs) e = (rs, refl)
+answer-zero (refused f n) e = absurd (not-both (ap isZero e) (number-positive f))
+
+-- Check answers `0,0` exactly when there are rows in which the lines are in form and of which the judgements hold.
+pub answer-iff : (bs : List ℕ) → (answerOf (verdict bs) ≡ record { number = 0; line = 0 }) ↔ ((rs : List Row) × InForm bs rs × FileOk (isosOf rs))
+answer-iff bs = (
+  (λ e. let r = answer-zero (verdict bs) (ap (λ a. a .number) e) in let h = accepted-iff bs (r .0) .0 (r .1) in (r .0, h .0, h .1)),
+  (λ h. ap answerOf (accepted-iff bs (h .0) .1 (h .1, h .2))),
+)
+
+-- ---- the turned file
+
+turned-accepted-bytes : (bs : List ℕ) (rs : List Row) → verdict bs ≡ accepted rs → turned bs ≡ printRows (turnRows rs)
+unfolding turned
+turned-accepted-bytes bs rs e = ap turnedOf e
+
+-- a file in form is the printing of its rows
+pub printed : (bs : List ℕ) (rs : List Row) → InForm bs rs → bs ≡ printRows rs
+printed bs rs h = reading-printed (h .reads)
+
+wellformed : (bs : List ℕ) (rs : List Row) → InForm bs rs → (r : Row) → List·Memᴰ r rs → WellFormed r
+wellformed bs rs h = read-rows start 1 (lines bs) rs (h .reads) .1
+
+-- lengths alone decide whether a file is too long
+over-same : (bs cs : List ℕ) → length bs ≡ length cs → length (lines bs) ≡ length (lines cs) → over bs ≡ over cs
+unfolding over
+over-same bs cs p q = ap₂ (λ m n. ltb maxBytes m || ltb maxLines n) p q
+
+turned-length-rows : (bs : List ℕ) (rs : List Row) → InForm bs rs → length (printRows (turnRows rs)) ≡ length bs
+turned-length-rows bs rs h = length-printRows-turn rs ∙ ap length (sym (printed bs rs h))
+
+turned-lines : (bs : List ℕ) (rs : List Row) → InForm bs rs → length (lines (printRows (turnRows rs))) ≡ length (lines bs)
+turned-lines bs rs h =
+    ap length (lines-print (turnRows rs))
+    ∙ length-map (turnRows rs) print
+    ∙ length-turnRows rs
+    ∙ sym (length-map rs print)
+    ∙ ap length (sym (read-rows start 1 (lines bs) rs (h .reads) .0))
+
+pub turned-form : (bs : List ℕ) (rs : List Row) → InForm bs rs → InForm (printRows (turnRows rs)) (turnRows rs)
+turned-form bs rs h =
+    record {
+      fits = over-same (printRows (turnRows rs)) bs (turned-length-rows bs rs h) (turned-lines bs rs h) ∙ h .fits;
+      reads = printed-reading (passes-turn (passes bs rs h)) (wellformed-turn rs (wellformed bs rs h));
+    }
+
+-- Check accepts the turned bytes of every accepted file, and its rows are the turned rows.
+pub turned-accepted : (bs : List ℕ) (rs : List Row) → verdict bs ≡ accepted rs → verdict (turned bs) ≡ accepted (turnRows rs)
+turned-accepted bs rs e =
+    let h = accepted-iff bs rs .0 e in
+    ap verdict (turned-accepted-bytes bs rs e)
+    ∙ accepted-iff (printRows (turnRows rs)) (turnRows rs) .1
+    (turned-form bs rs (h .0), subst FileOk (sym (isos-turn rs (passes bs rs (h .0)))) (file-invert (isosOf rs) (h .1)))
+
+-- the turned bytes have the file's length
+pub turned-length : (bs : List ℕ) (rs : List Row) → verdict bs ≡ accepted rs → length (turned bs) ≡ length bs
+turned-length bs rs e = ap length (turned-accepted-bytes bs rs e) ∙ turned-length-rows bs rs (accepted-form bs rs e .0)
+
+-- turning twice gives the file back
+pub turned-twice : (bs : List ℕ) (rs : List Row) → verdict bs ≡ accepted rs → turned (turned bs) ≡ bs
+turned-twice bs rs e =
+    turned-accepted-bytes (turned bs) (turnRows rs) (turned-accepted bs rs e)
+    ∙ ap printRows (turn-turn rs)
+    ∙ sym (printed bs rs (accepted-form bs rs e .0))

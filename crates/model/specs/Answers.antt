@@ -1,0 +1,52 @@
+-- Refusals 8 to 17 as judgements: which condition fails, in the stated order. "Only then the isos in order: each clause in order, lowest
+-- of 8 to 10, then the iso, lowest of 11 to 14."
+use Prim.Native.Nat.{ℕ, _≤_, _<_}
+use mathlib.Core.Path.{_≡_}
+use mathlib.Core.Option.{none, some}
+use mathlib.Core.List.{List, [], _∷_, List·Memᴰ}
+use lib.ListN.{getElem?}
+use Rattle.model.specs.Trees.{Ty, Val, Clause, Iso, left, right}
+use Rattle.model.specs.Refusals.{Refusal, variable, letShape, badType, overlap, gap, noIso, noValue, spent}
+use Rattle.model.specs.Letters.{letters}
+use Rattle.model.specs.Services.{Ran, gives, failed}
+use Rattle.model.specs.Terms.{Steps, eapp, valTerm}
+use Rattle.model.specs.Clauses.{Sigs, lefts, rights}
+use Rattle.model.specs.Paper.{BoundOnceUsedOnce, LetProducts, Assigned, Of, Apart, Covers, ClauseOk, IsoOk}
+
+-- 8 "variables rule broken", 9 "left or right in a let pattern", 10 "no such assignment"
+pub data ClauseFault (sigs : Sigs) (a b : Ty) (c : Clause) : Refusal → Type 0 where
+  variables : ¬ BoundOnceUsedOnce c → ClauseFault sigs a b c variable
+  shapes : BoundOnceUsedOnce c → ¬ LetProducts c → ClauseFault sigs a b c letShape
+  types : BoundOnceUsedOnce c → LetProducts c → ¬ Assigned sigs a b c → ClauseFault sigs a b c badType
+
+-- 11 and 12 "two left (right) patterns are not orthogonal", 13 and 14 "left (right) patterns do not cover"
+pub data SideFault (o : Iso) : Refusal → Type 0 where
+  overlapLeft : ¬ Apart (lefts o) → SideFault o (overlap left)
+  overlapRight : Apart (lefts o) → ¬ Apart (rights o) → SideFault o (overlap right)
+  gapLeft : Apart (lefts o) → Apart (rights o) → ¬ Covers (o .from) (lefts o) → SideFault o (gap left)
+  gapRight : Apart (lefts o) → Apart (rights o) → Covers (o .from) (lefts o) → ¬ Covers (o .to) (rights o) → SideFault o (gap right)
+
+-- the first faulty clause, at its C line
+pub data FirstClause (sigs : Sigs) (a b : Ty) : List Clause → Refusal → ℕ → Type 0 where
+  here : {c : Clause} {cs : List Clause} {f : Refusal} {n : ℕ} → ClauseFault sigs a b c f → n ≡ c .line → FirstClause sigs a b (c ∷ cs) f n
+  later : {c : Clause} {cs : List Clause} {f : Refusal} {n : ℕ} → ClauseOk sigs a b c → FirstClause sigs a b cs f n → FirstClause sigs a b (c ∷ cs) f n
+
+-- a faulty iso: in its clauses, and only then in its sides, at its I line
+pub data IsoFault (sigs : Sigs) (o : Iso) : Refusal → ℕ → Type 0 where
+  inClause : {f : Refusal} {n : ℕ} → FirstClause sigs (o .from) (o .to) (o .clauses) f n → IsoFault sigs o f n
+  inSides : {f : Refusal} {n : ℕ} → ((c : Clause) → List·Memᴰ c (o .clauses) → ClauseOk sigs (o .from) (o .to) c) → SideFault o f → n ≡ o .line → IsoFault sigs o f n
+
+-- the first faulty iso
+pub data FirstIso (sigs : Sigs) : List Iso → Refusal → ℕ → Type 0 where
+  here : {o : Iso} {os : List Iso} {f : Refusal} {n : ℕ} → IsoFault sigs o f n → FirstIso sigs (o ∷ os) f n
+  later : {o : Iso} {os : List Iso} {f : Refusal} {n : ℕ} → IsoOk sigs o → FirstIso sigs os f n → FirstIso sigs (o ∷ os) f n
+
+-- A run of iso i with a budget on some bytes. "For a run, 15, 16, 17 follow": the iso is there or not; the bytes are exactly one closed
+-- value of the starting type or not; the full count of the reduction passes the budget or not.
+pub data RunSays (os : List Iso) (i budget : ℕ) (bs : List ℕ) : Ran → Type 0 where
+  absent : getElem? os i ≡ none → RunSays os i budget bs (failed noIso)
+  strange : (o : Iso) → getElem? os i ≡ some o → ((v : Val) → bs ≡ letters v → Of v (o .from) → ⊥) → RunSays os i budget bs (failed noValue)
+  passed : (o : Iso) (v w : Val) (k : ℕ) → getElem? os i ≡ some o → bs ≡ letters v → Of v (o .from)
+      → Steps os (eapp i (valTerm v)) (valTerm w) k → budget < k → RunSays os i budget bs (failed spent)
+  done : (o : Iso) (v w : Val) (k : ℕ) → getElem? os i ≡ some o → bs ≡ letters v → Of v (o .from)
+      → Steps os (eapp i (valTerm v)) (valTerm w) k → k ≤ budget → RunSays os i budget bs (gives k (letters w))

@@ -1,0 +1,17 @@
+pub mod Limits
+pub mod Tools
+pub mod Trees
+pub mod Slots
+pub mod Refusals
+pub mod Lines
+pub mod Judge
+pub mod Unfold
+pub mod Clauses
+pub mod Reduction
+pub mod Letters
+pub mod Services
+pub mod Desk
+pub mod Cases
+pub mod Paper
+pub mod Terms
+pub mod Answers

@@ -1,0 +1,72 @@
+-- Every number that document 01 states, once. "Ceilings", the lengths of the lent areas, and the codes of letters.
+use Prim.Native.Nat.{ℕ}
+
+-- the longest file, in bytes and in lines
+abbrev pub maxBytes : ℕ
+maxBytes = 65536
+
+abbrev pub maxLines : ℕ
+maxLines = 4096
+
+-- how many T, P and I lines a file holds, C lines an iso, L lines a clause
+abbrev pub maxTypes : ℕ
+maxTypes = 256
+
+abbrev pub maxPatterns : ℕ
+maxPatterns = 1024
+
+abbrev pub maxIsos : ℕ
+maxIsos = 32
+
+abbrev pub maxClauses : ℕ
+maxClauses = 32
+
+abbrev pub maxLets : ℕ
+maxLets = 8
+
+-- the nodes of an unfolded T or P line, and the left and right nodes of an unfolded P line
+abbrev pub maxNodes : ℕ
+maxNodes = 127
+
+abbrev pub maxTags : ℕ
+maxTags = 40
+
+-- variables are numbered below this, the numbers of a line stand below that, a budget below the last
+abbrev pub variables : ℕ
+variables = 32
+
+abbrev pub fieldBound : ℕ
+fieldBound = 65536
+
+abbrev pub budgetBound : ℕ
+budgetBound = 4294967296
+
+-- the numbers that a line takes in the table, and the lengths of the lent areas
+abbrev pub rowWidth : ℕ
+rowWidth = 4
+
+abbrev pub tableLength : ℕ
+tableLength = 16384
+
+abbrev pub workLength : ℕ
+workLength = 65536
+
+abbrev pub resultLength : ℕ
+resultLength = 127
+
+-- a query's bytes, its line feed included
+abbrev pub queryLength : ℕ
+queryLength = 200
+
+abbrev pub lineFeed : ℕ
+lineFeed = 10
+
+abbrev pub comma : ℕ
+comma = 44
+
+-- the digit 0
+abbrev pub digitZero : ℕ
+digitZero = 48
+
+abbrev pub letterQ : ℕ
+letterQ = 81

@@ -1,0 +1,182 @@
+-- "The three services": what Check, Turn and Run answer, and what every lent area then holds, for any bytes and any areas.
+use Prim.Native.Nat.{ℕ, _-_, _*_}
+use mathlib.Core.Bool.{Bool, true, false, cond, not, _||_}
+use mathlib.Core.Option.{Option, none, some}
+use mathlib.Core.List.{List, [], _∷_, _++_, map}
+use lib.Dec.{leb, ltb}
+use lib.ListN.{length, drop, replicate, getElem?}
+use Rattle.model.specs.Limits.{maxBytes, maxLines, rowWidth, tableLength, workLength, resultLength}
+use Rattle.model.specs.Tools.{_>>=_, guard, concat}
+use Rattle.model.specs.Trees.{Val, Iso}
+use Rattle.model.specs.Refusals.{Refusal, number, shortArea, tooLong, noIso, noValue, spent}
+use Rattle.model.specs.Lines.{Row, lines, numbers, printRows}
+use Rattle.model.specs.Judge.{start, judge, Reading, rows, faulty, readFrom}
+use Rattle.model.specs.Unfold.{isosOf, turnRows}
+use Rattle.model.specs.Clauses.{fault}
+use Rattle.model.specs.Reduction.{reduce}
+use Rattle.model.specs.Letters.{letters, valueOf, inhabits}
+
+-- the file's rows, or its refusal and the line
+pub data Verdict : Type 0 where
+  accepted : List Row → Verdict
+  refused : Refusal → ℕ → Verdict
+
+abbrev pub judged : List Row → Option (Refusal × ℕ) → Verdict
+judged rs none = accepted rs
+judged rs (some f) = refused (f .0) (f .1)
+
+abbrev pub afterReading : Reading → Verdict
+afterReading (faulty f n) = refused f n
+afterReading (rows rs) = judged rs (fault (isosOf rs))
+
+-- "over 65,536 bytes or 4,096 lines"
+unfoldable pub over : List ℕ → Bool
+over bs = ltb maxBytes (length bs) || ltb maxLines (length (lines bs))
+
+-- "2. Then all lines from the first … Only then the isos in order"
+unfoldable pub verdict : List ℕ → Verdict
+unfolding over start judge isosOf fault
+verdict bs = cond (over bs) (refused tooLong 0) (afterReading (readFrom start 1 (lines bs)))
+
+-- A lent area whose first n elements become `front` and zeros; "Bytes beyond these lengths … keep their contents".
+abbrev pub filled : ℕ → List ℕ → List ℕ → List ℕ
+filled n front area = front ++ (replicate (n - length front) 0 ++ drop n area)
+
+-- "an output area past what was written" keeps its contents
+abbrev pub written : List ℕ → List ℕ → List ℕ
+written bs area = bs ++ drop (length bs) area
+
+-- the table and the work area after a call with enough room
+abbrev pub tableAfter : Verdict → List ℕ → List ℕ
+tableAfter (accepted rs) table = filled tableLength (concat (map numbers rs)) table
+tableAfter (refused f n) table = cond (leb (number f) 2) table (filled tableLength [] table)
+
+abbrev pub workAfter : Verdict → List ℕ → List ℕ
+workAfter (accepted rs) work = filled workLength [] work
+workAfter (refused f n) work = cond (leb (number f) 2) work (filled workLength [] work)
+
+-- "a lent area is shorter than stated": refusal 1 stands before all others
+abbrev pub short : List ℕ → List ℕ → Bool
+short table work = ltb (length table) tableLength || ltb (length work) workLength
+
+abbrev pub unless : Bool → Verdict → Verdict
+unless b v = cond b (refused shortArea 0) v
+
+pub record Answer : Type 0 where
+  pub number : ℕ
+  pub line : ℕ
+
+abbrev pub answerOf : Verdict → Answer
+answerOf (accepted rs) = record { number = 0; line = 0 }
+answerOf (refused f n) = record { number = number f; line = n }
+
+-- Check
+pub record Checked : Type 0 where
+  pub answer : Answer
+  pub table : List ℕ
+  pub work : List ℕ
+
+unfoldable pub check : List ℕ → List ℕ → List ℕ → Checked
+unfolding verdict
+check bs table work =
+    let v : Verdict = unless (short table work) (verdict bs) in
+    record { answer = answerOf v; table = tableAfter v table; work = workAfter v work }
+
+-- Turn: the turned file's bytes, which a refusal leaves unwritten
+abbrev pub turnedOf : Verdict → List ℕ
+turnedOf (accepted rs) = printRows (turnRows rs)
+turnedOf (refused f n) = []
+
+unfoldable pub turned : List ℕ → List ℕ
+unfolding verdict printRows turnRows
+turned bs = turnedOf (verdict bs)
+
+pub record Turned : Type 0 where
+  pub answer : Answer
+  pub length : ℕ
+  pub table : List ℕ
+  pub work : List ℕ
+  pub output : List ℕ
+
+unfoldable pub turn : List ℕ → List ℕ → List ℕ → List ℕ → Turned
+unfolding turned
+turn bs table work output =
+    let v : Verdict = unless (short table work || ltb (length output) (length bs)) (verdict bs) in
+    record {
+      answer = answerOf v;
+      length = length (turnedOf v);
+      table = tableAfter v table;
+      work = workAfter v work;
+      output = written (turnedOf v) output;
+    }
+
+-- Run: a refusal, or the count and the letters
+pub data Ran : Type 0 where
+  gives : ℕ → List ℕ → Ran
+  failed : Refusal → Ran
+
+-- "17: the full count would pass the budget". In an accepted file there is always a result (the law of totality).
+abbrev pub within : ℕ → Option (Val × ℕ) → Ran
+within budget none = failed spent
+within budget (some r) = cond (leb (r .1) budget) (gives (r .1) (letters (r .0))) (failed spent)
+
+-- "not exactly one closed value of the starting type"
+abbrev pub argument : Iso → List ℕ → Option Val
+argument o value = valueOf value >>= λ v. guard (inhabits v (o .from)) >>= λ _. some v
+
+abbrev pub from : List Iso → ℕ → ℕ → Option Val → Ran
+from os i budget none = failed noValue
+from os i budget (some v) = within budget (reduce os i v)
+
+abbrev pub onIso : List Iso → ℕ → ℕ → List ℕ → Option Iso → Ran
+onIso os i budget value none = failed noIso
+onIso os i budget value (some o) = from os i budget (argument o value)
+
+-- "For a run, 15, 16, 17 follow."
+unfoldable pub runRows : List Row → ℕ → ℕ → List ℕ → Ran
+unfolding isosOf valueOf reduce
+runRows rs i budget value = onIso (isosOf rs) i budget value (getElem? (isosOf rs) i)
+
+-- "A run back is a run forward of the turned file."
+abbrev pub toward : Bool → List Row → List Row
+toward back rs = cond back (turnRows rs) rs
+
+abbrev pub runOf : Verdict → ℕ → Bool → ℕ → List ℕ → Ran
+runOf (accepted rs) i back budget value = runRows (toward back rs) i budget value
+runOf (refused f n) i back budget value = failed f
+
+unfoldable pub run : List ℕ → ℕ → Bool → ℕ → List ℕ → Ran
+unfolding verdict turnRows runRows
+run bs i back budget value = runOf (verdict bs) i back budget value
+
+pub record RunAnswer : Type 0 where
+  pub number : ℕ
+  pub count : ℕ
+  pub letters : List ℕ
+
+-- "Any refusal gives count 0, length 0"
+abbrev pub answerOfRun : Ran → RunAnswer
+answerOfRun (gives k ls) = record { number = 0; count = k; letters = ls }
+answerOfRun (failed f) = record { number = number f; count = 0; letters = [] }
+
+pub record RunResult : Type 0 where
+  pub number : ℕ
+  pub count : ℕ
+  pub length : ℕ
+  pub table : List ℕ
+  pub work : List ℕ
+  pub result : List ℕ
+
+unfoldable pub runService : List ℕ → List ℕ → List ℕ → ℕ → Bool → ℕ → List ℕ → List ℕ → RunResult
+unfolding run
+runService bs table work i back budget value result =
+    let v : Verdict = unless (short table work || ltb (length result) resultLength) (verdict bs) in
+    let a : RunAnswer = answerOfRun (runOf v i back budget value) in
+    record {
+      number = a .number;
+      count = a .count;
+      length = length (a .letters);
+      table = tableAfter v table;
+      work = workAfter v work;
+      result = written (a .letters) result;
+    }
