@@ -23,4 +23,3 @@ pub mod Steps
 pub mod Joins
 pub mod Totality
 pub mod Runs
-mod Readings

@@ -12,6 +12,7 @@ pub mod Letters
 pub mod Services
 pub mod Desk
 pub mod Cases
+pub mod Readings
 pub mod Paper
 pub mod Terms
 pub mod Answers
