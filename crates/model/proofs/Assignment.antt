@@ -1,19 +1,19 @@
 -- Refusal 10 as a test agrees with what document 01 says: some assignment of types to a clause's variables makes each pattern fit its
 -- type. The inverted clause has the same assignment.
-use Prim.Native.Nat.{ℕ, zero, suc}
+use Prim.Native.Nat.{ℕ}
 use mathlib.Core.Path.{_≡_, refl, sym, ap, ap₂, _∙_, subst}
 use mathlib.Core.Logic.{_⊎_, inl, inr, _↔_}
 use mathlib.Core.Bool.{Bool, true, false, cond, not, _||_, false≢true}
 use mathlib.Core.Option.{Option, none, some}
 use mathlib.Core.List.{List, [], _∷_, _++_, map, List·Memᴰ, List·Memᴰ·head, List·Memᴰ·tail}
-use mathlib.Core.List.{List·Memᴰ·not-nil, List·Memᴰ·append-cases, List·Memᴰ·eq-of-singleton, Memᴰ·append-left, Memᴰ·append-right}
+use mathlib.Core.List.{List·Memᴰ·not-nil, List·Memᴰ·eq-of-singleton, Memᴰ·append-left, Memᴰ·append-right}
 use lib.Dec.{eqb}
 use lib.ListN.{getElem?}
 use Rattle.model.specs.Tools.{all}
 use Rattle.model.specs.Trees.{Ty, tunit, tsum, tprod, Pat, punit, pvar, pinj, ppair, Let, Clause, sameType, part, invertLet, invertClause}
 use Rattle.model.specs.Clauses.{Demands, joined, fit, Sigs, fitLets, demands, agree, agreeing, typed}
 use Rattle.model.specs.Paper.{Under, LetUnder, Assigned}
-use Rattle.model.proofs.Basic.{bind-some, some-bind, none≢some, some-inj, bool-cases, not-true, or-true, true-or-left, true-or-right, eqb-eq, eq-eqb, sameType-eq, sameType-refl, all-mem, mem-all}
+use Rattle.model.proofs.Basic.{bind-some, some-bind, none≢some, some-inj, bool-cases, not-true, or-true, true-or-left, true-or-right, eqb-eq, eq-eqb, eqb-false, sameType-eq, sameType-refl, each-append, all-mem, mem-all, index-map}
 use Rattle.model.proofs.Variables.{invert-lets}
 
 -- ---- an assignment that meets demands
@@ -29,11 +29,7 @@ meets-none : {Γ : ℕ → Ty} → Meets Γ none → ⊥
 meets-none (ds, e, h) = none≢some e
 
 met-append : {Γ : ℕ → Ty} (ds es : Demands) → Met Γ ds → Met Γ es → Met Γ (ds ++ es)
-met-append {Γ} ds es h k n t m = go (List·Memᴰ·append-cases ds m)
-  where
-    go : List·Memᴰ (n, t) ds ⊎ List·Memᴰ (n, t) es → Γ n ≡ t
-    go (inl d) = h n t d
-    go (inr e) = k n t e
+met-append {Γ} ds es h k n t = each-append (λ d. Γ (d .0) ≡ d .1) ds (λ d m. h (d .0) (d .1) m) (λ d m. k (d .0) (d .1) m) (n, t)
 
 pub joined-iff : {Γ : ℕ → Ty} (x y : Option Demands) → Meets Γ (joined x y) ↔ (Meets Γ x × Meets Γ y)
 joined-iff {Γ} none y = (λ m. absurd (meets-none m), λ m. absurd (meets-none (m .0)))
@@ -136,7 +132,7 @@ same-demand : (n : ℕ) (t u : Ty) → pair-agrees (n, t) (n, u) ≡ true → t 
 same-demand n t u h = go (or-true (not (eqb n n)) (sameType t u) h)
   where
     go : (not (eqb n n) ≡ true) ⊎ (sameType t u ≡ true) → t ≡ u
-    go (inl e) = absurd (false≢true (sym (not-true (eqb n n) e) ∙ eq-eqb {m = n} refl))
+    go (inl e) = absurd (eqb-false {m = n} (not-true (eqb n n) e) refl)
     go (inr e) = sameType-eq t u e
 
 agree-met : (ds : Demands) → agree ds ≡ true → Met (lookup ds) ds
@@ -182,15 +178,10 @@ typed-iff sigs a b c = (λ h. there (agreeing-meets (demands sigs a b c) h), bac
 
 -- ---- the inverted clause
 
-pub getElem?-map : {A B : Type 0} (f : A → B) (xs : List A) (i : ℕ) {x : A} → getElem? xs i ≡ some x → getElem? (map f xs) i ≡ some (f x)
-getElem?-map f [] i e = absurd (none≢some e)
-getElem?-map f (y ∷ ys) zero e = ap (λ z. some (f z)) (some-inj e)
-getElem?-map f (y ∷ ys) (suc i) e = getElem?-map f ys i e
-
 let-invert : {Γ : ℕ → Ty} (sigs : Sigs) (l : Let) → LetUnder Γ sigs (invertLet l) → LetUnder Γ (map (λ s. (s .1, s .0)) sigs) l
 let-invert sigs l u =
     let s = u .sig in
-    record { sig = (s .1, s .0); known = getElem?-map (λ s. (s .1, s .0)) sigs (l .iso) (u .known); q = u .p; p = u .q }
+    record { sig = (s .1, s .0); known = index-map (λ s. (s .1, s .0)) sigs (l .iso) (u .known); q = u .p; p = u .q }
 
 pub assigned-invert : (sigs : Sigs) (a b : Ty) (c : Clause) → Assigned sigs a b c → Assigned (map (λ s. (s .1, s .0)) sigs) b a (invertClause c)
 assigned-invert sigs a b c h =

@@ -1,23 +1,24 @@
 -- Accepted exactly when typed: the tests of a clause, an iso and a file decide the judgements, and each of 8 to 14 is given exactly
--- when its own condition fails, in the stated order.
-use Prim.Native.Nat.{ℕ, zero, suc, _≤_}
+-- when its own condition fails, in the stated order. The conditions on a clause are the linear typing of Table 1.
+use Prim.Native.Nat.{ℕ, _≤_}
 use mathlib.Core.Path.{_≡_, refl, sym, ap, ap₂, _∙_, subst}
 use mathlib.Core.Logic.{_↔_, _⊎_, inl, inr}
-use mathlib.Core.Bool.{Bool, true, false, not, cond, _&&_, _||_, false≢true}
+use mathlib.Core.Bool.{Bool, true, false, not, false≢true}
 use mathlib.Core.Option.{Option, none, some}
-use mathlib.Core.List.{List, [], _∷_, map, List·Memᴰ, List·Memᴰ·head, List·Memᴰ·tail, List·Memᴰ·not-nil, Memᴰ·of-map}
-use lib.ListN.{getElem?}
+use mathlib.Core.List.{List, [], _∷_, List·Memᴰ, List·Memᴰ·head, List·Memᴰ·tail}
 use Rattle.model.specs.Limits.{maxTags}
 use Rattle.model.specs.Tools.{all, firstFailing, firstOf, orElse}
-use Rattle.model.specs.Trees.{Ty, Tag, left, right, Pat, punit, pvar, pinj, ppair, Clause, Iso, sameTag, vars, tags}
+use Rattle.model.specs.Trees.{Ty, left, right, Pat, punit, pvar, pinj, ppair, Clause, Iso, sameTag, vars, tags}
 use Rattle.model.specs.Refusals.{Refusal, variable, letShape, badType, overlap, gap}
 use Rattle.model.specs.Clauses.{Sigs, variablesRule, letShapes, typed, clauseFault, clash, apart, fullWeight, lefts, rights, sideFault, at, isoFault, fault, sigsOf}
-use Rattle.model.specs.Paper.{BoundOnceUsedOnce, LetProducts, Assigned, Under, Orth, leftRight, rightLeft, under, fst, snd, Apart, alone, beside, Distinct, Covers, ClauseOk, IsoOk, FileOk}
+use Rattle.model.specs.Paper.{LetProducts, binders, Linear, Under, Orth, leftRight, rightLeft, under, fst, snd, Apart, alone, beside, Distinct, Covers, ClauseOk, IsoOk, FileOk}
 use Rattle.model.specs.Answers.{ClauseFault, SideFault, overlapLeft, overlapRight, gapLeft, gapRight, FirstClause, IsoFault, inClause, inSides, FirstIso}
-use Rattle.model.proofs.Basic.{none≢some, some-inj, not-both, is-false, bool-cases, and-true, true-and, or-true, true-or-left, true-or-right, not-true, sameTag-eq, sameTag-refl, all-mem, mem-all}
-use Rattle.model.proofs.Formed.{Formed, FormedPat, FormedClause}
+use Rattle.model.proofs.Basic.{none≢some, some-inj, orElse-cases, orElse-none, not-both, is-false, and-true, true-and, or-true, true-or-left, true-or-right}
+use Rattle.model.proofs.Basic.{none-failing, each-map, all-mem, mem-all, firstOf-none, none-firstOf, mem-index}
+use Rattle.model.proofs.Formed.{Formed}
 use Rattle.model.proofs.Variables.{variables-iff, shapes-iff, distinct-lhs, distinct-rhs}
 use Rattle.model.proofs.Assignment.{typed-iff}
+use Rattle.model.proofs.Linear.{Numbered, linear-iff}
 use Rattle.model.proofs.Covering.{covering}
 
 -- ---- a test that decides a judgement
@@ -73,13 +74,11 @@ module _ (sigs : Sigs) (a b : Ty) (c : Clause) where
 
   pub clause-ok : clauseFault sigs a b c ≡ none → ClauseOk sigs a b c
   unfolding clauseFault
-  clause-ok = go (variablesRule c) (letShapes c) (typed sigs a b c) refl refl refl
-    where
-      go : (p q r : Bool) → variablesRule c ≡ p → letShapes c ≡ q → typed sigs a b c ≡ r → tests p q r ≡ none → ClauseOk sigs a b c
-      go true true true hp hq hr e = record { variables = variables-iff c .0 hp; shapes = shapes-iff c .0 hq; types = typed-iff sigs a b c .0 hr }
-      go true true false hp hq hr e = absurd (none≢some (sym e))
-      go true false r hp hq hr e = absurd (none≢some (sym e))
-      go false q r hp hq hr e = absurd (none≢some (sym e))
+  clause-ok e =
+      let e₁ = none-failing (variablesRule c) variable _ e in
+      let e₂ = none-failing (letShapes c) letShape _ (e₁ .1) in
+      let e₃ = none-failing (typed sigs a b c) badType _ (e₂ .1) in
+      record { variables = variables-iff c .0 (e₁ .0); shapes = shapes-iff c .0 (e₂ .0); types = typed-iff sigs a b c .0 (e₃ .0) }
 
   pub ok-clause : ClauseOk sigs a b c → clauseFault sigs a b c ≡ none
   unfolding clauseFault
@@ -108,6 +107,15 @@ module _ (sigs : Sigs) (a b : Ty) (c : Clause) where
   pub clause-fault-iff : (f : Refusal) → (clauseFault sigs a b c ≡ some f) ↔ ClauseFault sigs a b c f
   clause-fault-iff f = (clause-fault f, fault-clause)
 
+-- the conditions of document 01 on a clause are the linear typing of Table 1, with each number bound once and let patterns that are
+-- products
+pub paper-iff : (sigs : Sigs) (a b : Ty) (c : Clause) → Numbered c → ClauseOk sigs a b c ↔ (Linear sigs a b c × Distinct (binders c) × LetProducts c)
+paper-iff sigs a b c w =
+    let h = linear-iff sigs a b c w in (
+      (λ k. let l = h .0 (k .variables, k .types) in (l .0, l .1, k .shapes)),
+      (λ k. let r = h .1 (k .0, k .1) in record { variables = r .0; shapes = k .2; types = r .1 }),
+    )
+
 -- ---- 11 to 14
 
 -- the patterns of an iso's sides have at most the left and right nodes that a weight can tell
@@ -115,42 +123,34 @@ pub record Light (o : Iso) : Type 0 where
   pub lhs : (c : Clause) → List·Memᴰ c (o .clauses) → tags (c .lhs) ≤ maxTags
   pub rhs : (c : Clause) → List·Memᴰ c (o .clauses) → tags (c .rhs) ≤ maxTags
 
--- a fact of each clause's side is a fact of each pattern of that side
-mapped : (P : Pat → Type 0) (g : Clause → Pat) (cs : List Clause) → ((c : Clause) → List·Memᴰ c cs → P (g c)) → (p : Pat) → List·Memᴰ p (map g cs) → P p
-mapped P g cs h p m = let r = Memᴰ·of-map g cs m in subst P (r .2) (h (r .0) (r .1))
-
 module _ (sigs : Sigs) (o : Iso) (light : Light o) (ok : (c : Clause) → List·Memᴰ c (o .clauses) → ClauseOk sigs (o .from) (o .to) c) where
   left-cover : Apart (lefts o) → (fullWeight (lefts o) ≡ true) ↔ Covers (o .from) (lefts o)
   left-cover =
       covering (o .from) (lefts o)
-      (mapped (λ p. (Γ : ℕ → Ty) × Under Γ p (o .from)) (λ c. c .lhs) (o .clauses) (λ c m. (ok c m .types .Γ, ok c m .types .lhs)))
-      (mapped (λ p. Distinct (vars p)) (λ c. c .lhs) (o .clauses) (λ c m. distinct-lhs c (ok c m .variables)))
-      (mapped (λ p. tags p ≤ maxTags) (λ c. c .lhs) (o .clauses) (light .lhs))
+      (each-map (λ p. (Γ : ℕ → Ty) × Under Γ p (o .from)) (λ c. c .lhs) (o .clauses) (λ c m. (ok c m .types .Γ, ok c m .types .lhs)))
+      (each-map (λ p. Distinct (vars p)) (λ c. c .lhs) (o .clauses) (λ c m. distinct-lhs c (ok c m .variables)))
+      (each-map (λ p. tags p ≤ maxTags) (λ c. c .lhs) (o .clauses) (light .lhs))
 
   right-cover : Apart (rights o) → (fullWeight (rights o) ≡ true) ↔ Covers (o .to) (rights o)
   right-cover =
       covering (o .to) (rights o)
-      (mapped (λ p. (Γ : ℕ → Ty) × Under Γ p (o .to)) (λ c. c .rhs) (o .clauses) (λ c m. (ok c m .types .Γ, ok c m .types .rhs)))
-      (mapped (λ p. Distinct (vars p)) (λ c. c .rhs) (o .clauses) (λ c m. distinct-rhs c (ok c m .variables)))
-      (mapped (λ p. tags p ≤ maxTags) (λ c. c .rhs) (o .clauses) (light .rhs))
+      (each-map (λ p. (Γ : ℕ → Ty) × Under Γ p (o .to)) (λ c. c .rhs) (o .clauses) (λ c m. (ok c m .types .Γ, ok c m .types .rhs)))
+      (each-map (λ p. Distinct (vars p)) (λ c. c .rhs) (o .clauses) (λ c m. distinct-rhs c (ok c m .variables)))
+      (each-map (λ p. tags p ≤ maxTags) (λ c. c .rhs) (o .clauses) (light .rhs))
 
   abbrev sideTests : Bool → Bool → Bool → Bool → Option Refusal
   sideTests p q r s = firstFailing ((p, overlap left) ∷ (q, overlap right) ∷ (r, gap left) ∷ (s, gap right) ∷ [])
 
   pub side-ok : sideFault o ≡ none → IsoOk sigs o
   unfolding sideFault
-  side-ok = go (apart (lefts o)) (apart (rights o)) (fullWeight (lefts o)) (fullWeight (rights o)) refl refl refl refl
-    where
-      go : (p q r s : Bool) → apart (lefts o) ≡ p → apart (rights o) ≡ q → fullWeight (lefts o) ≡ r → fullWeight (rights o) ≡ s
-          → sideTests p q r s ≡ none → IsoOk sigs o
-      go true true true true hp hq hr hs e =
-          let l = apart-of (lefts o) hp in
-          let m = apart-of (rights o) hq in
-          record { clauses = ok; leftsApart = l; rightsApart = m; leftsCover = left-cover l .0 hr; rightsCover = right-cover m .0 hs }
-      go true true true false hp hq hr hs e = absurd (none≢some (sym e))
-      go true true false s hp hq hr hs e = absurd (none≢some (sym e))
-      go true false r s hp hq hr hs e = absurd (none≢some (sym e))
-      go false q r s hp hq hr hs e = absurd (none≢some (sym e))
+  side-ok e =
+      let e₁ = none-failing (apart (lefts o)) (overlap left) _ e in
+      let e₂ = none-failing (apart (rights o)) (overlap right) _ (e₁ .1) in
+      let e₃ = none-failing (fullWeight (lefts o)) (gap left) _ (e₂ .1) in
+      let e₄ = none-failing (fullWeight (rights o)) (gap right) _ (e₃ .1) in
+      let l = apart-of (lefts o) (e₁ .0) in
+      let m = apart-of (rights o) (e₂ .0) in
+      record { clauses = ok; leftsApart = l; rightsApart = m; leftsCover = left-cover l .0 (e₃ .0); rightsCover = right-cover m .0 (e₄ .0) }
 
   pub side-fault : (f : Refusal) → sideFault o ≡ some f → SideFault o f
   unfolding sideFault
@@ -198,28 +198,15 @@ at-some : (n m : ℕ) (f : Refusal) (x : Option Refusal) → at n x ≡ some (f,
 at-some n m f none e = absurd (none≢some e)
 at-some n m f (some g) e = (ap some (ap (λ r. r .0) (some-inj e)), ap (λ r. r .1) (sym (some-inj e)))
 
--- the first answer in a list, found or not
-orElse-cases : {A : Type 0} (x y : Option A) (a : A) → orElse x y ≡ some a → (x ≡ some a) ⊎ ((x ≡ none) × (y ≡ some a))
-orElse-cases none y a e = inr (refl, e)
-orElse-cases (some b) y a e = inl e
-
-orElse-none : {A : Type 0} (x y : Option A) → orElse x y ≡ none → (x ≡ none) × (y ≡ none)
-orElse-none none y e = (refl, e)
-orElse-none (some b) y e = absurd (none≢some (sym e))
-
 module _ (sigs : Sigs) (a b : Ty) where
   abbrev atClause : Clause → Option (Refusal × ℕ)
   atClause c = at (c .line) (clauseFault sigs a b c)
 
   clauses-ok : (cs : List Clause) → firstOf atClause cs ≡ none → (c : Clause) → List·Memᴰ c cs → ClauseOk sigs a b c
-  clauses-ok (d ∷ cs) e c (List·Memᴰ·head h) =
-      subst (ClauseOk sigs a b) (sym h) (clause-ok sigs a b d (at-none (d .line) (clauseFault sigs a b d) (orElse-none (atClause d) (firstOf atClause cs) e .0)))
-  clauses-ok (d ∷ cs) e c (List·Memᴰ·tail m) = clauses-ok cs (orElse-none (atClause d) (firstOf atClause cs) e .1) c m
+  clauses-ok cs e c m = clause-ok sigs a b c (at-none (c .line) (clauseFault sigs a b c) (firstOf-none atClause cs e c m))
 
   ok-clauses : (cs : List Clause) → ((c : Clause) → List·Memᴰ c cs → ClauseOk sigs a b c) → firstOf atClause cs ≡ none
-  ok-clauses [] h = refl
-  ok-clauses (c ∷ cs) h =
-      ap₂ orElse (ap (at (c .line)) (ok-clause sigs a b c (h c (List·Memᴰ·head refl)))) (ok-clauses cs (λ d m. h d (List·Memᴰ·tail m)))
+  ok-clauses cs h = none-firstOf atClause cs (λ c m. ap (at (c .line)) (ok-clause sigs a b c (h c m)))
 
   first-clause : (cs : List Clause) (f : Refusal) (n : ℕ) → firstOf atClause cs ≡ some (f, n) → FirstClause sigs a b cs f n
   first-clause [] f n e = absurd (none≢some e)
@@ -268,16 +255,10 @@ module _ (sigs : Sigs) (o : Iso) (light : Light o) where
 
 module _ (sigs : Sigs) where
   isos-ok : (os : List Iso) → ((o : Iso) → List·Memᴰ o os → Light o) → firstOf (isoFault sigs) os ≡ none → (o : Iso) → List·Memᴰ o os → IsoOk sigs o
-  isos-ok (p ∷ os) light e o (List·Memᴰ·head h) =
-      subst (IsoOk sigs) (sym h) (iso-ok sigs p (light p (List·Memᴰ·head refl)) (orElse-none (isoFault sigs p) (firstOf (isoFault sigs) os) e .0))
-  isos-ok (p ∷ os) light e o (List·Memᴰ·tail m) =
-      isos-ok os (λ q k. light q (List·Memᴰ·tail k)) (orElse-none (isoFault sigs p) (firstOf (isoFault sigs) os) e .1) o m
+  isos-ok os light e o m = iso-ok sigs o (light o m) (firstOf-none (isoFault sigs) os e o m)
 
   ok-isos : (os : List Iso) → ((o : Iso) → List·Memᴰ o os → Light o) → ((o : Iso) → List·Memᴰ o os → IsoOk sigs o) → firstOf (isoFault sigs) os ≡ none
-  ok-isos [] light h = refl
-  ok-isos (o ∷ os) light h =
-      ap₂ orElse (ok-iso sigs o (light o (List·Memᴰ·head refl)) (h o (List·Memᴰ·head refl)))
-      (ok-isos os (λ q k. light q (List·Memᴰ·tail k)) (λ q k. h q (List·Memᴰ·tail k)))
+  ok-isos os light h = none-firstOf (isoFault sigs) os (λ o m. ok-iso sigs o (light o m) (h o m))
 
   first-iso : (os : List Iso) → ((o : Iso) → List·Memᴰ o os → Light o) → (f : Refusal) (n : ℕ) → firstOf (isoFault sigs) os ≡ some (f, n) → FirstIso sigs os f n
   first-iso [] light f n e = absurd (none≢some e)
@@ -296,18 +277,9 @@ module _ (sigs : Sigs) where
 
 -- ---- a file
 
-mem-at : {A : Type 0} {x : A} {xs : List A} → List·Memᴰ x xs → (i : ℕ) × (getElem? xs i ≡ some x)
-mem-at (List·Memᴰ·head e) = (0, ap some (sym e))
-mem-at (List·Memᴰ·tail m) = let r = mem-at m in (suc (r .0), r .1)
-
-pub at-mem : {A : Type 0} (xs : List A) (i : ℕ) {x : A} → getElem? xs i ≡ some x → List·Memᴰ x xs
-at-mem [] i e = absurd (none≢some e)
-at-mem (y ∷ xs) zero e = List·Memᴰ·head (sym (some-inj e))
-at-mem (y ∷ xs) (suc i) e = List·Memᴰ·tail (at-mem xs i e)
-
 pub light-of : (os : List Iso) → Formed os → (o : Iso) → List·Memᴰ o os → Light o
 light-of os h o m =
-    let r = mem-at m in
+    let r = mem-index m in
     record { lhs = λ c k. h (r .0) o (r .1) c k .lhs .light; rhs = λ c k. h (r .0) o (r .1) c k .rhs .light }
 
 pub file-ok : (os : List Iso) → Formed os → (fault os ≡ none) ↔ FileOk os

@@ -1,21 +1,24 @@
 -- The law of covering: pairwise orthogonal patterns that fit a type match every closed value of it exactly when they weigh 2^40
 -- together. Each pattern has its part of the weight of all closed values (`Weights`), and no value is counted for two patterns.
 use Prim.Native.Nat.{ℕ, _+_, _*_, _^_, _<_, _≤_}
-use native.Mathlib.Nat.{one-mul, zero-mul, mul-zero, mul-le-mul, mul-lt-mul-of-pos-left, eq-of-mul-eq-mul-right, lt-of-mul-lt-mul-right, one-le-pow}
+use native.Mathlib.Nat.{one-mul, zero-mul, mul-le-mul, mul-lt-mul-of-pos-left, eq-of-mul-eq-mul-right, lt-of-mul-lt-mul-right, eq-or-lt-of-le, ne-of-lt}
 use native.Mathlib.Omega.{arith}
 use mathlib.Core.Path.{_≡_, refl, sym, ap, ap₂, _∙_, subst}
 use mathlib.Core.Logic.{_⊎_, inl, inr, _↔_}
 use mathlib.Core.Bool.{Bool, true, false, cond, _||_, false≢true}
-use mathlib.Core.List.{List, [], _∷_, _++_, List·Memᴰ, List·Memᴰ·head, List·Memᴰ·tail, Memᴰ·append-left, Memᴰ·append-right, Memᴰ·cast}
-use lib.Dec.{eqb, lit<}
+use mathlib.Core.List.{List, [], _∷_, _++_, List·Memᴰ, List·Memᴰ·head, List·Memᴰ·tail, Memᴰ·append-left, Memᴰ·append-right}
+use lib.Dec.{eqb}
+use lib.Pow.{pow-pos}
 use Rattle.model.specs.Limits.{maxTags}
-use Rattle.model.specs.Trees.{Ty, Tag, left, right, Pat, punit, pvar, pinj, ppair, Val, vunit, vinj, vpair, sameTag, tags, vars}
+use Rattle.model.specs.Trees.{Ty, Pat, punit, pvar, pinj, ppair, Val, vunit, vinj, vpair, sameTag, tags, vars}
 use Rattle.model.specs.Clauses.{fullWeight}
 use Rattle.model.specs.Paper.{Of, Under, Orth, Apart, Distinct, Matched, fill, Covers}
-use Rattle.model.proofs.Basic.{bool-cases, not-both, is-false, or-true, true-or-left, true-or-right, eqb-eq, eq-eqb, sameTag-eq, sameTag-refl}
-use Rattle.model.proofs.Weights.{size, size-positive, integral, Outcome, le-cases, dichotomy, hit, hits, weights, all-weights}
+use Rattle.model.proofs.Basic.{not-both, is-false, or-true, true-or-left, true-or-right, eqb-eq, eq-eqb, not-eqb, sameTag-eq, eq-sameTag}
+use Rattle.model.proofs.Basic.{distinct-left, distinct-right, distinct-across}
+use Rattle.model.proofs.Orthogonal.{Alike, matched-alike, orth-alike}
+use Rattle.model.proofs.Weights.{size, size-positive, integral, Outcome, dichotomy, hit, hits, weights, all-weights}
 
--- ---- orthogonal patterns match no value together
+-- ---- the shape of a pattern
 
 hit-le : (p : Pat) (v : Val) → hit p v ≤ 1
 hit-le punit vunit = omega arith
@@ -33,49 +36,50 @@ hit-le (ppair p q) vunit = omega arith
 hit-le (ppair p q) (vinj t v) = omega arith
 hit-le (ppair p q) (vpair v w) = mul-le-mul (hit-le p v) (hit-le q w)
 
-zero≢one : _≡_ {A = ℕ} 0 1 → ⊥
-zero≢one e = omega arith
-
-cond-zero : (b : Bool) {x : ℕ} → x ≡ 0 → cond b x 0 ≡ 0
-cond-zero true e = e
-cond-zero false e = refl
-
--- at most one of two orthogonal patterns matches
-one-misses : {p q : Pat} → Orth p q → (v : Val) → (hit p v ≡ 0) ⊎ (hit q v ≡ 0)
-one-misses Orth.leftRight vunit = inl refl
-one-misses Orth.leftRight (vinj left v) = inr refl
-one-misses Orth.leftRight (vinj right v) = inl refl
-one-misses Orth.leftRight (vpair v w) = inl refl
-one-misses Orth.rightLeft vunit = inl refl
-one-misses Orth.rightLeft (vinj left v) = inl refl
-one-misses Orth.rightLeft (vinj right v) = inr refl
-one-misses Orth.rightLeft (vpair v w) = inl refl
-one-misses (Orth.under e o) vunit = inl refl
-one-misses (Orth.under {s} {t} {p} {q} e o) (vinj u v) = go (one-misses o v)
+-- both factors are 1
+factors : (m n : ℕ) → m ≤ 1 → m * n ≡ 1 → (m ≡ 1) × (n ≡ 1)
+factors m n l e = go (eq-or-lt-of-le l)
   where
-    go : (hit p v ≡ 0) ⊎ (hit q v ≡ 0) → (hit (pinj s p) (vinj u v) ≡ 0) ⊎ (hit (pinj t q) (vinj u v) ≡ 0)
-    go (inl z) = inl (cond-zero (sameTag s u) z)
-    go (inr z) = inr (cond-zero (sameTag t u) z)
-one-misses (Orth.under e o) (vpair v w) = inl refl
-one-misses (Orth.fst o) vunit = inl refl
-one-misses (Orth.fst o) (vinj t v) = inl refl
-one-misses (Orth.fst {p} {q} {p′} {q′} o) (vpair v w) = go (one-misses o v)
-  where
-    go : (hit p v ≡ 0) ⊎ (hit q v ≡ 0) → (hit p v * hit p′ w ≡ 0) ⊎ (hit q v * hit q′ w ≡ 0)
-    go (inl z) = inl (ap (λ x. x * hit p′ w) z ∙ zero-mul (hit p′ w))
-    go (inr z) = inr (ap (λ x. x * hit q′ w) z ∙ zero-mul (hit q′ w))
-one-misses (Orth.snd o) vunit = inl refl
-one-misses (Orth.snd o) (vinj t v) = inl refl
-one-misses (Orth.snd {p} {q} {p′} {q′} o) (vpair v w) = go (one-misses o w)
-  where
-    go : (hit p′ w ≡ 0) ⊎ (hit q′ w ≡ 0) → (hit p v * hit p′ w ≡ 0) ⊎ (hit q v * hit q′ w ≡ 0)
-    go (inl z) = inl (ap (λ x. hit p v * x) z ∙ mul-zero (hit p v))
-    go (inr z) = inr (ap (λ x. hit q v * x) z ∙ mul-zero (hit q v))
+    go : (m ≡ 1) ⊎ (m < 1) → (m ≡ 1) × (n ≡ 1)
+    go (inl h) = (h, sym (one-mul n) ∙ ap (λ k. k * n) (sym h) ∙ e)
+    go (inr h) = let z : m ≡ 0 = omega arith in let y = ap (λ k. k * n) z ∙ zero-mul n in absurd (omega arith)
 
--- so where one matches the other does not
-other-misses : {m n : ℕ} → m ≡ 1 → (m ≡ 0) ⊎ (n ≡ 0) → n ≡ 0
-other-misses e (inl z) = absurd (zero≢one (sym z ∙ e))
-other-misses e (inr z) = z
+-- the count is 1 exactly where the value has the shape of the pattern
+hit-alike : (p : Pat) (v : Val) → hit p v ≡ 1 → Alike p v
+hit-alike punit vunit e = Alike.unit
+hit-alike punit (vinj t v) e = absurd (omega arith)
+hit-alike punit (vpair v w) e = absurd (omega arith)
+hit-alike (pvar n) v e = Alike.var
+hit-alike (pinj s p) vunit e = absurd (omega arith)
+hit-alike (pinj s p) (vinj t v) e = go (sameTag s t) refl e (hit-alike p v)
+  where
+    go : (b : Bool) → sameTag s t ≡ b → cond b (hit p v) 0 ≡ 1 → (hit p v ≡ 1 → Alike p v) → Alike (pinj s p) (vinj t v)
+    go true h e below = Alike.inj (sameTag-eq s t h) (below e)
+    go false h e below = absurd (omega arith)
+hit-alike (pinj s p) (vpair v w) e = absurd (omega arith)
+hit-alike (ppair p q) vunit e = absurd (omega arith)
+hit-alike (ppair p q) (vinj t v) e = absurd (omega arith)
+hit-alike (ppair p q) (vpair v w) e =
+    let h = factors (hit p v) (hit q w) (hit-le p v) e in Alike.pair (hit-alike p v (h .0)) (hit-alike q w (h .1))
+
+alike-hit : {p : Pat} {v : Val} → Alike p v → hit p v ≡ 1
+alike-hit Alike.unit = refl
+alike-hit Alike.var = refl
+alike-hit (Alike.inj {p = p} {v = v} e m) = ap (λ b. cond b (hit p v) 0) (eq-sameTag e) ∙ alike-hit m
+alike-hit (Alike.pair m k) = ap₂ _*_ (alike-hit m) (alike-hit k)
+
+matched-hit : {p : Pat} {v : Val} → Matched p v → hit p v ≡ 1
+matched-hit m = alike-hit (matched-alike m)
+
+-- ---- orthogonal patterns count a value once
+
+-- where one of two orthogonal patterns matches the other does not
+other-misses : {p q : Pat} → Orth p q → (v : Val) → hit p v ≡ 1 → hit q v ≡ 0
+other-misses {p} {q} o v e = go (eq-or-lt-of-le (hit-le q v))
+  where
+    go : (hit q v ≡ 1) ⊎ (hit q v < 1) → hit q v ≡ 0
+    go (inl h) = absurd (orth-alike o (hit-alike p v e) (hit-alike q v h))
+    go (inr l) = omega arith
 
 all-miss : (ps : List Pat) (v : Val) → ((p : Pat) → List·Memᴰ p ps → hit p v ≡ 0) → hits ps v ≡ 0
 all-miss [] v h = refl
@@ -83,24 +87,15 @@ all-miss (p ∷ ps) v h = ap₂ _+_ (h p (List·Memᴰ·head refl)) (all-miss ps
 
 hits-le : {ps : List Pat} → Apart ps → (v : Val) → hits ps v ≤ 1
 hits-le Apart.alone v = omega arith
-hits-le (Apart.beside {p} {ps} h r) v = go (le-cases (hit p v) 1 (hit-le p v)) (hits-le r v)
+hits-le (Apart.beside {p} {ps} h r) v = go (eq-or-lt-of-le (hit-le p v)) (hits-le r v)
   where
     go : (hit p v ≡ 1) ⊎ (hit p v < 1) → hits ps v ≤ 1 → hit p v + hits ps v ≤ 1
-    go (inl e) l = let z = all-miss ps v (λ q m. other-misses e (one-misses (h q m) v)) in omega arith
+    go (inl e) l = let z = all-miss ps v (λ q m. other-misses (h q m) v e) in omega arith
     go (inr e) l = omega arith
 
 hit-le-hits : {p : Pat} {ps : List Pat} (v : Val) → List·Memᴰ p ps → hit p v ≤ hits ps v
 hit-le-hits v (List·Memᴰ·head e) = let z = ap (λ q. hit q v) e in omega arith
 hit-le-hits v (List·Memᴰ·tail m) = let l = hit-le-hits v m in omega arith
-
-hit-fill : (χ : ℕ → Val) (p : Pat) → hit p (fill χ p) ≡ 1
-hit-fill χ punit = refl
-hit-fill χ (pvar n) = refl
-hit-fill χ (pinj t p) = ap (λ b. cond b (hit p (fill χ p)) 0) (sameTag-refl t) ∙ hit-fill χ p
-hit-fill χ (ppair p q) = ap₂ _*_ (hit-fill χ p) (hit-fill χ q)
-
-matched-hit : {p : Pat} {v : Val} → Matched p v → hit p v ≡ 1
-matched-hit {p} m = ap (hit p) (sym (m .turns)) ∙ hit-fill (m .choice) p
 
 -- where the count is 0 nothing matches, where it is 1 something does
 missed : {p : Pat} {ps : List Pat} {v : Val} → hits ps v < 1 → List·Memᴰ p ps → Matched p v → ⊥
@@ -108,7 +103,7 @@ missed {v} l m k = let h = hit-le-hits v m in let e = matched-hit k in omega ari
 
 found : (ps : List Pat) (v : Val) → hits ps v ≡ 1 → (p : Pat) × List·Memᴰ p ps × (hit p v ≡ 1)
 found [] v e = absurd (omega arith)
-found (p ∷ ps) v e = go (le-cases (hit p v) 1 (hit-le p v)) (found ps v)
+found (p ∷ ps) v e = go (eq-or-lt-of-le (hit-le p v)) (found ps v)
   where
     go : (hit p v ≡ 1) ⊎ (hit p v < 1) → (hits ps v ≡ 1 → (q : Pat) × List·Memᴰ q ps × (hit q v ≡ 1))
         → (q : Pat) × List·Memᴰ q (p ∷ ps) × (hit q v ≡ 1)
@@ -134,22 +129,6 @@ elem-mem n (m ∷ ms) e = go (or-true (eqb n m) (elem n ms) e) (elem-mem n ms)
     go (inl h) below = List·Memᴰ·head (eqb-eq n m h)
     go (inr h) below = List·Memᴰ·tail (below h)
 
-pub distinct-cons : {n : ℕ} {ns : List ℕ} → Distinct (n ∷ ns) → (List·Memᴰ n ns → ⊥) × Distinct ns
-distinct-cons (Distinct.another h d) = (h, d)
-
-pub distinct-first : (ms ns : List ℕ) → Distinct (ms ++ ns) → Distinct ms
-distinct-first [] ns d = Distinct.nobody
-distinct-first (m ∷ ms) ns d =
-    let h = distinct-cons d in Distinct.another (λ i. h .0 (Memᴰ·append-left ns i)) (distinct-first ms ns (h .1))
-
-pub distinct-second : (ms ns : List ℕ) → Distinct (ms ++ ns) → Distinct ns
-distinct-second [] ns d = d
-distinct-second (m ∷ ms) ns d = distinct-second ms ns (distinct-cons d .1)
-
-pub distinct-disjoint : {n : ℕ} (ms ns : List ℕ) → Distinct (ms ++ ns) → List·Memᴰ n ms → List·Memᴰ n ns → ⊥
-distinct-disjoint (m ∷ ms) ns d (List·Memᴰ·head e) i = distinct-cons d .0 (Memᴰ·append-right ms (Memᴰ·cast (sym e) i))
-distinct-disjoint (m ∷ ms) ns d (List·Memᴰ·tail j) i = distinct-disjoint ms ns (distinct-cons d .1) j i
-
 -- only the values of its own variables matter to a pattern
 pub fill-ext : (p : Pat) {χ ψ : ℕ → Val} → ((n : ℕ) → List·Memᴰ n (vars p) → χ n ≡ ψ n) → fill χ p ≡ fill ψ p
 fill-ext punit h = refl
@@ -171,47 +150,17 @@ pair-matched {p} {q} {v} {w} d m k = record { choice = χ; turns = ap₂ vpair (
     second n i =
         ap
         (λ b. cond b (m .choice n) (k .choice n))
-        (is-false (elem n (vars p)) (λ e. distinct-disjoint (vars p) (vars q) d (elem-mem n (vars p) e) i))
+        (is-false (elem n (vars p)) (λ e. distinct-across (vars p) (vars q) d (elem-mem n (vars p) e) i))
 
--- both factors are 1
-factors : (m n : ℕ) → m ≤ 1 → m * n ≡ 1 → (m ≡ 1) × (n ≡ 1)
-factors m n l e = go (le-cases m 1 l)
-  where
-    go : (m ≡ 1) ⊎ (m < 1) → (m ≡ 1) × (n ≡ 1)
-    go (inl h) = (h, sym (one-mul n) ∙ ap (λ k. k * n) (sym h) ∙ e)
-    go (inr h) = let z : m ≡ 0 = omega arith in let y = ap (λ k. k * n) z ∙ zero-mul n in absurd (omega arith)
-
-inj-matched : (s t : Tag) {p : Pat} {v : Val} → cond (sameTag s t) (hit p v) 0 ≡ 1 → (hit p v ≡ 1 → Matched p v)
-    → Matched (pinj s p) (vinj t v)
-inj-matched s t {p} {v} e below = go (bool-cases (sameTag s t))
-  where
-    go : (sameTag s t ≡ true) ⊎ (sameTag s t ≡ false) → Matched (pinj s p) (vinj t v)
-    go (inl h) =
-        let m = below (ap (λ b. cond b (hit p v) 0) (sym h) ∙ e) in
-        record { choice = m .choice; turns = ap₂ vinj (sameTag-eq s t h) (m .turns) }
-    go (inr h) = let z = ap (λ b. cond b (hit p v) 0) (sym h) ∙ e in absurd (zero≢one z)
-
-hit-matched : (p : Pat) (v : Val) → Distinct (vars p) → hit p v ≡ 1 → Matched p v
-hit-matched punit vunit d e = record { choice = λ n. vunit; turns = refl }
-hit-matched punit (vinj t v) d e = absurd (zero≢one e)
-hit-matched punit (vpair v w) d e = absurd (zero≢one e)
-hit-matched (pvar n) v d e = record { choice = λ m. v; turns = refl }
-hit-matched (pinj s p) vunit d e = absurd (zero≢one e)
-hit-matched (pinj s p) (vinj t v) d e = inj-matched s t e (hit-matched p v d)
-hit-matched (pinj s p) (vpair v w) d e = absurd (zero≢one e)
-hit-matched (ppair p q) vunit d e = absurd (zero≢one e)
-hit-matched (ppair p q) (vinj t v) d e = absurd (zero≢one e)
-hit-matched (ppair p q) (vpair v w) d e =
-    let h = factors (hit p v) (hit q w) (hit-le p v) e in
-    pair-matched
-    d
-    (hit-matched p v (distinct-first (vars p) (vars q) d) (h .0))
-    (hit-matched q w (distinct-second (vars p) (vars q) d) (h .1))
+-- a value of the shape of a pattern without repeated variables is matched by it
+alike-matched : {p : Pat} {v : Val} → Alike p v → Distinct (vars p) → Matched p v
+alike-matched Alike.unit d = record { choice = λ n. vunit; turns = refl }
+alike-matched (Alike.var {v = v}) d = record { choice = λ m. v; turns = refl }
+alike-matched (Alike.inj e m) d = let r = alike-matched m d in record { choice = r .choice; turns = ap₂ vinj e (r .turns) }
+alike-matched (Alike.pair {p = p} {q = q} m k) d =
+    pair-matched d (alike-matched m (distinct-left (vars p) (vars q) d)) (alike-matched k (distinct-right (vars p) (vars q) d))
 
 -- ---- the law
-
-less-eqb : {m n : ℕ} → m < n → eqb m n ≡ false
-less-eqb {m} {n} l = is-false (eqb m n) (λ e. let h = eqb-eq m n e in omega arith)
 
 -- the weights are full and each value has one match, or they fall short and some value has none
 abbrev Weighed : ℕ → Ty → List Pat → Type 0
@@ -241,7 +190,7 @@ weighed n a ps fits light apart = go (dichotomy a (hits ps) 1 (λ v o. hits-le a
         )
     go (inr d) =
         let l : integral a (hits ps) < size a = subst (λ k. integral a (hits ps) < k) (one-mul (size a)) (d .0) in
-        let s = mul-lt-mul-of-pos-left l (one-le-pow n 2 (lit< tt)) in
+        let s = mul-lt-mul-of-pos-left l (pow-pos n) in
         inr (lt-of-mul-lt-mul-right (size a) (subst (λ k. k < 2 ^ n * size a) same s), d .1, d .2, d .3)
 
 -- a closed value of the type that no pattern matches
@@ -263,9 +212,9 @@ covers-or-gap a ps fits distinct light apart = go (weighed maxTags a ps fits lig
     go (inl d) =
         inl (
           eq-eqb (d .0),
-          λ v o. let r = found ps v (d .1 v o) in (r .0, r .1, hit-matched (r .0) v (distinct (r .0) (r .1)) (r .2)),
+          λ v o. let r = found ps v (d .1 v o) in (r .0, r .1, alike-matched (hit-alike (r .0) v (r .2)) (distinct (r .0) (r .1))),
         )
-    go (inr d) = inr (less-eqb (d .0), (d .1, d .2, λ p m k. missed (d .3) m k))
+    go (inr d) = inr (not-eqb (ne-of-lt (d .0)), (d .1, d .2, λ p m k. missed (d .3) m k))
 
 -- 13 and 14: the test of the weights is the rule that every closed value is matched
 pub covering : (a : Ty) (ps : List Pat)

@@ -1,8 +1,10 @@
 -- Files as bytes: Check's verdict and the judgements, and the turned file.
-use Prim.Native.Nat.{ℕ, zero, suc}
+use Prim.Native.Nat.{ℕ, _<_}
+use native.Mathlib.Nat.{ne-of-gt}
+use native.Mathlib.Omega.{arith}
 use mathlib.Core.Path.{_≡_, refl, sym, ap, ap₂, _∙_, subst}
-use mathlib.Core.Logic.{_↔_, _⊎_, inl, inr}
-use mathlib.Core.Bool.{Bool, true, false, cond, _||_}
+use mathlib.Core.Logic.{_↔_}
+use mathlib.Core.Bool.{Bool, true, false, cond, _||_, false≢true}
 use mathlib.Core.Option.{Option, none, some}
 use mathlib.Core.List.{List, List·Memᴰ}
 use lib.Dec.{ltb}
@@ -14,10 +16,10 @@ use Rattle.model.specs.Lines.{Row, lines, print, printRows}
 use Rattle.model.specs.Judge.{start, Reading, rows, faulty, readFrom}
 use Rattle.model.specs.Unfold.{isosOf, turnRows}
 use Rattle.model.specs.Clauses.{fault, sigsOf}
-use Rattle.model.specs.Services.{Verdict, accepted, refused, judged, afterReading, over, verdict, Answer, answerOf, turned, turnedOf}
+use Rattle.model.specs.Services.{Verdict, accepted, refused, judged, afterReading, over, verdict, answerOf, turned, turnedOf}
 use Rattle.model.specs.Paper.{FileOk}
 use Rattle.model.specs.Answers.{FirstIso}
-use Rattle.model.proofs.Basic.{none≢some, some-inj, not-both, bool-cases}
+use Rattle.model.proofs.Basic.{some-pair}
 use Rattle.model.proofs.Formed.{Formed}
 use Rattle.model.proofs.Checking.{file-ok, file-fault}
 use Rattle.model.proofs.Inverted.{file-invert}
@@ -27,20 +29,11 @@ use Rattle.model.proofs.Printing.{WellFormed, read-rows, lines-print, r
 
 -- ---- verdicts
 
--- two verdicts that differ
-abbrev isAccepted : Verdict → Bool
-isAccepted (accepted rs) = true
-isAccepted (refused f n) = false
-
 pub refused≢accepted : {f : Refusal} {n : ℕ} {rs : List Row} → refused f n ≡ accepted rs → ⊥
-refused≢accepted e = not-both refl (sym (ap isAccepted e))
-
-abbrev rowsOf : List Row → Verdict → List Row
-rowsOf d (accepted rs) = rs
-rowsOf d (refused f n) = d
+refused≢accepted e = false≢true cc
 
 pub accepted-inj : {rs qs : List Row} → accepted rs ≡ accepted qs → rs ≡ qs
-accepted-inj {rs} e = ap (rowsOf rs) e
+accepted-inj e = cc
 
 -- "the lines are in form": not too long, and read as rows
 pub record InForm (bs : List ℕ) (rs : List Row) : Type 0 where
@@ -84,20 +77,14 @@ accepted-iff bs rs = (
   (λ h. verdict-in-form bs rs (h .0) ∙ ap (judged rs) (file-ok (isosOf rs) (formed-of bs rs (h .0)) .1 (h .1))),
 )
 
--- Each of 8 to 14 is given, at its line, exactly when its condition is the first that fails.
-refusalOf : Refusal → Verdict → Refusal
-refusalOf d (accepted rs) = d
-refusalOf d (refused f n) = f
-
-lineOf : Verdict → ℕ
-lineOf (accepted rs) = 0
-lineOf (refused f n) = n
-
 judged-refused : (rs : List Row) (x : Option (Refusal × ℕ)) (f : Refusal) (n : ℕ) → judged rs x ≡ refused f n → x ≡ some (f, n)
-unfolding refusalOf lineOf
 judged-refused rs none f n e = absurd (refused≢accepted (sym e))
-judged-refused rs (some g) f n e = λ i. some (ap (refusalOf f) e i, ap lineOf e i)
+judged-refused rs (some g) f n e =
+    let p : g .0 ≡ f = cc in
+    let q : g .1 ≡ n = cc in
+    some-pair p q
 
+-- Each of 8 to 14 is given, at its line, exactly when its condition is the first that fails.
 pub refused-iff : (bs : List ℕ) (rs : List Row) → InForm bs rs → (f : Refusal) (n : ℕ)
     → (verdict bs ≡ refused f n) ↔ FirstIso (sigsOf (isosOf rs)) (isosOf rs) f n
 refused-iff bs rs h f n =
@@ -107,32 +94,28 @@ refused-iff bs rs h f n =
     )
 
 -- no refusal has the number 0, so that `0,0` is the answer of accepted files alone
-abbrev isZero : ℕ → Bool
-isZero zero = true
-isZero (suc n) = false
-
-number-positive : (f : Refusal) → isZero (number f) ≡ false
-number-positive shortArea = refl
-number-positive tooLong = refl
-number-positive badLine = refl
-number-positive (misplaced k) = refl
-number-positive (badField k) = refl
-number-positive (badName k) = refl
-number-positive (ceiling k) = refl
-number-positive variable = refl
-number-positive letShape = refl
-number-positive badType = refl
-number-positive (overlap left) = refl
-number-positive (overlap right) = refl
-number-positive (gap left) = refl
-number-positive (gap right) = refl
-number-positive noIso = refl
-number-positive noValue = refl
-number-positive spent = refl
+number-positive : (f : Refusal) → 0 < number f
+number-positive shortArea = omega arith
+number-positive tooLong = omega arith
+number-positive badLine = omega arith
+number-positive (misplaced k) = omega arith
+number-positive (badField k) = omega arith
+number-positive (badName k) = omega arith
+number-positive (ceiling k) = omega arith
+number-positive variable = omega arith
+number-positive letShape = omega arith
+number-positive badType = omega arith
+number-positive (overlap left) = omega arith
+number-positive (overlap right) = omega arith
+number-positive (gap left) = omega arith
+number-positive (gap right) = omega arith
+number-positive noIso = omega arith
+number-positive noValue = omega arith
+number-positive spent = omega arith
 
 answer-zero : (v : Verdict) → answerOf v .number ≡ 0 → (rs : List Row) × (v ≡ accepted rs)
 answer-zero (accepted rs) e = (rs, refl)
-answer-zero (refused f n) e = absurd (not-both (ap isZero e) (number-positive f))
+answer-zero (refused f n) e = absurd (ne-of-gt (number-positive f) e)
 
 -- Check answers `0,0` exactly when there are rows in which the lines are in form and of which the judgements hold.
 pub answer-iff : (bs : List ℕ) → (answerOf (verdict bs) ≡ record { number = 0; line = 0 }) ↔ ((rs : List Row) × InForm bs rs × FileOk (isosOf rs))
@@ -177,13 +160,17 @@ turned-form bs rs h =
       reads = printed-reading (passes-turn (passes bs rs h)) (wellformed-turn rs (wellformed bs rs h));
     }
 
+-- the judgements hold of the turned rows too
+pub turned-ok : (rs : List Row) → Passes start rs → FileOk (isosOf rs) → FileOk (isosOf (turnRows rs))
+turned-ok rs p h = subst FileOk (sym (isos-turn rs p)) (file-invert (isosOf rs) h)
+
 -- Check accepts the turned bytes of every accepted file, and its rows are the turned rows.
 pub turned-accepted : (bs : List ℕ) (rs : List Row) → verdict bs ≡ accepted rs → verdict (turned bs) ≡ accepted (turnRows rs)
 turned-accepted bs rs e =
     let h = accepted-iff bs rs .0 e in
     ap verdict (turned-accepted-bytes bs rs e)
     ∙ accepted-iff (printRows (turnRows rs)) (turnRows rs) .1
-    (turned-form bs rs (h .0), subst FileOk (sym (isos-turn rs (passes bs rs (h .0)))) (file-invert (isosOf rs) (h .1)))
+    (turned-form bs rs (h .0), turned-ok rs (passes bs rs (h .0)) (h .1))
 
 -- the turned bytes have the file's length
 pub turned-length : (bs : List ℕ) (rs : List Row) → verdict bs ≡ accepted rs → length (turned bs) ≡ length bs

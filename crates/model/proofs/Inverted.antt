@@ -1,10 +1,10 @@
 -- The inversion of a file that satisfies the judgements satisfies them too.
-use Prim.Native.Nat.{ℕ}
-use mathlib.Core.Path.{_≡_, refl, sym, ap, ap₂, _∙_, subst}
-use mathlib.Core.List.{List, [], _∷_, map, List·Memᴰ, Memᴰ·of-map}
+use mathlib.Core.Path.{_≡_, refl, sym, ap, subst}
+use mathlib.Core.List.{List, [], _∷_, map}
 use Rattle.model.specs.Trees.{Ty, Clause, Iso, invertClause, invert}
-use Rattle.model.specs.Clauses.{Sigs, sigsOf, lefts, rights}
+use Rattle.model.specs.Clauses.{Sigs, sigsOf}
 use Rattle.model.specs.Paper.{Apart, Covers, ClauseOk, IsoOk, FileOk}
+use Rattle.model.proofs.Basic.{each-map}
 use Rattle.model.proofs.Inverse.{lefts-invert, rights-invert}
 use Rattle.model.proofs.Variables.{variables-invert, shapes-invert}
 use Rattle.model.proofs.Assignment.{assigned-invert}
@@ -27,8 +27,7 @@ clause-invert sigs a b c h =
 pub iso-invert : (sigs : Sigs) (o : Iso) → IsoOk sigs o → IsoOk (swapSigs sigs) (invert o)
 iso-invert sigs o h =
     record {
-      clauses = λ c m. let r = Memᴰ·of-map invertClause (o .clauses) m in
-          subst (ClauseOk (swapSigs sigs) (o .to) (o .from)) (r .2) (clause-invert sigs (o .from) (o .to) (r .0) (h .clauses (r .0) (r .1)));
+      clauses = each-map (ClauseOk (swapSigs sigs) (o .to) (o .from)) invertClause (o .clauses) (λ c m. clause-invert sigs (o .from) (o .to) c (h .clauses c m));
       leftsApart = subst Apart (sym (lefts-invert o)) (h .rightsApart);
       rightsApart = subst Apart (sym (rights-invert o)) (h .leftsApart);
       leftsCover = subst (Covers (o .to)) (sym (lefts-invert o)) (h .rightsCover);
@@ -36,6 +35,5 @@ iso-invert sigs o h =
     }
 
 pub file-invert : (os : List Iso) → FileOk os → FileOk (map invert os)
-file-invert os h o m =
-    let r = Memᴰ·of-map invert os m in
-    subst (λ s. IsoOk s o) (sym (sigs-invert os)) (subst (IsoOk (swapSigs (sigsOf os))) (r .2) (iso-invert (sigsOf os) (r .0) (h (r .0) (r .1))))
+file-invert os h =
+    each-map (IsoOk (sigsOf (map invert os))) invert os (λ o m. subst (λ s. IsoOk s (invert o)) (sym (sigs-invert os)) (iso-invert (sigsOf os) o (h o m)))

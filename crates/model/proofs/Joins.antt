@@ -2,16 +2,18 @@
 use Prim.Native.Nat.{ℕ, zero, suc}
 use mathlib.Core.Path.{_≡_, refl, sym, ap, ap₂, _∙_, subst}
 use mathlib.Core.Bool.{true, false≢true}
-use mathlib.Core.Option.{Option, none, some}
+use mathlib.Core.Option.{none, some}
 use mathlib.Core.List.{[], _∷_}
 use lib.ListN.{length, replicate}
 use Rattle.model.specs.Limits.{variables}
 use Rattle.model.specs.Tools.{_>>=_}
-use Rattle.model.specs.Trees.{Ty, tsum, tprod, Tag, left, right, Pat, punit, pvar, pinj, ppair, Val, vunit, vinj, vpair, part, sameTag}
+use Rattle.model.specs.Trees.{Ty, tsum, tprod, Tag, Pat, pinj, ppair, Val, vunit, vinj, vpair, part}
 use Rattle.model.specs.Slots.{Slots, put, get, empty, allEmpty}
 use Rattle.model.specs.Reduction.{bind, build}
-use Rattle.model.specs.Paper.{Of, Join, Fits, Product, Orth, fill, Matched}
-use Rattle.model.proofs.Basic.{bind-some, some-bind, none≢some, some-inj, sameTag-refl, true-guard}
+use Rattle.model.specs.Paper.{Of, Join, Fits, Product, Matched}
+use Rattle.model.proofs.Basic.{bind-some, some-bind, none≢some, some-inj, eq-sameTag, true-guard}
+use Rattle.model.proofs.Slots.{allEmpty-replicate}
+use Rattle.model.proofs.Orthogonal.{Alike, matched-alike}
 
 -- ---- joins
 
@@ -60,10 +62,6 @@ pub env-empty : {ε : Slots Val} {d : Slots Ty} → allEmpty d ≡ true → EnvO
 env-empty h EnvOf.done = refl
 env-empty h (EnvOf.blank r) = env-empty h r
 env-empty h (EnvOf.full o r) = absurd (false≢true h)
-
-pub replicate-empty : (A : Type 0) (n : ℕ) → allEmpty (replicate {A = Option A} n none) ≡ true
-replicate-empty A zero = refl
-replicate-empty A (suc n) = replicate-empty A n
 
 -- ---- building
 
@@ -161,13 +159,6 @@ put-total (suc n) a (none ∷ z) {h} {f} {g} i p j r o =
     put-below (subst (Join h f) (sym (some-inj (s .2))) j) r (λ h′ f′ φ′ j′ r′. put-total n a z i (s .1) j′ r′ o)
 put-total (suc n) a (some b ∷ z) i p j r o = absurd (false≢true i)
 
--- a value has the shape of a pattern
-pub data Alike : Pat → Val → Type 0 where
-  unit : Alike punit vunit
-  var : {n : ℕ} {v : Val} → Alike (pvar n) v
-  inj : {s t : Tag} {p : Pat} {v : Val} → s ≡ t → Alike p v → Alike (pinj s p) (vinj t v)
-  pair : {p q : Pat} {v w : Val} → Alike p v → Alike q w → Alike (ppair p q) (vpair v w)
-
 -- every value of its type has the shape of a product pattern
 pub product-alike : {g : Slots Ty} {p : Pat} {b : Ty} {u : Val} → Fits g p b → Product p → Of u b → Alike p u
 product-alike (Fits.unit h) Product.unit Of.unit = Alike.unit
@@ -181,10 +172,10 @@ pub record BoundTo (p : Pat) (u : Val) (φ : Slots Val) (h : Slots Ty) : Type 0 
   pub env : EnvOf slots h
 
 bind-inj : {s t : Tag} {p : Pat} {u : Val} {φ : Slots Val} {h : Slots Ty} → s ≡ t → BoundTo p u φ h → BoundTo (pinj s p) (vinj t u) φ h
-bind-inj {s} {t} {p} {u} {φ} e r =
+bind-inj {p = p} {u} {φ} e r =
     record {
       slots = r .slots;
-      binds = some-bind (λ _. bind p u φ) (true-guard (ap (sameTag s) (sym e) ∙ sameTag-refl s)) ∙ r .binds;
+      binds = some-bind (λ _. bind p u φ) (true-guard (eq-sameTag e)) ∙ r .binds;
       env = r .env;
     }
 
@@ -212,16 +203,7 @@ pub bind-total : {f g h : Slots Ty} {p : Pat} {b : Ty} {u : Val} {φ : Slots Val
     → BoundTo p u φ h
 bind-total x p o j r = bind-alike x o (product-alike x p o) j r
 
--- ---- matching
-
-pub fill-alike : (χ : ℕ → Val) (p : Pat) → Alike p (fill χ p)
-fill-alike χ punit = Alike.unit
-fill-alike χ (pvar n) = Alike.var
-fill-alike χ (pinj t p) = Alike.inj refl (fill-alike χ p)
-fill-alike χ (ppair p q) = Alike.pair (fill-alike χ p) (fill-alike χ q)
-
-pub matched-alike : {p : Pat} {v : Val} → Matched p v → Alike p v
-matched-alike {p} m = subst (Alike p) (m .turns) (fill-alike (m .choice) p)
+-- ---- both sides of a clause
 
 -- a left pattern binds each value of its type that it matches
 pub lhs-total : {d : Slots Ty} {p : Pat} {a : Ty} {v : Val} → length d ≡ variables → Fits d p a → Of v a → Matched p v → BoundTo p v (empty Val) d
@@ -233,18 +215,4 @@ pub build-all : {d : Slots Ty} {p : Pat} {b : Ty} {ε : Slots Val} → Fits d p 
     → (w : Val) × (φ : Slots Val) × (build p ε ≡ some (w, φ)) × Of w b × (allEmpty φ ≡ true)
 build-all {d} x r =
     let b = build-total x (join-comm (join-blank d (length d) refl)) r in
-    (b .value, b .rest, b .builds, b .typed, env-empty (replicate-empty Ty (length d)) (b .env))
-
-left≢right : left ≡ right → ⊥
-left≢right e = false≢true (ap (sameTag right) e)
-
--- no closed value is matched by two orthogonal patterns
-orth-alike : {p q : Pat} {v : Val} → Orth p q → Alike p v → Alike q v → ⊥
-orth-alike Orth.leftRight (Alike.inj e m) (Alike.inj f n) = left≢right (e ∙ sym f)
-orth-alike Orth.rightLeft (Alike.inj e m) (Alike.inj f n) = left≢right (f ∙ sym e)
-orth-alike (Orth.under s o) (Alike.inj e m) (Alike.inj f n) = orth-alike o m n
-orth-alike (Orth.fst o) (Alike.pair m m′) (Alike.pair n n′) = orth-alike o m n
-orth-alike (Orth.snd o) (Alike.pair m m′) (Alike.pair n n′) = orth-alike o m′ n′
-
-pub orth-apart : {p q : Pat} {v : Val} → Orth p q → Matched p v → Matched q v → ⊥
-orth-apart o m n = orth-alike o (matched-alike m) (matched-alike n)
+    (b .value, b .rest, b .builds, b .typed, env-empty (allEmpty-replicate Ty (length d)) (b .env))

@@ -1,16 +1,16 @@
 -- Letters and closed values: writing and reading undo each other, and the test of a value against a type decides `Of`.
 use Prim.Native.Nat.{ℕ}
-use mathlib.Core.Path.{_≡_, refl, sym, ap, ap₂, _∙_, subst}
-use mathlib.Core.Logic.{_↔_, _⊎_, inl, inr}
+use mathlib.Core.Path.{_≡_, refl, sym, ap, _∙_}
+use mathlib.Core.Logic.{_↔_}
 use mathlib.Core.Bool.{Bool, true, false, cond, false≢true}
-use mathlib.Core.Option.{Option, none, some}
+use mathlib.Core.Option.{none, some}
 use mathlib.Core.List.{List, [], _∷_, _++_, map, append-assoc, append-nil}
 use lib.Dec.{eqb}
 use Rattle.model.specs.Tools.{_>>=_, concat}
 use Rattle.model.specs.Trees.{Ty, tunit, tsum, tprod, Tag, left, right, Val, vunit, vinj, vpair, part}
 use Rattle.model.specs.Letters.{letterU, letterOf, letterP, letters, onInj, onPair, onLetter, valuesOf, single, valueOf, inhabits}
 use Rattle.model.specs.Paper.{Of}
-use Rattle.model.proofs.Basic.{bind-some, some-bind, bind-assoc, none≢some, some-inj, bool-cases, eqb-eq, and-true, true-and}
+use Rattle.model.proofs.Basic.{bind-some, some-bind, none≢some, some-inj, eqb-eq, and-true, true-and}
 
 -- ---- writing, then reading
 

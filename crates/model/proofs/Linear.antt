@@ -3,35 +3,36 @@ use Prim.Native.Nat.{ℕ, zero, suc, _<_}
 use native.Mathlib.Nat.{suc-inj, suc-ne-zero, not-suc-le-zero, le-of-suc-le-suc}
 use mathlib.Core.Path.{_≡_, refl, sym, ap, ap₂, _∙_, subst}
 use mathlib.Core.Logic.{_⊎_, inl, inr, _↔_}
-use mathlib.Core.Bool.{true, false, false≢true}
+use mathlib.Core.Bool.{true, false}
 use mathlib.Core.Option.{Option, none, some}
 use mathlib.Core.List.{List, [], _∷_, _++_, append-nil, append-assoc, map-append, List·Memᴰ, List·Memᴰ·head, List·Memᴰ·tail}
-use mathlib.Core.List.{List·Memᴰ·not-nil, Memᴰ·append-left, Memᴰ·append-right, Memᴰ·cast, cons-ne-nil}
+use mathlib.Core.List.{List·Memᴰ·not-nil, Memᴰ·append-left, Memᴰ·append-right, cons-ne-nil}
 use lib.Dec.{eqb}
 use lib.ListN.{getElem?, length}
 use Rattle.model.specs.Limits.{variables}
 use Rattle.model.specs.Trees.{Ty, tunit, Pat, pvar, ppair, Let, Clause, vars}
 use Rattle.model.specs.Slots.{Slots, put, allEmpty}
 use Rattle.model.specs.Clauses.{Deed, binds, uses, Event, deeds, letEvents, events, history, Sigs}
-use Rattle.model.specs.Paper.{Join, Fits, Chain, Linear, Under, LetUnder, Assigned, BoundOnceUsedOnce, Distinct, another, letBinders, binders}
-use Rattle.model.proofs.Basic.{bind-some, some-bind, none≢some, some-inj, bool-cases, is-false, not-both, eqb-eq, eq-eqb}
-use Rattle.model.proofs.Variables.{marks, history-append, history-three, history-hit, history-miss, mirror, marks-mirror, absent}
+use Rattle.model.specs.Paper.{Join, Fits, Chain, Linear, Under, LetUnder, Assigned, BoundOnceUsedOnce, Distinct, letBinders, binders}
+use Rattle.model.proofs.Basic.{some-bind, none≢some, some-inj, bool-cases, eqb-eq, eqb-false, not-eqb, each-cons, distinct-right, distinct-across}
+use Rattle.model.proofs.Slots.{slot, put-filled, slot-allEmpty}
+use Rattle.model.proofs.Variables.{mark, marks, history-append, history-three, history-hit, history-miss, mirror, marks-mirror, absent}
 use Rattle.model.proofs.Variables.{Whole, never, full, whole, Only, nothing, more, only-marks, not-used, not-bound, Single, unseen, seen, single-tail, distinct-of, single-of}
 use Rattle.model.proofs.Assignment.{LetsUnder}
 use Rattle.model.proofs.Formed.{FormedClause}
 
 -- ---- variables have slots
 
-abbrev pub Below : ℕ → Pat → Type 0
-Below k p = (n : ℕ) → List·Memᴰ n (vars p) → n < k
+abbrev pub VarsBelow : ℕ → Pat → Type 0
+VarsBelow k p = (n : ℕ) → List·Memᴰ n (vars p) → n < k
 
 abbrev pub LetsBelow : ℕ → List Let → Type 0
-LetsBelow k ls = (l : Let) → List·Memᴰ l ls → Below k (l .q) × Below k (l .p)
+LetsBelow k ls = (l : Let) → List·Memᴰ l ls → VarsBelow k (l .q) × VarsBelow k (l .p)
 
 pub record Numbered (c : Clause) : Type 0 where
-  pub lhs : Below variables (c .lhs)
+  pub lhs : VarsBelow variables (c .lhs)
   pub lets : LetsBelow variables (c .lets)
-  pub rhs : Below variables (c .rhs)
+  pub rhs : VarsBelow variables (c .rhs)
 
 pub formed-numbered : {i : ℕ} {c : Clause} → FormedClause i c → Numbered c
 formed-numbered h = record { lhs = h .lhs .slots; lets = λ l m. (h .lets l m .q .slots, h .lets l m .p .slots); rhs = h .rhs .slots }
@@ -104,16 +105,16 @@ rest-tail (d ∷ []) es ahead = due
 rest-tail (d ∷ (e ∷ [])) es ahead = gone
 
 -- a variable that is used next has a slot
-abbrev slot : Ty → List Deed → Option Ty
-slot t [] = none
-slot t (binds ∷ ds) = none
-slot t (uses ∷ ds) = some t
+abbrev dueSlot : Ty → List Deed → Option Ty
+dueSlot t [] = none
+dueSlot t (binds ∷ ds) = none
+dueSlot t (uses ∷ ds) = some t
 
 -- the context that a list of events needs
 abbrev need : ℕ → (ℕ → Ty) → List Event → Slots Ty
-need k Γ vs = tabulate k (λ n. slot (Γ n) (history n vs))
+need k Γ vs = tabulate k (λ n. dueSlot (Γ n) (history n vs))
 
-join-uses : (t : Ty) (ds es : List Deed) → Only uses ds → Rest (ds ++ es) → JoinAt (slot t (ds ++ es)) (slot t ds) (slot t es)
+join-uses : (t : Ty) (ds es : List Deed) → Only uses ds → Rest (ds ++ es) → JoinAt (dueSlot t (ds ++ es)) (dueSlot t ds) (dueSlot t es)
 join-uses t [] es o gone = neither
 join-uses t [] es o due = second refl
 join-uses t [] es o ahead = neither
@@ -121,7 +122,7 @@ join-uses t (d ∷ []) es o due = first refl
 join-uses t (d ∷ []) es o ahead = absurd (not-bound o)
 join-uses t (d ∷ (e ∷ [])) es o ahead = absurd (not-bound o)
 
-join-binds : (t : Ty) (ds es : List Deed) → Only binds ds → Rest (ds ++ es) → JoinAt (slot t es) (slot t (ds ++ es)) (slot t (mirror ds))
+join-binds : (t : Ty) (ds es : List Deed) → Only binds ds → Rest (ds ++ es) → JoinAt (dueSlot t es) (dueSlot t (ds ++ es)) (dueSlot t (mirror ds))
 join-binds t [] es o gone = neither
 join-binds t [] es o due = first refl
 join-binds t [] es o ahead = neither
@@ -129,11 +130,11 @@ join-binds t (d ∷ []) es o due = absurd (not-used o)
 join-binds t (d ∷ []) es o ahead = second refl
 join-binds t (d ∷ (e ∷ [])) es (more h o) ahead = absurd (not-used o)
 
-slot-binds : (t : Ty) (ds es : List Deed) → Only binds ds → Whole (ds ++ es) → slot t es ≡ slot t (mirror ds)
-slot-binds t [] es o never = refl
-slot-binds t [] es o full = refl
-slot-binds t (d ∷ []) es o full = refl
-slot-binds t (d ∷ (e ∷ [])) es (more h o) full = absurd (not-used o)
+dueSlot-binds : (t : Ty) (ds es : List Deed) → Only binds ds → Whole (ds ++ es) → dueSlot t es ≡ dueSlot t (mirror ds)
+dueSlot-binds t [] es o never = refl
+dueSlot-binds t [] es o full = refl
+dueSlot-binds t (d ∷ []) es o full = refl
+dueSlot-binds t (d ∷ (e ∷ [])) es (more h o) full = absurd (not-used o)
 
 used-once : (ds es : List Deed) → Only uses ds → Rest (ds ++ es) → Single uses ds
 used-once [] es o r = unseen
@@ -160,7 +161,7 @@ single-right d [] es s = s
 single-right d (e ∷ []) es (seen h) = unseen
 
 marks-append : (n : ℕ) (d : Deed) (ns ms : List ℕ) → history n (marks d (ns ++ ms)) ≡ history n (marks d ns) ++ history n (marks d ms)
-marks-append n d ns ms = ap (history n) (map-append (λ n. record { deed = d; name = n }) ns ms) ∙ history-append n (marks d ns) (marks d ms)
+marks-append n d ns ms = ap (history n) (map-append (mark d) ns ms) ∙ history-append n (marks d ns) (marks d ms)
 
 -- ---- from an assignment to the linear typing
 
@@ -169,32 +170,29 @@ need-uses : (k : ℕ) (Γ : ℕ → Ty) (ns : List ℕ) (vs ws : List Event)
     → ((n : ℕ) → history n ws ≡ history n (marks uses ns) ++ history n vs) → ((n : ℕ) → Rest (history n ws))
     → Join (need k Γ ws) (need k Γ (marks uses ns)) (need k Γ vs)
 need-uses k Γ ns vs ws e r =
-    tabulate-join k (λ n. slot (Γ n) (history n ws)) (λ n. slot (Γ n) (history n (marks uses ns))) (λ n. slot (Γ n) (history n vs)) λ n.
-    subst (λ ds. JoinAt (slot (Γ n) ds) (slot (Γ n) (history n (marks uses ns))) (slot (Γ n) (history n vs))) (sym (e n))
+    tabulate-join k (λ n. dueSlot (Γ n) (history n ws)) (λ n. dueSlot (Γ n) (history n (marks uses ns))) (λ n. dueSlot (Γ n) (history n vs)) λ n.
+    subst (λ ds. JoinAt (dueSlot (Γ n) ds) (dueSlot (Γ n) (history n (marks uses ns))) (dueSlot (Γ n) (history n vs))) (sym (e n))
     (join-uses (Γ n) (history n (marks uses ns)) (history n vs) (only-marks n uses ns) (subst Rest (e n) (r n)))
 
 -- the contexts of which the first only binds
 need-binds : (k : ℕ) (Γ : ℕ → Ty) (ns : List ℕ) (vs : List Event) → ((n : ℕ) → Rest (history n (marks binds ns ++ vs)))
     → Join (need k Γ vs) (need k Γ (marks binds ns ++ vs)) (need k Γ (marks uses ns))
 need-binds k Γ ns vs r =
-    tabulate-join k (λ n. slot (Γ n) (history n vs)) (λ n. slot (Γ n) (history n (marks binds ns ++ vs))) (λ n. slot (Γ n) (history n (marks uses ns))) λ n.
-    subst (λ ds. JoinAt (slot (Γ n) (history n vs)) (slot (Γ n) (history n (marks binds ns ++ vs))) (slot (Γ n) ds)) (marks-mirror n binds ns)
-    (subst (λ ds. JoinAt (slot (Γ n) (history n vs)) (slot (Γ n) ds) (slot (Γ n) (mirror (history n (marks binds ns)))))
+    tabulate-join k (λ n. dueSlot (Γ n) (history n vs)) (λ n. dueSlot (Γ n) (history n (marks binds ns ++ vs))) (λ n. dueSlot (Γ n) (history n (marks uses ns))) λ n.
+    subst (λ ds. JoinAt (dueSlot (Γ n) (history n vs)) (dueSlot (Γ n) (history n (marks binds ns ++ vs))) (dueSlot (Γ n) ds)) (marks-mirror n binds ns)
+    (subst (λ ds. JoinAt (dueSlot (Γ n) (history n vs)) (dueSlot (Γ n) ds) (dueSlot (Γ n) (mirror (history n (marks binds ns)))))
     (sym (history-append n (marks binds ns) vs))
     (join-binds (Γ n) (history n (marks binds ns)) (history n vs) (only-marks n binds ns) (subst Rest (history-append n (marks binds ns) vs) (r n))))
 
 fits-var : (k : ℕ) (Γ : ℕ → Ty) (n : ℕ) (a : Ty) → n < k → Γ n ≡ a → Fits (need k Γ (marks uses (n ∷ []))) (pvar n) a
 fits-var k Γ n a lt e =
     Fits.var (tabulate k (λ m. none)) (tabulate-empty k (λ m. none) (λ m. refl))
-    (tabulate-put k n a (λ m. none) (λ m. slot (Γ m) (history m (marks uses (n ∷ [])))) lt refl
-    (ap (slot (Γ n)) (history-hit n v [] refl) ∙ ap some e)
-    (λ m ne. sym (ap (slot (Γ m)) (history-miss m v [] (is-false (eqb m n) (λ q. ne (eqb-eq m n q)))))))
-  where
-    v : Event
-    v = record { deed = uses; name = n }
+    (tabulate-put k n a (λ m. none) (λ m. dueSlot (Γ m) (history m (marks uses (n ∷ [])))) lt refl
+    (ap (dueSlot (Γ n)) (history-hit n (mark uses n) [] refl) ∙ ap some e)
+    (λ m ne. sym (ap (dueSlot (Γ m)) (history-miss m (mark uses n) [] (not-eqb ne)))))
 
 -- a pattern whose variables are distinct fits in the context of its variables
-fits-need : (k : ℕ) (Γ : ℕ → Ty) {p : Pat} {a : Ty} → Under Γ p a → Below k p → ((n : ℕ) → Single uses (history n (deeds uses p)))
+fits-need : (k : ℕ) (Γ : ℕ → Ty) {p : Pat} {a : Ty} → Under Γ p a → VarsBelow k p → ((n : ℕ) → Single uses (history n (deeds uses p)))
     → Fits (need k Γ (deeds uses p)) p a
 fits-need k Γ Under.unit b s = Fits.unit (tabulate-empty k (λ n. none) (λ n. refl))
 fits-need k Γ (Under.var {n = n} {a = a} e) b s = fits-var k Γ n a (b n (List·Memᴰ·head refl)) e
@@ -208,14 +206,14 @@ fits-need k Γ (Under.pair {p = p} {q = q} u v) b s =
     split n = subst (Single uses) (marks-append n uses (vars p) (vars q)) (s n)
 
 -- a pattern that a list of events begins to use, or to bind
-fits-used : (k : ℕ) (Γ : ℕ → Ty) {p : Pat} {a : Ty} (vs : List Event) → Under Γ p a → Below k p
+fits-used : (k : ℕ) (Γ : ℕ → Ty) {p : Pat} {a : Ty} (vs : List Event) → Under Γ p a → VarsBelow k p
     → ((n : ℕ) → Rest (history n (deeds uses p ++ vs))) → Fits (need k Γ (deeds uses p)) p a
 fits-used k Γ {p} vs u b r = fits-need k Γ u b λ n. once n (subst Rest (history-append n (deeds uses p) vs) (r n))
   where
     once : (n : ℕ) → Rest (history n (deeds uses p) ++ history n vs) → Single uses (history n (deeds uses p))
     once n h = used-once (history n (deeds uses p)) (history n vs) (only-marks n uses (vars p)) h
 
-fits-bound : (k : ℕ) (Γ : ℕ → Ty) {p : Pat} {a : Ty} (vs : List Event) → Under Γ p a → Below k p
+fits-bound : (k : ℕ) (Γ : ℕ → Ty) {p : Pat} {a : Ty} (vs : List Event) → Under Γ p a → VarsBelow k p
     → ((n : ℕ) → Rest (history n (deeds binds p ++ vs))) → Fits (need k Γ (deeds uses p)) p a
 fits-bound k Γ {p} vs u b r = fits-need k Γ u b λ n. once n (subst Rest (history-append n (deeds binds p) vs) (r n))
   where
@@ -235,7 +233,7 @@ after-step l ls p =
 rest-after : (n : ℕ) (vs ws : List Event) → Rest (history n (vs ++ ws)) → Rest (history n ws)
 rest-after n vs ws r = rest-tail (history n vs) (history n ws) (subst Rest (history-append n vs ws) r)
 
-chain-need : (k : ℕ) (Γ : ℕ → Ty) (sigs : Sigs) (ls : List Let) (p : Pat) (b : Ty) → LetsUnder Γ sigs ls → LetsBelow k ls → Under Γ p b → Below k p
+chain-need : (k : ℕ) (Γ : ℕ → Ty) (sigs : Sigs) (ls : List Let) (p : Pat) (b : Ty) → LetsUnder Γ sigs ls → LetsBelow k ls → Under Γ p b → VarsBelow k p
     → ((n : ℕ) → Rest (history n (after ls p))) → Chain sigs (need k Γ (after ls p)) ls p b
 chain-need k Γ sigs [] p b us bs u below r =
     Chain.value (fits-used k Γ [] u below λ n. subst (λ vs. Rest (history n vs)) (sym (append-nil (deeds uses p))) (r n))
@@ -319,7 +317,7 @@ pub linear-of : (sigs : Sigs) (a b : Ty) (c : Clause) → Numbered c → BoundOn
 linear-of sigs a b c w h t =
     record {
       context = need variables (t .Γ) rest;
-      wide = tabulate-length variables (λ n. slot (t .Γ n) (history n rest));
+      wide = tabulate-length variables (λ n. dueSlot (t .Γ n) (history n rest));
       lhs = subst (λ d. Fits d (c .lhs) a) (sym same) (fits-bound variables (t .Γ) rest (t .lhs) (w .lhs) (λ n. whole-rest (whole c h n)));
       rest = chain-need variables (t .Γ) sigs (c .lets) (c .rhs) b (t .lets) (w .lets) (t .rhs) (w .rhs)
           (λ n. rest-after n (deeds binds (c .lhs)) rest (whole-rest (whole c h n)));
@@ -328,24 +326,18 @@ linear-of sigs a b c w h t =
     rest : List Event
     rest = after (c .lets) (c .rhs)
 
-    slots : (n : ℕ) → slot (t .Γ n) (history n rest) ≡ slot (t .Γ n) (history n (deeds uses (c .lhs)))
+    slots : (n : ℕ) → dueSlot (t .Γ n) (history n rest) ≡ dueSlot (t .Γ n) (history n (deeds uses (c .lhs)))
     slots n =
-        slot-binds (t .Γ n) (history n (deeds binds (c .lhs))) (history n rest) (only-marks n binds (vars (c .lhs)))
+        dueSlot-binds (t .Γ n) (history n (deeds binds (c .lhs))) (history n rest) (only-marks n binds (vars (c .lhs)))
         (subst Whole (history-append n (deeds binds (c .lhs)) rest) (whole c h n))
-        ∙ ap (slot (t .Γ n)) (marks-mirror n binds (vars (c .lhs)))
+        ∙ ap (dueSlot (t .Γ n)) (marks-mirror n binds (vars (c .lhs)))
 
     same : need variables (t .Γ) rest ≡ need variables (t .Γ) (deeds uses (c .lhs))
-    same = tabulate-ext variables (λ n. slot (t .Γ n) (history n rest)) (λ n. slot (t .Γ n) (history n (deeds uses (c .lhs)))) slots
+    same = tabulate-ext variables (λ n. dueSlot (t .Γ n) (history n rest)) (λ n. dueSlot (t .Γ n) (history n (deeds uses (c .lhs)))) slots
 
 -- ---- from the linear typing to histories
 
--- what a slot holds
-abbrev at : ℕ → Slots Ty → Option Ty
-at n [] = none
-at zero (s ∷ e) = s
-at (suc n) (s ∷ e) = at n e
-
-join-at : {d e f : Slots Ty} → Join d e f → (n : ℕ) → JoinAt (at n d) (at n e) (at n f)
+join-at : {d e f : Slots Ty} → Join d e f → (n : ℕ) → JoinAt (slot d n) (slot e n) (slot f n)
 join-at Join.done n = neither
 join-at (Join.neither j) zero = neither
 join-at (Join.neither j) (suc n) = join-at j n
@@ -353,30 +345,6 @@ join-at (Join.first e j) zero = first e
 join-at (Join.first e j) (suc n) = join-at j n
 join-at (Join.second e j) zero = second e
 join-at (Join.second e j) (suc n) = join-at j n
-
-empty-at : (e : Slots Ty) → allEmpty e ≡ true → (n : ℕ) → at n e ≡ none
-empty-at [] h n = refl
-empty-at (none ∷ e) h zero = refl
-empty-at (none ∷ e) h (suc n) = empty-at e h n
-empty-at (some a ∷ e) h n = absurd (false≢true h)
-
-put-here : (n : ℕ) (a : Ty) (e : Slots Ty) {d : Slots Ty} → put n a e ≡ some d → at n d ≡ some a
-put-here n a [] h = absurd (none≢some h)
-put-here zero a (none ∷ e) h = ap (at zero) (sym (some-inj h))
-put-here zero a (some b ∷ e) h = absurd (none≢some h)
-put-here (suc n) a (s ∷ e) h =
-    let k = bind-some (put n a e) (λ e′. some (s ∷ e′)) h in ap (at (suc n)) (sym (some-inj (k .2))) ∙ put-here n a e (k .1)
-
-put-there : (n : ℕ) (a : Ty) (e : Slots Ty) {d : Slots Ty} → put n a e ≡ some d → (m : ℕ) → (m ≡ n → ⊥) → at m d ≡ at m e
-put-there n a [] h m ne = absurd (none≢some h)
-put-there zero a (none ∷ e) h zero ne = absurd (ne refl)
-put-there zero a (none ∷ e) h (suc m) ne = ap (at (suc m)) (sym (some-inj h))
-put-there zero a (some b ∷ e) h m ne = absurd (none≢some h)
-put-there (suc n) a (s ∷ e) h zero ne =
-    let k = bind-some (put n a e) (λ e′. some (s ∷ e′)) h in ap (at zero) (sym (some-inj (k .2)))
-put-there (suc n) a (s ∷ e) h (suc m) ne =
-    let k = bind-some (put n a e) (λ e′. some (s ∷ e′)) h in
-    ap (at (suc m)) (sym (some-inj (k .2))) ∙ put-there n a e (k .1) m (λ q. ne (ap suc q))
 
 -- a deed where a slot is full
 abbrev times : Deed → Option Ty → List Deed
@@ -389,16 +357,13 @@ times-join d (first e) = refl
 times-join d (second e) = refl
 
 -- the variables of a pattern are those whose slots are full
-fits-history : (u : Deed) (n : ℕ) {d : Slots Ty} {p : Pat} {a : Ty} → Fits d p a → history n (deeds u p) ≡ times u (at n d)
-fits-history u n {d} (Fits.unit e) = ap (times u) (sym (empty-at d e n))
+fits-history : (u : Deed) (n : ℕ) {d : Slots Ty} {p : Pat} {a : Ty} → Fits d p a → history n (deeds u p) ≡ times u (slot d n)
+fits-history u n {d} (Fits.unit e) = ap (times u) (sym (slot-allEmpty d e n))
 fits-history u n {d} (Fits.var {n = m} {a = a} e h k) = go (bool-cases (eqb n m))
   where
-    v : Event
-    v = record { deed = u; name = m }
-
-    go : (eqb n m ≡ true) ⊎ (eqb n m ≡ false) → history n (v ∷ []) ≡ times u (at n d)
-    go (inl q) = history-hit n v [] (eqb-eq n m q) ∙ ap (times u) (sym (put-here m a e k) ∙ ap (λ i. at i d) (sym (eqb-eq n m q)))
-    go (inr q) = history-miss n v [] q ∙ ap (times u) (sym (put-there m a e k n (λ i. not-both (eq-eqb i) q) ∙ empty-at e h n))
+    go : (eqb n m ≡ true) ⊎ (eqb n m ≡ false) → history n (marks u (m ∷ [])) ≡ times u (slot d n)
+    go (inl q) = history-hit n (mark u m) [] (eqb-eq n m q) ∙ ap (times u) (sym (put-filled m a e k .held) ∙ ap (λ i. slot d i) (sym (eqb-eq n m q)))
+    go (inr q) = history-miss n (mark u m) [] q ∙ ap (times u) (sym (put-filled m a e k .same n (eqb-false q) ∙ slot-allEmpty e h n))
 fits-history u n (Fits.inj f) = fits-history u n f
 fits-history u n (Fits.pair {p = p} {q = q} j f g) =
     marks-append n u (vars p) (vars q) ∙ ap₂ _++_ (fits-history u n f) (fits-history u n g) ∙ sym (times-join u (join-at j n))
@@ -424,10 +389,10 @@ runs-bind : (x : Option Ty) {ds : List Deed} → Runs x ds → Runs none (times 
 runs-bind none r = r
 runs-bind (some t) r = put-in r
 
-runs-chain : (n : ℕ) {sigs : Sigs} {d : Slots Ty} {ls : List Let} {p : Pat} {b : Ty} → Chain sigs d ls p b → Runs (at n d) (history n (after ls p))
-runs-chain n {d} (Chain.value f) = subst (Runs (at n d)) (sym (fits-history uses n f)) (runs-value (at n d))
+runs-chain : (n : ℕ) {sigs : Sigs} {d : Slots Ty} {ls : List Let} {p : Pat} {b : Ty} → Chain sigs d ls p b → Runs (slot d n) (history n (after ls p))
+runs-chain n {d} (Chain.value f) = subst (Runs (slot d n)) (sym (fits-history uses n f)) (runs-value (slot d n))
 runs-chain n {d} (Chain.step {l = l} {ls = ls} {p = p} s k j fe fg i c) =
-    subst (Runs (at n d))
+    subst (Runs (slot d n))
     (sym
     (ap (history n) (after-step l ls p)
     ∙ history-three n (deeds uses (l .q)) (deeds binds (l .p)) (after ls p)
@@ -440,7 +405,7 @@ runs-linear n c h =
     (sym
     (history-append n (deeds binds (c .lhs)) (after (c .lets) (c .rhs))
     ∙ ap (λ r. r ++ history n (after (c .lets) (c .rhs))) (fits-history binds n (h .lhs))))
-    (runs-bind (at n (h .context)) (runs-chain n (h .rest)))
+    (runs-bind (slot (h .context) n) (runs-chain n (h .rest)))
 
 unbound : {ds : List Deed} → Runs none ds → kept ds ≡ [] → ds ≡ []
 unbound stop e = refl
@@ -457,7 +422,7 @@ linear-variables sigs a b c h d n = runs-once (runs-linear n c h) (subst (Single
 
 -- an assignment holds the types of a context
 abbrev Holds : (ℕ → Ty) → Slots Ty → Type 0
-Holds Γ d = (n : ℕ) (t : Ty) → at n d ≡ some t → Γ n ≡ t
+Holds Γ d = (n : ℕ) (t : Ty) → slot d n ≡ some t → Γ n ≡ t
 
 join-left : {x y z : Option Ty} (t : Ty) → JoinAt x y z → y ≡ some t → x ≡ some t
 join-left t neither e = e
@@ -483,23 +448,23 @@ holds-right j h n t q = h n t (join-right t (join-at j n) q)
 holds-join : {Γ : ℕ → Ty} {d e f : Slots Ty} → Join d e f → Holds Γ e → Holds Γ f → Holds Γ d
 holds-join {Γ} {d} {e} {f} j h k n t q = go (join-parts t (join-at j n) q)
   where
-    go : (at n e ≡ some t) ⊎ (at n f ≡ some t) → Γ n ≡ t
+    go : (slot e n ≡ some t) ⊎ (slot f n ≡ some t) → Γ n ≡ t
     go (inl r) = h n t r
     go (inr r) = k n t r
 
 holds-under : {Γ : ℕ → Ty} {d : Slots Ty} {p : Pat} {a : Ty} → Fits d p a → Holds Γ d → Under Γ p a
 holds-under (Fits.unit e) h = Under.unit
-holds-under (Fits.var {n = n} {a = a} e z k) h = Under.var (h n a (put-here n a e k))
+holds-under (Fits.var {n = n} {a = a} e z k) h = Under.var (h n a (put-filled n a e k .held))
 holds-under (Fits.inj f) h = Under.inj (holds-under f h)
 holds-under (Fits.pair j f g) h = Under.pair (holds-under f (holds-left j h)) (holds-under g (holds-right j h))
 
 under-holds : {Γ : ℕ → Ty} {d : Slots Ty} {p : Pat} {a : Ty} → Fits d p a → Under Γ p a → Holds Γ d
-under-holds {d} (Fits.unit e) u n t q = absurd (none≢some (sym (empty-at d e n) ∙ q))
+under-holds {d} (Fits.unit e) u n t q = absurd (none≢some (sym (slot-allEmpty d e n) ∙ q))
 under-holds {Γ} {d} (Fits.var {n = m} {a = a} e z k) (Under.var h) n t q = go (bool-cases (eqb n m))
   where
     go : (eqb n m ≡ true) ⊎ (eqb n m ≡ false) → Γ n ≡ t
-    go (inl i) = ap Γ (eqb-eq n m i) ∙ h ∙ some-inj (sym (put-here m a e k) ∙ ap (λ r. at r d) (sym (eqb-eq n m i)) ∙ q)
-    go (inr i) = absurd (none≢some (sym (put-there m a e k n (λ r. not-both (eq-eqb r) i) ∙ empty-at e z n) ∙ q))
+    go (inl i) = ap Γ (eqb-eq n m i) ∙ h ∙ some-inj (sym (put-filled m a e k .held) ∙ ap (λ r. slot d r) (sym (eqb-eq n m i)) ∙ q)
+    go (inr i) = absurd (none≢some (sym (put-filled m a e k .same n (eqb-false i) ∙ slot-allEmpty e z n) ∙ q))
 under-holds (Fits.inj f) (Under.inj u) n t q = under-holds f u n t q
 under-holds (Fits.pair j f g) (Under.pair u v) n t q = holds-join j (under-holds f u) (under-holds g v) n t q
 
@@ -509,15 +474,6 @@ under-ext (Under.var {n = n} e) h = Under.var (sym (h n (List·Memᴰ·head refl
 under-ext (Under.inj u) h = Under.inj (under-ext u h)
 under-ext (Under.pair {p = p} {q = q} u v) h =
     Under.pair (under-ext u (λ n m. h n (Memᴰ·append-left (vars q) m))) (under-ext v (λ n m. h n (Memᴰ·append-right (vars p) m)))
-
--- no number twice in a list that is split
-distinct-right : (ns ms : List ℕ) → Distinct (ns ++ ms) → Distinct ms
-distinct-right [] ms d = d
-distinct-right (n ∷ ns) ms (another h d) = distinct-right ns ms d
-
-distinct-apart : {n : ℕ} (ns ms : List ℕ) → Distinct (ns ++ ms) → List·Memᴰ n ns → List·Memᴰ n ms → ⊥
-distinct-apart {n} (k ∷ ns) ms (another h d) (List·Memᴰ·head e) m = h (Memᴰ·append-right ns (Memᴰ·cast (sym e) m))
-distinct-apart (k ∷ ns) ms (another h d) (List·Memᴰ·tail i) m = distinct-apart ns ms d i m
 
 -- the types of a context before those of an assignment
 abbrev orGiven : Option Ty → Ty → Ty
@@ -532,10 +488,10 @@ full-times d (some t) e = absurd (cons-ne-nil d [] e)
 extend : {d : Slots Ty} {p : Pat} {a : Ty} (Γ : ℕ → Ty) (ns : List ℕ) → Fits d p a → Distinct (vars p ++ ns)
     → (Δ : ℕ → Ty) × Under Δ p a × ((n : ℕ) → List·Memᴰ n ns → Γ n ≡ Δ n)
 extend {d} {p} Γ ns f h =
-    (λ n. orGiven (at n d) (Γ n), holds-under f (λ n t e. ap (λ x. orGiven x (Γ n)) e), λ n m. sym (ap (λ x. orGiven x (Γ n)) (outside n m)))
+    (λ n. orGiven (slot d n) (Γ n), holds-under f (λ n t e. ap (λ x. orGiven x (Γ n)) e), λ n m. sym (ap (λ x. orGiven x (Γ n)) (outside n m)))
   where
-    outside : (n : ℕ) → List·Memᴰ n ns → at n d ≡ none
-    outside n m = full-times uses (at n d) (sym (fits-history uses n f) ∙ absent n uses (vars p) (λ k. distinct-apart (vars p) ns h k m))
+    outside : (n : ℕ) → List·Memᴰ n ns → slot d n ≡ none
+    outside n m = full-times uses (slot d n) (sym (fits-history uses n f) ∙ absent n uses (vars p) (λ k. distinct-across (vars p) ns h k m))
 
 -- what a let step binds fits
 record BoundUnder (Γ : ℕ → Ty) (sigs : Sigs) (l : Let) : Type 0 where
@@ -553,10 +509,6 @@ mem-binders n (List·Memᴰ·tail {x = k} {xs = ls} h) m = Memᴰ·append-right 
 bounds-ext : {Γ Δ : ℕ → Ty} {sigs : Sigs} (ls : List Let) → BoundsUnder Γ sigs ls → ((n : ℕ) → List·Memᴰ n (letBinders ls) → Γ n ≡ Δ n) → BoundsUnder Δ sigs ls
 bounds-ext ls us h l m = let u = us l m in record { sig = u .sig; known = u .known; p = under-ext (u .p) (λ n k. h n (mem-binders n m k)) }
 
-bounds-cons : {Γ : ℕ → Ty} {sigs : Sigs} {l : Let} {ls : List Let} → BoundUnder Γ sigs l → BoundsUnder Γ sigs ls → BoundsUnder Γ sigs (l ∷ ls)
-bounds-cons {Γ} {sigs} u us k (List·Memᴰ·head e) = subst (BoundUnder Γ sigs) (sym e) u
-bounds-cons u us k (List·Memᴰ·tail m) = us k m
-
 -- an assignment for what let steps bind
 chain-bounds : {sigs : Sigs} {d : Slots Ty} {ls : List Let} {p : Pat} {b : Ty} → Chain sigs d ls p b → Distinct (letBinders ls)
     → (Γ : ℕ → Ty) × BoundsUnder Γ sigs ls
@@ -564,11 +516,7 @@ chain-bounds (Chain.value f) h = (λ n. tunit, λ l m. absurd (List·Memᴰ·not
 chain-bounds {sigs} (Chain.step {l = l} {ls = ls} s k j fe fg i c) h =
     let r = chain-bounds c (distinct-right (vars (l .p)) (letBinders ls) h) in
     let x = extend (r .0) (letBinders ls) fg h in
-    (x .0, bounds-cons (record { sig = s; known = k; p = x .1 }) (bounds-ext ls (r .1) (x .2)))
-
-lets-cons : {Γ : ℕ → Ty} {sigs : Sigs} {l : Let} {ls : List Let} → LetUnder Γ sigs l → LetsUnder Γ sigs ls → LetsUnder Γ sigs (l ∷ ls)
-lets-cons {Γ} {sigs} u us k (List·Memᴰ·head e) = subst (LetUnder Γ sigs) (sym e) u
-lets-cons u us k (List·Memᴰ·tail m) = us k m
+    (x .0, each-cons (BoundUnder (x .0) sigs) (record { sig = s; known = k; p = x .1 }) (bounds-ext ls (r .1) (x .2)))
 
 -- an assignment that holds what the chain begins with, and fits what it binds, fits what it uses
 chain-under : {Γ : ℕ → Ty} {sigs : Sigs} {d : Slots Ty} {ls : List Let} {p : Pat} {b : Ty} → Chain sigs d ls p b → Holds Γ d → BoundsUnder Γ sigs ls
@@ -578,7 +526,7 @@ chain-under {Γ} {sigs} (Chain.step {l = l} {ls = ls} s k j fe fg i c) h us =
     let u = us l (List·Memᴰ·head refl) in
     let v = subst (λ s. Under Γ (l .p) (s .1)) (some-inj (sym (u .known) ∙ k)) (u .p) in
     let r = chain-under c (holds-join i (holds-right j h) (under-holds fg v)) (λ m x. us m (List·Memᴰ·tail x)) in
-    (lets-cons (record { sig = s; known = k; q = holds-under fe (holds-left j h); p = v }) (r .0), r .1)
+    (each-cons (LetUnder Γ sigs) (record { sig = s; known = k; q = holds-under fe (holds-left j h); p = v }) (r .0), r .1)
 
 pub linear-assigned : (sigs : Sigs) (a b : Ty) (c : Clause) → Linear sigs a b c → Distinct (binders c) → Assigned sigs a b c
 linear-assigned sigs a b c h d =

@@ -2,21 +2,19 @@
 use Prim.Native.Nat.{ℕ, zero, suc, _+_, _<_, _≤_}
 use native.Mathlib.Nat.{add-zero, add-suc, suc-add, zero-add}
 use native.Mathlib.Omega.{arith}
-use mathlib.Core.Path.{_≡_, refl, sym, ap, _∙_, subst}
-use mathlib.Core.Logic.{_⊎_, inl, inr}
-use mathlib.Core.Bool.{Bool, true, false, _&&_, false≢true}
+use mathlib.Core.Path.{_≡_, refl, sym, _∙_, subst}
+use mathlib.Core.Bool.{true, _&&_, false≢true}
 use mathlib.Core.Option.{none, some}
-use mathlib.Core.List.{List, [], _∷_, _++_, List·Memᴰ, List·Memᴰ·head, List·Memᴰ·tail, List·Memᴰ·not-nil, List·Memᴰ·append-cases, List·Memᴰ·eq-of-singleton}
+use mathlib.Core.List.{List, [], _∷_, _++_, List·Memᴰ, List·Memᴰ·head, List·Memᴰ·tail, List·Memᴰ·not-nil, List·Memᴰ·eq-of-singleton}
 use lib.Dec.{leb, ltb, eqb}
 use lib.ListN.{length, getD, getElem?}
 use Rattle.model.specs.Limits.{maxTypes, maxPatterns, maxIsos, maxClauses, maxLets, maxNodes, maxTags, variables}
-use Rattle.model.specs.Tools.{firstFailing}
 use Rattle.model.specs.Trees.{Ty, Pat, punit, Let, Clause, Iso, typeNodes, nodes, tags, vars}
-use Rattle.model.specs.Refusals.{Kind, typeLine, patternLine, isoLine, clauseLine, letLine, Refusal, misplaced, badField, badName, ceiling}
+use Rattle.model.specs.Refusals.{Kind, typeLine, patternLine, isoLine, clauseLine, letLine, misplaced, badField, badName, ceiling}
 use Rattle.model.specs.Lines.{Row}
 use Rattle.model.specs.Judge.{Seen, start, inOrder, fieldsFit, patternFields, named, withinCeilings, judge, typeTree, patternTree, patternNode, afterKind, after, afterAll}
 use Rattle.model.specs.Unfold.{Tail, place, tailFrom, isosOf}
-use Rattle.model.proofs.Basic.{none≢some, some-inj, and-true, ltb-lt, leb-le}
+use Rattle.model.proofs.Basic.{none≢some, some-inj, and-true, ltb-lt, leb-le, none-failing, failing-none, each-nil, each-append}
 use Rattle.model.proofs.Formed.{FormedPat, FormedLet, FormedClause, Formed}
 
 -- each row passes the judge below the rows above it
@@ -33,35 +31,22 @@ pub record Fit (s : Seen) (k : Kind) (r : Row) : Type 0 where
   pub names : named s k r ≡ true
   pub ceilings : withinCeilings s k r ≡ true
 
-none-failing : {A : Type 0} (b : Bool) (a : A) (ts : List (Bool × A)) → firstFailing ((b, a) ∷ ts) ≡ none → (b ≡ true) × (firstFailing ts ≡ none)
-none-failing true a ts e = (refl, e)
-none-failing false a ts e = absurd (none≢some (sym e))
-
 pub judge-fit : (s : Seen) (r : Row) → judge s r ≡ none → Fit s (r .kind) r
 unfolding judge
 judge-fit s r e =
     let k : Kind = r .kind in
-    let t₄ : List (Bool × Refusal) = (withinCeilings s k r, ceiling k) ∷ [] in
-    let t₃ : List (Bool × Refusal) = (named s k r, badName k) ∷ t₄ in
-    let t₂ : List (Bool × Refusal) = (fieldsFit k r, badField k) ∷ t₃ in
-    let e₁ = none-failing (inOrder (s .above) k) (misplaced k) t₂ e in
-    let e₂ = none-failing (fieldsFit k r) (badField k) t₃ (e₁ .1) in
-    let e₃ = none-failing (named s k r) (badName k) t₄ (e₂ .1) in
-    let e₄ = none-failing (withinCeilings s k r) (ceiling k) [] (e₃ .1) in
+    let e₁ = none-failing (inOrder (s .above) k) (misplaced k) _ e in
+    let e₂ = none-failing (fieldsFit k r) (badField k) _ (e₁ .1) in
+    let e₃ = none-failing (named s k r) (badName k) _ (e₂ .1) in
+    let e₄ = none-failing (withinCeilings s k r) (ceiling k) _ (e₃ .1) in
     record { order = e₁ .0; fields = e₂ .0; names = e₃ .0; ceilings = e₄ .0 }
-
-failing-none : {A : Type 0} {b : Bool} (a : A) (ts : List (Bool × A)) → b ≡ true → firstFailing ts ≡ none → firstFailing ((b, a) ∷ ts) ≡ none
-failing-none a ts p e = ap (λ b. firstFailing ((b, a) ∷ ts)) p ∙ e
 
 pub fit-judge : (s : Seen) (r : Row) → Fit s (r .kind) r → judge s r ≡ none
 unfolding judge
 fit-judge s r f =
     let k : Kind = r .kind in
-    let t₄ : List (Bool × Refusal) = (withinCeilings s k r, ceiling k) ∷ [] in
-    let t₃ : List (Bool × Refusal) = (named s k r, badName k) ∷ t₄ in
-    let t₂ : List (Bool × Refusal) = (fieldsFit k r, badField k) ∷ t₃ in
-    failing-none (misplaced k) t₂ (f .order)
-    (failing-none (badField k) t₃ (f .fields) (failing-none (badName k) t₄ (f .names) (failing-none (ceiling k) [] (f .ceilings) refl)))
+    failing-none (misplaced k) (f .order)
+    (failing-none (badField k) (f .fields) (failing-none (badName k) (f .names) (failing-none (ceiling k) (f .ceilings) refl)))
 
 -- The tests kind by kind. The fields and names of T and P lines depend on the first field: `Fit` computes them there.
 
@@ -126,11 +111,7 @@ node-slots (suc zero) a b p q e f g n m =
     subst (λ v. v < variables) (sym (List·Memᴰ·eq-of-singleton m)) (ltb-lt a variables (and-true (ltb a variables) (eqb b 0) e .0))
 node-slots (suc (suc zero)) a b p q e f g n m = f .slots n m
 node-slots (suc (suc (suc zero))) a b p q e f g n m = f .slots n m
-node-slots (suc (suc (suc (suc zero)))) a b p q e f g n m = go (List·Memᴰ·append-cases (vars p) m)
-  where
-    go : List·Memᴰ n (vars p) ⊎ List·Memᴰ n (vars q) → n < variables
-    go (inl h) = f .slots n h
-    go (inr h) = g .slots n h
+node-slots (suc (suc (suc (suc zero)))) a b p q e f g n m = each-append (λ n. n < variables) (vars p) (f .slots) (g .slots) n m
 node-slots (suc (suc (suc (suc (suc k))))) a b p q e f g n m = absurd (false≢true e)
 
 pattern-formed : (s : Seen) (r : Row) → AllFormed (s .patterns) → Fit s patternLine r → FormedPat (patternTree (s .patterns) r)
@@ -187,23 +168,17 @@ cons-isos ts ps s n r o d zero a e c m =
 cons-isos ts ps s n r o d (suc j) a e c m =
     subst (λ i. FormedClause i c) (suc-add (s .isos) j ∙ sym (add-suc (s .isos) j)) (d .isos j a e c m)
 
-no-lets : {i : ℕ} (l : Let) → List·Memᴰ l [] → FormedLet i l
-no-lets l m = absurd (List·Memᴰ·not-nil m)
-
-no-clauses : {i : ℕ} (c : Clause) → List·Memᴰ c [] → FormedClause i c
-no-clauses c m = absurd (List·Memᴰ·not-nil m)
-
 place-formed : (ts : List Ty) (ps : List Pat) → AllFormed ps → (s : Seen) (k : Kind) (n : ℕ) (r : Row) (o : Tail) → Fit s k r
     → FormedTail (afterKind k s r .isos) o → FormedTail (s .isos) (place ts ps k n r o)
 place-formed ts ps h s typeLine n r o f d = d
 place-formed ts ps h s patternLine n r o f d = d
-place-formed ts ps h s isoLine n r o f d = record { lets = λ i e. no-lets; clauses = λ i e. no-clauses; isos = cons-isos ts ps s n r o d }
-place-formed ts ps h s clauseLine n r o f d = record { lets = λ i e. no-lets; clauses = cons-clauses ts ps h s n r o d; isos = d .isos }
+place-formed ts ps h s isoLine n r o f d = record { lets = λ i e. each-nil (FormedLet i); clauses = λ i e. each-nil (FormedClause i); isos = cons-isos ts ps s n r o d }
+place-formed ts ps h s clauseLine n r o f d = record { lets = λ i e. each-nil (FormedLet i); clauses = cons-clauses ts ps h s n r o d; isos = d .isos }
 place-formed ts ps h s letLine n r o f d = record { lets = cons-lets ts ps h s n r o f d; clauses = d .clauses; isos = d .isos }
 
 tail-formed : (ts : List Ty) (ps : List Pat) → AllFormed ps → {s : Seen} {rs : List Row} (n : ℕ) → Passes s rs
     → FormedTail (s .isos) (tailFrom ts ps n rs)
-tail-formed ts ps h n done = record { lets = λ i e. no-lets; clauses = λ i e. no-clauses; isos = λ j a e. absurd (none≢some e) }
+tail-formed ts ps h n done = record { lets = λ i e. each-nil (FormedLet i); clauses = λ i e. each-nil (FormedClause i); isos = λ j a e. absurd (none≢some e) }
 tail-formed ts ps h n (next {s = s} {r = r} {rs = rs} j d) =
     place-formed ts ps h s (r .kind) n r (tailFrom ts ps (suc n) rs) (judge-fit s r j) (tail-formed ts ps h (suc n) d)
 

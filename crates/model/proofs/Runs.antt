@@ -1,37 +1,35 @@
 -- Runs as bytes: what Run answers, there and back, and every value of the to-type reached from exactly one value of the from-type.
-use Prim.Native.Nat.{ℕ, suc, _≤_, _<_}
-use native.Mathlib.Nat.{lt-irrefl, lt-of-lt-of-le}
-use mathlib.Core.Path.{_≡_, refl, sym, ap, ap₂, _∙_, subst}
-use mathlib.Core.Logic.{_↔_, _⊎_, ⊎-elim}
-use mathlib.Core.Bool.{Bool, true, false, cond}
+use Prim.Native.Nat.{ℕ, _<_}
+use mathlib.Core.Path.{_≡_, refl, sym, ap, _∙_, subst}
+use mathlib.Core.Logic.{_↔_, ⊎-elim}
+use mathlib.Core.Bool.{Bool, true, false, cond, false≢true}
 use mathlib.Core.Option.{Option, none, some}
-use mathlib.Core.List.{List, map, List·Memᴰ, List·Memᴰ·head, List·Memᴰ·tail}
+use mathlib.Core.List.{List, map, List·Memᴰ}
 use lib.Dec.{leb}
 use lib.ListN.{getElem?, length}
 use Rattle.model.specs.Tools.{_>>=_, guard}
-use Rattle.model.specs.Trees.{Val, Clause, Iso, invert}
-use Rattle.model.specs.Refusals.{Refusal, noIso, noValue, spent}
+use Rattle.model.specs.Trees.{Val, Iso, invert}
+use Rattle.model.specs.Refusals.{Refusal, spent}
 use Rattle.model.specs.Lines.{Row}
 use Rattle.model.specs.Judge.{start}
 use Rattle.model.specs.Unfold.{isosOf, turnRows}
-use Rattle.model.specs.Reduction.{reduceTo, reduce}
+use Rattle.model.specs.Reduction.{reduce}
 use Rattle.model.specs.Letters.{letters, valueOf, inhabits}
-use Rattle.model.specs.Services.{Verdict, accepted, verdict, turned, Ran, gives, failed, within, argument, from, onIso, runRows, toward, runOf, run}
+use Rattle.model.specs.Services.{accepted, verdict, turned, Ran, gives, failed, within, argument, from, onIso, runRows, toward, runOf, run}
 use Rattle.model.specs.Paper.{Of, Apart, FileOk, OnWay, ExactlyOne}
 use Rattle.model.specs.Clauses.{lefts, rights}
 use Rattle.model.specs.Terms.{Steps, eapp, valTerm}
 use Rattle.model.specs.Answers.{RunSays, absent, strange, passed, done}
-use Rattle.model.proofs.Basic.{bind-some, some-bind, none≢some, some-inj, guard-true, true-guard, leb-le, le-leb, leb-false, not-both, is-false, bool-cases}
+use Rattle.model.proofs.Basic.{bind-some, some-bind, none≢some, some-inj, not-some, guard-true, true-guard, leb-le, le-leb, leb-false, bool-cases, not-leb, mem-index, index-map}
 use Rattle.model.proofs.Formed.{Formed}
 use Rattle.model.proofs.Letters.{value-letters, letters-value, inhabits-of, of-inhabits}
-use Rattle.model.proofs.Inverse.{getElem-mem, getElem-map, reduce-inverse, reduce-unfold}
+use Rattle.model.proofs.Inverse.{reduce-inverse, reduce-unfold}
 use Rattle.model.proofs.Linear.{linear-of, formed-numbered}
 use Rattle.model.proofs.Totality.{Sound, total, on-way}
 use Rattle.model.proofs.Steps.{reduction}
 use Rattle.model.proofs.Passing.{Passes, formed}
 use Rattle.model.proofs.Turning.{turn-turn, isos-turn, passes-turn}
-use Rattle.model.proofs.Inverted.{file-invert}
-use Rattle.model.proofs.Files.{InForm, passes as passes-of, accepted-iff, turned-accepted}
+use Rattle.model.proofs.Files.{passes as passes-of, accepted-iff, turned-ok, turned-accepted}
 
 -- ---- the isos of an accepted file
 
@@ -39,15 +37,10 @@ pub record Good (os : List Iso) : Type 0 where
   pub form : Formed os
   pub ok : FileOk os
 
--- an iso's place, from its membership
-mem-place : {A : Type 0} {x : A} {xs : List A} → List·Memᴰ x xs → (i : ℕ) × (getElem? xs i ≡ some x)
-mem-place (List·Memᴰ·head e) = (0, ap some (sym e))
-mem-place (List·Memᴰ·tail m) = let r = mem-place m in (suc (r .0), r .1)
-
 sound : (os : List Iso) → Good os → Sound os
 sound os g =
     record {
-      linear = λ o m c k. let r = mem-place m in linear-of _ (o .from) (o .to) c (formed-numbered (g .form (r .0) o (r .1) c k)) (g .ok o m .clauses c k .variables) (g .ok o m .clauses c k .types);
+      linear = λ o m c k. let r = mem-index m in linear-of _ (o .from) (o .to) c (formed-numbered (g .form (r .0) o (r .1) c k)) (g .ok o m .clauses c k .variables) (g .ok o m .clauses c k .types);
       shapes = λ o m c k. g .ok o m .clauses c k .shapes;
       leftsApart = λ o m. g .ok o m .leftsApart;
       leftsCover = λ o m. g .ok o m .leftsCover;
@@ -86,7 +79,7 @@ good rs g = record { form = formed (g .passes); ok = g .ok }
 
 pub good-turn : (rs : List Row) → GoodRows rs → GoodRows (turnRows rs)
 good-turn rs g =
-    record { passes = passes-turn (g .passes); ok = subst FileOk (sym (isos-turn rs (g .passes))) (file-invert (isosOf rs) (g .ok)) }
+    record { passes = passes-turn (g .passes); ok = turned-ok rs (g .passes) (g .ok) }
 
 pub good-toward : (back : Bool) (rs : List Row) → GoodRows rs → GoodRows (toward back rs)
 good-toward true rs g = good-turn rs g
@@ -111,11 +104,7 @@ some-argument o bs v e h =
     ∙ some-bind (λ _. some v) (true-guard (of-inhabits h))
 
 no-argument : (o : Iso) (bs : List ℕ) → ((v : Val) → bs ≡ letters v → Of v (o .from) → ⊥) → argument o bs ≡ none
-no-argument o bs h = go (argument o bs) refl
-  where
-    go : (x : Option Val) → argument o bs ≡ x → x ≡ none
-    go none e = refl
-    go (some v) e = let r = argument-some o bs v e in absurd (h v (r .0) (r .1))
+no-argument o bs h = not-some (argument o bs) (λ v e. let r = argument-some o bs v e in h v (r .0) (r .1))
 
 module _ (os : List Iso) (g : Good os) (i budget : ℕ) (bs : List ℕ) where
   abbrev answered : Ran
@@ -152,7 +141,7 @@ module _ (os : List Iso) (g : Good os) (i budget : ℕ) (bs : List ℕ) where
   said (strange o e h) = ap (onIso os i budget bs) e ∙ ap (from os i budget) (no-argument o bs h)
   said (passed o v w k e x h s l) =
       reached o v w k e x h (reduces-iff os g i o e v h w k .0 s)
-      ∙ ap (λ b. cond b (gives k (letters w)) (failed spent)) (is-false (leb k budget) (λ t. lt-irrefl budget (lt-of-lt-of-le l (leb-le k budget t))))
+      ∙ ap (λ b. cond b (gives k (letters w)) (failed spent)) (not-leb l)
   said (done o v w k e x h s l) =
       reached o v w k e x h (reduces-iff os g i o e v h w k .0 s) ∙ ap (λ b. cond b (gives k (letters w)) (failed spent)) (le-leb l)
 
@@ -183,7 +172,7 @@ there : (os : List Iso) → Good os → Good (map invert os) → (i budget k : �
     → RunSays os i budget x (gives k y) → RunSays (map invert os) i budget y (gives k x)
 there os g b i budget k x y (done o v w j e p h s l) =
     let r = reduces-iff os g i o e v h w j .0 s in
-    let f = getElem-map invert os i e in
+    let f = index-map invert os i e in
     let t = preserves os g i o e v w j h r in
     let q = reduce-inverse os (sides os (g .ok)) i v w j .0 r in
     subst (λ z. RunSays (map invert os) i budget (letters w) (gives j z)) (sym p)
@@ -243,7 +232,7 @@ pub record ReachedOnce (os : List Iso) (i : ℕ) (o : Iso) (w : Val) : Type 0 wh
 
 reached-once : (os : List Iso) → Good os → Good (map invert os) → (i : ℕ) (o : Iso) → getElem? os i ≡ some o → (w : Val) → Of w (o .to) → ReachedOnce os i o w
 reached-once os g b i o e w h =
-    let f = getElem-map invert os i e in
+    let f = index-map invert os i e in
     let t = results (map invert os) b i (invert o) f w h in
     let back = reduce-inverse os (sides os (g .ok)) i (t .0) w (t .1) .1 (t .2) in
     record {
@@ -272,14 +261,9 @@ one-clause file rs e back i o f v h j w m =
 
 -- ---- the budget
 
-refusal-of : Ran → Bool
-refusal-of (gives k y) = false
-refusal-of (failed f) = true
-
 -- a run that gives something did not fail
 gives≢failed : {k : ℕ} {y : List ℕ} {f : Refusal} → gives k y ≡ failed f → ⊥
-unfolding refusal-of
-gives≢failed e = not-both refl (sym (ap refusal-of e))
+gives≢failed e = false≢true cc
 
 -- Refusal 17 exactly when the full count of the reduction is above the budget.
 pub spent-iff : (file : List ℕ) (rs : List Row) → verdict file ≡ accepted rs → (i : ℕ) (back : Bool) (budget : ℕ) (o : Iso)

@@ -3,19 +3,24 @@ use Prim.Native.Nat.{ℕ, zero, suc, _+_}
 use native.Mathlib.Omega.{arith}
 use mathlib.Core.Path.{_≡_, refl, sym, ap, ap₂, _∙_, subst, subst₂}
 use mathlib.Core.Logic.{_⊎_, inl, inr, _↔_}
-use mathlib.Core.Bool.{Bool, true, false, cond, true≢false}
+use mathlib.Core.Bool.{true≢false}
 use mathlib.Core.Option.{Option, some}
-use mathlib.Core.List.{List, [], _∷_, _++_, map, List·Memᴰ, List·Memᴰ·head, List·Memᴰ·tail, List·Memᴰ·not-nil, List·Memᴰ·cases-cons, Memᴰ·map}
+use mathlib.Core.List.{List, [], _∷_, _++_, map, List·Memᴰ, List·Memᴰ·not-nil, List·Memᴰ·cases-cons, Memᴰ·map}
 use lib.ListN.{getElem?}
-use Rattle.model.specs.Tools.{_>>=_, guard, select}
+use Rattle.model.specs.Tools.{select}
 use Rattle.model.specs.Trees.{Tag, Pat, Val, vunit, vinj, vpair, Let, Clause, Iso, vars}
-use Rattle.model.specs.Slots.{Slots, empty, allEmpty}
-use Rattle.model.specs.Reduction.{bind, build, Call, runLets, runClause, hits, only, apply, reduceTo}
+use Rattle.model.specs.Slots.{Slots, empty}
+use Rattle.model.specs.Reduction.{build, Call, runLets, runClause, hits, only, apply, reduceTo}
 use Rattle.model.specs.Clauses.{lefts}
-use Rattle.model.specs.Paper.{Valuation, Matches, Matches.unit, Matches.var, Matches.inj, Matches.pair, Orth, Orth.leftRight, Orth.rightLeft, Orth.under, Orth.fst, Orth.snd, Apart, Apart.beside}
+use Rattle.model.specs.Paper.{Valuation, Matches, Matches.unit, Matches.var, Matches.inj, Matches.pair, Orth, Apart}
 use Rattle.model.specs.Terms.{Term, einj, epair, eapp, elet, patTerm, valTerm, chain, look, without, replace, Step, isoApp, letE, inInj, inFst, inSnd, inApp, inLet, Steps, still, more}
-use Rattle.model.proofs.Basic.{bind-some, none≢some, some-inj}
-use Rattle.model.proofs.Substitution.{slot, Below, Found, bind-found, build-replace, build-below, over, replace-over, bound-over, bound-start}
+use Rattle.model.proofs.Basic.{bind-some, none≢some, some-inj, some-pair, index-mem}
+use Rattle.model.proofs.Slots.{slot, Contained}
+use Rattle.model.proofs.Orthogonal.{orth-apart, apart-head, apart-tail}
+use Rattle.model.proofs.Binding.{bind-found, build-found}
+use Rattle.model.proofs.Running.{let-run, clause-run, hit-only}
+use Rattle.model.proofs.Substitution.{build-replace, over, replace-over, bound-over, bound-start}
+use Rattle.model.proofs.Valuations.{matches-matched}
 
 -- ---- steps in a row
 
@@ -36,59 +41,6 @@ steps-let p u (more a r h) = more (inLet a) (steps-let p u r) h
 abbrev Takes : List Iso → Call → Type 0
 Takes os call = (i : ℕ) (v w : Val) (k : ℕ) → call i v ≡ some (w, k) → Steps os (eapp i (valTerm v)) (valTerm w) k
 
--- the run of a let step and of those after it
-record LetRun (call : Call) (l : Let) (ls : List Let) (e : Slots Val) (t : Slots Val × ℕ) : Type 0 where
-  given : Val × Slots Val
-  result : Val × ℕ
-  after : Slots Val
-  final : Slots Val × ℕ
-  built : build (l .q) e ≡ some given
-  called : call (l .iso) (given .0) ≡ some result
-  matched : bind (l .p) (result .0) (given .1) ≡ some after
-  ran : runLets call ls after ≡ some final
-  slots : t .0 ≡ final .0
-  count : result .1 + final .1 ≡ t .1
-
-let-run : (call : Call) (l : Let) (ls : List Let) (e : Slots Val) {t : Slots Val × ℕ} → runLets call (l ∷ ls) e ≡ some t → LetRun call l ls e t
-let-run call l ls e {t} h = let (r, built, rest) = bind-some (build (l .q) e) call-step h in after-build r built rest
-  where
-    last : Val × ℕ → Slots Val × ℕ → Option (Slots Val × ℕ)
-    last c t = some (t .0, c .1 + t .1)
-
-    bind-step : Val × Slots Val → Val × ℕ → Option (Slots Val × ℕ)
-    bind-step r c = bind (l .p) (c .0) (r .1) >>= λ d. runLets call ls d >>= last c
-
-    call-step : Val × Slots Val → Option (Slots Val × ℕ)
-    call-step r = call (l .iso) (r .0) >>= bind-step r
-
-    after-match : (r : Val × Slots Val) → build (l .q) e ≡ some r → (c : Val × ℕ) → call (l .iso) (r .0) ≡ some c
-        → (d : Slots Val) → bind (l .p) (c .0) (r .1) ≡ some d → (runLets call ls d >>= last c) ≡ some t → LetRun call l ls e t
-    after-match r built c called d matched h =
-        let (f, ran, is) = bind-some (runLets call ls d) (last c) h in
-        record {
-          given = r;
-          result = c;
-          after = d;
-          final = f;
-          built = built;
-          called = called;
-          matched = matched;
-          ran = ran;
-          slots = ap (λ r. r .0) (sym (some-inj is));
-          count = ap (λ r. r .1) (some-inj is);
-        }
-
-    after-call : (r : Val × Slots Val) → build (l .q) e ≡ some r → (c : Val × ℕ) → call (l .iso) (r .0) ≡ some c
-        → bind-step r c ≡ some t → LetRun call l ls e t
-    after-call r built c called h =
-        let (d, matched, rest) = bind-some (bind (l .p) (c .0) (r .1)) (λ d. runLets call ls d >>= last c) h in
-        after-match r built c called d matched rest
-
-    after-build : (r : Val × Slots Val) → build (l .q) e ≡ some r → call-step r ≡ some t → LetRun call l ls e t
-    after-build r built h =
-        let (c, called, rest) = bind-some (call (l .iso) (r .0)) (bind-step r) h in
-        after-call r built c called rest
-
 -- a let step is the steps of its application, LetE, and the steps of its body under one substitution
 let-steps : {os : List Iso} (g : ℕ → Option Val) (l : Let) (body : Term) (u w x : Val) (σ : Valuation) (j k : ℕ)
     → replace g (patTerm (l .q)) ≡ valTerm u → Steps os (eapp (l .iso) (valTerm u)) (valTerm w) j → Matches σ (l .p) w
@@ -102,76 +54,30 @@ let-steps g l body u w x σ j k argument application matches rest =
 
 -- the run of a let chain is the steps of its term, under any substitution that gives what the slots hold
 lets-forward : {os : List Iso} (call : Call) → Takes os call → (ls : List Let) (r : Pat) (e : Slots Val) (g : ℕ → Option Val)
-    → Below (slot e) g → {t : Slots Val × ℕ} → runLets call ls e ≡ some t → {b : Val × Slots Val} → build r (t .0) ≡ some b
-    → Steps os (replace g (chain ls r)) (valTerm (b .0)) (t .1)
+    → Contained (slot e) g → {d f : Slots Val} {k : ℕ} → runLets call ls e ≡ some (d, k) → {w : Val} → build r d ≡ some (w, f)
+    → Steps os (replace g (chain ls r)) (valTerm w) k
 lets-forward call takes [] r e g below h built =
     still (build-replace r e g below (ap (build r) (ap (λ t. t .0) (some-inj h)) ∙ built)) (ap (λ t. t .1) (sym (some-inj h)))
-lets-forward {os} call takes (l ∷ ls) r e g below {t} h {b} built =
-    let run = let-run call l ls e h in
-    go run (bind-found (l .p) (run .result .0) (run .given .1) (run .matched))
-    (λ g′ below′. lets-forward call takes ls r (run .after) g′ below′ (run .ran) (ap (build r) (sym (run .slots)) ∙ built))
-  where
-    go : (run : LetRun call l ls e t) → Found (l .p) (run .result .0) (run .given .1) (run .after)
-        → ((g′ : ℕ → Option Val) → Below (slot (run .after)) g′ → Steps os (replace g′ (chain ls r)) (valTerm (b .0)) (run .final .1))
-        → Steps os (replace g (chain (l ∷ ls) r)) (valTerm (b .0)) (t .1)
-    go run f later =
-        let below′ : Below (slot (run .given .1)) g = λ n v i. below n v (build-below (l .q) e (run .built) n v i) in
-        steps-from refl (sym (run .count))
-        (let-steps g l (chain ls r) (run .given .0) (run .result .0) (b .0) (f .σ) (run .result .1) (run .final .1)
-        (build-replace (l .q) e g below (run .built))
-        (takes (l .iso) (run .given .0) (run .result .0) (run .result .1) (run .called))
-        (f .matches)
-        (later (over (look (f .σ)) (without (vars (l .p)) g)) (bound-over g (f .matches) (f .bound) below′)))
+lets-forward call takes (l ∷ ls) r e g below h {w} built =
+    let s = let-run call l ls e h in
+    let m = bind-found (l .p) (s .gives) (s .rest) (s .bound) in
+    let g′ : ℕ → Option Val = over (look (m .σ)) (without (vars (l .p)) g) in
+    let below′ : Contained (slot (s .rest)) g = λ n v i. below n v (build-found (l .q) e (s .built) .bound .kept n v i) in
+    steps-from refl (sym (s .counts))
+    (let-steps g l (chain ls r) (s .given) (s .gives) w (m .σ) (s .count) (s .after)
+    (build-replace (l .q) e g below (s .built))
+    (takes (l .iso) (s .given) (s .gives) (s .count) (s .called))
+    (m .matches)
+    (lets-forward call takes ls r (s .next) g′ (bound-over g (m .matches) (m .bound) below′) (s .follows) built))
 
 -- the run of a clause is IsoApp and the steps of its let chain
 clause-forward : {os : List Iso} (call : Call) → Takes os call → (i : ℕ) (o : Iso) (c : Clause) → getElem? os i ≡ some o
     → List·Memᴰ c (o .clauses) → (v w : Val) (k : ℕ) → runClause call c v ≡ some (w, k) → Steps os (eapp i (valTerm v)) (valTerm w) k
 clause-forward {os} call takes i o c known member v w k h =
-    let (e, bound, rest) = bind-some (bind (c .lhs) v (empty Val)) lets-step h in
-    after-match e (bind-found (c .lhs) v (empty Val) bound) rest
-  where
-    last : Slots Val × ℕ → Val × Slots Val → Option (Val × ℕ)
-    last t r = guard (allEmpty (r .1)) >>= λ _. some (r .0, suc (t .1))
-
-    lets-step : Slots Val → Option (Val × ℕ)
-    lets-step e = runLets call (c .lets) e >>= λ t. build (c .rhs) (t .0) >>= last t
-
-    done : (σ : Valuation) → Matches σ (c .lhs) v → (t : Slots Val × ℕ) (r : Val × Slots Val) → last t r ≡ some (w, k)
-        → Steps os (replace (look σ) (chain (c .lets) (c .rhs))) (valTerm (r .0)) (t .1) → Steps os (eapp i (valTerm v)) (valTerm w) k
-    done σ matches t r h s =
-        let (z, _, is) = bind-some (guard (allEmpty (r .1))) (λ _. some (r .0, suc (t .1))) h in
-        let value : r .0 ≡ w = ap (λ a. a .0) (some-inj is) in
-        let count : suc (t .1) ≡ k = ap (λ a. a .1) (some-inj is) in
-        subst (λ x. Steps os (eapp i (valTerm v)) (valTerm x) k) value
-        (more {k = t .1} {m = k} (isoApp o c v σ known member refl matches refl) s (omega arith))
-
-    after-lets : (e : Slots Val) (f : Found (c .lhs) v (empty Val) e) (t : Slots Val × ℕ) → runLets call (c .lets) e ≡ some t
-        → (build (c .rhs) (t .0) >>= last t) ≡ some (w, k) → Steps os (eapp i (valTerm v)) (valTerm w) k
-    after-lets e f t ran h =
-        let (r, built, rest) = bind-some (build (c .rhs) (t .0)) (last t) h in
-        done (f .σ) (f .matches) t r rest (lets-forward call takes (c .lets) (c .rhs) e (look (f .σ)) (bound-start (f .bound)) ran built)
-
-    after-match : (e : Slots Val) → Found (c .lhs) v (empty Val) e → lets-step e ≡ some (w, k) → Steps os (eapp i (valTerm v)) (valTerm w) k
-    after-match e f h =
-        let (t, ran, rest) = bind-some (runLets call (c .lets) e) (λ t. build (c .rhs) (t .0) >>= last t) h in
-        after-lets e f t ran rest
-
-only-mem : (cs : List Clause) {c : Clause} → only cs ≡ some c → List·Memᴰ c cs
-only-mem [] h = absurd (none≢some h)
-only-mem (d ∷ []) h = List·Memᴰ·head (sym (some-inj h))
-only-mem (d ∷ (e ∷ cs)) h = absurd (none≢some h)
-
-select-mem : {A : Type 0} (p : A → Bool) (xs : List A) {x : A} → List·Memᴰ x (select p xs) → List·Memᴰ x xs
-select-mem p [] i = i
-select-mem p (y ∷ ys) {x} i = go (p y) (λ j. select-mem p ys j) i
-  where
-    go : (b : Bool) → (List·Memᴰ x (select p ys) → List·Memᴰ x ys) → List·Memᴰ x (cond b (y ∷ select p ys) (select p ys)) → List·Memᴰ x (y ∷ ys)
-    go true later i = first (List·Memᴰ·cases-cons i)
-      where
-        first : (x ≡ y) ⊎ List·Memᴰ x (select p ys) → List·Memᴰ x (y ∷ ys)
-        first (inl e) = List·Memᴰ·head e
-        first (inr j) = List·Memᴰ·tail (later j)
-    go false later i = List·Memᴰ·tail (later i)
+    let s = clause-run call c v h in
+    let m = bind-found (c .lhs) v (empty Val) (s .bound) in
+    let rest = lets-forward call takes (c .lets) (c .rhs) (s .first) (look (m .σ)) (bound-start (m .bound)) (s .lets) (s .built) in
+    more {k = s .count} {m = k} (isoApp o c v (m .σ) known member refl (m .matches) refl) rest (omega (arith, s .counts))
 
 -- where the executable reduction gives something, the paper's gives it too, with the same number of applications
 pub forward : (os : List Iso) (d i : ℕ) (v w : Val) (k : ℕ) → reduceTo d os i v ≡ some (w, k) → Steps os (eapp i (valTerm v)) (valTerm w) k
@@ -179,8 +85,7 @@ forward os zero i v w k h = absurd (none≢some h)
 forward os (suc d) i v w k h =
     let (o, known, applied) = bind-some (getElem? os i) (λ o. apply (reduceTo d os) o v) h in
     let (c, chosen, ran) = bind-some (only (select (hits v) (o .clauses))) (λ c. runClause (reduceTo d os) c v) applied in
-    clause-forward (reduceTo d os) (forward os d) i o c known (select-mem (hits v) (o .clauses) (only-mem (select (hits v) (o .clauses)) chosen))
-    v w k ran
+    clause-forward (reduceTo d os) (forward os d) i o c known (hit-only (hits v) (o .clauses) chosen .0) v w k ran
 
 -- ---- the steps of a term are determined
 
@@ -199,14 +104,14 @@ valTerm-injective (vpair v v′) (vinj t w) e = cc
 valTerm-injective (vpair v v′) (vpair w w′) e = ap₂ vpair (valTerm-injective v w cc) (valTerm-injective v′ w′ cc)
 
 not-app : {i : ℕ} {t : Term} (v : Val) → eapp i t ≡ valTerm v → ⊥
-not-app vunit e = absurd (true≢false cc)
-not-app (vinj s v) e = absurd (true≢false cc)
-not-app (vpair v w) e = absurd (true≢false cc)
+not-app vunit e = true≢false cc
+not-app (vinj s v) e = true≢false cc
+not-app (vpair v w) e = true≢false cc
 
 not-let : {p : Pat} {t u : Term} (v : Val) → elet p t u ≡ valTerm v → ⊥
-not-let vunit e = absurd (true≢false cc)
-not-let (vinj s v) e = absurd (true≢false cc)
-not-let (vpair v w) e = absurd (true≢false cc)
+not-let vunit e = true≢false cc
+not-let (vinj s v) e = true≢false cc
+not-let (vpair v w) e = true≢false cc
 
 inj-value : {s : Tag} {t : Term} (v : Val) → einj s t ≡ valTerm v → (w : Val) × (t ≡ valTerm w)
 inj-value vunit e = absurd (true≢false cc)
@@ -237,24 +142,17 @@ matches-unique (Matches.pair m m′ d e) (Matches.pair n n′ d′ f) = e ∙ ap
 
 -- orthogonal patterns match no common value
 pub orth-matches : {σ ρ : Valuation} {p q : Pat} {v : Val} → Orth p q → Matches σ p v → Matches ρ q v → ⊥
-orth-matches Orth.leftRight (Matches.inj e m) (Matches.inj f n) = absurd (true≢false cc)
-orth-matches Orth.rightLeft (Matches.inj e m) (Matches.inj f n) = absurd (true≢false cc)
-orth-matches (Orth.under s o) (Matches.inj e m) (Matches.inj f n) = orth-matches o m n
-orth-matches (Orth.fst o) (Matches.pair m m′ d e) (Matches.pair n n′ d′ f) = orth-matches o m n
-orth-matches (Orth.snd o) (Matches.pair m m′ d e) (Matches.pair n n′ d′ f) = orth-matches o m′ n′
-
-apart-cons : {p : Pat} {ps : List Pat} → Apart (p ∷ ps) → ((q : Pat) → List·Memᴰ q ps → Orth p q) × Apart ps
-apart-cons (Apart.beside h a) = (h, a)
+orth-matches o m n = orth-apart o (matches-matched m) (matches-matched n)
 
 -- of clauses with orthogonal left patterns one matches
 pub clause-unique : (cs : List Clause) → Apart (map (λ c. c .lhs) cs) → {c d : Clause} → List·Memᴰ c cs → List·Memᴰ d cs
     → {σ ρ : Valuation} {v : Val} → Matches σ (c .lhs) v → Matches ρ (d .lhs) v → c ≡ d
 clause-unique [] a i j m n = absurd (List·Memᴰ·not-nil i)
 clause-unique (x ∷ xs) a {c} {d} i j {σ} {ρ} {v} m n =
-    go (λ i j. clause-unique xs (apart-cons a .1) i j m n) (List·Memᴰ·cases-cons i) (List·Memᴰ·cases-cons j)
+    go (λ i j. clause-unique xs (apart-tail a) i j m n) (List·Memᴰ·cases-cons i) (List·Memᴰ·cases-cons j)
   where
     orth : {e : Clause} → List·Memᴰ e xs → Orth (x .lhs) (e .lhs)
-    orth {e} i = apart-cons a .0 (e .lhs) (Memᴰ·map (λ c. c .lhs) i)
+    orth {e} i = apart-head a (e .lhs) (Memᴰ·map (λ c. c .lhs) i)
 
     go : (List·Memᴰ c xs → List·Memᴰ d xs → c ≡ d) → (c ≡ x) ⊎ List·Memᴰ c xs → (d ≡ x) ⊎ List·Memᴰ d xs → c ≡ d
     go later (inl e) (inl f) = e ∙ sym f
@@ -266,11 +164,6 @@ clause-unique (x ∷ xs) a {c} {d} i j {σ} {ρ} {v} m n =
 abbrev pub LeftsApart : List Iso → Type 0
 LeftsApart os = (o : Iso) → List·Memᴰ o os → Apart (lefts o)
 
-pub getElem?-mem : {A : Type 0} (xs : List A) (i : ℕ) {x : A} → getElem? xs i ≡ some x → List·Memᴰ x xs
-getElem?-mem [] i h = absurd (none≢some h)
-getElem?-mem (y ∷ xs) zero h = List·Memᴰ·head (sym (some-inj h))
-getElem?-mem (y ∷ xs) (suc i) h = List·Memᴰ·tail (getElem?-mem xs i h)
-
 -- two uses of IsoApp at one application give one term
 isoApp-unique : {os : List Iso} → LeftsApart os → (i : ℕ) {o o′ : Iso} {c c′ : Clause} {v v′ : Val} {σ σ′ : Valuation}
     → getElem? os i ≡ some o → getElem? os i ≡ some o′ → List·Memᴰ c (o .clauses) → List·Memᴰ c′ (o′ .clauses) → v′ ≡ v
@@ -280,7 +173,7 @@ isoApp-unique {os} apart i {o} {o′} {c} {c′} {v} {v′} {σ} {σ′} known k
     let iso : o′ ≡ o = some-inj (sym known′ ∙ known) in
     let again : Matches σ′ (c′ .lhs) v = subst (Matches σ′ (c′ .lhs)) same m′ in
     let member″ : List·Memᴰ c′ (o .clauses) = subst (λ o. List·Memᴰ c′ (o .clauses)) iso member′ in
-    let clause : c ≡ c′ = clause-unique (o .clauses) (apart o (getElem?-mem os i known)) member member″ m again in
+    let clause : c ≡ c′ = clause-unique (o .clauses) (apart o (index-mem os i known)) member member″ m again in
     let valuation : σ ≡ σ′ = matches-unique m (subst (λ c. Matches σ′ (c .lhs) v) (sym clause) again) in
     ap₂ (λ σ c. replace (look σ) (chain (c .lets) (c .rhs))) valuation clause
 
@@ -330,4 +223,4 @@ reduction os apart d i v w k h w′ k′ = (there, forward os d i v w′ k′)
     there : Steps os (eapp i (valTerm v)) (valTerm w′) k′ → _≡_ {A = Option (Val × ℕ)} (reduceTo d os i v) (some (w′, k′))
     there s =
         let (value, count) = unique os apart (eapp i (valTerm v)) w w′ k k′ (forward os d i v w k h) s in
-        h ∙ ap₂ (λ a b. some (a, b)) value count
+        h ∙ some-pair value count

@@ -2,22 +2,23 @@
 -- the reduction gives a result, and the result is a closed value of the other type.
 use Prim.Native.Nat.{ℕ, zero, suc, _+_, _<_, _≤_}
 use native.Mathlib.Nat.{not-suc-le-zero, le-of-suc-le-suc, lt-of-lt-of-le}
-use native.Mathlib.Omega.{arith}
-use mathlib.Core.Path.{_≡_, refl, sym, ap, ap₂, _∙_, subst}
-use mathlib.Core.Bool.{Bool, true, false, cond}
-use mathlib.Core.Option.{Option, some}
+use mathlib.Core.Path.{_≡_, refl, sym, ap, _∙_, subst}
+use mathlib.Core.Bool.{true}
+use mathlib.Core.Option.{some}
 use mathlib.Core.List.{List, [], _∷_, _++_, map, append-nil, List·Memᴰ, List·Memᴰ·head, List·Memᴰ·tail}
 use mathlib.Core.List.{Memᴰ·append-left, Memᴰ·append-right, Memᴰ·map}
 use lib.ListN.{getElem?, length}
-use Rattle.model.specs.Tools.{_>>=_, guard, isSome, select}
+use Rattle.model.specs.Tools.{isSome, select}
 use Rattle.model.specs.Trees.{Ty, Pat, Val, Let, Clause, Iso}
-use Rattle.model.specs.Slots.{Slots, empty, allEmpty}
+use Rattle.model.specs.Slots.{Slots, empty}
 use Rattle.model.specs.Reduction.{bind, build, Call, runLets, runClause, hits, only, apply, reduceTo, reduce}
 use Rattle.model.specs.Clauses.{Sigs, sigsOf, lefts}
 use Rattle.model.specs.Paper.{Of, Join, Fits, Chain, Linear, Product, LetProducts, Apart, Matched, Covers, ExactlyOne, OnWay}
-use Rattle.model.proofs.Basic.{bind-some, some-bind, none≢some, some-inj, true-guard, is-false, isSome-true}
+use Rattle.model.proofs.Basic.{bind-some, some-bind, none≢some, some-inj, some-pair, index-mem, index-below, index-of-map}
+use Rattle.model.proofs.Orthogonal.{orth-apart}
 use Rattle.model.proofs.Matching.{bind-matched}
-use Rattle.model.proofs.Joins.{EnvOf, build-total, build-all, BoundTo, bind-total, lhs-total, orth-apart}
+use Rattle.model.proofs.Running.{let-run, run-let, clause-run, run-clause, only-hit}
+use Rattle.model.proofs.Joins.{EnvOf, build-total, build-all, bind-total, lhs-total}
 
 -- what an accepted file guarantees
 pub record Sound (os : List Iso) : Type 0 where
@@ -27,28 +28,14 @@ pub record Sound (os : List Iso) : Type 0 where
   pub leftsCover : (o : Iso) → List·Memᴰ o os → Covers (o .from) (lefts o)
   pub earlier : (i : ℕ) (o : Iso) → getElem? os i ≡ some o → (c : Clause) → List·Memᴰ c (o .clauses) → (l : Let) → List·Memᴰ l (c .lets) → l .iso < i
 
--- ---- places in a list
-
-pub mem-at : {A : Type 0} (xs : List A) (i : ℕ) {a : A} → getElem? xs i ≡ some a → List·Memᴰ a xs
-mem-at [] i e = absurd (none≢some e)
-mem-at (x ∷ xs) zero e = List·Memᴰ·head (sym (some-inj e))
-mem-at (x ∷ xs) (suc i) e = List·Memᴰ·tail (mem-at xs i e)
-
-pub at-below : {A : Type 0} (xs : List A) (i : ℕ) {a : A} → getElem? xs i ≡ some a → i < length xs
-at-below [] i e = absurd (none≢some e)
-at-below (x ∷ xs) zero e = omega arith
-at-below (x ∷ xs) (suc i) e = let h = at-below xs i e in omega arith
-
-pub at-map : {A B : Type 0} (f : A → B) (xs : List A) (i : ℕ) {b : B} → getElem? (map f xs) i ≡ some b
-    → (a : A) × (getElem? xs i ≡ some a) × (f a ≡ b)
-at-map f [] i e = absurd (none≢some e)
-at-map f (x ∷ xs) zero e = (x, refl, some-inj e)
-at-map f (x ∷ xs) (suc i) e = at-map f xs i e
+-- the types of an iso
+abbrev sig : Iso → Ty × Ty
+sig n = (n .from, n .to)
 
 from-sig : (os : List Iso) (i : ℕ) {s : Ty × Ty} {u : Val} → getElem? (sigsOf os) i ≡ some s → Of u (s .0)
     → (n : Iso) × (getElem? os i ≡ some n) × Of u (n .from)
 from-sig os i {s} {u} e t =
-    let n = at-map (λ (n : Iso). (n .from, n .to)) os i e in (n .0, n .1, subst (λ x. Of u (x .0)) (sym (n .2)) t)
+    let n = index-of-map sig os i e in (n .0, n .1, subst (λ x. Of u (x .0)) (sym (n .2)) t)
 
 -- ---- let steps
 
@@ -81,17 +68,8 @@ chain-first (Chain.step {e = e} {f = f} {g = g} {h = h} s k j q p i c) =
 chain-last : {sigs : Sigs} {d : Slots Ty} {p : Pat} {b : Ty} → Chain sigs d [] p b → Fits d p b
 chain-last (Chain.value x) = x
 
-pub run-step : (call : Call) (l : Let) (ls : List Let) (ε : Slots Val) {u w : Val} {φ δ η : Slots Val} {k m : ℕ}
-    → build (l .q) ε ≡ some (u, φ) → call (l .iso) u ≡ some (w, k) → bind (l .p) w φ ≡ some δ → runLets call ls δ ≡ some (η, m)
-    → runLets call (l ∷ ls) ε ≡ some (η, k + m)
-run-step call l ls ε {u} {w} {φ} {δ} {η} {k} {m} b c d r =
-    some-bind (λ r. call (l .iso) (r .0) >>= λ c. bind (l .p) (c .0) (r .1) >>= λ d. runLets call ls d >>= λ t. some (t .0, c .1 + t .1)) b
-    ∙ some-bind (λ c. bind (l .p) (c .0) φ >>= λ d. runLets call ls d >>= λ t. some (t .0, c .1 + t .1)) c
-    ∙ some-bind (λ d. runLets call ls d >>= λ t. some (t .0, k + t .1)) d
-    ∙ some-bind (λ t. some (t .0, k + t .1)) r
-
 -- what steps give that stand before others: an environment of the context of these
-pub record Ran (sigs : Sigs) (call : Call) (ls : List Let) (ε : Slots Val) (ls′ : List Let) (p : Pat) (b : Ty) : Type 0 where
+pub record LetsRun (sigs : Sigs) (call : Call) (ls : List Let) (ε : Slots Val) (ls′ : List Let) (p : Pat) (b : Ty) : Type 0 where
   pub slots : Slots Val
   pub count : ℕ
   pub runs : runLets call ls ε ≡ some (slots, count)
@@ -101,7 +79,7 @@ pub record Ran (sigs : Sigs) (call : Call) (ls : List Let) (ε : Slots Val) (ls�
 
 pub lets-total : {sigs : Sigs} (call : Call) (ls ls′ : List Let) {d : Slots Ty} {p : Pat} {b : Ty} {ε : Slots Val}
     → Chain sigs d (ls ++ ls′) p b → EnvOf ε d
-    → ((l : Let) → List·Memᴰ l ls → Product (l .p)) → LetsAnswer sigs call ls → Ran sigs call ls ε ls′ p b
+    → ((l : Let) → List·Memᴰ l ls → Product (l .p)) → LetsAnswer sigs call ls → LetsRun sigs call ls ε ls′ p b
 lets-total call [] ls′ {d} {ε} c r h k = record { slots = ε; count = 0; runs = refl; context = d; env = r; chain = c }
 lets-total call (l ∷ ls) ls′ {d} {ε} c r h k =
     let s = chain-first c in
@@ -112,7 +90,7 @@ lets-total call (l ∷ ls) ls′ {d} {ε} c r h k =
     record {
       slots = n .slots;
       count = a .1 + n .count;
-      runs = run-step call l ls ε {η = n .slots} {m = n .count} (b .builds) (a .2) (t .binds) (n .runs);
+      runs = run-let call l ls ε {d = n .slots} {k = n .count} (b .builds) (a .2) (t .binds) (n .runs);
       context = n .context;
       env = n .env;
       chain = n .chain;
@@ -167,40 +145,6 @@ one-of (c ∷ cs) {v} (Apart.beside h a) (List·Memᴰ·tail i) m = one-more c (
 pub exactly-one : {os : List Iso} (S : Sound os) (o : Iso) → List·Memᴰ o os → {v : Val} → Of v (o .from) → ExactlyOne (o .clauses) v
 exactly-one S o i {v} t = let x = S .leftsCover o i v t in one-of (o .clauses) (S .leftsApart o i) (x .1) (x .2)
 
-pub select-append : {A : Type 0} (p : A → Bool) (xs ys : List A) → select p (xs ++ ys) ≡ select p xs ++ select p ys
-select-append p [] ys = refl
-select-append p (x ∷ xs) ys = go (p x) (select-append p xs ys)
-  where
-    go : (b : Bool) → select p (xs ++ ys) ≡ select p xs ++ select p ys
-        → cond b (x ∷ select p (xs ++ ys)) (select p (xs ++ ys)) ≡ cond b (x ∷ select p xs) (select p xs) ++ select p ys
-    go true e = ap {B = List _} (λ r. x ∷ r) e
-    go false e = e
-
-pub select-none : {A : Type 0} (p : A → Bool) (xs : List A) → ((x : A) → List·Memᴰ x xs → p x ≡ false) → select p xs ≡ []
-select-none p [] h = refl
-select-none p (x ∷ xs) h =
-    ap (λ b. cond b (x ∷ select p xs) (select p xs)) (h x (List·Memᴰ·head refl)) ∙ select-none p xs (λ y i. h y (List·Memᴰ·tail i))
-
-hit-matched : (v : Val) (c : Clause) → hits v c ≡ true → Matched (c .lhs) v
-hit-matched v c h = let r = isSome-true (bind (c .lhs) v (empty Val)) h in bind-matched (c .lhs) v (empty Val) (r .0) (r .1)
-
--- the clause that matches is taken
-pub only-one : {cs : List Clause} {v : Val} (x : ExactlyOne cs v) → hits v (x .clause) ≡ true → only (select (hits v) cs) ≡ some (x .clause)
-only-one {cs} {v} x h = ap (λ z. only (select (hits v) z)) (x .splits) ∙ ap only picked
-  where
-    missed : (c : Clause) → List·Memᴰ c (x .above ++ x .below) → hits v c ≡ false
-    missed c i = is-false (hits v c) (λ e. x .others c i (hit-matched v c e))
-
-    rest : select (hits v) (x .clause ∷ x .below) ≡ x .clause ∷ []
-    rest =
-        ap (λ b. cond b (x .clause ∷ select (hits v) (x .below)) (select (hits v) (x .below))) h
-        ∙ ap {B = List Clause} (λ r. x .clause ∷ r) (select-none (hits v) (x .below) (λ c i. missed c (Memᴰ·append-right (x .above) i)))
-
-    picked : select (hits v) (x .above ++ (x .clause ∷ x .below)) ≡ x .clause ∷ []
-    picked =
-        select-append (hits v) (x .above) (x .clause ∷ x .below)
-        ∙ ap₂ _++_ (select-none (hits v) (x .above) (λ c i. missed c (Memᴰ·append-left (x .below) i))) rest
-
 -- ---- an application
 
 pub clause-total : {sigs : Sigs} {a b : Ty} (call : Call) (c : Clause) {v : Val} → Linear sigs a b c → LetProducts c → LetsAnswer sigs call (c .lets)
@@ -210,17 +154,7 @@ clause-total {sigs} {b} call c {v} l h k o m =
     let n = lets-total call (c .lets) [] (subst (λ z. Chain sigs (l .context) z (c .rhs) b) (sym (append-nil (c .lets))) (l .rest)) (e .env)
     (λ t i. h t i .0) k in
     let r = build-all (chain-last (n .chain)) (n .env) in
-    (r .0, suc (n .count), ran e n r, r .3)
-  where
-    ran : {d : Slots Ty} (e : BoundTo (c .lhs) v (empty Val) d) (n : Ran sigs call (c .lets) (e .slots) [] (c .rhs) b)
-        (r : (w : Val) × (φ : Slots Val) × (build (c .rhs) (n .slots) ≡ some (w, φ)) × Of w b × (allEmpty φ ≡ true))
-        → runClause call c v ≡ some (r .0, suc (n .count))
-    ran e n r =
-        some-bind (λ e. runLets call (c .lets) e >>= λ t. build (c .rhs) (t .0) >>= λ r. guard (allEmpty (r .1)) >>= λ _. some (r .0, suc (t .1)))
-        (e .binds)
-        ∙ some-bind (λ t. build (c .rhs) (t .0) >>= λ r. guard (allEmpty (r .1)) >>= λ _. some (r .0, suc (t .1))) (n .runs)
-        ∙ some-bind (λ r. guard (allEmpty (r .1)) >>= λ _. some (r .0, suc (n .count))) (r .2)
-        ∙ some-bind (λ _. some (r .0, suc (n .count))) (true-guard (r .4))
+    (r .0, suc (n .count), run-clause call c v (e .binds) (n .runs) (r .2) (r .4), r .3)
 
 module _ {os : List Iso} (S : Sound os) where
   pub clause-hits : (o : Iso) → List·Memᴰ o os → (c : Clause) → List·Memᴰ c (o .clauses) → {v : Val}
@@ -230,7 +164,7 @@ module _ {os : List Iso} (S : Sound os) where
   -- the clause that matches is taken, and no other
   pub takes-one : (o : Iso) (i : List·Memᴰ o os) {v : Val} (t : Of v (o .from))
       → only (select (hits v) (o .clauses)) ≡ some (exactly-one S o i t .clause)
-  takes-one o i t = let x = exactly-one S o i t in only-one x (clause-hits o i (x .clause) (one-mem x) t (x .matches))
+  takes-one o i t = let x = exactly-one S o i t in only-hit _ (o .clauses) (S .leftsApart o i) (one-mem x) (clause-hits o i (x .clause) (one-mem x) t (x .matches))
 
   pub apply-total : (call : Call) (o : Iso) → List·Memᴰ o os → ((c : Clause) → List·Memᴰ c (o .clauses) → LetsAnswer (sigsOf os) call (c .lets))
       → (v : Val) → Of v (o .from) → (w : Val) × (k : ℕ) × (apply call o v ≡ some (w, k)) × Of w (o .to)
@@ -245,7 +179,7 @@ module _ {os : List Iso} (S : Sound os) where
       → ((j : ℕ) → j < i → (n : Iso) → getElem? os j ≡ some n → Answers call j (n .from, n .to))
       → (c : Clause) → List·Memᴰ c (o .clauses) → LetsAnswer (sigsOf os) call (c .lets)
   lets-answer call i o e h c j l m s k =
-      let n = at-map (λ (n : Iso). (n .from, n .to)) os (l .iso) k in
+      let n = index-of-map sig os (l .iso) k in
       subst (Answers call (l .iso)) (n .2) (h (l .iso) (S .earlier i o e c j l m) (n .0) (n .1))
 
   -- calls nested deeper than the iso's number are enough
@@ -254,13 +188,13 @@ module _ {os : List Iso} (S : Sound os) where
   total-to zero i h o e v t = absurd (not-suc-le-zero h)
   total-to (suc d) i h o e v t =
       let below = lets-answer (reduceTo d os) i o e (λ j p n q u s. total-to d j (lt-of-lt-of-le p (le-of-suc-le-suc h)) n q u s) in
-      let r = apply-total (reduceTo d os) o (mem-at os i e) below v t in
+      let r = apply-total (reduceTo d os) o (index-mem os i e) below v t in
       (r .0, r .1, some-bind (λ o. apply (reduceTo d os) o v) e ∙ r .2, r .3)
 
   pub total : (i : ℕ) (o : Iso) → getElem? os i ≡ some o → (v : Val) → Of v (o .from)
       → (w : Val) × (k : ℕ) × (reduce os i v ≡ some (w, k)) × Of w (o .to)
   unfolding reduce
-  total i o e v t = total-to (length os) i (at-below os i e) o e v t
+  total i o e v t = total-to (length os) i (index-below os i e) o e v t
 
   -- ---- on the way
 
@@ -270,13 +204,13 @@ module _ {os : List Iso} (S : Sound os) where
       → {e d d′ : Slots Val} {k : ℕ} {u : Val} → bind (c .lhs) v (empty Val) ≡ some e → runLets (reduce os) ls e ≡ some (d, k)
       → build (l .q) d ≡ some (u, d′) → (n : Iso) × (getElem? os (l .iso) ≡ some n) × Of u (n .from)
   let-given i o e c j {v} t ls l ls′ s {e = ε} {d} b r q =
-      let z = S .linear o (mem-at os i e) c j in
+      let z = S .linear o (index-mem os i e) c j in
       let x = lhs-total (z .wide) (z .lhs) t (bind-matched (c .lhs) v (empty Val) ε b) in
       let mem : (m : Let) → List·Memᴰ m ls → List·Memᴰ m (c .lets) = λ m k. subst (List·Memᴰ m) (sym s) (Memᴰ·append-left (l ∷ ls′) k) in
       let g = step-given (reduce os) ls l ls′
       (subst (λ y. Chain (sigsOf os) (z .context) y (c .rhs) (o .to)) s (z .rest))
       (subst (λ y. EnvOf y (z .context)) (some-inj (sym (x .binds) ∙ b)) (x .env))
-      (λ m k. S .shapes o (mem-at os i e) c j m (mem m k) .0)
+      (λ m k. S .shapes o (index-mem os i e) c j m (mem m k) .0)
       (λ m k. lets-answer (reduce os) i o e (λ a p n y. total a n y) c j m (mem m k))
       r q in
       from-sig os (l .iso) (g .1) (g .2)
@@ -286,7 +220,7 @@ module _ {os : List Iso} (S : Sound os) where
   on-way (OnWay.itself p q) o e t =
       let g = subst (λ z. getElem? os z ≡ some o) p e in
       let u = subst (λ z. Of z (o .from)) q t in
-      (o, g, u, exactly-one S o (mem-at os _ g) u)
+      (o, g, u, exactly-one S o (index-mem os _ g) u)
   on-way {i} {v} (OnWay.below n c ls l ls′ e d d′ k u g m b s r q y) o h t =
       let x = let-given i n g c m (subst (λ z. Of v (z .from)) (some-inj (sym h ∙ g)) t) ls l ls′ s b r q in
       on-way y (x .0) (x .1) (x .2)
@@ -297,55 +231,19 @@ module _ {os : List Iso} (S : Sound os) where
 abbrev Within : Call → Call → Type 0
 Within call call′ = (i : ℕ) (v : Val) (r : Val × ℕ) → call i v ≡ some r → call′ i v ≡ some r
 
--- what one run of a first let step consists of
-record StepRun (call : Call) (l : Let) (ls : List Let) (e : Slots Val) (r : Slots Val × ℕ) : Type 0 where
-  built : Val × Slots Val
-  builds : build (l .q) e ≡ some built
-  answer : Val × ℕ
-  answers : call (l .iso) (built .0) ≡ some answer
-  slots : Slots Val
-  binds : bind (l .p) (answer .0) (built .1) ≡ some slots
-  last : Slots Val × ℕ
-  runs : runLets call ls slots ≡ some last
-  result : _≡_ {A = Option (Slots Val × ℕ)} (some (last .0, answer .1 + last .1)) (some r)
-
-step-run : (call : Call) (l : Let) (ls : List Let) (e : Slots Val) {r : Slots Val × ℕ} → runLets call (l ∷ ls) e ≡ some r → StepRun call l ls e r
-step-run call l ls e x =
-    let b = bind-some (build (l .q) e)
-    (λ r. call (l .iso) (r .0) >>= λ c. bind (l .p) (c .0) (r .1) >>= λ d. runLets call ls d >>= λ t. some (t .0, c .1 + t .1)) x in
-    let c = bind-some (call (l .iso) (b .0 .0))
-    (λ c. bind (l .p) (c .0) (b .0 .1) >>= λ d. runLets call ls d >>= λ t. some (t .0, c .1 + t .1)) (b .2) in
-    let d = bind-some (bind (l .p) (c .0 .0) (b .0 .1)) (λ d. runLets call ls d >>= λ t. some (t .0, c .0 .1 + t .1)) (c .2) in
-    let t = bind-some (runLets call ls (d .0)) (λ t. some (t .0, c .0 .1 + t .1)) (d .2) in
-    record {
-      built = b .0;
-      builds = b .1;
-      answer = c .0;
-      answers = c .1;
-      slots = d .0;
-      binds = d .1;
-      last = t .0;
-      runs = t .1;
-      result = t .2;
-    }
-
-step-within : {call call′ : Call} → Within call call′ → (l : Let) (ls : List Let) (e : Slots Val) {r : Slots Val × ℕ} (s : StepRun call l ls e r)
-    → runLets call′ ls (s .slots) ≡ some (s .last) → runLets call′ (l ∷ ls) e ≡ some r
-step-within {call′} h l ls e s x =
-    run-step call′ l ls e (s .builds) (h (l .iso) (s .built .0) (s .answer) (s .answers)) (s .binds) x ∙ s .result
-
-lets-within : {call call′ : Call} → Within call call′ → (ls : List Let) (e : Slots Val) {r : Slots Val × ℕ}
-    → runLets call ls e ≡ some r → runLets call′ ls e ≡ some r
+lets-within : {call call′ : Call} → Within call call′ → (ls : List Let) (e : Slots Val) {d : Slots Val} {k : ℕ}
+    → runLets call ls e ≡ some (d, k) → runLets call′ ls e ≡ some (d, k)
 lets-within h [] e x = x
-lets-within {call} h (l ∷ ls) e x = let s = step-run call l ls e x in step-within h l ls e s (lets-within h ls (s .slots) (s .runs))
+lets-within {call} {call′} h (l ∷ ls) e x =
+    let s = let-run call l ls e x in
+    run-let call′ l ls e (s .built) (h (l .iso) (s .given) (s .gives, s .count) (s .called)) (s .bound) (lets-within h ls (s .next) (s .follows))
+    ∙ some-pair refl (s .counts)
 
 clause-within : {call call′ : Call} → Within call call′ → (c : Clause) (v : Val) {r : Val × ℕ}
     → runClause call c v ≡ some r → runClause call′ c v ≡ some r
 clause-within {call} {call′} h c v x =
-    let after : Slots Val × ℕ → Option (Val × ℕ) = λ t. build (c .rhs) (t .0) >>= λ r. guard (allEmpty (r .1)) >>= λ _. some (r .0, suc (t .1)) in
-    let b = bind-some (bind (c .lhs) v (empty Val)) (λ e. runLets call (c .lets) e >>= after) x in
-    let t = bind-some (runLets call (c .lets) (b .0)) after (b .2) in
-    some-bind (λ e. runLets call′ (c .lets) e >>= after) (b .1) ∙ some-bind after (lets-within h (c .lets) (b .0) (t .1)) ∙ t .2
+    let s = clause-run call c v x in
+    run-clause call′ c v (s .bound) (lets-within h (c .lets) (s .first) (s .lets)) (s .built) (s .nothing) ∙ some-pair refl (s .counts)
 
 apply-within : {call call′ : Call} → Within call call′ → (o : Iso) (v : Val) {r : Val × ℕ}
     → apply call o v ≡ some r → apply call′ o v ≡ some r

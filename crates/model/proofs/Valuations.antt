@@ -1,26 +1,17 @@
 -- The paper's matching σ[v] = w of section 2.3 and document 01's "some choice of closed values" are the same.
 use Prim.Native.Nat.{ℕ, _<_}
-use mathlib.Core.Path.{_≡_, refl, sym, ap, ap₂, _∙_, subst}
+use mathlib.Core.Path.{_≡_, sym, ap, _∙_, subst}
 use mathlib.Core.Logic.{_↔_, _⊎_, inl, inr}
 use mathlib.Core.Option.{Option·getD}
-use mathlib.Core.List.{[], _∷_, List·Memᴰ, List·Memᴰ·head, List·Memᴰ·not-nil, List·Memᴰ·eq-of-singleton, List·Memᴰ·append-cases, Memᴰ·append-left, Memᴰ·append-right}
+use mathlib.Core.List.{List·Memᴰ, List·Memᴰ·not-nil, List·Memᴰ·eq-of-singleton, List·Memᴰ·append-cases}
 use Rattle.model.specs.Limits.{variables}
-use Rattle.model.specs.Trees.{Pat, Val, vunit, vinj, vpair, vars}
+use Rattle.model.specs.Trees.{Pat, Val, vunit, vars}
 use Rattle.model.specs.Slots.{empty}
 use Rattle.model.specs.Terms.{look}
-use Rattle.model.specs.Paper.{Valuation, Disjoint, Matches, Matched, Distinct, fill}
-use Rattle.model.proofs.Matching.{matched-bind}
-use Rattle.model.proofs.Substitution.{Gives, look-gives, bind-found}
-
--- a choice that agrees with the valuation turns the pattern into the value
-matches-fill : {σ : Valuation} {p : Pat} {v : Val} → Matches σ p v → (χ : ℕ → Val) → ((n : ℕ) (w : Val) → Gives σ n w → χ n ≡ w) → fill χ p ≡ v
-matches-fill Matches.unit χ h = refl
-matches-fill (Matches.var {σ} {n} {v} e) χ h = h n v (subst (λ ρ. Gives ρ n v) (sym e) (List·Memᴰ·head refl))
-matches-fill (Matches.inj e m) χ h = ap₂ vinj e (matches-fill m χ h)
-matches-fill (Matches.pair {σ} {ρ} m k d e) χ h =
-    ap₂ vpair
-    (matches-fill m χ (λ n w i. h n w (subst (λ τ. Gives τ n w) (sym e) (Memᴰ·append-left ρ i))))
-    (matches-fill k χ (λ n w i. h n w (subst (λ τ. Gives τ n w) (sym e) (Memᴰ·append-right σ i))))
+use Rattle.model.specs.Paper.{Valuation, Matches, Matched, Distinct}
+use Rattle.model.proofs.Binding.{Gives, bind-found}
+use Rattle.model.proofs.Matching.{matches-fill, matched-bind}
+use Rattle.model.proofs.Substitution.{look-gives}
 
 -- a valuation of a pattern gives a variable one value
 gives-unique : {σ : Valuation} {p : Pat} {v : Val} → Matches σ p v → (n : ℕ) (u w : Val) → Gives σ n u → Gives σ n w → u ≡ w

@@ -4,19 +4,22 @@ use mathlib.Core.Path.{_≡_, refl, sym, ap, ap₂, _∙_, subst}
 use mathlib.Core.Logic.{_⊎_, inl, inr, _↔_}
 use mathlib.Core.Bool.{Bool, true, false, cond, _&&_, false≢true}
 use mathlib.Core.List.{List, [], _∷_, _++_, map, reverse, append-nil, append-assoc, reverse-cons}
-use mathlib.Core.List.{List·Memᴰ, List·Memᴰ·head, List·Memᴰ·tail, List·Memᴰ·append-cases, List·Memᴰ·eq-of-singleton, Memᴰ·of-map, Memᴰ·map, cons-ne-nil}
+use mathlib.Core.List.{List·Memᴰ, List·Memᴰ·head, List·Memᴰ·tail, Memᴰ·map, cons-ne-nil}
 use lib.Dec.{eqb}
 use Rattle.model.specs.Tools.{all}
 use Rattle.model.specs.Trees.{Pat, punit, pvar, pinj, ppair, Let, Clause, vars, invertLet, invertClause}
 use Rattle.model.specs.Clauses.{Deed, binds, uses, Event, deeds, letEvents, events, history, boundThenUsed, variablesRule, plain, letShapes}
 use Rattle.model.specs.Paper.{BoundOnceUsedOnce, Distinct, nobody, another, Product, LetProducts}
-use Rattle.model.proofs.Basic.{bool-cases, and-true, true-and, eqb-eq, eq-eqb, all-mem, mem-all}
+use Rattle.model.proofs.Basic.{bool-cases, and-true, true-and, eqb-eq, eq-eqb, each-map, all-mem, mem-all, mem-reverse}
 
 -- ---- histories
 
+abbrev pub mark : Deed → ℕ → Event
+mark d n = record { deed = d; name = n }
+
 -- the same deed to each number of a list
 abbrev pub marks : Deed → List ℕ → List Event
-marks d ns = map (λ n. record { deed = d; name = n }) ns
+marks d ns = map (mark d) ns
 
 pub history-append : (n : ℕ) (vs ws : List Event) → history n (vs ++ ws) ≡ history n vs ++ history n ws
 history-append n [] ws = refl
@@ -27,6 +30,12 @@ history-append n (v ∷ vs) ws = go (eqb n (v .name)) (history-append n vs ws)
     go true h = ap (λ r. v .deed ∷ r) h
     go false h = h
 
+pub history-hit : (n : ℕ) (v : Event) (vs : List Event) → n ≡ v .name → history n (v ∷ vs) ≡ v .deed ∷ history n vs
+history-hit n v vs e = ap (λ b. cond b (v .deed ∷ history n vs) (history n vs)) (eq-eqb e)
+
+pub history-miss : (n : ℕ) (v : Event) (vs : List Event) → eqb n (v .name) ≡ false → history n (v ∷ vs) ≡ history n vs
+history-miss n v vs e = ap (λ b. cond b (v .deed ∷ history n vs) (history n vs)) e
+
 -- a number has no history, or some event is about it
 history-mem : (n : ℕ) (vs : List Event) → (history n vs ≡ []) ⊎ ((v : Event) × List·Memᴰ v vs × (n ≡ v .name))
 history-mem n [] = inl refl
@@ -35,14 +44,8 @@ history-mem n (v ∷ vs) = go (bool-cases (eqb n (v .name))) (history-mem n vs)
     go : (eqb n (v .name) ≡ true) ⊎ (eqb n (v .name) ≡ false) → (history n vs ≡ []) ⊎ ((w : Event) × List·Memᴰ w vs × (n ≡ w .name))
         → (history n (v ∷ vs) ≡ []) ⊎ ((w : Event) × List·Memᴰ w (v ∷ vs) × (n ≡ w .name))
     go (inl e) r = inr (v, List·Memᴰ·head refl, eqb-eq n (v .name) e)
-    go (inr e) (inl h) = inl (ap (λ b. cond b (v .deed ∷ history n vs) (history n vs)) e ∙ h)
+    go (inr e) (inl h) = inl (history-miss n v vs e ∙ h)
     go (inr e) (inr (w, m, h)) = inr (w, List·Memᴰ·tail m, h)
-
-pub history-hit : (n : ℕ) (v : Event) (vs : List Event) → n ≡ v .name → history n (v ∷ vs) ≡ v .deed ∷ history n vs
-history-hit n v vs e = ap (λ b. cond b (v .deed ∷ history n vs) (history n vs)) (eq-eqb e)
-
-pub history-miss : (n : ℕ) (v : Event) (vs : List Event) → eqb n (v .name) ≡ false → history n (v ∷ vs) ≡ history n vs
-history-miss n v vs e = ap (λ b. cond b (v .deed ∷ history n vs) (history n vs)) e
 
 -- a number that some event is about has a history
 pub mem-history : (n : ℕ) {v : Event} {vs : List Event} → List·Memᴰ v vs → n ≡ v .name → history n vs ≡ [] → ⊥
@@ -181,33 +184,14 @@ variables-invert c h n = go (h n)
     go (inl e) = inl (history-invert n c ∙ ap mirror e)
     go (inr e) = inr (history-invert n c ∙ ap mirror e)
 
--- what stands in a list read backwards stands in the list
-pub mem-reverse : {A : Type 0} {x : A} (xs : List A) → List·Memᴰ x (reverse xs) → List·Memᴰ x xs
-mem-reverse [] m = m
-mem-reverse {x} (y ∷ ys) m = go (mem-reverse ys) (List·Memᴰ·append-cases (reverse ys) (subst (List·Memᴰ x) (reverse-cons y ys) m))
-  where
-    go : (List·Memᴰ x (reverse ys) → List·Memᴰ x ys) → List·Memᴰ x (reverse ys) ⊎ List·Memᴰ x (y ∷ []) → List·Memᴰ x (y ∷ ys)
-    go below (inl k) = List·Memᴰ·tail (below k)
-    go below (inr k) = List·Memᴰ·head (List·Memᴰ·eq-of-singleton k)
-
 -- a let step of the inverted clause is an inverted let step of the clause
 pub invert-lets : (l : Let) (ls : List Let) → List·Memᴰ l (reverse (map invertLet ls)) → List·Memᴰ (invertLet l) ls
-invert-lets l ls m = go (Memᴰ·of-map invertLet ls (mem-reverse (map invertLet ls) m))
-  where
-    go : (k : Let) × List·Memᴰ k ls × (invertLet k ≡ l) → List·Memᴰ (invertLet l) ls
-    go (k, h, e) = subst (λ j. List·Memᴰ j ls) (ap invertLet e) h
+invert-lets l ls m = each-map (λ k. List·Memᴰ (invertLet k) ls) invertLet ls (λ k h. h) l (mem-reverse (map invertLet ls) m)
 
 pub shapes-invert : (c : Clause) → LetProducts c → LetProducts (invertClause c)
 shapes-invert c h l m = let k = h (invertLet l) (invert-lets l (c .lets) m) in (k .1, k .0)
 
 -- ---- no number twice in a pattern
-
-binds≢uses : _≡_ {A = Deed} binds uses → ⊥
-binds≢uses e = false≢true (ap (λ d. isUse d) e)
-  where
-    isUse : Deed → Bool
-    isUse binds = false
-    isUse uses = true
 
 -- what a clause does to a variable: nothing, or it binds it and then uses it
 pub data Whole : List Deed → Type 0 where
@@ -235,10 +219,10 @@ only-marks n d (m ∷ ns) = go (eqb n m) (only-marks n d ns)
     go false h = h
 
 pub not-used : {ds : List Deed} → Only binds (uses ∷ ds) → ⊥
-not-used (more e h) = binds≢uses (sym e)
+not-used (more e h) = false≢true cc
 
 pub not-bound : {ds : List Deed} → Only uses (binds ∷ ds) → ⊥
-not-bound (more e h) = binds≢uses e
+not-bound (more e h) = false≢true cc
 
 -- one kind of deed, at most once
 pub data Single (d : Deed) : List Deed → Type 0 where
@@ -252,14 +236,11 @@ single-tail d e (f ∷ ds) s = elim s [ ]
 pub distinct-of : (d : Deed) (ns : List ℕ) → ((n : ℕ) → Single d (history n (marks d ns))) → Distinct ns
 distinct-of d [] h = nobody
 distinct-of d (m ∷ ns) h =
-    another (λ k. mem-history m (Memᴰ·map mark k) refl (single-tail d d (history m (marks d ns)) head))
+    another (λ k. mem-history m (Memᴰ·map (mark d) k) refl (single-tail d d (history m (marks d ns)) head))
     (distinct-of d ns λ n. go n (eqb n m) (h n))
   where
-    mark : ℕ → Event
-    mark n = record { deed = d; name = n }
-
     head : Single d (d ∷ history m (marks d ns))
-    head = subst (Single d) (history-hit m (mark m) (marks d ns) refl) (h m)
+    head = subst (Single d) (history-hit m (mark d m) (marks d ns) refl) (h m)
 
     go : (n : ℕ) (b : Bool) → Single d (cond b (d ∷ history n (marks d ns)) (history n (marks d ns))) → Single d (history n (marks d ns))
     go n true s = subst (Single d) (sym (single-tail d d (history n (marks d ns)) s)) unseen
@@ -269,30 +250,22 @@ distinct-of d (m ∷ ns) h =
 pub absent : (n : ℕ) (d : Deed) (ns : List ℕ) → (List·Memᴰ n ns → ⊥) → history n (marks d ns) ≡ []
 absent n d ns h = go (history-mem n (marks d ns))
   where
-    mark : ℕ → Event
-    mark n = record { deed = d; name = n }
-
-    from : (v : Event) → n ≡ v .name → (m : ℕ) × List·Memᴰ m ns × (mark m ≡ v) → List·Memᴰ n ns
-    from v e (m, k, q) = subst (λ j. List·Memᴰ j ns) (ap (λ u. u .name) q ∙ sym e) k
-
     go : (history n (marks d ns) ≡ []) ⊎ ((v : Event) × List·Memᴰ v (marks d ns) × (n ≡ v .name)) → history n (marks d ns) ≡ []
     go (inl e) = e
-    go (inr (v, m, e)) = absurd (h (from v e (Memᴰ·of-map mark ns m)))
+    go (inr (v, m, e)) =
+        absurd (each-map (λ v. n ≡ v .name → ⊥) (mark d) ns (λ k i e. h (subst (λ j. List·Memᴰ j ns) (sym e) i)) v m e)
 
 pub single-of : (d : Deed) {ns : List ℕ} → Distinct ns → (n : ℕ) → Single d (history n (marks d ns))
 single-of d nobody n = unseen
 single-of d (another {n = m} {ns = ns} h t) n = go (bool-cases (eqb n m)) (single-of d t n)
   where
-    v : Event
-    v = record { deed = d; name = m }
-
     go : (eqb n m ≡ true) ⊎ (eqb n m ≡ false) → Single d (history n (marks d ns)) → Single d (history n (marks d (m ∷ ns)))
     go (inl e) s =
         let q = eqb-eq n m e in
         subst (Single d)
-        (sym (history-hit n v (marks d ns) q ∙ ap (λ r. d ∷ r) (absent n d ns λ k. h (subst (λ j. List·Memᴰ j ns) q k))))
+        (sym (history-hit n (mark d m) (marks d ns) q ∙ ap (λ r. d ∷ r) (absent n d ns λ k. h (subst (λ j. List·Memᴰ j ns) q k))))
         (seen refl)
-    go (inr e) s = subst (Single d) (sym (history-miss n v (marks d ns) e)) s
+    go (inr e) s = subst (Single d) (sym (history-miss n (mark d m) (marks d ns) e)) s
 
 -- what is bound first is bound once
 first-single : (ds es : List Deed) → Only binds ds → Whole (ds ++ es) → Single binds ds

@@ -1,18 +1,17 @@
 -- Sums over the closed values of a type. A type has finitely many of them; each has a weight, so that the two sides of a sum type weigh
 -- the same and a pair weighs the product of its parts. A pattern with k left and right nodes matches values that have the 2^k-th part of
 -- the weight of all.
-use Prim.Native.Nat.{ℕ, zero, suc, _+_, _*_, _-_, _^_, _<_, _≤_}
-use native.Mathlib.Nat.{zero-add, suc-add, one-mul, mul-comm, mul-assoc, mul-add, add-mul, mul-pos, mul-le-mul, mul-lt-mul-of-pos-left, sub-add-cancel, pow-succ', le-refl}
+use Prim.Native.Nat.{ℕ, _+_, _*_, _-_, _^_, _<_, _≤_}
+use native.Mathlib.Nat.{mul-comm, mul-assoc, mul-add, add-mul, mul-pos, mul-le-mul, mul-lt-mul-of-pos-left, sub-add-cancel, le-refl, eq-or-lt-of-le}
 use native.Mathlib.Omega.{arith}
 use mathlib.Core.Path.{_≡_, refl, sym, ap, ap₂, _∙_, subst, fun-ext}
 use mathlib.Core.Logic.{_⊎_, inl, inr}
-use mathlib.Core.Bool.{true, false, cond}
+use mathlib.Core.Bool.{cond}
 use mathlib.Core.List.{List, [], _∷_, map, List·Memᴰ, List·Memᴰ·head, List·Memᴰ·tail}
-use lib.Dec.{eqb}
+use lib.Pow.{pow-add}
 use Rattle.model.specs.Tools.{total}
 use Rattle.model.specs.Trees.{Ty, tunit, tsum, tprod, left, right, Pat, punit, pvar, pinj, ppair, Val, vunit, vinj, vpair, sameTag, tags}
 use Rattle.model.specs.Paper.{Of, Under}
-use Rattle.model.proofs.Basic.{bool-cases, not-both, eqb-eq, eq-eqb}
 
 -- ---- sums over the closed values of a type
 
@@ -104,13 +103,6 @@ on-sum P h k (vinj right v) (Of.inj o) = k v o
 on-product : {a b : Ty} (P : Val → Type 0) → ((v w : Val) → Of v a → Of w b → P (vpair v w)) → (v : Val) → Of v (tprod a b) → P v
 on-product P h (vpair v w) (Of.pair o p) = h v w o p
 
-pub le-cases : (m n : ℕ) → m ≤ n → (m ≡ n) ⊎ (m < n)
-le-cases m n h = go (bool-cases (eqb m n))
-  where
-    go : (eqb m n ≡ true) ⊎ (eqb m n ≡ false) → (m ≡ n) ⊎ (m < n)
-    go (inl e) = inl (eqb-eq m n e)
-    go (inr e) = let ne : m ≡ n → ⊥ = λ q. not-both (eq-eqb q) e in inr (omega arith)
-
 integral-le : {a : Ty} {f : Val → ℕ} {c : ℕ} → Outcome a f c → integral a f ≤ c * size a
 integral-le (inl d) = let e = d .0 in omega arith
 integral-le (inr d) = let e = d .0 in omega arith
@@ -164,7 +156,7 @@ product-case a b f c inner (inr d) =
 
 -- a function with the bound c reaches it everywhere, or stays below it somewhere and so in sum
 pub dichotomy : (a : Ty) (f : Val → ℕ) (c : ℕ) → ((v : Val) → Of v a → f v ≤ c) → Outcome a f c
-dichotomy tunit f c h = go (le-cases (f vunit) c (h vunit Of.unit))
+dichotomy tunit f c h = go (eq-or-lt-of-le (h vunit Of.unit))
   where
     go : (f vunit ≡ c) ⊎ (f vunit < c) → Outcome tunit f c
     go (inl e) = inl (omega arith, on-unit (λ v. f v ≡ c) e)
@@ -200,12 +192,6 @@ hit (ppair p q) (vpair v w) = hit p v * hit q w
 abbrev pub hits : List Pat → Val → ℕ
 hits ps v = total (map (λ p. hit p v) ps)
 
-pow-add : (m n : ℕ) → 2 ^ (m + n) ≡ 2 ^ m * 2 ^ n
-pow-add zero n = ap (λ k. 2 ^ k) (zero-add n) ∙ sym (one-mul (2 ^ n))
-pow-add (suc m) n =
-    ap (λ k. 2 ^ k) (suc-add m n) ∙ pow-succ' 2 (m + n) ∙ ap (λ k. 2 * k) (pow-add m n) ∙ sym (mul-assoc 2 (2 ^ m) (2 ^ n))
-    ∙ ap (λ k. k * 2 ^ n) (sym (pow-succ' 2 m))
-
 pair-integral : (a b : Ty) (p q : Pat) → integral (tprod a b) (hit (ppair p q)) ≡ integral b (hit q) * integral a (hit p)
 pair-integral a b p q =
     integral-ext a (λ v. integral-scale b (hit p v) (hit q) ∙ mul-comm (hit p v) (integral b (hit q)))
@@ -231,7 +217,7 @@ part-of-size (Under.var {a} e) = ap (λ x. 1 * x) (integral-const a 1) ∙ twice
     twice-one : (n : ℕ) → 1 * (1 * n) ≡ n
     twice-one n = omega arith
 part-of-size (Under.inj {t = left} {p} {a} {b} h) =
-    ap₂ _*_ (pow-add 1 (tags p)) (left-integral a b p) ∙ regroup (2 ^ tags p) (size a) (size b) _ (part-of-size h)
+    ap₂ _*_ (pow-add 2 1 (tags p)) (left-integral a b p) ∙ regroup (2 ^ tags p) (size a) (size b) _ (part-of-size h)
   where
     regroup : (k m n x : ℕ) → k * x ≡ m → 2 ^ 1 * k * (n * x) ≡ m * n + m * n
     regroup k m n x e = first ∙ ap (λ y. y * n + y * n) e
@@ -239,7 +225,7 @@ part-of-size (Under.inj {t = left} {p} {a} {b} h) =
         first : 2 ^ 1 * k * (n * x) ≡ k * x * n + k * x * n
         first = omega arith
 part-of-size (Under.inj {t = right} {p} {a} {b} h) =
-    ap₂ _*_ (pow-add 1 (tags p)) (right-integral a b p) ∙ regroup (2 ^ tags p) (size a) (size b) _ (part-of-size h)
+    ap₂ _*_ (pow-add 2 1 (tags p)) (right-integral a b p) ∙ regroup (2 ^ tags p) (size a) (size b) _ (part-of-size h)
   where
     regroup : (k m n x : ℕ) → k * x ≡ n → 2 ^ 1 * k * (m * x) ≡ m * n + m * n
     regroup k m n x e = first ∙ ap (λ y. m * y + m * y) e
@@ -247,7 +233,7 @@ part-of-size (Under.inj {t = right} {p} {a} {b} h) =
         first : 2 ^ 1 * k * (m * x) ≡ m * (k * x) + m * (k * x)
         first = omega arith
 part-of-size (Under.pair {p} {q} {a} {b} h k) =
-    ap₂ _*_ (pow-add (tags p) (tags q)) (pair-integral a b p q)
+    ap₂ _*_ (pow-add 2 (tags p) (tags q)) (pair-integral a b p q)
     ∙ regroup _ _ _ _
     ∙ ap₂ _*_ (part-of-size h) (part-of-size k)
   where
@@ -258,7 +244,7 @@ part-of-size (Under.pair {p} {q} {a} {b} h k) =
 
 one-weight : (n : ℕ) {Γ : ℕ → Ty} {p : Pat} {a : Ty} → Under Γ p a → tags p ≤ n → 2 ^ n * integral a (hit p) ≡ 2 ^ (n - tags p) * size a
 one-weight n {p} {a} h l =
-    ap (λ k. 2 ^ k * integral a (hit p)) (sym (sub-add-cancel l)) ∙ ap (λ k. k * integral a (hit p)) (pow-add (n - tags p) (tags p))
+    ap (λ k. 2 ^ k * integral a (hit p)) (sym (sub-add-cancel l)) ∙ ap (λ k. k * integral a (hit p)) (pow-add 2 (n - tags p) (tags p))
     ∙ mul-assoc (2 ^ (n - tags p)) (2 ^ tags p) (integral a (hit p))
     ∙ ap (λ k. 2 ^ (n - tags p) * k) (part-of-size h)
 
