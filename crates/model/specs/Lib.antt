@@ -13,6 +13,7 @@ pub mod Services
 pub mod Desk
 pub mod Cases
 pub mod Readings
+pub mod Code
 pub mod Paper
 pub mod Terms
 pub mod Answers

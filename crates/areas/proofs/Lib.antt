@@ -1,0 +1,2 @@
+-- Facts about filled lists, for both widths.
+pub mod Filled
