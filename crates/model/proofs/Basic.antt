@@ -25,6 +25,10 @@ bind-some (some a) f e = (a, refl, e)
 pub some-bind : {A B : Type 0} {x : Option A} {a : A} (f : A → Option B) → x ≡ some a → (x >>= f) ≡ f a
 some-bind f e = ap (λ x. x >>= f) e
 
+pub bind-assoc : {A B C : Type 0} (x : Option A) (f : A → Option B) (g : B → Option C) → ((x >>= f) >>= g) ≡ (x >>= λ a. f a >>= g)
+bind-assoc none f g = refl
+bind-assoc (some a) f g = refl
+
 pub none≢some : {A : Type 0} {a : A} → _≡_ {A = Option A} none (some a) → ⊥
 none≢some {a} e = Option·none-ne-some a e
 

@@ -1,0 +1,3 @@
+pub mod Unfolding
+pub mod InTable
+pub mod Walk
