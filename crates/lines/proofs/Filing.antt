@@ -57,15 +57,16 @@ module _ {s t₀ t : List ℕ} {r : R.Read} (h : Holds s t₀ t r) (few : length
   pub filed : FileIn t (r .seen .types) (r .seen .patterns) (r .lines) (h .file)
   filed =
       record {
-        passes = read-rows start 1 (lines s) (h .file) (h .reads) .2
-        ; count = h .count
-        ; few = rows-few
-        ; typeCount = h .told .counts .types
-        ; patternCount = h .told .counts .patterns
-        ; typeTrees = λ i b. h .told .types i (subst (λ n. i < n) (h .told .counts .types) b)
-        ; patternTrees = λ j b.
-            ap (λ n. patternOf t n j) (h .told .counts .types) ∙ h .told .patterns j (subst (λ n. j < n) (h .told .counts .patterns) b)
-        ; letters = λ k row e. cell-of k 0 row e (lit< tt)
-        ; xs = λ k row e. cell-of k 1 row e (lit< tt)
-        ; ys = λ k row e. cell-of k 2 row e (lit< tt)
-        ; zs = λ k row e. cell-of k 3 row e (lit< tt) }
+        passes = read-rows start 1 (lines s) (h .file) (h .reads) .2;
+        count = h .count;
+        few = rows-few;
+        typeCount = h .told .counts .types;
+        patternCount = h .told .counts .patterns;
+        typeTrees = λ i b. h .told .types i (subst (λ n. i < n) (h .told .counts .types) b);
+        patternTrees = λ j b.
+            ap (λ n. patternOf t n j) (h .told .counts .types) ∙ h .told .patterns j (subst (λ n. j < n) (h .told .counts .patterns) b);
+        letters = λ k row e. cell-of k 0 row e (lit< tt);
+        xs = λ k row e. cell-of k 1 row e (lit< tt);
+        ys = λ k row e. cell-of k 2 row e (lit< tt);
+        zs = λ k row e. cell-of k 3 row e (lit< tt);
+      }

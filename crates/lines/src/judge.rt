@@ -199,6 +199,7 @@ fn next_tags(t: &[u16], base: usize, kind: usize, a: usize, b: usize) -> usize
     together(pattern_tags(t, base, a), pattern_tags(t, base, b))
 }
 
+// A T line whose names stand: how many there are, and its nodes.
 fn type_within(c: Seen, t: &[u16], r: Row) -> bool
     ensures { λ b. ⌜ ((s : SeenOf) → Told (now (t .entry)) c s → named s typeLine (rowView r) ≡ true → b ≡ withinCeilings s typeLine (rowView r)) ⌝ }
 {
@@ -208,6 +209,7 @@ fn type_within(c: Seen, t: &[u16], r: Row) -> bool
     false
 }
 
+// A P line whose names stand: how many there are, its nodes, its left and right nodes.
 fn pattern_within(c: Seen, t: &[u16], r: Row) -> bool
     ensures { λ b. ⌜ ((s : SeenOf) → Told (now (t .entry)) c s → named s patternLine (rowView r) ≡ true → b ≡ withinCeilings s patternLine (rowView r)) ⌝ }
 {

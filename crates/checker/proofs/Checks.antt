@@ -1,0 +1,400 @@
+-- What Check answers and leaves in the areas, case by case, against the model's Check.
+use Prim.Native.Nat.{ℕ, zero, suc, _+_, _-_, _*_, _≤_, _<_, min}
+use native.Mathlib.Nat.{sub-zero, suc-sub-suc, le-of-suc-le-suc, not-suc-le-zero}
+use native.Mathlib.Omega.{arith}
+use mathlib.Core.Path.{_≡_, refl, sym, ap, ap₂, _∙_, subst}
+use mathlib.Core.Bool.{Bool, true, false, cond, _||_, true≢false}
+use mathlib.Core.Option.{Option, none, some}
+use mathlib.Core.List.{List, [], _∷_, _++_, map, length as lengthᵘ}
+use lib.Dec.{leb, ltb, lit≤, lit<}
+use lib.ListN.{length, drop, replicate, length-append, length-drop, length-replicate, length-map}
+use borrow.Author.Tests.{lt-ltb, le-ltb, lt-leb}
+use Rattle.model.specs.Limits.{maxBytes, maxLines, tableLength, workLength, rowWidth}
+use Rattle.model.specs.Tools.{concat, isSome, firstFailing, firstOf, orElse}
+use Rattle.model.specs.Trees.{left, right, Clause, Iso}
+use Rattle.model.specs.Refusals.{Refusal, number, shortArea, tooLong, badLine, misplaced, badField, badName, ceiling, variable, letShape, badType, overlap, gap}
+use Rattle.model.specs.Lines.{Row, lines, rowOf, numbers, print}
+use Rattle.model.specs.Judge.{Seen, start, judge, inOrder, fieldsFit, named, withinCeilings, after, Reading, rows, faulty, withRow, onRow, onJudged, readFrom}
+use Rattle.model.specs.Unfold.{isosOf}
+use Rattle.model.specs.Clauses.{Sigs, clauseFault, variablesRule, letShapes, typed, sideFault, apart, fullWeight, lefts, rights, at, isoFault, fault, sigsOf}
+use Rattle.model.specs.Services.{Verdict, accepted, refused, judged, afterReading, over, verdict, filled, tableAfter, workAfter, short, unless, answerOf, check}
+use Rattle.model.specs.Code.{refusalView, numberOf, numbered}
+use Rattle.model.specs.declared.Answer as A
+use Rattle.model.proofs.Basic.{none≢some, some-inj, isSome-true}
+use Rattle.model.proofs.Printing.{read-rows}
+use Rattle.areas.specs.Areas.{cleared}
+use lib.Seq.{drop-append-add, drop-drop, drop-at}
+use Rattle.nodes.specs.Walk.{FileIn}
+use Rattle.lines.specs.Reads.{Holds, ReadSays}
+use Rattle.lines.specs.declared.read.Read as R
+use Rattle.lines.proofs.Filing.{filed, rows-few}
+use Rattle.checker.specs.CheckSays.{CheckSays, Outcome}
+
+-- ---- the areas
+
+-- clearing the front of an area that is long enough
+pub cleared-filled : (n : ℕ) (l : List ℕ) → n ≤ length l → cleared n l ≡ filled n [] l
+cleared-filled n l h =
+    let m : min n (length l) ≡ n - 0 = omega arith in ap (λ k. replicate k 0 ++ drop n l) m
+
+-- ---- the refusals of lines and isos are 3 and above
+
+failing-number : (p q r s : Bool) (a b c d f : Refusal) → 3 ≤ number a → 3 ≤ number b → 3 ≤ number c → 3 ≤ number d
+    → firstFailing ((p, a) ∷ (q, b) ∷ (r, c) ∷ (s, d) ∷ []) ≡ some f → 3 ≤ number f
+failing-number false q r s a b c d f ha hb hc hd e = subst (λ z. 3 ≤ number z) (some-inj e) ha
+failing-number true false r s a b c d f ha hb hc hd e = subst (λ z. 3 ≤ number z) (some-inj e) hb
+failing-number true true false s a b c d f ha hb hc hd e = subst (λ z. 3 ≤ number z) (some-inj e) hc
+failing-number true true true false a b c d f ha hb hc hd e = subst (λ z. 3 ≤ number z) (some-inj e) hd
+failing-number true true true true a b c d f ha hb hc hd e = absurd (none≢some e)
+
+judge-number : (s : Seen) (r : Row) (f : Refusal) → judge s r ≡ some f → 3 ≤ number f
+unfolding judge
+judge-number s r f =
+    failing-number (inOrder (s .above) (r .kind)) (fieldsFit (r .kind) r) (named s (r .kind) r) (withinCeilings s (r .kind) r)
+    (misplaced (r .kind)) (badField (r .kind)) (badName (r .kind)) (ceiling (r .kind)) f (lit≤ tt) (lit≤ tt) (lit≤ tt) (lit≤ tt)
+
+abbrev AtLeast3 : Reading → Type 0
+AtLeast3 (rows rs) = Unit {0}
+AtLeast3 (faulty f n) = 3 ≤ number f
+
+with-row : (r : Row) (x : Reading) → AtLeast3 x → AtLeast3 (withRow r x)
+with-row r (rows rs) h = tt
+with-row r (faulty f n) h = h
+
+on-judged : (s : Seen) (r : Row) (n : ℕ) (k : Unit {0} → Reading) → ((u : Unit {0}) → AtLeast3 (k u)) → AtLeast3 (onJudged n (judge s r) k)
+on-judged s r n k h = go (judge s r) refl
+  where
+    go : (x : Option Refusal) → judge s r ≡ x → AtLeast3 (onJudged n x k)
+    go none e = h tt
+    go (some f) e = judge-number s r f e
+
+on-row : (n : ℕ) (x : Option Row) (k : Row → Reading) → ((r : Row) → AtLeast3 (k r)) → AtLeast3 (onRow n x k)
+on-row n none k h = lit≤ tt
+on-row n (some r) k h = h r
+
+read-numbers : (s : Seen) (n : ℕ) (ls : List (List ℕ)) → AtLeast3 (readFrom s n ls)
+read-numbers s n [] = tt
+read-numbers s n (l ∷ ls) =
+    on-row n (rowOf l) (λ r. onJudged n (judge s r) (λ _. withRow r (readFrom (after s r) (suc n) ls)))
+    (λ r. on-judged s r n (λ _. withRow r (readFrom (after s r) (suc n) ls)) (λ _. with-row r (readFrom (after s r) (suc n) ls) (read-numbers (after s r) (suc n) ls)))
+
+read-number : (s : List ℕ) (f : Refusal) (n : ℕ) → readFrom start 1 (lines s) ≡ faulty f n → 3 ≤ number f
+read-number s f n e = subst AtLeast3 e (read-numbers start 1 (lines s))
+
+-- faults of isos
+abbrev FaultAtLeast3 : Option (Refusal × ℕ) → Type 0
+FaultAtLeast3 none = Unit {0}
+FaultAtLeast3 (some f) = 3 ≤ number (f .0)
+
+at-number : (n : ℕ) (x : Option Refusal) → ((f : Refusal) → x ≡ some f → 3 ≤ number f) → FaultAtLeast3 (at n x)
+at-number n none h = tt
+at-number n (some f) h = h f refl
+
+or-number : (x y : Option (Refusal × ℕ)) → FaultAtLeast3 x → FaultAtLeast3 y → FaultAtLeast3 (orElse x y)
+or-number none y h k = k
+or-number (some f) y h k = h
+
+first-number : {A : Type 0} (g : A → Option (Refusal × ℕ)) (xs : List A) → ((x : A) → FaultAtLeast3 (g x)) → FaultAtLeast3 (firstOf g xs)
+first-number g [] h = tt
+first-number g (x ∷ xs) h = or-number (g x) (firstOf g xs) (h x) (first-number g xs h)
+
+clause-number : (sigs : Sigs) (o : Iso) (c : Clause) (f : Refusal) → clauseFault sigs (o .from) (o .to) c ≡ some f → 3 ≤ number f
+unfolding clauseFault
+clause-number sigs o c f = go (variablesRule c) (letShapes c) (typed sigs (o .from) (o .to) c)
+  where
+    go : (p q r : Bool) → firstFailing ((p, variable) ∷ (q, letShape) ∷ (r, badType) ∷ []) ≡ some f → 3 ≤ number f
+    go false q r e = subst (λ z. 3 ≤ number z) (some-inj e) (lit≤ tt)
+    go true false r e = subst (λ z. 3 ≤ number z) (some-inj e) (lit≤ tt)
+    go true true false e = subst (λ z. 3 ≤ number z) (some-inj e) (lit≤ tt)
+    go true true true e = absurd (none≢some e)
+
+side-number : (o : Iso) (f : Refusal) → sideFault o ≡ some f → 3 ≤ number f
+unfolding sideFault
+side-number o f =
+    failing-number (apart (lefts o)) (apart (rights o)) (fullWeight (lefts o)) (fullWeight (rights o))
+    (overlap left) (overlap right) (gap left) (gap right) f (lit≤ tt) (lit≤ tt) (lit≤ tt) (lit≤ tt)
+
+iso-number : (sigs : Sigs) (o : Iso) → FaultAtLeast3 (isoFault sigs o)
+unfolding isoFault
+iso-number sigs o =
+    or-number (firstOf (λ c. at (c .line) (clauseFault sigs (o .from) (o .to) c)) (o .clauses)) (at (o .line) (sideFault o))
+    (first-number (λ c. at (c .line) (clauseFault sigs (o .from) (o .to) c)) (o .clauses)
+    (λ c. at-number (c .line) (clauseFault sigs (o .from) (o .to) c) (clause-number sigs o c)))
+    (at-number (o .line) (sideFault o) (side-number o))
+
+fault-number : (os : List Iso) (f : Refusal) (n : ℕ) → fault os ≡ some (f, n) → 3 ≤ number f
+unfolding fault
+fault-number os f n e = subst FaultAtLeast3 e (first-number (isoFault (sigsOf os)) os (iso-number (sigsOf os)))
+
+-- ---- verdicts
+
+-- a file that is not too long
+verdict-not-over : (s : List ℕ) → length s ≤ maxBytes → length (lines s) ≤ maxLines → verdict s ≡ afterReading (readFrom start 1 (lines s))
+unfolding verdict over
+verdict-not-over s h k =
+    ap (λ b. cond b (refused tooLong 0) (afterReading (readFrom start 1 (lines s)))) (ap₂ _||_ (le-ltb _ _ h) (le-ltb _ _ k))
+
+or-right : (b : Bool) → (b || true) ≡ true
+or-right true = refl
+or-right false = refl
+
+pub verdict-bytes : (s : List ℕ) → maxBytes < length s → verdict s ≡ refused tooLong 0
+unfolding verdict over
+verdict-bytes s h =
+    ap (λ b. cond (b || ltb maxLines (length (lines s))) (refused tooLong 0) (afterReading (readFrom start 1 (lines s)))) (lt-ltb _ _ h)
+
+pub verdict-lines : (s : List ℕ) → maxLines < length (lines s) → verdict s ≡ refused tooLong 0
+unfolding verdict over
+verdict-lines s h =
+    ap (λ b. cond (ltb maxBytes (length s) || b) (refused tooLong 0) (afterReading (readFrom start 1 (lines s)))) (lt-ltb _ _ h)
+    ∙ ap (λ b. cond b (refused tooLong 0) (afterReading (readFrom start 1 (lines s)))) (or-right (ltb maxBytes (length s)))
+
+-- ---- Check, by the verdict
+
+-- what Check does once the verdict, refusal 1 included, is known
+by-verdict : (s t w : List ℕ) (v : Verdict) → unless (short t w) (verdict s) ≡ v
+    → check s t w ≡ record { answer = answerOf v; table = tableAfter v t; work = workAfter v w }
+unfolding check
+by-verdict s t w v e = ap (λ x. record { answer = answerOf x; table = tableAfter x t; work = workAfter x w }) e
+
+-- an answer that agrees with a refusal
+says-refused : (s t w t′ w′ : List ℕ) (r : A.Answer) (f : Refusal) → unless (short t w) (verdict s) ≡ refused f (r .place)
+    → refusalView (r .refusal) ≡ some f → t′ ≡ tableAfter (refused f (r .place)) t → w′ ≡ workAfter (refused f (r .place)) w
+    → CheckSays s t w t′ w′ r
+says-refused s t w t′ w′ r f e n ht hw =
+    let c = by-verdict s t w (refused f (r .place)) e in
+    record {
+      number = ap numbered n ∙ sym (ap (λ x. x .answer .number) c);
+      line = sym (ap (λ x. x .answer .line) c);
+      table = ht ∙ sym (ap (λ x. x .table) c);
+      work = hw ∙ sym (ap (λ x. x .work) c);
+    }
+
+long-enough : (t w : List ℕ) → tableLength ≤ length t → workLength ≤ length w → (v : Verdict) → unless (short t w) v ≡ v
+long-enough t w ht hw v = ap (λ b. unless b v) (ap₂ _||_ (le-ltb _ _ ht) (le-ltb _ _ hw))
+
+-- 1: the table is short
+pub short-table : (s t w : List ℕ) (r : A.Answer) → length t < tableLength → refusalView (r .refusal) ≡ some shortArea → r .place ≡ 0 → CheckSays s t w t w r
+short-table s t w r h n p =
+    says-refused s t w t w r shortArea
+    (ap (λ b. unless (b || ltb (length w) workLength) (verdict s)) (lt-ltb _ _ h) ∙ ap (refused shortArea) (sym p)) n refl refl
+
+-- 1: the work area is short
+pub short-work : (s t w : List ℕ) (r : A.Answer) → length w < workLength → refusalView (r .refusal) ≡ some shortArea → r .place ≡ 0 → CheckSays s t w t w r
+short-work s t w r h n p =
+    says-refused s t w t w r shortArea
+    (ap (λ b. unless (ltb (length t) tableLength || b) (verdict s)) (lt-ltb _ _ h)
+    ∙ ap (λ b. unless b (verdict s)) (or-right (ltb (length t) tableLength))
+    ∙ ap (refused shortArea) (sym p)) n refl refl
+
+-- 2: too many bytes or lines
+pub too-long : (s t w : List ℕ) (r : A.Answer) → tableLength ≤ length t → workLength ≤ length w → verdict s ≡ refused tooLong 0
+    → refusalView (r .refusal) ≡ some tooLong → r .place ≡ 0 → CheckSays s t w t w r
+too-long s t w r ht hw v n p =
+    says-refused s t w t w r tooLong (long-enough t w ht hw (verdict s) ∙ v ∙ ap (refused tooLong) (sym p)) n refl refl
+
+-- a refusal of a line or an iso clears both areas
+cleared-table : (f : Refusal) (n : ℕ) (t : List ℕ) → 3 ≤ number f → filled tableLength [] t ≡ tableAfter (refused f n) t
+cleared-table f n t h = sym (ap (λ b. cond b t (filled tableLength [] t)) (lt-leb _ _ h))
+
+cleared-work : (f : Refusal) (n : ℕ) (w : List ℕ) → 3 ≤ number f → filled workLength [] w ≡ workAfter (refused f n) w
+cleared-work f n w h = sym (ap (λ b. cond b w (filled workLength [] w)) (lt-leb _ _ h))
+
+-- a table that changed only in its front, cleared there, is the table at entry, cleared
+cleared-again : (n : ℕ) (t t₁ : List ℕ) → n ≤ length t → length t₁ ≡ length t → drop n t₁ ≡ drop n t → cleared n t₁ ≡ filled n [] t
+cleared-again n t t₁ h k d =
+    ap₂ (λ m l. replicate (min n m) 0 ++ l) k d ∙ cleared-filled n t h
+
+-- 3 to 7, and 8 to 14
+pub refused-later : (s t w t₁ t′ w′ : List ℕ) (r : A.Answer) (f : Refusal) → tableLength ≤ length t → workLength ≤ length w
+    → verdict s ≡ refused f (r .place) → 3 ≤ number f → refusalView (r .refusal) ≡ some f
+    → length t₁ ≡ length t → drop tableLength t₁ ≡ drop tableLength t → t′ ≡ cleared tableLength t₁ → w′ ≡ cleared workLength w
+    → CheckSays s t w t′ w′ r
+refused-later s t w t₁ t′ w′ r f ht hw v m n wide behind et ew =
+    says-refused s t w t′ w′ r f (long-enough t w ht hw (verdict s) ∙ v) n
+    (et ∙ cleared-again tableLength t t₁ ht wide behind ∙ cleared-table f (r .place) t m)
+    (ew ∙ cleared-filled workLength w hw ∙ cleared-work f (r .place) w m)
+
+-- the verdict of a file whose reading is refused, and of one with a faulty iso
+pub verdict-read : (s : List ℕ) (f : Refusal) (n : ℕ) → length s ≤ maxBytes → length (lines s) ≤ maxLines
+    → readFrom start 1 (lines s) ≡ faulty f n → (verdict s ≡ refused f n) × (3 ≤ number f)
+verdict-read s f n hb hl e = (verdict-not-over s hb hl ∙ ap afterReading e, read-number s f n e)
+
+pub verdict-fault : (s : List ℕ) (rs : List Row) (f : Refusal) (n : ℕ) → length s ≤ maxBytes → length (lines s) ≤ maxLines
+    → readFrom start 1 (lines s) ≡ rows rs → fault (isosOf rs) ≡ some (f, n) → (verdict s ≡ refused f n) × (3 ≤ number f)
+verdict-fault s rs f n hb hl e k =
+    (verdict-not-over s hb hl ∙ ap afterReading e ∙ ap (judged rs) k, fault-number (isosOf rs) f n k)
+
+drop-replicate : (k n : ℕ) (l : List ℕ) → k ≤ n → drop k (replicate n 0 ++ l) ≡ replicate (n - k) 0 ++ l
+drop-replicate zero n l h = ap (λ m. replicate m 0 ++ l) (sym (sub-zero n))
+drop-replicate (suc k) zero l h = absurd (not-suc-le-zero h)
+drop-replicate (suc k) (suc n) l h = drop-replicate k n l (le-of-suc-le-suc h) ∙ ap (λ m. replicate m 0 ++ l) (sym (suc-sub-suc n k))
+
+-- four numbers a row
+length-rows : (rs : List Row) → length (concat (map numbers rs)) ≡ length rs * rowWidth
+length-rows [] = refl
+length-rows (r ∷ rs) =
+    let e = length-rows rs in let f = length-append (numbers r) (concat (map numbers rs)) in omega (arith, e, f)
+
+rows-then-zeros : (t t₀ : List ℕ) (rs : List Row) → tableLength ≤ length t → length rs ≤ maxLines → t₀ ≡ cleared tableLength t
+    → concat (map numbers rs) ++ drop (length rs * rowWidth) t₀ ≡ filled tableLength (concat (map numbers rs)) t
+rows-then-zeros t t₀ rs h few e =
+    let within : length rs * rowWidth ≤ tableLength - 0 = omega arith in
+    let left : tableLength - 0 - length rs * rowWidth ≡ tableLength - length (concat (map numbers rs)) = omega (arith, length-rows rs) in
+    ap (λ l. concat (map numbers rs) ++ l)
+    (ap (drop (length rs * rowWidth)) (e ∙ cleared-filled tableLength t h)
+    ∙ drop-replicate (length rs * rowWidth) (tableLength - 0) (drop tableLength t) within
+    ∙ ap (λ m. replicate m 0 ++ drop tableLength t) left)
+
+-- 0: the table holds the rows, and zeros behind them
+pub accepted-says : (s t w t₀ t′ w′ : List ℕ) (rs : List Row) (r : A.Answer) → tableLength ≤ length t → workLength ≤ length w
+    → length s ≤ maxBytes → length (lines s) ≤ maxLines → readFrom start 1 (lines s) ≡ rows rs → fault (isosOf rs) ≡ none
+    → refusalView (r .refusal) ≡ none → r .place ≡ 0
+    → t₀ ≡ cleared tableLength t → t′ ≡ concat (map numbers rs) ++ drop (length rs * rowWidth) t₀ → w′ ≡ cleared workLength w
+    → CheckSays s t w t′ w′ r
+accepted-says s t w t₀ t′ w′ rs r ht hw hb hl e k n p e₀ et ew =
+    let v : verdict s ≡ accepted rs = verdict-not-over s hb hl ∙ ap afterReading e ∙ ap (judged rs) k in
+    let c = by-verdict s t w (accepted rs) (long-enough t w ht hw (verdict s) ∙ v) in
+    record {
+      number = ap numbered n ∙ sym (ap (λ x. x .answer .number) c);
+      line = p ∙ sym (ap (λ x. x .answer .line) c);
+      table = et ∙ rows-then-zeros t t₀ rs ht (subst (λ m. m ≤ maxLines) (ap length (read-rows start 1 (lines s) rs e .0) ∙ length-map rs print) hl) e₀ ∙ sym (ap (λ x. x .table) c);
+      work = ew ∙ cleared-filled workLength w hw ∙ sym (ap (λ x. x .work) c);
+    }
+
+-- ---- a file read into a cleared table, and its isos
+
+-- a reading that is refused
+pub outcome-read : (s t₀ t₁ : List ℕ) (q : R.Read) (r : A.Answer) (g : Refusal) → ReadSays s t₀ t₁ q → refusalView (q .refusal) ≡ some g
+    → r .refusal ≡ q .refusal → r .place ≡ q .place → Outcome s t₀ t₁ r
+outcome-read s t₀ t₁ q r g says e same place =
+    let h = says .refused g e in
+    let agree : (f : Refusal) → refusalView (r .refusal) ≡ some f → g ≡ f =
+    λ f k. some-inj (sym e ∙ ap refusalView (sym same) ∙ k) in
+    record {
+      accepts = λ k. absurd (none≢some (sym k ∙ ap refusalView same ∙ e));
+      refuses = λ f k. ap afterReading (h .reads) ∙ ap₂ refused (agree f k) (sym place);
+      later = λ f k. subst (λ z. 3 ≤ number z) (agree f k) (read-number s g (q .place) (h .reads));
+      wide = h .wide;
+      behind = h .behind;
+    }
+
+-- rows written over the front of a table leave its length and what lies behind 16,384 numbers
+rows-wide : (t₀ : List ℕ) (rs : List Row) → tableLength ≤ length t₀ → length rs ≤ maxLines
+    → length (concat (map numbers rs) ++ drop (length rs * rowWidth) t₀) ≡ length t₀
+rows-wide t₀ rs h few =
+    let a = length-append (concat (map numbers rs)) (drop (length rs * rowWidth) t₀) in
+    let b = length-drop (length rs * rowWidth) t₀ in
+    omega (arith, a, b, length-rows rs)
+
+rows-behind : (t₀ : List ℕ) (rs : List Row) → length rs ≤ maxLines
+    → drop tableLength (concat (map numbers rs) ++ drop (length rs * rowWidth) t₀) ≡ drop tableLength t₀
+rows-behind t₀ rs few =
+    let k : ℕ = length rs * rowWidth in
+    let split : tableLength ≡ length (concat (map numbers rs)) + (tableLength - k) = omega (arith, length-rows rs) in
+    let whole : k + (tableLength - k) ≡ tableLength = omega arith in
+    ap (λ n. drop n (concat (map numbers rs) ++ drop k t₀)) split
+    ∙ drop-append-add (concat (map numbers rs)) (drop k t₀) (tableLength - k)
+    ∙ drop-drop (tableLength - k) k t₀
+    ∙ ap (λ n. drop n t₀) whole
+
+abbrev asFault : A.Answer → Option (Refusal × ℕ)
+asFault a = at (a .place) (refusalView (a .refusal))
+
+fault-none : (a : A.Answer) → refusalView (a .refusal) ≡ none → asFault a ≡ none
+fault-none a e = ap (at (a .place)) e
+
+fault-some : (a : A.Answer) (f : Refusal) → refusalView (a .refusal) ≡ some f → asFault a ≡ some (f, a .place)
+fault-some a f e = ap (at (a .place)) e
+
+-- a reading that is accepted, and the first refusal of its isos
+pub outcome-isos : (s t₀ t₁ : List ℕ) (q : R.Read) (r : A.Answer) → tableLength ≤ length t₀ → length (lines s) ≤ maxLines
+    → (h : Holds s t₀ t₁ q) → (FileIn t₁ (q .seen .types) (q .seen .patterns) (q .lines) (h .file) → asFault r ≡ fault (isosOf (h .file)))
+    → Outcome s t₀ t₁ r
+outcome-isos s t₀ t₁ q r long few h says =
+    let e = says (filed h few) in
+    let fewer = rows-few h few in
+    record {
+      accepts = λ k. (h .file, h .reads, sym e ∙ fault-none r k, h .table);
+      refuses = λ f k. ap afterReading (h .reads) ∙ ap (judged (h .file)) (sym e ∙ fault-some r f k);
+      later = λ f k. fault-number (isosOf (h .file)) f (r .place) (sym e ∙ fault-some r f k);
+      wide = ap length (h .table) ∙ rows-wide t₀ (h .file) long fewer;
+      behind = ap (drop tableLength) (h .table) ∙ rows-behind t₀ (h .file) fewer;
+    }
+
+-- ---- Check, from the outcome
+
+zeros : ℕ → List ℕ
+zeros n = replicate n 0
+
+length-zeros : (n : ℕ) → length (zeros n) ≡ n
+unfolding zeros
+length-zeros n = length-replicate {A = ℕ} n 0
+
+cleared-is : (t : List ℕ) → tableLength ≤ length t → cleared tableLength t ≡ zeros tableLength ++ drop tableLength t
+unfolding zeros
+cleared-is t h = let m : min tableLength (length t) ≡ tableLength = omega arith in ap (λ k. replicate k 0 ++ drop tableLength t) m
+
+cleared-long : (t : List ℕ) → tableLength ≤ length t → length (cleared tableLength t) ≡ length t
+cleared-long t h =
+    let a = length-append (zeros tableLength) (drop tableLength t) in
+    let d = length-drop tableLength t in
+    ap length (cleared-is t h) ∙ omega (arith, a, length-zeros tableLength, d)
+
+cleared-behind : (t : List ℕ) → tableLength ≤ length t → drop tableLength (cleared tableLength t) ≡ drop tableLength t
+cleared-behind t h =
+    ap (drop tableLength) (cleared-is t h) ∙ drop-at (zeros tableLength) (drop tableLength t) tableLength (length-zeros tableLength)
+
+pub check-refused : (s t w t₀ t₁ t′ w′ : List ℕ) (a : A.Answer) (f : Refusal) → tableLength ≤ length t → workLength ≤ length w
+    → length s ≤ maxBytes → length (lines s) ≤ maxLines → t₀ ≡ cleared tableLength t → Outcome s t₀ t₁ a → refusalView (a .refusal) ≡ some f
+    → t′ ≡ cleared tableLength t₁ → w′ ≡ cleared workLength w → CheckSays s t w t′ w′ a
+check-refused s t w t₀ t₁ t′ w′ a f ht hw hb hl e₀ o k et ew =
+    refused-later s t w t₁ t′ w′ a f ht hw (verdict-not-over s hb hl ∙ o .refuses f k) (o .later f k) k
+    (o .wide ∙ ap length e₀ ∙ cleared-long t ht) (o .behind ∙ ap (drop tableLength) e₀ ∙ cleared-behind t ht) et ew
+
+pub check-accepted : (s t w t₀ t₁ w′ : List ℕ) (a r : A.Answer) → tableLength ≤ length t → workLength ≤ length w
+    → length s ≤ maxBytes → length (lines s) ≤ maxLines → t₀ ≡ cleared tableLength t → Outcome s t₀ t₁ a → refusalView (a .refusal) ≡ none
+    → refusalView (r .refusal) ≡ none → r .place ≡ 0 → w′ ≡ cleared workLength w → CheckSays s t w t₁ w′ r
+check-accepted s t w t₀ t₁ w′ a r ht hw hb hl e₀ o k n p ew =
+    let h = o .accepts k in
+    accepted-says s t w t₀ t₁ w′ (h .0) r ht hw hb hl (h .1) (h .2) n p e₀ (h .3) ew
+
+-- ---- as the code finds it: a flag says whether a refusal is one
+
+flag-some : (b : Bool) (x : Option Refusal) → b ≡ isSome x → b ≡ true → (f : Refusal) × (x ≡ some f)
+flag-some b x e h = isSome-true x (sym e ∙ h)
+
+flag-none : (b : Bool) (x : Option Refusal) → b ≡ isSome x → b ≡ false → x ≡ none
+flag-none b none e h = refl
+flag-none b (some f) e h = absurd (true≢false (sym e ∙ h))
+
+pub outcome-refused : (s t₀ t₁ : List ℕ) (q : R.Read) (r : A.Answer) (b : Bool) → ReadSays s t₀ t₁ q → b ≡ isSome (refusalView (q .refusal)) → b ≡ true
+    → r .refusal ≡ q .refusal → r .place ≡ q .place → Outcome s t₀ t₁ r
+outcome-refused s t₀ t₁ q r b says e h same place =
+    let g = flag-some b (refusalView (q .refusal)) e h in outcome-read s t₀ t₁ q r (g .0) says (g .1) same place
+
+pub outcome-whole : (s t₀ t₁ : List ℕ) (q : R.Read) (r : A.Answer) (b : Bool) → tableLength ≤ length t₀ → length (lines s) ≤ maxLines
+    → ReadSays s t₀ t₁ q → b ≡ isSome (refusalView (q .refusal)) → b ≡ false
+    → ((rs : List Row) → FileIn t₁ (q .seen .types) (q .seen .patterns) (q .lines) rs → asFault r ≡ fault (isosOf rs)) → Outcome s t₀ t₁ r
+outcome-whole s t₀ t₁ q r b long few says e h found =
+    let k = says .accepted (flag-none b (refusalView (q .refusal)) e h) in outcome-isos s t₀ t₁ q r long few k (found (k .file))
+
+pub says-later : (s t w t₀ t₁ t′ w′ : List ℕ) (a : A.Answer) (b : Bool) → tableLength ≤ length t → workLength ≤ length w
+    → length s ≤ maxBytes → length (lines s) ≤ maxLines → t₀ ≡ cleared tableLength t → Outcome s t₀ t₁ a
+    → b ≡ isSome (refusalView (a .refusal)) → b ≡ true → t′ ≡ cleared tableLength t₁ → w′ ≡ cleared workLength w → CheckSays s t w t′ w′ a
+says-later s t w t₀ t₁ t′ w′ a b ht hw hb hl e₀ o e h =
+    let g = flag-some b (refusalView (a .refusal)) e h in check-refused s t w t₀ t₁ t′ w′ a (g .0) ht hw hb hl e₀ o (g .1)
+
+pub says-accepted : (s t w t₀ t₁ w′ : List ℕ) (a r : A.Answer) (b : Bool) → tableLength ≤ length t → workLength ≤ length w
+    → length s ≤ maxBytes → length (lines s) ≤ maxLines → t₀ ≡ cleared tableLength t → Outcome s t₀ t₁ a
+    → b ≡ isSome (refusalView (a .refusal)) → b ≡ false → refusalView (r .refusal) ≡ none → r .place ≡ 0 → w′ ≡ cleared workLength w
+    → CheckSays s t w t₁ w′ r
+says-accepted s t w t₀ t₁ w′ a r b ht hw hb hl e₀ o e h =
+    check-accepted s t w t₀ t₁ w′ a r ht hw hb hl e₀ o (flag-none b (refusalView (a .refusal)) e h)
+
+-- the lines as they were counted
+pub counted-few : {n : ℕ} (s : List ℕ) → n ≡ length (lines s) → n ≤ maxLines → length (lines s) ≤ maxLines
+counted-few s e h = subst (λ m. m ≤ maxLines) e h
+
+pub counted-many : {n : ℕ} (s : List ℕ) → n ≡ length (lines s) → maxLines < n → verdict s ≡ refused tooLong 0
+counted-many s e h = verdict-lines s (subst (λ m. maxLines < m) e h)

@@ -1,0 +1,50 @@
+use mathlib.Core.Path.{refl}
+use Rattle.checker.proofs.Checks.{outcome-refused, outcome-whole}
+use borrow.Author.Needs.{needs}
+use Rattle.checker.proofs.checked.Statement.{statement}
+use Rattle.checker.proofs.checked.Tie as tie
+use Rattle.checker.proofs.checked.Reads as reads
+use Rattle.checker.proofs.checked.Lts as lts
+use Rattle.checker.proofs.is_refused.Reads as is-refused-reads
+use Rattle.isos.proofs.isos_fault.Reads as isos-fault-reads
+use Rattle.lines.proofs.read.read_file.Reads as read-file-reads
+
+-- src/lib.rt:48:9
+read-file-requires : tie.Need-read-file-requires
+read-file-requires c κs = search needs
+
+-- src/lib.rt:50:8
+is-refused-requires : tie.Need-is-refused-requires
+is-refused-requires c κs = search needs
+
+-- src/lib.rt:51:9
+same-length : tie.Need-same-length
+same-length c = search needs
+
+-- src/lib.rt:51:9
+returns : tie.Need-returns
+returns c = outcome-refused _ _ _ _ _ _ (c .before .before .before .before .read-file .ensures) (c .before .is-refused .ensures) (c .if1 .taken) refl refl
+
+-- src/lib.rt:57:5
+isos-fault-requires : tie.Need-isos-fault-requires
+isos-fault-requires c κs = search needs
+
+-- src/lib.rt:44:1
+same-length-2 : tie.Need-same-length-2
+same-length-2 c = search needs
+
+-- src/lib.rt:44:1
+returns-2 : tie.Need-returns-2
+returns-2 c = outcome-whole _ _ _ _ _ _ (c .before .before .before .before .before .before .before .before .before .before .before .pre .0) (c .before .before .before .before .before .before .before .before .before .before .before .pre .1) (c .before .before .before .before .before .before .before .read-file .ensures) (c .before .before .before .before .is-refused .ensures) (c .before .before .before .if1 .left) (c .isos-fault .ensures)
+
+pub checked-spec : {M : Type 1} → statement M
+checked-spec =
+    tie.close
+    (tie.spec
+    read-file-requires
+    is-refused-requires
+    same-length
+    returns
+    isos-fault-requires
+    same-length-2
+    returns-2)

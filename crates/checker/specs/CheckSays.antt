@@ -1,0 +1,33 @@
+-- Check's contract: number, line, table and work area are what the model's Check gives.
+use Prim.Native.Nat.{ℕ, _*_, _≤_}
+use mathlib.Core.Path.{_≡_}
+use mathlib.Core.Option.{none, some}
+use mathlib.Core.List.{List, _++_, map}
+use lib.ListN.{length, drop}
+use Rattle.model.specs.Limits.{tableLength, rowWidth}
+use Rattle.model.specs.Tools.{concat}
+use Rattle.model.specs.Refusals.{Refusal, number}
+use Rattle.model.specs.Lines.{Row, lines, numbers}
+use Rattle.model.specs.Judge.{start, rows, readFrom}
+use Rattle.model.specs.Unfold.{isosOf}
+use Rattle.model.specs.Clauses.{fault}
+use Rattle.model.specs.Services.{check, afterReading, refused}
+use Rattle.model.specs.Code.{numberOf, refusalView}
+use Rattle.model.specs.declared.Answer as A
+
+-- t and w are the areas at entry, t′ and w′ at exit
+pub record CheckSays (file t w t′ w′ : List ℕ) (r : A.Answer) : Type 0 where
+  pub number : numberOf (r .refusal) ≡ check file t w .answer .number
+  pub line : r .place ≡ check file t w .answer .line
+  pub table : t′ ≡ check file t w .table
+  pub work : w′ ≡ check file t w .work
+
+-- a file read into a table, t₀ before and t₁ after, and its isos: the rows are in the table and no iso is faulty, or the refusal and its
+-- line are those of the model, and at most the first 16,384 numbers changed
+pub record Outcome (s t₀ t₁ : List ℕ) (r : A.Answer) : Type 0 where
+  pub accepts : refusalView (r .refusal) ≡ none → (rs : List Row) × (readFrom start 1 (lines s) ≡ rows rs) × (fault (isosOf rs) ≡ none)
+      × (t₁ ≡ concat (map numbers rs) ++ drop (length rs * rowWidth) t₀)
+  pub refuses : (f : Refusal) → refusalView (r .refusal) ≡ some f → afterReading (readFrom start 1 (lines s)) ≡ refused f (r .place)
+  pub later : (f : Refusal) → refusalView (r .refusal) ≡ some f → 3 ≤ number f
+  pub wide : length t₁ ≡ length t₀
+  pub behind : drop tableLength t₁ ≡ drop tableLength t₀

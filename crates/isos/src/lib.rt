@@ -1,0 +1,263 @@
+// All isos of a table. The rows are walked from the last to the first, so that L rows are known before
+// their C row and C rows before their I row; an earlier refusal replaces a later one.
+
+use clauses::clause::clause_fault;
+use clauses::sides::side_fault;
+use model::Answer;
+use model::Refusal;
+use nodes::cell;
+ghost use mathlib.Core.Path.{_≡_};
+ghost use mathlib.Core.List.{List};
+ghost use mathlib.Core.Option.{none as nothing};
+ghost use Prim.Native.Nat.{ℕ, suc, _+_, _%_, _≤_, _<_};
+ghost use lib.ListN.{length, take, set};
+ghost use Rattle.model.specs.Lines.{Row as RowOf};
+ghost use Rattle.model.specs.Tools.{orElse};
+ghost use Rattle.model.specs.Code.{refusalView};
+ghost use Rattle.model.specs.Unfold.{isosOf};
+ghost use Rattle.model.specs.Clauses.{at, fault};
+ghost use Rattle.nodes.specs.Unfolding.{cellOf};
+ghost use Rattle.nodes.specs.InTable.{patternsAt, sidesFault};
+ghost use Rattle.nodes.specs.Walk.{FileIn, isoRows};
+ghost use Rattle.isos.specs.Answers.{asFault};
+ghost use Rattle.isos.specs.Walked.{StartsOf, Walked};
+
+// The rows of the I lines.
+pub struct Starts {
+    pub rows: [u16; 32],
+    pub count: usize,
+}
+
+fn narrow(n: usize) -> u16
+    ensures { λ r. ⌜ r ≡ n % 65536 ⌝ }
+{
+    (n % 65536) as u16
+}
+
+// One I line more, where there is room for it.
+fn with_start(s: Starts, n: usize) -> Starts
+    ensures { λ r. ⌜ (s .count < 32 → n < 65536 → (r .rows ≡ set (s .rows) (s .count) n) × (r .count ≡ s .count + 1)) ⌝ }
+{
+    let count = s.count;
+    if count < 32 {
+        let mut r = s;
+        r.rows[count] = narrow(n);
+        r.count = count + 1;
+        return r;
+    }
+    s
+}
+
+// The I lines with row n, if it is one.
+fn with_line(t: &[u16], s: Starts, n: usize) -> Starts
+    ensures { λ r. ⌜ ((rs : List RowOf) (types patterns lines : ℕ) → FileIn (now (t .entry)) types patterns lines rs → n < lines → StartsOf (take n rs) s → StartsOf (take (suc n) rs) r) ⌝ }
+{
+    if cell(t, n, 0) == 73 {
+        return with_start(s, n);
+    }
+    s
+}
+
+// The rows of the I lines among the rows from `from` up to `to`.
+fn iso_rows(t: &[u16], from: usize, to: usize) -> Starts
+    ensures { λ r. ⌜ ((rs : List RowOf) (types patterns : ℕ) → FileIn (now (t .entry)) types patterns to rs → from ≡ types + patterns → StartsOf rs r) ⌝ }
+{
+    let mut n = from;
+    let mut s = Starts {
+        rows: [0u16; 32],
+        count: 0,
+    };
+    while n < to {
+        s = with_line(t, s, n);
+        n += 1;
+    }
+    s
+}
+
+// What the rows from some place on have come to: the rows of the C lines of an iso above, from place
+// `first` of `clauses` on; the row where the L lines of the next C line above end; how many I lines
+// stand above; the first refusal of those clauses; the first refusal of the isos further down.
+pub struct Walk {
+    pub clauses: [u16; 32],
+    pub first: usize,
+    pub below: usize,
+    pub iso: usize,
+    pub pending: Answer,
+    pub found: Answer,
+}
+
+fn none() -> Answer
+    ensures { λ r. ⌜ asFault r ≡ nothing ⌝ }
+{
+    Answer {
+        place: 0,
+        refusal: Refusal::Nothing,
+    }
+}
+
+// The refusal of an earlier row, or else what was found further down.
+fn sooner(f: Refusal, place: usize, later: Answer) -> Answer
+    ensures { λ r. ⌜ asFault r ≡ orElse (at place (refusalView f)) (asFault later) ⌝ }
+{
+    match f {
+        Refusal::Nothing => later,
+        _ => Answer {
+            place: place,
+            refusal: f,
+        },
+    }
+}
+
+fn wide(n: u16) -> usize
+    ensures { λ r. ⌜ r ≡ n ⌝ }
+{
+    n as usize
+}
+
+// The walk with the C row n.
+fn with_clause(t: &[u16], base: usize, starts: &[u16], w: Walk, n: usize) -> Walk
+    ensures { λ r. ⌜ ((rs : List RowOf) (patterns lines : ℕ) → FileIn (now (t .entry)) base patterns lines rs → now (starts .entry) ≡ isoRows 0 rs → n < lines → cellOf (now (t .entry)) n 0 ≡ 67 → Walked (now (t .entry)) base rs (suc n) w → Walked (now (t .entry)) base rs n r) ⌝ }
+{
+    let i = w.iso;
+    let first = w.first;
+    let below = w.below;
+    let found = w.found;
+    let pending = w.pending;
+    if i == 0 {
+        return w;
+    }
+    if first == 0 {
+        return w;
+    }
+    if 32 < first {
+        return w;
+    }
+    if starts.len() < i {
+        return w;
+    }
+    if 4096 <= n {
+        return w;
+    }
+    let own = i - 1;
+    let head = wide(starts[own]);
+    let f = clause_fault(
+        t,
+        base,
+        starts,
+        cell(t, head, 1),
+        cell(t, head, 2),
+        n,
+        below,
+    );
+    let slot = first - 1;
+    let mut clauses = w.clauses;
+    clauses[slot] = narrow(n);
+    Walk {
+        clauses: clauses,
+        first: slot,
+        below: n,
+        iso: i,
+        pending: sooner(f, n + 1, pending),
+        found: found,
+    }
+}
+
+// The first refusal of an iso with its I row at n, at one of its clauses or else on its sides.
+fn iso_answer(t: &[u16], base: usize, rows: &[u16], n: usize, pending: Answer) -> Answer
+    requires { ⌜ (length (now rows) ≤ 32) × (n < 4096) ⌝ }
+    ensures { λ r. ⌜ asFault r ≡ orElse (asFault pending) (at (suc n) (sidesFault (patternsAt (now (t .entry)) base 1 (now (rows .entry))) (patternsAt (now (t .entry)) base 2 (now (rows .entry))))) ⌝ }
+{
+    let f = pending.refusal;
+    match f {
+        Refusal::Nothing => sooner(side_fault(t, base, rows), n + 1, none()),
+        _ => pending,
+    }
+}
+
+// The walk with the I row n.
+fn with_iso(t: &[u16], base: usize, w: Walk, n: usize) -> Walk
+    ensures { λ r. ⌜ ((rs : List RowOf) (patterns lines : ℕ) → FileIn (now (t .entry)) base patterns lines rs → n < lines → cellOf (now (t .entry)) n 0 ≡ 73 → Walked (now (t .entry)) base rs (suc n) w → Walked (now (t .entry)) base rs n r) ⌝ }
+{
+    let i = w.iso;
+    let first = w.first;
+    let found = w.found;
+    let pending = w.pending;
+    let clauses = w.clauses;
+    if i == 0 {
+        return w;
+    }
+    if 32 < first {
+        return w;
+    }
+    if 4096 <= n {
+        return w;
+    }
+    let a = iso_answer(t, base, &clauses[first..32], n, pending);
+    let f = a.refusal;
+    let clear = none();
+    let above = i - 1;
+    Walk {
+        clauses: clauses,
+        first: 32,
+        below: n,
+        iso: above,
+        pending: clear,
+        found: sooner(f, a.place, found),
+    }
+}
+
+// The walk with row n. An L row leaves it as it is.
+fn with_row(t: &[u16], base: usize, starts: &[u16], w: Walk, n: usize) -> Walk
+    ensures { λ r. ⌜ ((rs : List RowOf) (patterns lines : ℕ) → FileIn (now (t .entry)) base patterns lines rs → now (starts .entry) ≡ isoRows 0 rs → n < lines → base + patterns ≤ n → Walked (now (t .entry)) base rs (suc n) w → Walked (now (t .entry)) base rs n r) ⌝ }
+{
+    let letter = cell(t, n, 0);
+    if letter == 67 {
+        return with_clause(t, base, starts, w, n);
+    }
+    if letter == 73 {
+        return with_iso(t, base, w, n);
+    }
+    w
+}
+
+// The first refusal of the isos of a table of `lines` rows, of which `types` are T lines and then
+// `patterns` P lines.
+pub fn isos_fault(t: &[u16], types: usize, patterns: usize, lines: usize) -> Answer
+    ensures { λ r. ⌜ ((rs : List RowOf) → FileIn (now (t .entry)) types patterns lines rs → asFault r ≡ fault (isosOf rs)) ⌝ }
+{
+    if 4096 < types {
+        return none();
+    }
+    if 4096 < patterns {
+        return none();
+    }
+    let stop = types + patterns;
+    let s = iso_rows(t, stop, lines);
+    let rows = s.rows;
+    let count = s.count;
+    if 32 < count {
+        return none();
+    }
+    walk_up(t, types, &rows[0..count], stop, lines, count)
+}
+
+// The first refusal that the walk from the last row up to row `stop` finds.
+fn walk_up(t: &[u16], base: usize, starts: &[u16], stop: usize, lines: usize, isos: usize) -> Answer
+    ensures { λ r. ⌜ ((rs : List RowOf) (patterns : ℕ) → FileIn (now (t .entry)) base patterns lines rs → now (starts .entry) ≡ isoRows 0 rs → isos ≡ length (isoRows 0 rs) → stop ≡ base + patterns → asFault r ≡ fault (isosOf rs)) ⌝ }
+{
+    let clean = none();
+    let mut n = lines;
+    let mut w = Walk {
+        clauses: [0u16; 32],
+        first: 32,
+        below: lines,
+        iso: isos,
+        pending: clean,
+        found: clean,
+    };
+    while stop < n {
+        n -= 1;
+        w = with_row(t, base, starts, w, n);
+    }
+    w.found
+}
