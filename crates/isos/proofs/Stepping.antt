@@ -34,11 +34,10 @@ stored l k a h =
     drop-cons (set l k a) k 0 wide ∙ ap₂ _∷_ (getD-set-same l k a 0 h) (drop-set-lt (suc k) l k a (omega arith))
 
 -- what the code tests before a C row, and before an I row
-pub record ClauseInside (starts : List ℕ) (w : W.Walk) (n : ℕ) : Type 0 where
+pub record ClauseInside (w : W.Walk) (n : ℕ) : Type 0 where
   pub owned : 0 < w .iso
   pub room : 0 < w .first
   pub places : w .first ≤ 32
-  pub listed : w .iso ≤ length starts
   pub early : n < 4096
 
 pub record IsoInside (w : W.Walk) (n : ℕ) : Type 0 where
@@ -58,8 +57,8 @@ module _ {t : List ℕ} {base patterns lines : ℕ} {rs : List Row} (f : FileIn 
         holds = walk-let f n (r .1) (other-let f n (r .1) late (λ q. c (e ∙ q)) (λ q. i (e ∙ q))) (s .holds);
       }
 
-  pub clause-inside : (starts : List ℕ) → starts ≡ isoRows 0 rs → cellOf t n 0 ≡ 67 → ClauseInside starts w n
-  clause-inside starts e c =
+  pub clause-inside : cellOf t n 0 ≡ 67 → ClauseInside w n
+  clause-inside c =
       let r = row-of f n h in
       let k = letter-clause f n (r .1) c in
       let own = own-row f n (r .1) k (s .holds) in
@@ -67,18 +66,17 @@ module _ {t : List ℕ} {base patterns lines : ℕ} {rs : List Row} (f : FileIn 
         owned = omega (arith, own .2);
         room = omega (arith, clause-room f n (r .1) k (s .holds), length-drop (w .first) (w .clauses), s .places);
         places = s .within;
-        listed = omega (arith, ap length e, iso-within f (s .holds));
         early = omega (arith, lines-few f);
       }
 
   -- a C row
-  pub walked-clause : (starts : List ℕ) → starts ≡ isoRows 0 rs → cellOf t n 0 ≡ 67 → {head a b : ℕ} → head ≡ getD starts (w .iso - 1) 0
+  pub walked-clause : (starts : List ℕ) → starts ≡ isoRows 0 rs → cellOf t n 0 ≡ 67 → {v head a b : ℕ} → v ≡ getD starts (w .iso - 1) 0 → head ≡ v
       → a ≡ cellOf t head 1 → b ≡ cellOf t head 2 → (g : R.Refusal)
       → (n < maxLines → Slotted (clauseIn t base n (w .below)) → refusalView g ≡ clauseFault (sigsIn t starts) (typeOf t a) (typeOf t b) (clauseIn t base n (w .below)))
       → {m : ℕ} → m ≡ n % 65536 → (p : A.Answer) → asFault p ≡ orElse (at (n + 1) (refusalView g)) (asFault (w .pending))
       → Walked t base rs n
       (record { clauses = set (w .clauses) (w .first - 1) m; first = w .first - 1; below = n; iso = w .iso; pending = p; found = w .found })
-  walked-clause starts e c {head} {a} {b} eh ea eb g eg {m} em p ep =
+  walked-clause starts e c {v} {head} {a} {b} ev eh ea eb g eg {m} em p ep =
       record {
         places = length-set (w .clauses) (w .first - 1) m ∙ s .places;
         within = omega (arith, s .within);
@@ -91,8 +89,8 @@ module _ {t : List ℕ} {base patterns lines : ℕ} {rs : List Row} (f : FileIn 
       k : r .0 .kind ≡ clauseLine
       k = letter-clause f n (r .1) c
 
-      inside : ClauseInside starts w n
-      inside = clause-inside starts e c
+      inside : ClauseInside w n
+      inside = clause-inside c
 
       top : ℕ
       top = getD (isoRows 0 rs) (w .iso - 1) 0
@@ -112,7 +110,7 @@ module _ {t : List ℕ} {base patterns lines : ℕ} {rs : List Row} (f : FileIn 
           ∙ ap₂ (λ x i. x ∷ drop i (w .clauses)) (narrow-same em (omega (arith, inside .early))) front)
 
       same : head ≡ top
-      same = eh ∙ ap (λ l. getD l (w .iso - 1) 0) e
+      same = eh ∙ ev ∙ ap (λ l. getD l (w .iso - 1) 0) e
 
       judged : refusalView g ≡ clauseFault (sigsIn t (isoRows 0 rs)) (typeOf t (cellOf t top 1)) (typeOf t (cellOf t top 2)) (clauseIn t base n (w .below))
       judged =

@@ -1,6 +1,7 @@
 // All isos of a table. The rows are walked from the last to the first, so that L rows are known before
 // their C row and C rows before their I row; an earlier refusal replaces a later one.
 
+use areas::word_at;
 use clauses::clause::clause_fault;
 use clauses::sides::side_fault;
 use model::Answer;
@@ -132,23 +133,14 @@ fn with_clause(t: &[u16], base: usize, starts: &[u16], w: Walk, n: usize) -> Wal
     if 32 < first {
         return w;
     }
-    if starts.len() < i {
-        return w;
-    }
     if 4096 <= n {
         return w;
     }
     let own = i - 1;
-    let head = wide(starts[own]);
-    let f = clause_fault(
-        t,
-        base,
-        starts,
-        cell(t, head, 1),
-        cell(t, head, 2),
-        n,
-        below,
-    );
+    let head = wide(word_at(starts, own));
+    let a = cell(t, head, 1);
+    let b = cell(t, head, 2);
+    let f = clause_fault(t, base, starts, a, b, n, below);
     let slot = first - 1;
     let mut clauses = w.clauses;
     clauses[slot] = narrow(n);

@@ -11,13 +11,13 @@ none-requires : tie.Need-none-requires
 none-requires c κs = search needs
 
 returns : tie.Need-returns
-returns c = λ rs f. absurd (omega (arith, head-small f))
+returns c rs f = absurd (omega (arith, head-small f))
 
 none-requires-2 : tie.Need-none-requires-2
 none-requires-2 c κs = search needs
 
 returns-2 : tie.Need-returns-2
-returns-2 c = λ rs f. absurd (omega (arith, head-small f))
+returns-2 c rs f = absurd (omega (arith, head-small f))
 
 add-stop : tie.Need-add-stop
 add-stop c = search needs
@@ -29,7 +29,7 @@ none-requires-3 : tie.Need-none-requires-3
 none-requires-3 c κs = search needs
 
 returns-3 : tie.Need-returns-3
-returns-3 c = λ rs f. absurd (omega (arith, starts-few f (c .before .before .before .iso-rows .ensures rs _ _ f refl)))
+returns-3 c rs f = absurd (omega (arith, starts-few f (c .before .before .before .iso-rows .ensures rs _ _ f refl)))
 
 sub-walk-up : tie.Need-sub-walk-up
 sub-walk-up c = search needs
@@ -44,7 +44,7 @@ walk-up-requires : tie.Need-walk-up-requires
 walk-up-requires c κs = search needs
 
 returns-4 : tie.Need-returns-4
-returns-4 c = λ rs f. let s = c .before .before .before .before .before .iso-rows .ensures rs _ _ f refl in c .walk-up .ensures rs _ f (front-part s) (s .number) refl
+returns-4 c rs f = let s = c .before .before .before .before .before .iso-rows .ensures rs _ _ f refl in c .walk-up .ensures rs _ f (front-part s) (s .number) refl
 
 pub isos-fault-spec : {M : Type 1} → statement M
 isos-fault-spec =

@@ -6,28 +6,22 @@ use Rattle.isos.proofs.with_clause.Statement.{statement}
 use Rattle.isos.proofs.with_clause.Tie as tie
 
 returns : tie.Need-returns
-returns c = λ rs patterns lines f e h k s. let i = clause-inside f h s _ e k in absurd (omega arith)
+returns c rs patterns lines f e h k s = let i = clause-inside f h s k in absurd (omega arith)
 
 returns-2 : tie.Need-returns-2
-returns-2 c = λ rs patterns lines f e h k s. let i = clause-inside f h s _ e k in absurd (omega arith)
+returns-2 c rs patterns lines f e h k s = let i = clause-inside f h s k in absurd (omega arith)
 
 returns-3 : tie.Need-returns-3
-returns-3 c = λ rs patterns lines f e h k s. let i = clause-inside f h s _ e k in absurd (omega arith)
+returns-3 c rs patterns lines f e h k s = let i = clause-inside f h s k in absurd (omega arith)
 
 returns-4 : tie.Need-returns-4
-returns-4 c = λ rs patterns lines f e h k s. let i = clause-inside f h s _ e k in absurd (omega arith)
-
-returns-5 : tie.Need-returns-5
-returns-5 c = λ rs patterns lines f e h k s. let i = clause-inside f h s _ e k in absurd (omega arith)
+returns-4 c rs patterns lines f e h k s = let i = clause-inside f h s k in absurd (omega arith)
 
 sub-own : tie.Need-sub-own
 sub-own c = search needs
 
-mul-wide : tie.Need-mul-wide
-mul-wide c = search needs
-
-shared-slice-read-wide : tie.Need-shared-slice-read-wide
-shared-slice-read-wide c = search needs
+word-at-requires : tie.Need-word-at-requires
+word-at-requires c κs = search needs
 
 wide-requires : tie.Need-wide-requires
 wide-requires c κs = search needs
@@ -59,8 +53,26 @@ add-sooner c = search needs
 sooner-requires : tie.Need-sooner-requires
 sooner-requires c κs = search needs
 
-returns-6 : tie.Need-returns-6
-returns-6 c = λ rs patterns lines f e h k s. walked-clause f h s _ e k (c .before .before .before .before .before .before .wide .ensures) (c .before .before .before .before .before .cell .ensures .0) (c .before .before .before .before .cell2 .ensures .0) (c .before .before .before .clause-fault .result) (c .before .before .before .clause-fault .ensures) (c .before .narrow .ensures) (c .sooner .result) (c .sooner .ensures)
+returns-5 : tie.Need-returns-5
+returns-5 c rs patterns lines f e h k s =
+    let w = c .before .before .before in
+    let a = w .before .before .before .before .before .before .before .before .before .before .before .before .before .args in
+    walked-clause
+    f
+    h
+    s
+    (a .starts .now)
+    e
+    k
+    (w .before .before .before .before .word-at .ensures)
+    (w .before .before .before .wide .ensures)
+    (w .before .before .cell .ensures .0)
+    (w .before .cell2 .ensures .0)
+    (w .clause-fault .result)
+    (w .clause-fault .ensures)
+    (c .before .narrow .ensures)
+    (c .sooner .result)
+    (c .sooner .ensures)
 
 pub with-clause-spec : {M : Type 1} → statement M
 with-clause-spec =
@@ -70,10 +82,8 @@ with-clause-spec =
     returns-2
     returns-3
     returns-4
-    returns-5
     sub-own
-    mul-wide
-    shared-slice-read-wide
+    word-at-requires
     wide-requires
     cell-requires
     cell-requires-2
@@ -84,4 +94,4 @@ with-clause-spec =
     array-write-clauses
     add-sooner
     sooner-requires
-    returns-6)
+    returns-5)

@@ -7,13 +7,13 @@ use Rattle.isos.proofs.with_iso.Statement.{statement}
 use Rattle.isos.proofs.with_iso.Tie as tie
 
 returns : tie.Need-returns
-returns c = λ rs patterns lines f h e s. let i = iso-inside f h s e in absurd (omega arith)
+returns c rs patterns lines f h e s = let i = iso-inside f h s e in absurd (omega arith)
 
 returns-2 : tie.Need-returns-2
-returns-2 c = λ rs patterns lines f h e s. let i = iso-inside f h s e in absurd (omega arith)
+returns-2 c rs patterns lines f h e s = let i = iso-inside f h s e in absurd (omega arith)
 
 returns-3 : tie.Need-returns-3
-returns-3 c = λ rs patterns lines f h e s. let i = iso-inside f h s e in absurd (omega arith)
+returns-3 c rs patterns lines f h e s = let i = iso-inside f h s e in absurd (omega arith)
 
 mul-iso-answer : tie.Need-mul-iso-answer
 mul-iso-answer c = search needs
@@ -37,7 +37,19 @@ sooner-requires : tie.Need-sooner-requires
 sooner-requires c κs = search needs
 
 returns-4 : tie.Need-returns-4
-returns-4 c = λ rs patterns lines f h e s. walked-iso f h s e (c .before .before .iso-answer .result) (c .before .none .result) (c .sooner .result) (c .before .before .iso-answer .ensures) (c .before .none .ensures) (c .sooner .ensures)
+returns-4 c rs patterns lines f h e s =
+    let w = c .before .before in
+    walked-iso
+    f
+    h
+    s
+    e
+    (w .iso-answer .result)
+    (c .before .none .result)
+    (c .sooner .result)
+    (w .iso-answer .ensures)
+    (c .before .none .ensures)
+    (c .sooner .ensures)
 
 pub with-iso-spec : {M : Type 1} → statement M
 with-iso-spec =

@@ -12,16 +12,16 @@ with-clause-requires : tie.Need-with-clause-requires
 with-clause-requires c κs = search needs
 
 returns : tie.Need-returns
-returns c = λ rs patterns lines f e h late s. c .with-clause .ensures rs patterns lines f e h (sym (c .before .before .cell .ensures .0) ∙ c .before .if1 .taken) s
+returns c rs patterns lines f e h late s = c .with-clause .ensures rs patterns lines f e h (sym (c .before .before .cell .ensures .0) ∙ c .before .if1 .taken) s
 
 with-iso-requires : tie.Need-with-iso-requires
 with-iso-requires c κs = search needs
 
 returns-2 : tie.Need-returns-2
-returns-2 c = λ rs patterns lines f e h late s. c .with-iso .ensures rs patterns lines f h (sym (c .before .before .before .cell .ensures .0) ∙ c .before .if2 .taken) s
+returns-2 c rs patterns lines f e h late s = c .with-iso .ensures rs patterns lines f h (sym (c .before .before .before .cell .ensures .0) ∙ c .before .if2 .taken) s
 
 returns-3 : tie.Need-returns-3
-returns-3 c = λ rs patterns lines f e h late s. walked-let f h s late (c .before .before .cell .ensures .0) (c .before .if1 .left) (c .if2 .left)
+returns-3 c rs patterns lines f e h late s = walked-let f h s late (c .before .before .cell .ensures .0) (c .before .if1 .left) (c .if2 .left)
 
 pub with-row-spec : {M : Type 1} → statement M
 with-row-spec =

@@ -20,10 +20,10 @@ add-r : tie.Need-add-r
 add-r c = search needs
 
 returns : tie.Need-returns
-returns c = λ h m. let a = c .before .before .args in (ap (set (a .s .rows) (a .s .count)) (narrow-same (c .narrow .ensures) m), refl)
+returns c h m = let a = c .before .before .args in (ap (set (a .s .rows) (a .s .count)) (narrow-same (c .narrow .ensures) m), refl)
 
 returns-2 : tie.Need-returns-2
-returns-2 c = λ h m. absurd (omega arith)
+returns-2 c h m = absurd (omega arith)
 
 pub with-start-spec : {M : Type 1} → statement M
 with-start-spec =
