@@ -25,6 +25,7 @@ use Rattle.model.proofs.Printing.{read-rows}
 use Rattle.areas.specs.Areas.{cleared}
 use lib.Seq.{drop-append-add, drop-drop, drop-at}
 use Rattle.nodes.specs.Walk.{FileIn}
+use Rattle.isos.specs.Answers.{asFault}
 use Rattle.lines.specs.Reads.{Holds, ReadSays}
 use Rattle.lines.specs.declared.read.Read as R
 use Rattle.lines.proofs.Filing.{filed, rows-few}
@@ -297,9 +298,6 @@ rows-behind t₀ rs few =
     ∙ drop-append-add (concat (map numbers rs)) (drop k t₀) (tableLength - k)
     ∙ drop-drop (tableLength - k) k t₀
     ∙ ap (λ n. drop n t₀) whole
-
-abbrev asFault : A.Answer → Option (Refusal × ℕ)
-asFault a = at (a .place) (refusalView (a .refusal))
 
 fault-none : (a : A.Answer) → refusalView (a .refusal) ≡ none → asFault a ≡ none
 fault-none a e = ap (at (a .place)) e
