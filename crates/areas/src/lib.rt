@@ -2,6 +2,9 @@
 // nothing, and callers owe no index.
 
 ghost use mathlib.Core.Path.{_≡_};
+ghost use mathlib.Core.Bool.{cond};
+ghost use Prim.Native.Nat.{suc, _%_, _<_};
+ghost use lib.Dec.{ltb};
 ghost use lib.ListN.{length, getD, set, replicate};
 ghost use Rattle.areas.specs.Areas.{cleared};
 
@@ -29,6 +32,33 @@ pub fn store_word(words: &mut [u16], i: usize, v: u16)
     if i < words.len() {
         words[i] = v;
     }
+}
+
+// Stores a byte and gives the place behind it; past the end it gives the place itself.
+pub fn put_byte(bytes: &mut [u8], at: usize, b: u8) -> usize
+    ensures { λ r. ⌜ now (bytes .exit) ≡ set (now (bytes .entry)) at b ⌝ }
+    ensures { λ r. ⌜ r ≡ cond (ltb at (length (now (bytes .entry)))) (suc at) at ⌝ }
+{
+    if at < bytes.len() {
+        bytes[at] = b;
+        return at + 1;
+    }
+    at
+}
+
+// A number of 16 bits as a place.
+pub fn wide(n: u16) -> usize
+    ensures { λ r. ⌜ r ≡ n ⌝ }
+    ensures { λ r. ⌜ r < 65536 ⌝ }
+{
+    n as usize
+}
+
+// The 16 low bits of a place.
+pub fn narrow(n: usize) -> u16
+    ensures { λ r. ⌜ r ≡ n % 65536 ⌝ }
+{
+    (n % 65536) as u16
 }
 
 fn zero_words(words: &mut [u16])

@@ -1,6 +1,6 @@
 -- What Check answers and leaves in the areas, case by case, against the model's Check.
 use Prim.Native.Nat.{ℕ, zero, suc, _+_, _-_, _*_, _≤_, _<_, min}
-use native.Mathlib.Nat.{sub-zero, suc-sub-suc, le-of-suc-le-suc, not-suc-le-zero}
+use native.Mathlib.Nat.{zero-add, sub-zero, suc-sub-suc, le-of-suc-le-suc, not-suc-le-zero}
 use native.Mathlib.Omega.{arith}
 use mathlib.Core.Path.{_≡_, refl, sym, ap, ap₂, _∙_, subst}
 use mathlib.Core.Bool.{Bool, true, false, cond, _||_, true≢false}
@@ -11,25 +11,28 @@ use lib.ListN.{length, drop, replicate, length-append, length-drop, length-repli
 use borrow.Author.Tests.{lt-ltb, le-ltb, lt-leb}
 use Rattle.model.specs.Limits.{maxBytes, maxLines, tableLength, workLength, rowWidth}
 use Rattle.model.specs.Tools.{concat, isSome, firstFailing, firstOf, orElse}
-use Rattle.model.specs.Trees.{left, right, Clause, Iso}
-use Rattle.model.specs.Refusals.{Refusal, number, shortArea, tooLong, badLine, misplaced, badField, badName, ceiling, variable, letShape, badType, overlap, gap}
+use Rattle.model.specs.Trees.{left, right, Ty, Pat, Clause, Iso}
+use Rattle.model.specs.Refusals.{Kind, typeLine, patternLine, isoLine, clauseLine, letLine, Refusal, number, shortArea, tooLong, badLine, misplaced, badField, badName, ceiling, variable, letShape, badType, overlap, gap, noIso, noValue, spent}
 use Rattle.model.specs.Lines.{Row, lines, rowOf, numbers, print}
-use Rattle.model.specs.Judge.{Seen, start, judge, inOrder, fieldsFit, named, withinCeilings, after, Reading, rows, faulty, withRow, onRow, onJudged, readFrom}
-use Rattle.model.specs.Unfold.{isosOf}
+use Rattle.model.specs.Judge.{Seen, start, afterAll, judge, inOrder, fieldsFit, named, withinCeilings, after, Reading, rows, faulty, withRow, onRow, onJudged, readFrom}
+use Rattle.model.specs.Unfold.{Tail, place, tailFrom, isosOf}
 use Rattle.model.specs.Clauses.{Sigs, clauseFault, variablesRule, letShapes, typed, sideFault, apart, fullWeight, lefts, rights, at, isoFault, fault, sigsOf}
 use Rattle.model.specs.Services.{Verdict, accepted, refused, judged, afterReading, over, verdict, filled, tableAfter, workAfter, short, unless, answerOf, check}
 use Rattle.model.specs.Code.{refusalView, numberOf, numbered}
 use Rattle.model.specs.declared.Answer as A
+use Rattle.model.specs.declared.Refusal as F
 use Rattle.model.proofs.Basic.{none≢some, some-inj, isSome-true}
 use Rattle.model.proofs.Printing.{read-rows}
 use Rattle.areas.specs.Areas.{cleared}
 use lib.Seq.{drop-append-add, drop-drop, drop-at}
-use Rattle.nodes.specs.Walk.{FileIn}
+use Rattle.nodes.specs.Walk.{FileIn, isoRows, whenIso}
+use Rattle.nodes.proofs.Rows.{isos-told}
 use Rattle.isos.specs.Answers.{asFault}
 use Rattle.lines.specs.Reads.{Holds, ReadSays}
 use Rattle.lines.specs.declared.read.Read as R
 use Rattle.lines.proofs.Filing.{filed, rows-few}
-use Rattle.checker.specs.CheckSays.{CheckSays, Outcome}
+use Rattle.checker.specs.declared.Checked as C
+use Rattle.checker.specs.CheckSays.{CheckSays, Outcome, Loaded, Accepted}
 
 -- ---- the areas
 
@@ -396,3 +399,106 @@ counted-few s e h = subst (λ m. m ≤ maxLines) e h
 
 pub counted-many : {n : ℕ} (s : List ℕ) → n ≡ length (lines s) → maxLines < n → verdict s ≡ refused tooLong 0
 counted-many s e h = verdict-lines s (subst (λ m. maxLines < m) e h)
+
+-- ---- the rows of an accepted file
+
+-- an iso for each I line
+placed-length : (ts : List Ty) (ps : List Pat) (a n : ℕ) (r : Row) (k : Kind) (o : Tail) (ns : List ℕ) → length (o .isos) ≡ length ns
+    → length (place ts ps k n r o .isos) ≡ length (whenIso k a ns)
+placed-length ts ps a n r typeLine o ns e = e
+placed-length ts ps a n r patternLine o ns e = e
+placed-length ts ps a n r isoLine o ns e = ap suc e
+placed-length ts ps a n r clauseLine o ns e = e
+placed-length ts ps a n r letLine o ns e = e
+
+isos-length : (ts : List Ty) (ps : List Pat) (a n : ℕ) (rs : List Row) → length (tailFrom ts ps n rs .isos) ≡ length (isoRows a rs)
+isos-length ts ps a n [] = refl
+isos-length ts ps a n (r ∷ rs) = placed-length ts ps a n r (r .kind) (tailFrom ts ps (suc n) rs) (isoRows (suc a) rs) (isos-length ts ps (suc a) (suc n) rs)
+
+pub isos-counted : (rs : List Row) → afterAll start rs .isos ≡ length (isosOf rs)
+unfolding isosOf start
+isos-counted rs =
+    isos-told 0 start rs ∙ zero-add (length (isoRows 0 rs)) ∙ sym (isos-length (afterAll start rs .types) (afterAll start rs .patterns) 0 1 rs)
+
+rows-inj : {rs qs : List Row} → rows rs ≡ rows qs → rs ≡ qs
+rows-inj e = cc
+
+pub loaded : (s t₀ t₁ : List ℕ) (q : R.Read) (b : Bool) → length (lines s) ≤ maxLines → ReadSays s t₀ t₁ q → b ≡ isSome (refusalView (q .refusal)) → b ≡ false
+    → (c : C.Checked) → c .types ≡ q .seen .types → c .patterns ≡ q .seen .patterns → c .isos ≡ q .seen .isos → c .lines ≡ q .lines → Loaded s t₁ c
+loaded s t₀ t₁ q b few says e h c types patterns isos lines′ =
+    let k = says .accepted (flag-none b (refusalView (q .refusal)) e h) in
+    record {
+      file = k .file;
+      reads = k .reads;
+      table = subst (λ n. FileIn t₁ (c .types) (c .patterns) n (k .file)) (sym lines′)
+          (subst (λ n. FileIn t₁ (c .types) n (q .lines) (k .file)) (sym patterns) (subst (λ n. FileIn t₁ n (q .seen .patterns) (q .lines) (k .file)) (sym types) (filed k few)));
+      isos = isos ∙ k .told .counts .isos ∙ isos-counted (k .file);
+    }
+
+pub accepted-rows : (s t₀ t₁ : List ℕ) (a : C.Checked) → length s ≤ maxBytes → length (lines s) ≤ maxLines → Outcome s t₀ t₁ (a .answer)
+    → (refusalView (a .answer .refusal) ≡ none → Loaded s t₁ a) → (b : Bool) → b ≡ isSome (refusalView (a .answer .refusal)) → b ≡ false
+    → (c : C.Checked) → c .types ≡ a .types → c .patterns ≡ a .patterns → c .isos ≡ a .isos → c .lines ≡ a .lines → Accepted s t₁ c
+accepted-rows s t₀ t₁ a hb hl o held b e h c types patterns isos lines′ =
+    let n = flag-none b (refusalView (a .answer .refusal)) e h in
+    let l = held n in
+    let k = o .accepts n in
+    let same : k .0 ≡ l .file = rows-inj (sym (k .1) ∙ l .reads) in
+    record {
+      file = l .file;
+      accepts = verdict-not-over s hb hl ∙ ap afterReading (l .reads) ∙ ap (judged (l .file)) (subst (λ rs. fault (isosOf rs) ≡ none) same (k .2));
+      table = subst (λ m. FileIn t₁ (c .types) (c .patterns) m (l .file)) (sym lines′)
+          (subst (λ m. FileIn t₁ (c .types) m (a .lines) (l .file)) (sym patterns) (subst (λ m. FileIn t₁ m (a .patterns) (a .lines) (l .file)) (sym types) (l .table)));
+      isos = isos ∙ l .isos;
+    }
+
+-- no rows are owed of a refused file
+pub refused-rows : (s t : List ℕ) (c : C.Checked) {f : Refusal} → refusalView (c .answer .refusal) ≡ some f → refusalView (c .answer .refusal) ≡ none → Accepted s t c
+refused-rows s t c e h = absurd (none≢some (sym h ∙ e))
+
+pub refused-flag : {P : Type 0} (x y : F.Refusal) (b : Bool) → b ≡ isSome (refusalView x) → b ≡ true → y ≡ x → refusalView y ≡ none → P
+refused-flag x y b e h same n =
+    let g = flag-some b (refusalView x) e h in absurd (none≢some (sym n ∙ ap refusalView same ∙ g .1))
+
+-- an answer with the same place and refusal says the same
+pub says-same : {s t w t′ w′ : List ℕ} (a r : A.Answer) → CheckSays s t w t′ w′ a → r .place ≡ a .place → r .refusal ≡ a .refusal → CheckSays s t w t′ w′ r
+says-same a r c p f =
+    record { number = ap numberOf f ∙ c .number; line = p ∙ c .line; table = c .table; work = c .work }
+
+-- and an outcome too
+pub outcome-same : {s t₀ t₁ : List ℕ} (a r : A.Answer) → Outcome s t₀ t₁ a → r .place ≡ a .place → r .refusal ≡ a .refusal → Outcome s t₀ t₁ r
+outcome-same a r o p f =
+    let view : refusalView (a .refusal) ≡ refusalView (r .refusal) = ap refusalView (sym f) in
+    record {
+      accepts = λ e. o .accepts (view ∙ e);
+      refuses = λ g e. o .refuses g (view ∙ e) ∙ ap (refused g) (sym p);
+      later = λ g e. o .later g (view ∙ e);
+      wide = o .wide;
+      behind = o .behind;
+    }
+
+-- ---- for the services that go on from Check
+
+-- a refusal has a number
+pub number-positive : (f : Refusal) → 0 < number f
+number-positive shortArea = omega arith
+number-positive tooLong = omega arith
+number-positive badLine = omega arith
+number-positive (misplaced k) = omega arith
+number-positive (badField k) = omega arith
+number-positive (badName k) = omega arith
+number-positive (ceiling k) = omega arith
+number-positive variable = omega arith
+number-positive letShape = omega arith
+number-positive badType = omega arith
+number-positive (overlap left) = omega arith
+number-positive (overlap right) = omega arith
+number-positive (gap left) = omega arith
+number-positive (gap right) = omega arith
+number-positive noIso = omega arith
+number-positive noValue = omega arith
+number-positive spent = omega arith
+
+-- no refusal: the areas are long enough, and the verdict is the file's
+pub unless-accepted : (b : Bool) (v : Verdict) → answerOf (unless b v) .number ≡ 0 → (b ≡ false) × (unless b v ≡ v)
+unless-accepted true v e = absurd (omega arith)
+unless-accepted false v e = (refl, refl)

@@ -11,9 +11,11 @@ use Rattle.model.specs.Lines.{Row, lines, numbers}
 use Rattle.model.specs.Judge.{start, rows, readFrom}
 use Rattle.model.specs.Unfold.{isosOf}
 use Rattle.model.specs.Clauses.{fault}
-use Rattle.model.specs.Services.{check, afterReading, refused}
+use Rattle.model.specs.Services.{check, afterReading, refused, accepted, verdict}
 use Rattle.model.specs.Code.{numberOf, refusalView}
 use Rattle.model.specs.declared.Answer as A
+use Rattle.nodes.specs.Walk.{FileIn}
+use Rattle.checker.specs.declared.Checked as C
 
 -- t and w are the areas at entry, t′ and w′ at exit
 pub record CheckSays (file t w t′ w′ : List ℕ) (r : A.Answer) : Type 0 where
@@ -31,3 +33,17 @@ pub record Outcome (s t₀ t₁ : List ℕ) (r : A.Answer) : Type 0 where
   pub later : (f : Refusal) → refusalView (r .refusal) ≡ some f → 3 ≤ number f
   pub wide : length t₁ ≡ length t₀
   pub behind : drop tableLength t₁ ≡ drop tableLength t₀
+
+-- a file whose lines pass, its rows in the table and counted
+pub record Loaded (s t : List ℕ) (c : C.Checked) : Type 0 where
+  pub file : List Row
+  pub reads : readFrom start 1 (lines s) ≡ rows file
+  pub table : FileIn t (c .types) (c .patterns) (c .lines) file
+  pub isos : c .isos ≡ length (isosOf file)
+
+-- an accepted file, its rows in the table and counted: what a run on a checked table assumes
+pub record Accepted (s t : List ℕ) (c : C.Checked) : Type 0 where
+  pub file : List Row
+  pub accepts : verdict s ≡ accepted file
+  pub table : FileIn t (c .types) (c .patterns) (c .lines) file
+  pub isos : c .isos ≡ length (isosOf file)

@@ -1,0 +1,56 @@
+use Rattle.checker.proofs.Checks.{outcome-refused, refused-flag, outcome-whole, loaded}
+use mathlib.Core.Path.{refl}
+use borrow.Author.Needs.{needs}
+use Rattle.checker.proofs.judged.Statement.{statement}
+use Rattle.checker.proofs.judged.Tie as tie
+use Rattle.checker.proofs.judged.Reads as reads
+use Rattle.checker.proofs.judged.Lts as lts
+use Rattle.checker.proofs.is_refused.Reads as is-refused-reads
+use Rattle.checker.proofs.refused.Reads as refused-reads
+use Rattle.isos.proofs.isos_fault.Reads as isos-fault-reads
+use Rattle.lines.proofs.read.read_file.Reads as read-file-reads
+
+-- src/lib.rt:75:9
+read-file-requires : tie.Need-read-file-requires
+read-file-requires c κs = search needs
+
+-- src/lib.rt:77:8
+is-refused-requires : tie.Need-is-refused-requires
+is-refused-requires c κs = search needs
+
+-- src/lib.rt:78:9
+refused-requires : tie.Need-refused-requires
+refused-requires c κs = search needs
+
+-- src/lib.rt:78:9
+same-length : tie.Need-same-length
+same-length c = search needs
+
+-- src/lib.rt:78:9
+returns : tie.Need-returns
+returns c = (outcome-refused _ _ _ _ _ _ (c .before .before .before .before .before .read-file .ensures) (c .before .before .is-refused .ensures) (c .before .if1 .taken) (c .refused .ensures .1) (c .refused .ensures .0), refused-flag _ _ _ (c .before .before .is-refused .ensures) (c .before .if1 .taken) (c .refused .ensures .1))
+
+-- src/lib.rt:81:9
+isos-fault-requires : tie.Need-isos-fault-requires
+isos-fault-requires c κs = search needs
+
+-- src/lib.rt:70:1
+same-length-2 : tie.Need-same-length-2
+same-length-2 c = search needs
+
+-- src/lib.rt:70:1
+returns-2 : tie.Need-returns-2
+returns-2 c = (outcome-whole _ _ _ _ _ _ (c .before .before .before .before .before .before .before .before .before .before .before .pre .0) (c .before .before .before .before .before .before .before .before .before .before .before .pre .1) (c .before .before .before .before .before .before .before .read-file .ensures) (c .before .before .before .before .is-refused .ensures) (c .before .before .before .if1 .left) (c .isos-fault .ensures), λ e. loaded _ _ _ _ _ (c .before .before .before .before .before .before .before .before .before .before .before .pre .1) (c .before .before .before .before .before .before .before .read-file .ensures) (c .before .before .before .before .is-refused .ensures) (c .before .before .before .if1 .left) _ refl refl refl refl)
+
+pub judged-spec : {M : Type 1} → statement M
+judged-spec =
+    tie.close
+    (tie.spec
+    read-file-requires
+    is-refused-requires
+    refused-requires
+    same-length
+    returns
+    isos-fault-requires
+    same-length-2
+    returns-2)

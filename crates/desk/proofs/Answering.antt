@@ -1,0 +1,144 @@
+-- The lines that answer a file and a query fit, and are those of the model.
+use Prim.Native.Nat.{ℕ, _+_, _≤_, _<_}
+use native.Mathlib.Nat.{add-zero}
+use native.Mathlib.Omega.{arith}
+use mathlib.Core.Path.{_≡_, refl, sym, ap, ap₂, _∙_, subst}
+use mathlib.Core.Bool.{_||_}
+use mathlib.Core.Option.{none}
+use mathlib.Core.List.{List, []}
+use lib.ListN.{length, take, drop, length-append}
+use lib.Seq.{slice, take-append-seam}
+use borrow.Author.Tests.{le-ltb}
+use Rattle.model.specs.Limits.{tableLength, workLength}
+use Rattle.model.specs.Refusals.{Refusal, shortArea, tooLong, badLine, misplaced, badField, badName, ceiling, variable, letShape, badType, overlap, gap, noIso, noValue, spent, number}
+use Rattle.model.specs.Trees.{left, right}
+use Rattle.model.specs.Lines.{Row}
+use Rattle.model.specs.Services.{Verdict, accepted, refused, verdict, unless, answerOf, check, RunAnswer, answerOfRun, written}
+use Rattle.model.specs.Desk.{queryOf, answerTo, queryLine, fileLine}
+use Rattle.model.specs.Code.{refusalView, numberOf, numbered}
+use Rattle.areas.specs.Areas.{Writes}
+use Rattle.checker.specs.CheckSays.{CheckSays, Accepted}
+use Rattle.checker.specs.declared.Checked as C
+use Rattle.queries.specs.Views.{asQuery}
+use Rattle.queries.specs.Stream.{begun, stopped, answered}
+use Rattle.queries.specs.declared.Query as Q
+use Rattle.queries.specs.declared.Asked as A
+use Rattle.queries.specs.declared.Asked.the-variants as asked
+use Rattle.runner.specs.RunSays.{answerFor, RanAs}
+use Rattle.runner.specs.declared.run.Ran as R
+use Rattle.desk.specs.DeskSays.{answerRoom, Printed, JudgedAs}
+use Rattle.desk.proofs.Placing.{verdict-line, file-line-short, query-line-short}
+
+-- ---- printing
+
+-- what is written and has room is printed
+pub printed : {out out′ : List ℕ} {at end : ℕ} {ps : List ℕ} → Writes out out′ at end ps → length ps ≤ answerRoom → at + answerRoom ≤ length out
+    → Printed out out′ at end ps
+printed {out} {out′} {at} {end} {ps} w h room =
+    let fits : at + length ps ≤ length out = omega (arith, h, room) in
+    let place = w .place fits in
+    record { area = w .area fits; place = place; fits = omega (arith, place) }
+
+-- nothing
+pub printed-none : {out : List ℕ} {at : ℕ} → at + answerRoom ≤ length out → Printed out out at at []
+printed-none {out} {at} h = record { area = refl; place = sym (add-zero at); fits = omega (arith, h) }
+
+-- the same bytes by another name
+pub printed-as : {out out′ : List ℕ} {at end : ℕ} {ps qs : List ℕ} → ps ≡ qs → Printed out out′ at end ps → Printed out out′ at end qs
+printed-as {out} {out′} {at} {end} e p = subst (Printed out out′ at end) e p
+
+-- ---- a file
+
+-- Check's answer is that of the verdict, the areas being long enough
+checked-answer : (s t w : List ℕ) → tableLength ≤ length t → workLength ≤ length w → check s t w .answer ≡ answerOf (verdict s)
+unfolding check
+checked-answer s t w ht hw = ap (λ b. answerOf (unless b (verdict s))) (ap₂ _||_ (le-ltb (length t) tableLength ht) (le-ltb (length w) workLength hw))
+
+-- no refusal has number 0
+positive : (f : Refusal) → 0 < number f
+positive shortArea = omega arith
+positive tooLong = omega arith
+positive badLine = omega arith
+positive (misplaced k) = omega arith
+positive (badField k) = omega arith
+positive (badName k) = omega arith
+positive (ceiling k) = omega arith
+positive variable = omega arith
+positive letShape = omega arith
+positive badType = omega arith
+positive (overlap left) = omega arith
+positive (overlap right) = omega arith
+positive (gap left) = omega arith
+positive (gap right) = omega arith
+positive noIso = omega arith
+positive noValue = omega arith
+positive spent = omega arith
+
+-- so a verdict with a refusal's number is one
+stops-at : (v : Verdict) (f : Refusal) → number f ≡ answerOf v .number → begun v ≡ stopped
+stops-at (accepted rs) f e = absurd (omega (arith, e, positive f))
+stops-at (refused g n) f e = refl
+
+-- a file checked and answered
+pub judged-file : (s t w : List ℕ) {t′ w′ out out′ : List ℕ} {at n end : ℕ} (c : C.Checked)
+    → CheckSays s t w t′ w′ (c .answer) → (refusalView (c .answer .refusal) ≡ none → Accepted s t′ c)
+    → n ≡ numberOf (c .answer .refusal)
+    → (c .answer .place < 10000000000 → Writes out out′ at end (fileLine (record { number = n; line = c .answer .place })))
+    → tableLength ≤ length t → workLength ≤ length w → at + answerRoom ≤ length out
+    → JudgedAs s t′ out out′ at (record { checked = c; end = end })
+judged-file s t w {t′} {w′} {out} {out′} {at} {n} {end} c says accepts e writes ht hw room =
+    let a = checked-answer s t w ht hw in
+    let number : numberOf (c .answer .refusal) ≡ answerOf (verdict s) .number = says .number ∙ ap (λ x. x .number) a in
+    let line : c .answer .place ≡ answerOf (verdict s) .line = says .line ∙ ap (λ x. x .line) a in
+    let below : c .answer .place < 10000000000 = subst (λ k. k < 10000000000) (sym line) (verdict-line s) in
+    let same : fileLine (record { number = n; line = c .answer .place }) ≡ fileLine (answerOf (verdict s)) =
+    ap₂ (λ k l. fileLine (record { number = k; line = l })) (e ∙ number) line in
+    record {
+      printed = printed-as same (printed (writes below) (file-line-short (record { number = n; line = c .answer .place })) room);
+      accepts = accepts;
+      refuses = λ f v. stops-at (verdict s) f (sym (ap numbered v) ∙ number);
+    }
+
+-- ---- a query
+
+-- the letters of a run fit its result area
+letters-fit : (a : RunAnswer) {o o′ : List ℕ} {r : R.Ran} → RanAs a o o′ r → length o ≡ 127 → length o′ ≡ length o → length (a .letters) ≤ 127
+letters-fit a {o} {o′} ran e k = omega (arith, e, k, ap length (ran .result) ∙ length-append (a .letters) (drop (length (a .letters)) o))
+
+-- and are its first bytes
+letters-there : (a : RunAnswer) {o o′ : List ℕ} {r : R.Ran} → RanAs a o o′ r → take (r .length) o′ ≡ a .letters
+letters-there a {o} {o′} ran = ap₂ take (ran .bytes) (ran .result) ∙ take-append-seam (a .letters) (drop (length (a .letters)) o)
+
+-- an answer by its parts
+answer-parts : (a : RunAnswer) {n k : ℕ} {ls : List ℕ} → n ≡ a .number → k ≡ a .count → ls ≡ a .letters
+    → _≡_ {A = RunAnswer} (record { number = n; count = k; letters = ls }) a
+answer-parts a {n} {k} {ls} p q e =
+    ap₂ (λ x y. record { number = x; count = y; letters = ls }) p q ∙ ap (λ x. record { number = a .number; count = a .count; letters = x }) e
+
+-- a run, printed
+pub ran-query : (a : RunAnswer) {o o′ out out′ ls : List ℕ} {at n end : ℕ} (r : R.Ran) → RanAs a o o′ r → length o ≡ 127 → length o′ ≡ length o
+    → n ≡ numberOf (r .refusal) → ls ≡ take (r .length) o′
+    → Writes out out′ at end (queryLine (record { number = n; count = r .count; letters = ls })) → at + answerRoom ≤ length out
+    → Printed out out′ at end (queryLine a)
+ran-query a {o} {o′} {out} {out′} {ls} {at} {n} {end} r ran e k p q writes room =
+    let same : queryLine (record { number = n; count = r .count; letters = ls }) ≡ queryLine a =
+    ap queryLine (answer-parts a (p ∙ ran .number) (ran .count) (q ∙ letters-there a ran)) in
+    printed (subst (Writes out out′ at end) same writes) (query-line-short a (letters-fit a ran e k)) room
+
+-- the letters of a query
+pub query-letters : (s : List ℕ) {f v : List ℕ} (from to : ℕ) → f ≡ take to s → v ≡ drop from f → v ≡ slice from to s
+query-letters s from to e k = k ∙ ap (drop from) e
+
+-- a query is answered by its run
+pub answered-query : (rs : List Row) (l : List ℕ) {a : A.Asked} (q : Q.Query) → a ≡ asked.Of q → asQuery l a ≡ queryOf l
+    → queryLine (answerFor rs (q .iso) (q .back) (q .budget) (slice (q .from) (q .to) l)) ≡ answered rs l
+answered-query rs l q e k = ap (λ x. queryLine (answerOfRun (answerTo (accepted rs) x))) (sym (ap (asQuery l) e) ∙ k)
+
+-- what is no query is refused 3
+pub answered-bad : (rs : List Row) (l : List ℕ) {a : A.Asked} → a ≡ asked.Bad → asQuery l a ≡ queryOf l
+    → queryLine (record { number = 3; count = 0; letters = [] }) ≡ answered rs l
+answered-bad rs l e k = ap (λ x. queryLine (answerOfRun (answerTo (accepted rs) x))) (sym (ap (asQuery l) e) ∙ k)
+
+-- which fits too
+pub bad-short : length (queryLine (record { number = 3; count = 0; letters = [] })) ≤ answerRoom
+bad-short = query-line-short (record { number = 3; count = 0; letters = [] }) (omega arith)

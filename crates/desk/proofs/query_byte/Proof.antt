@@ -1,0 +1,68 @@
+-- `desk::query_byte` meets its contract: a line feed ends the line, which is answered; any other byte is the line's.
+use mathlib.Core.Bool.{false}
+use Rattle.desk.proofs.Feeding.{reaches-state, query-ends, query-more}
+use borrow.Author.Needs.{needs}
+use Rattle.desk.proofs.query_byte.Statement.{statement}
+use Rattle.desk.proofs.query_byte.Tie as tie
+
+hold-requires : tie.Need-hold-requires
+hold-requires c κs = search needs
+
+front-requires : tie.Need-front-requires
+front-requires c κs = search needs
+
+answer-requires : tie.Need-answer-requires
+answer-requires c κs = search needs
+
+ready-requires : tie.Need-ready-requires
+ready-requires c κs = search needs
+
+same-length : tie.Need-same-length
+same-length c = search needs
+
+same-length-2 : tie.Need-same-length-2
+same-length-2 c = search needs
+
+same-length-3 : tie.Need-same-length-3
+same-length-3 c = search needs
+
+returns : tie.Need-returns
+returns c =
+    let w = c .before .before .before .before .before in
+    let f = w .before .before .before in
+    let i = f .before .before in
+    let k = i .before .before .before in
+    let a = k .before .before .before .before .before .before .before .args in
+    λ file rs l h roomy room.
+    reaches-state (c .ready .ensures)
+    (query-ends (a .d) (a .b) false rs l h (i .if1 .taken) (λ x. k .hold .ensures l x (roomy .lines)) (f .front .ensures) (λ p. w .answer .ensures rs p (roomy .works) room))
+
+ready-requires-2 : tie.Need-ready-requires-2
+ready-requires-2 c κs = search needs
+
+same-length-4 : tie.Need-same-length-4
+same-length-4 c = search needs
+
+returns-2 : tie.Need-returns-2
+returns-2 c =
+    let i = c .before in
+    let k = i .before .before .before in
+    let a = k .before .before .before .before .before .before .before .args in
+    λ file rs l h roomy room.
+    reaches-state (c .ready2 .ensures) (query-more (a .d) (a .b) false rs l h (i .if1 .left) (λ x. k .hold .ensures l x (roomy .lines)) room)
+
+pub query-byte-spec : {M : Type 1} → statement M
+query-byte-spec =
+    tie.close
+    (tie.spec
+    hold-requires
+    front-requires
+    answer-requires
+    ready-requires
+    same-length
+    same-length-2
+    same-length-3
+    returns
+    ready-requires-2
+    same-length-4
+    returns-2)

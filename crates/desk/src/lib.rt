@@ -1,0 +1,391 @@
+// The desk program as a function on slices: bytes of standard input go in as they come, and the
+// answers come out in an output area. The state is a value; the areas are lent at each call.
+
+use areas::put_byte;
+use checker::Checked;
+use checker::check_file;
+use checker::is_refused;
+use model::number_of;
+use queries::Asked;
+use queries::Query;
+use queries::put_answer;
+use queries::put_verdict;
+use queries::query_of;
+use runner::run::prepare;
+use runner::run::run_checked;
+ghost use mathlib.Core.Path.{_≡_};
+ghost use mathlib.Core.Bool.{_&&_, false};
+ghost use mathlib.Core.List.{List, [], _∷_, _++_};
+ghost use Prim.Native.Nat.{ℕ, _+_, _≤_};
+ghost use lib.Dec.{eqb, leb};
+ghost use lib.ListN.{length, take, drop};
+ghost use lib.Seq.{slice};
+ghost use Rattle.model.specs.Limits.{letterQ, tableLength, workLength};
+ghost use Rattle.model.specs.Lines.{Row as RowOf};
+ghost use Rattle.model.specs.Desk.{queryLine};
+ghost use Rattle.runner.specs.RunSays.{Prepared, answerFor};
+ghost use Rattle.queries.specs.Stream.{State, collecting, asking, close, answered, step, finish};
+ghost use Rattle.desk.specs.declared.Phase.the-variants.{Queries};
+ghost use Rattle.desk.specs.DeskSays.{answerRoom, Roomy, Holds, DeskAt, Printed, Reaches, JudgedAs, FedAs};
+
+// What the next byte belongs to: the file, a query, or nothing, where the file is refused.
+pub enum Phase {
+    File,
+    Queries,
+    Stopped,
+}
+
+// The state between two bytes: whether a line of the file begins, how many bytes of the file or of the
+// query's line are kept, and of an accepted file how many T and I lines the table holds.
+pub struct Desk {
+    pub phase: Phase,
+    pub fresh: bool,
+    pub held: usize,
+    pub types: usize,
+    pub isos: usize,
+}
+
+// The state behind some bytes, how many bytes they are, and how many bytes of answers they gave.
+pub struct Fed {
+    pub desk: Desk,
+    pub taken: usize,
+    pub written: usize,
+}
+
+// The state behind a byte, and the place behind what is printed.
+struct Next {
+    pub desk: Desk,
+    pub end: usize,
+}
+
+// What Check gives for a file, and the place behind its answer's line.
+struct Judged {
+    pub checked: Checked,
+    pub end: usize,
+}
+
+// A state without a table.
+fn state(phase: Phase, fresh: bool, held: usize) -> Desk
+    ensures { λ r. ⌜ r ≡ record { phase = phase; fresh = fresh; held = held; types = 0; isos = 0 } ⌝ }
+{
+    Desk {
+        phase: phase,
+        fresh: fresh,
+        held: held,
+        types: 0,
+        isos: 0,
+    }
+}
+
+// A state over the table of an accepted file.
+fn ready(types: usize, isos: usize, held: usize) -> Desk
+    ensures { λ r. ⌜ r ≡ record { phase = Queries; fresh = false; held = held; types = types; isos = isos } ⌝ }
+{
+    Desk {
+        phase: Phase::Queries,
+        fresh: false,
+        held: held,
+        types: types,
+        isos: isos,
+    }
+}
+
+// Before the first byte.
+pub fn opened() -> Desk
+    ensures { λ r. ⌜ ((file line table index : List ℕ) → DeskAt r file line table index (collecting [])) ⌝ }
+{
+    state(Phase::File, true, 0)
+}
+
+// The first n bytes, all of them where there are fewer.
+fn front(s: &[u8], n: usize) -> &[u8]
+    ensures { λ r. ⌜ now r ≡ take n (now (s .entry)) ⌝ }
+{
+    if n <= s.len() {
+        return &s[0..n];
+    }
+    s
+}
+
+// The bytes from place n on, none where there are fewer.
+fn tail(s: &[u8], n: usize) -> &[u8]
+    ensures { λ r. ⌜ now r ≡ drop n (now (s .entry)) ⌝ }
+{
+    if n <= s.len() {
+        return &s[n..];
+    }
+    &s[0..0]
+}
+
+// Whether an output area has room for an answer behind place `at`.
+fn has_room(out: &[u8], at: usize) -> bool
+    ensures { λ r. ⌜ r ≡ leb (at + answerRoom) (length (now (out .entry))) ⌝ }
+{
+    if out.len() < 160 {
+        return false;
+    }
+    at <= out.len() - 160
+}
+
+// One byte more of a file or of a line, as far as it is kept.
+fn hold(area: &mut [u8], held: usize, b: u8, most: usize) -> usize
+    ensures { λ r. ⌜ ((bs : List ℕ) → Holds most held (now (area .entry)) bs → most ≤ length (now (area .entry)) → Holds most r (now (area .exit)) (bs ++ (b ∷ []))) ⌝ }
+{
+    if held < most {
+        return put_byte(area, held, b);
+    }
+    held
+}
+
+// Whether a byte begins the first Q line.
+fn begins(fresh: bool, b: u8) -> bool
+    ensures { λ r. ⌜ r ≡ (fresh && eqb b letterQ) ⌝ }
+{
+    if fresh {
+        return b == 81;
+    }
+    false
+}
+
+// Checks a file and prints its answer.
+fn judge(file: &[u8], table: &mut [u16], work: &mut [u8], out: &mut [u8], at: usize) -> Judged
+    ensures { λ r. ⌜ (tableLength ≤ length (now (table .entry)) → workLength ≤ length (now (work .entry)) → at + answerRoom ≤ length (now (out .entry)) → JudgedAs (now (file .entry)) (now (table .exit)) (now (out .entry)) (now (out .exit)) at r) ⌝ }
+{
+    let c = check_file(file, table, work);
+    let a = c.answer;
+    let f = a.refusal;
+    let n = number_of(f);
+    let end = put_verdict(out, at, n, a.place);
+    Judged {
+        checked: c,
+        end: end,
+    }
+}
+
+// The first Q line begins: the file is answered, and an accepted one is made ready for queries.
+fn begin(
+    file: &[u8],
+    line: &mut [u8],
+    table: &mut [u16],
+    work: &mut [u8],
+    index: &mut [u16],
+    out: &mut [u8],
+    at: usize,
+) -> Next
+    ensures { λ r. ⌜ ((area : List ℕ) → Roomy area (now (line .entry)) (now (table .entry)) (now (work .entry)) (now (index .entry)) → at + answerRoom ≤ length (now (out .entry)) → Reaches (close (now (file .entry))) area (now (line .exit)) (now (table .exit)) (now (index .exit)) (now (out .entry)) (now (out .exit)) at r) ⌝ }
+{
+    let j = judge(file, table, work, out, at);
+    let c = j.checked;
+    let a = c.answer;
+    let f = a.refusal;
+    if is_refused(f) {
+        return Next {
+            desk: state(Phase::Stopped, false, 0),
+            end: j.end,
+        };
+    }
+    prepare(table, c, index);
+    let held = put_byte(line, 0, 81);
+    Next {
+        desk: ready(c.types, c.isos, held),
+        end: j.end,
+    }
+}
+
+// A byte behind bytes of the file.
+fn file_byte(
+    d: Desk,
+    b: u8,
+    file: &mut [u8],
+    line: &mut [u8],
+    table: &mut [u16],
+    work: &mut [u8],
+    index: &mut [u16],
+    out: &mut [u8],
+    at: usize,
+) -> Next
+    ensures { λ r. ⌜ ((bs : List ℕ) → DeskAt d (now (file .entry)) (now (line .entry)) (now (table .entry)) (now (index .entry)) (collecting bs) → Roomy (now (file .entry)) (now (line .entry)) (now (table .entry)) (now (work .entry)) (now (index .entry)) → at + answerRoom ≤ length (now (out .entry)) → Reaches (step (collecting bs) b) (now (file .exit)) (now (line .exit)) (now (table .exit)) (now (index .exit)) (now (out .entry)) (now (out .exit)) at r) ⌝ }
+{
+    let held = d.held;
+    if begins(d.fresh, b) {
+        return begin(front(file, held), line, table, work, index, out, at);
+    }
+    let more = hold(file, held, b, 65537);
+    Next {
+        desk: state(Phase::File, b == 10, more),
+        end: at,
+    }
+}
+
+// Runs a query and prints its answer. The run wants a work area of 65,536 bytes; where it is shorter,
+// nothing is done.
+fn run_query(
+    d: Desk,
+    q: Query,
+    line: &[u8],
+    table: &[u16],
+    index: &[u16],
+    work: &mut [u8],
+    out: &mut [u8],
+    at: usize,
+) -> usize
+    ensures { λ r. ⌜ ((rs : List RowOf) → Prepared (now (table .entry)) (d .types) (now (index .entry)) (d .isos) rs → workLength ≤ length (now (work .entry)) → at + answerRoom ≤ length (now (out .entry)) → Printed (now (out .entry)) (now (out .exit)) at r (queryLine (answerFor rs (q .iso) (q .back) (q .budget) (slice (q .from) (q .to) (now (line .entry)))))) ⌝ }
+{
+    if work.len() < 65536 {
+        return at;
+    }
+    let mut result = [0u8; 127];
+    let value = tail(front(line, q.to), q.from);
+    let r = run_checked(
+        table,
+        d.types,
+        index,
+        d.isos,
+        q.iso,
+        q.back,
+        q.budget,
+        value,
+        &mut work[0..65536],
+        &mut result,
+    );
+    let f = r.refusal;
+    let n = number_of(f);
+    put_answer(out, at, n, r.count, front(&result, r.length))
+}
+
+// Prints the answer to a query's line.
+fn answer(
+    d: Desk,
+    line: &[u8],
+    table: &[u16],
+    index: &[u16],
+    work: &mut [u8],
+    out: &mut [u8],
+    at: usize,
+) -> usize
+    ensures { λ r. ⌜ ((rs : List RowOf) → Prepared (now (table .entry)) (d .types) (now (index .entry)) (d .isos) rs → workLength ≤ length (now (work .entry)) → at + answerRoom ≤ length (now (out .entry)) → Printed (now (out .entry)) (now (out .exit)) at r (answered rs (now (line .entry)))) ⌝ }
+{
+    match query_of(line) {
+        Asked::Of(q) => run_query(d, q, line, table, index, work, out, at),
+        Asked::Bad => put_answer(out, at, 3, 0, &line[0..0]),
+    }
+}
+
+// A byte behind bytes of a query's line.
+fn query_byte(
+    d: Desk,
+    b: u8,
+    line: &mut [u8],
+    table: &[u16],
+    work: &mut [u8],
+    index: &[u16],
+    out: &mut [u8],
+    at: usize,
+) -> Next
+    ensures { λ r. ⌜ ((file : List ℕ) (rs : List RowOf) (l : List ℕ) → DeskAt d file (now (line .entry)) (now (table .entry)) (now (index .entry)) (asking rs l) → Roomy file (now (line .entry)) (now (table .entry)) (now (work .entry)) (now (index .entry)) → at + answerRoom ≤ length (now (out .entry)) → Reaches (step (asking rs l) b) file (now (line .exit)) (now (table .entry)) (now (index .entry)) (now (out .entry)) (now (out .exit)) at r) ⌝ }
+{
+    let held = hold(line, d.held, b, 201);
+    if b == 10 {
+        let end = answer(d, front(line, held), table, index, work, out, at);
+        return Next {
+            desk: ready(d.types, d.isos, 0),
+            end: end,
+        };
+    }
+    Next {
+        desk: ready(d.types, d.isos, held),
+        end: at,
+    }
+}
+
+// A byte.
+fn feed_byte(
+    d: Desk,
+    b: u8,
+    file: &mut [u8],
+    line: &mut [u8],
+    table: &mut [u16],
+    work: &mut [u8],
+    index: &mut [u16],
+    out: &mut [u8],
+    at: usize,
+) -> Next
+    ensures { λ r. ⌜ ((s : State) → DeskAt d (now (file .entry)) (now (line .entry)) (now (table .entry)) (now (index .entry)) s → Roomy (now (file .entry)) (now (line .entry)) (now (table .entry)) (now (work .entry)) (now (index .entry)) → at + answerRoom ≤ length (now (out .entry)) → Reaches (step s b) (now (file .exit)) (now (line .exit)) (now (table .exit)) (now (index .exit)) (now (out .entry)) (now (out .exit)) at r) ⌝ }
+{
+    let phase = d.phase;
+    match phase {
+        Phase::File => file_byte(d, b, file, line, table, work, index, out, at),
+        Phase::Queries => query_byte(d, b, line, table, work, index, out, at),
+        Phase::Stopped => Next { desk: d, end: at },
+    }
+}
+
+// Takes bytes of a chunk one after the other and prints what they give from the output area's start
+// on, up to the chunk's end or to where the output area lacks room for an answer. The file's area needs
+// 65,537 bytes, the line's 201, the table 16,384 numbers, the work area 65,536 bytes and the index 1,090
+// numbers; of shorter ones nothing is said.
+pub fn feed(
+    d: Desk,
+    chunk: &[u8],
+    file: &mut [u8],
+    line: &mut [u8],
+    table: &mut [u16],
+    work: &mut [u8],
+    index: &mut [u16],
+    out: &mut [u8],
+) -> Fed
+    ensures { λ r. ⌜ ((s : State) → DeskAt d (now (file .entry)) (now (line .entry)) (now (table .entry)) (now (index .entry)) s → Roomy (now (file .entry)) (now (line .entry)) (now (table .entry)) (now (work .entry)) (now (index .entry)) → FedAs s (now (chunk .entry)) (now (file .exit)) (now (line .exit)) (now (table .exit)) (now (index .exit)) (now (out .entry)) (now (out .exit)) r) ⌝ }
+{
+    let mut desk = d;
+    let mut taken: usize = 0;
+    let mut written: usize = 0;
+    while taken < chunk.len() {
+        if !has_room(out, written) {
+            return Fed {
+                desk: desk,
+                taken: taken,
+                written: written,
+            };
+        }
+        let b = chunk[taken];
+        let n = feed_byte(desk, b, file, line, table, work, index, out, written);
+        desk = n.desk;
+        written = n.end;
+        taken += 1;
+    }
+    Fed {
+        desk: desk,
+        taken: taken,
+        written: written,
+    }
+}
+
+// Prints what the end of the input gives, from the output area's start on, and says how many bytes that
+// is. The output area needs 160 bytes, the others what `feed` says.
+pub fn finished(
+    d: Desk,
+    file: &[u8],
+    line: &[u8],
+    table: &mut [u16],
+    work: &mut [u8],
+    index: &[u16],
+    out: &mut [u8],
+) -> usize
+    ensures { λ r. ⌜ ((s : State) → DeskAt d (now (file .entry)) (now (line .entry)) (now (table .entry)) (now (index .entry)) s → Roomy (now (file .entry)) (now (line .entry)) (now (table .entry)) (now (work .entry)) (now (index .entry)) → answerRoom ≤ length (now (out .entry)) → Printed (now (out .entry)) (now (out .exit)) 0 r (finish s)) ⌝ }
+{
+    let phase = d.phase;
+    let held = d.held;
+    match phase {
+        Phase::File => {
+            let j = judge(front(file, held), table, work, out, 0);
+            j.end
+        }
+        Phase::Queries => {
+            if held == 0 {
+                return 0;
+            }
+            answer(d, front(line, held), table, index, work, out, 0)
+        }
+        Phase::Stopped => 0,
+    }
+}

@@ -1,0 +1,40 @@
+-- What a query's reading means: the fields, and the letters by their places in the line.
+use Prim.Native.Nat.{ℕ}
+use mathlib.Core.Bool.{cond}
+use mathlib.Core.Option.{Option, none, some}
+use mathlib.Core.List.{List, [], _∷_}
+use lib.Dec.{eqb, ltb}
+use lib.ListN.{length, getD}
+use lib.Seq.{slice}
+use Rattle.model.specs.Limits.{fieldBound, budgetBound, comma}
+use Rattle.model.specs.Tools.{_>>=_}
+use Rattle.model.specs.Lines.{skip, fields}
+use Rattle.model.specs.Desk.{Query, beforeEnd}
+use Rattle.queries.specs.declared.Query as Q
+use Rattle.queries.specs.declared.Asked as A
+use Rattle.queries.specs.declared.Asked.the-variants as asked
+
+-- the query that a struct stands for, of this line
+abbrev pub queryView : List ℕ → Q.Query → Query
+queryView s q = record { iso = q .iso; back = q .back; budget = q .budget; letters = slice (q .from) (q .to) s }
+
+-- the query in a line, or nothing
+abbrev pub asQuery : List ℕ → A.Asked → Option Query
+asQuery s (asked.Of q) = some (queryView s q)
+asQuery s asked.Bad = none
+
+-- the bytes from a place up to another, which stands before the end
+abbrev pub upTo : List ℕ → ℕ → ℕ → Option (List ℕ)
+upTo s from to = cond (ltb to (length s)) (some (slice from to s)) none
+
+-- the query of three numbers and of the bytes behind its fourth comma
+abbrev pub withLetters : ℕ → ℕ → ℕ → List ℕ → Option Query
+withLetters iso direction budget bs =
+    beforeEnd bs >>= λ ls. some (record { iso = iso; back = eqb direction 1; budget = budget; letters = ls })
+
+-- the query of the bytes behind its letter
+abbrev pub behindLetter : List ℕ → Option Query
+behindLetter bs =
+    fields (fieldBound ∷ 2 ∷ budgetBound ∷ []) bs >>= λ r.
+    skip comma (r .1) >>= λ cs.
+    withLetters (getD (r .0) 0 0) (getD (r .0) 1 0) (getD (r .0) 2 0) cs

@@ -1,0 +1,2 @@
+-- The lengths of the areas that the loops lend.
+pub mod Lengths

@@ -1,0 +1,176 @@
+-- What Run answers and leaves in the areas, case by case, against the model's Run.
+use Prim.Native.Nat.{ℕ, _+_, _-_, _≤_, _<_, min}
+use native.Mathlib.Omega.{arith}
+use native.Mathlib.Nat.{sub-zero}
+use mathlib.Core.Path.{_≡_, refl, sym, ap, ap₂, _∙_, subst}
+use mathlib.Core.Bool.{Bool, true, false, _||_, true≢false}
+use mathlib.Core.Option.{Option, none, some}
+use mathlib.Core.List.{List, [], _++_}
+use lib.Dec.{ltb}
+use lib.ListN.{length, drop, take, replicate, length-drop, length-append, length-replicate}
+use lib.Seq.{length-take-le, drop-at}
+use borrow.Author.Tests.{lt-ltb, le-ltb}
+use borrow.Rule.Slice.PartMut.{midOf, postOf}
+use Rattle.model.specs.Limits.{resultLength, workLength, tableLength}
+use Rattle.model.specs.Tools.{isSome}
+use Rattle.model.specs.Refusals.{Refusal, number, shortArea}
+use Rattle.model.specs.Lines.{Row}
+use Rattle.model.specs.Services.{Verdict, accepted, refused, verdict, filled, written, tableAfter, workAfter, short, unless, answerOf, check, RunAnswer, answerOfRun, runOf, runService}
+use Rattle.model.specs.Code.{refusalView, numberOf, numbered}
+use Rattle.model.specs.declared.Answer as A
+use Rattle.model.proofs.Basic.{isSome-true, ltb-false}
+use Rattle.areas.specs.Areas.{cleared}
+use Rattle.checker.specs.CheckSays.{CheckSays, Accepted}
+use Rattle.checker.specs.declared.Checked as C
+use Rattle.checker.proofs.Checks.{cleared-filled, number-positive, unless-accepted}
+use Rattle.runner.specs.declared.run.Ran as R
+use Rattle.runner.specs.RunSays.{Prepared, answerFor, RanAs, RunSays}
+
+or-true : (b : Bool) → (b || true) ≡ true
+or-true true = refl
+or-true false = refl
+
+or-false : (b : Bool) → (b || false) ≡ b
+or-false true = refl
+or-false false = refl
+
+or-left : (a b : Bool) → (a || b) ≡ false → a ≡ false
+or-left true b e = absurd (true≢false e)
+or-left false b e = refl
+
+or-right : (a b : Bool) → (a || b) ≡ false → b ≡ false
+or-right true b e = absurd (true≢false e)
+or-right false b e = e
+
+isSome-false : {A : Type 0} (x : Option A) → isSome x ≡ false → x ≡ none
+isSome-false none e = refl
+isSome-false (some a) e = absurd (true≢false e)
+
+-- ---- Run, by the verdict
+
+-- an answer and areas that agree with a verdict
+record Agrees (t w : List ℕ) (i : ℕ) (back : Bool) (budget : ℕ) (value o t′ w′ o′ : List ℕ) (r : R.Ran) (v : Verdict) : Type 0 where
+  number : numberOf (r .refusal) ≡ answerOfRun (runOf v i back budget value) .number
+  count : r .count ≡ answerOfRun (runOf v i back budget value) .count
+  bytes : r .length ≡ length (answerOfRun (runOf v i back budget value) .letters)
+  table : t′ ≡ tableAfter v t
+  work : w′ ≡ workAfter v w
+  result : o′ ≡ written (answerOfRun (runOf v i back budget value) .letters) o
+
+-- agree with Run where that is Run's verdict, refusal 1 included
+run-says : (s t w : List ℕ) (i : ℕ) (back : Bool) (budget : ℕ) (value o t′ w′ o′ : List ℕ) (r : R.Ran) (b : Bool) → (short t w || ltb (length o) resultLength) ≡ b
+    → Agrees t w i back budget value o t′ w′ o′ r (unless b (verdict s)) → RunSays s t w i back budget value o t′ w′ o′ r
+unfolding runService
+run-says s t w i back budget value o t′ w′ o′ r b e a =
+    let g : Agrees t w i back budget value o t′ w′ o′ r (unless (short t w || ltb (length o) resultLength) (verdict s)) =
+    subst (λ c. Agrees t w i back budget value o t′ w′ o′ r (unless c (verdict s))) (sym e) a in
+    record { number = g .number; count = g .count; bytes = g .bytes; table = g .table; work = g .work; result = g .result }
+
+-- 1: the result area is short
+pub short-result : (s t w : List ℕ) (i : ℕ) (back : Bool) (budget : ℕ) (value o : List ℕ) (r : R.Ran) → length o < resultLength
+    → refusalView (r .refusal) ≡ some shortArea → r .count ≡ 0 → r .length ≡ 0 → RunSays s t w i back budget value o t w o r
+short-result s t w i back budget value o r h n k l =
+    run-says s t w i back budget value o t w o r true (ap (λ b. short t w || b) (lt-ltb (length o) resultLength h) ∙ or-true (short t w))
+    (record { number = ap numbered n; count = k; bytes = l; table = refl; work = refl; result = refl })
+
+long-result : (t w o : List ℕ) → resultLength ≤ length o → (short t w || ltb (length o) resultLength) ≡ short t w
+long-result t w o h = ap (λ b. short t w || b) (le-ltb (length o) resultLength h) ∙ or-false (short t w)
+
+-- a refused file runs nothing
+nothing-run : (v : Verdict) (i : ℕ) (back : Bool) (budget : ℕ) (value : List ℕ) → 0 < answerOf v .number
+    → answerOfRun (runOf v i back budget value) ≡ record { number = answerOf v .number; count = 0; letters = [] }
+nothing-run (accepted rs) i back budget value h = absurd (omega arith)
+nothing-run (refused f n) i back budget value h = refl
+
+pub run-refused : (s t w : List ℕ) (i : ℕ) (back : Bool) (budget : ℕ) (value o t′ w′ : List ℕ) (a : A.Answer) (r : R.Ran) (b : Bool) → resultLength ≤ length o
+    → CheckSays s t w t′ w′ a → b ≡ isSome (refusalView (a .refusal)) → b ≡ true → r .refusal ≡ a .refusal → r .count ≡ 0 → r .length ≡ 0
+    → RunSays s t w i back budget value o t′ w′ o r
+unfolding check
+run-refused s t w i back budget value o t′ w′ a r b h c e y same k l =
+    let v : Verdict = unless (short t w) (verdict s) in
+    let f = isSome-true (refusalView (a .refusal)) (sym e ∙ y) in
+    let n : number (f .0) ≡ answerOf v .number = sym (ap numbered (f .1)) ∙ c .number in
+    let p = number-positive (f .0) in
+    let answer = nothing-run v i back budget value (omega (arith, n, p)) in
+    run-says s t w i back budget value o t′ w′ o r (short t w) (long-result t w o h)
+    (record {
+      number = ap numberOf same ∙ c .number ∙ sym (ap (λ x. x .number) answer);
+      count = k ∙ sym (ap (λ x. x .count) answer);
+      bytes = l ∙ sym (ap (λ x. length (x .letters)) answer);
+      table = c .table;
+      work = c .work;
+      result = sym (ap (λ x. written (x .letters) o) answer);
+    })
+
+-- ---- an accepted file
+
+-- what an accepted file says of the areas
+record Whole (s t w t′ w′ : List ℕ) (c : C.Checked) : Type 0 where
+  pub file : Accepted s t′ c
+  pub verdict-is : unless (short t w) (verdict s) ≡ accepted (file .file)
+  pub work-long : workLength ≤ length w
+  pub work-is : w′ ≡ filled workLength [] w
+  pub table-is : t′ ≡ tableAfter (accepted (file .file)) t
+
+whole : (s t w t′ w′ : List ℕ) (c : C.Checked) (b : Bool) → CheckSays s t w t′ w′ (c .answer) → (refusalView (c .answer .refusal) ≡ none → Accepted s t′ c)
+    → b ≡ isSome (refusalView (c .answer .refusal)) → b ≡ false → Whole s t w t′ w′ c
+unfolding check
+whole s t w t′ w′ c b says acc e y =
+    let n : refusalView (c .answer .refusal) ≡ none = isSome-false (refusalView (c .answer .refusal)) (sym e ∙ y) in
+    let a = acc n in
+    let u = unless-accepted (short t w) (verdict s) (sym (says .number) ∙ ap numbered n) in
+    let v : unless (short t w) (verdict s) ≡ accepted (a .file) = u .1 ∙ a .accepts in
+    record {
+      file = a;
+      verdict-is = v;
+      work-long = ltb-false (length w) workLength (or-right (ltb (length t) tableLength) (ltb (length w) workLength) (u .0));
+      work-is = says .work ∙ ap (λ x. workAfter x w) v;
+      table-is = says .table ∙ ap (λ x. tableAfter x t) v;
+    }
+
+filled-drop : (w : List ℕ) → drop workLength (filled workLength [] w) ≡ drop workLength w
+filled-drop w = drop-at (replicate (workLength - 0) 0) (drop workLength w) workLength (length-replicate {A = ℕ} (workLength - 0) 0 ∙ sub-zero workLength)
+
+-- the work area has the room that a run needs
+pub work-room : (s t w t′ w′ : List ℕ) (c : C.Checked) (b : Bool) → length w′ ≡ length w → CheckSays s t w t′ w′ (c .answer)
+    → (refusalView (c .answer .refusal) ≡ none → Accepted s t′ c) → b ≡ isSome (refusalView (c .answer .refusal)) → b ≡ false → workLength ≤ length w′
+work-room s t w t′ w′ c b wide says acc e y =
+    let g = whole s t w t′ w′ c b says acc e y in let h = g .work-long in omega (arith, wide, h)
+
+-- a front part of the work area after the run, cleared again
+cleared-work : (w w₁ w₂ ys w′ : List ℕ) → workLength ≤ length w → length w₁ ≡ length w → drop workLength w₁ ≡ drop workLength w → length ys ≡ workLength
+    → w₂ ≡ ys ++ drop workLength w₁ → w′ ≡ cleared workLength w₂ → w′ ≡ filled workLength [] w
+cleared-work w w₁ w₂ ys w′ long wide same n e f =
+    let d = length-drop workLength w₁ in
+    let a = length-append ys (drop workLength w₁) in
+    let back : drop workLength w₂ ≡ drop workLength w = ap (drop workLength) e ∙ drop-at ys (drop workLength w₁) workLength n ∙ same in
+    let size : length w₂ ≡ length w = ap length e ∙ omega (arith, d, a, n, wide, long) in
+    f ∙ ap₂ (λ k l. replicate (min workLength k) 0 ++ l) size back ∙ cleared-filled workLength w long
+
+pub run-accepted : (s t w : List ℕ) (i : ℕ) (back : Bool) (budget : ℕ) (value o t′ w₁ w₂ ys w′ o′ index : List ℕ) (c : C.Checked) (r : R.Ran) (b : Bool) → resultLength ≤ length o
+    → length w₁ ≡ length w → CheckSays s t w t′ w₁ (c .answer) → (refusalView (c .answer .refusal) ≡ none → Accepted s t′ c)
+    → b ≡ isSome (refusalView (c .answer .refusal)) → b ≡ false
+    → ((x : List ℕ) (a : Accepted x t′ c) → 1090 ≤ 1090 → Prepared t′ (c .types) index (c .isos) (a .file))
+    → ((rs : List Row) → Prepared t′ (c .types) index (c .isos) rs → 40960 ≤ length (midOf 0 (workLength - 0) w₁) → length (midOf 0 (workLength - 0) w₁) ≤ 65536 → 127 ≤ length o
+    → RanAs (answerFor rs i back budget value) o o′ r)
+    → length ys ≡ length (midOf 0 (workLength - 0) w₁) → w₂ ≡ ys ++ postOf 0 (workLength - 0) w₁ → w′ ≡ cleared workLength w₂
+    → RunSays s t w i back budget value o t′ w′ o′ r
+run-accepted s t w i back budget value o t′ w₁ w₂ ys w′ o′ index c r b h wide says acc e y prep ran ny e₂ e′ =
+    let g = whole s t w t′ w₁ c b says acc e y in
+    let long = g .work-long in
+    let part : length (midOf 0 (workLength - 0) w₁) ≡ workLength =
+    ap (λ k. length (take k w₁)) (sub-zero workLength) ∙ length-take-le workLength w₁ (omega (arith, wide, long)) in
+    let q = ran (g .file .file) (prep s (g .file) (omega arith)) (omega (arith, part)) (omega (arith, part)) h in
+    let v : unless (short t w) (verdict s) ≡ accepted (g .file .file) = g .verdict-is in
+    let post : postOf 0 (workLength - 0) w₁ ≡ drop workLength w₁ = ap (λ k. drop k w₁) (sub-zero workLength) in
+    let behind : drop workLength w₁ ≡ drop workLength w = ap (drop workLength) (g .work-is) ∙ filled-drop w in
+    run-says s t w i back budget value o t′ w′ o′ r (short t w) (long-result t w o h)
+    (subst (Agrees t w i back budget value o t′ w′ o′ r) (sym v)
+    (record {
+      number = q .number;
+      count = q .count;
+      bytes = q .bytes;
+      table = g .table-is;
+      work = cleared-work w w₁ w₂ ys w′ long wide behind (ny ∙ part) (e₂ ∙ ap (λ l. ys ++ l) post) e′;
+      result = q .result;
+    }))

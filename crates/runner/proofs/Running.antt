@@ -1,0 +1,264 @@
+-- A run on a checked table, case by case, against the model's run of the file's rows.
+use Prim.Native.Nat.{ℕ, zero, suc, _+_, _-_, _*_, _≤_, _<_}
+use native.Mathlib.Nat.{zero-add}
+use native.Mathlib.Omega.{arith}
+use mathlib.Core.Path.{_≡_, refl, sym, ap, ap₂, _∙_, subst}
+use mathlib.Core.Bool.{Bool, true, false, cond, not, true≢false}
+use mathlib.Core.Option.{Option, none, some}
+use mathlib.Core.Logic.{_⊎_, inl, inr}
+use mathlib.Core.List.{List, [], _∷_, _++_, map}
+use lib.Dec.{leb}
+use lib.ListN.{length, getElem?, take, drop, length-map}
+use lib.Seq.{paste, length-take-le}
+use Rattle.model.specs.Limits.{maxIsos}
+use Rattle.model.specs.Trees.{Val, Iso, invert}
+use Rattle.model.specs.Refusals.{Refusal, noIso, noValue, spent}
+use Rattle.model.specs.Lines.{Row}
+use Rattle.model.specs.Judge.{start, afterAll}
+use Rattle.model.specs.Unfold.{isosOf, turnRows}
+use Rattle.model.specs.Letters.{letters}
+use Rattle.model.specs.Reduction.{reduce}
+use Rattle.model.specs.Services.{Ran, gives, failed, within, argument, from, onIso, runRows, toward, RunAnswer, answerOfRun, written}
+use Rattle.model.specs.Code.{refusalView, numberOf, numbered}
+use Rattle.model.proofs.Basic.{bool-cases, leb-le, leb-false, le-leb, not-leb}
+use Rattle.model.proofs.Passing.{Passes}
+use Rattle.model.proofs.Turning.{isos-turn}
+use Rattle.model.proofs.Runs.{GoodRows, good-toward, accepted-good}
+use Rattle.nodes.specs.Unfolding.{cellOf, typeOf}
+use Rattle.nodes.specs.Walk.{isoRows}
+use Rattle.nodes.proofs.Tails.{isos-few}
+use Rattle.nodes.proofs.Rows.{isos-told}
+use Rattle.index.specs.Index.{placeAt, isoAt, isosAt}
+use Rattle.isos.proofs.Collecting.{head-small}
+use Rattle.checker.specs.CheckSays.{Accepted}
+use Rattle.checker.specs.declared.Checked as C
+use Rattle.checker.proofs.Checks.{isos-counted}
+use Rattle.values.specs.Texts.{At, behind}
+use Rattle.values.specs.Traces.{Small, Runs}
+use Rattle.values.proofs.Agreeing.{argument-some, argument-none, at-within}
+use Rattle.values.proofs.Tracing.{traced}
+use Rattle.reduction.specs.declared.Reduced as D
+use Rattle.reduction.specs.declared.Reduced.the-variants as reduced
+use Rattle.reduction.specs.Frames.{sided, frame, Laid, Applied}
+use Rattle.reduction.proofs.Laying.{laid, from-at}
+use Rattle.reduction.proofs.Framing.{ApplySays, done-place, done-left, done≢spent}
+use Rattle.runner.specs.declared.run.Ran as R
+use Rattle.runner.specs.Values.{alone}
+use Rattle.runner.specs.RunSays.{Prepared, answerFor, RanAs}
+use Rattle.runner.proofs.Copying.{value-front, paste-front, alone-true, alone-false}
+
+-- ---- the isos of a direction
+
+-- at most 32 isos
+isos-small : (rs : List Row) → Passes start rs → length (isosOf rs) ≤ maxIsos
+unfolding start
+isos-small rs ps =
+    let a = isos-counted rs in let b = isos-told 0 start rs in let c = isos-few ps in omega (arith, a, b, c)
+
+-- as many the one way as the other
+toward-length : (back : Bool) (rs : List Row) → Passes start rs → length (isosOf (toward back rs)) ≡ length (isosOf rs)
+toward-length false rs ps = refl
+toward-length true rs ps = ap length (isos-turn rs ps) ∙ length-map (isosOf rs) invert
+
+past : {A : Type 0} (xs : List A) (i : ℕ) → length xs ≤ i → getElem? xs i ≡ none
+past [] i h = refl
+past (x ∷ xs) zero h = absurd (omega arith)
+past (x ∷ xs) (suc i) h = past xs i (omega arith)
+
+inside : {A : Type 0} (xs : List A) (i : ℕ) → i < length xs → (x : A) × (getElem? xs i ≡ some x)
+inside [] i h = absurd (omega arith)
+inside (x ∷ xs) zero h = (x, refl)
+inside (x ∷ xs) (suc i) h = inside xs i (omega arith)
+
+-- the model's run, by its cases
+on-none : (rs : List Row) (i budget : ℕ) (value : List ℕ) → getElem? (isosOf rs) i ≡ none → runRows rs i budget value ≡ failed noIso
+unfolding runRows
+on-none rs i budget value e = ap (onIso (isosOf rs) i budget value) e
+
+on-some : (rs : List Row) (i budget : ℕ) (value : List ℕ) {o : Iso} → getElem? (isosOf rs) i ≡ some o
+    → runRows rs i budget value ≡ from (isosOf rs) i budget (argument o value)
+unfolding runRows
+on-some rs i budget value e = ap (onIso (isosOf rs) i budget value) e
+
+-- ---- a file that is prepared
+
+pub prepared : {s t index : List ℕ} {c : C.Checked} (a : Accepted s t c) → isosOf (a .file) ≡ isosAt t (c .types) index 0 (c .isos)
+    → Prepared t (c .types) index (c .isos) (a .file)
+prepared {s} a e = record { good = accepted-good s (a .file) (a .accepts); indexed = e; count = a .isos }
+
+pub unprepared : {P : Type 0} {s t : List ℕ} {c : C.Checked} → Accepted s t c → (4096 < c .types) ⊎ (4096 < c .patterns) → P
+unprepared a (inl h) = let small = head-small (a .table) in absurd (omega (arith, small))
+unprepared a (inr h) = let small = head-small (a .table) in absurd (omega (arith, small))
+
+-- ---- refusals
+
+pub ran-refused : (a : RunAnswer) (o : List ℕ) (r : R.Ran) (f : Refusal) → a ≡ answerOfRun (failed f) → refusalView (r .refusal) ≡ some f → r .count ≡ 0 → r .length ≡ 0 → RanAs a o o r
+ran-refused a o r f e n k l =
+    record {
+      number = ap numbered n ∙ sym (ap (λ x. x .number) e);
+      count = k ∙ sym (ap (λ x. x .count) e);
+      bytes = l ∙ sym (ap (λ x. length (x .letters)) e);
+      result = sym (ap (λ x. written (x .letters) o) e);
+    }
+
+-- 15
+pub no-iso : (t : List ℕ) (base : ℕ) (index : List ℕ) (isos i : ℕ) (back : Bool) (budget : ℕ) (value o : List ℕ) (r : R.Ran) → isos ≤ i
+    → refusalView (r .refusal) ≡ some noIso → r .count ≡ 0 → r .length ≡ 0 → (rs : List Row) → Prepared t base index isos rs → RanAs (answerFor rs i back budget value) o o r
+no-iso t base index isos i back budget value o r h n k l rs p =
+    let many = toward-length back rs (p .good .passes) in
+    let all = p .count in
+    ran-refused (answerFor rs i back budget value) o r noIso
+    (ap answerOfRun (on-none (toward back rs) i budget value (past (isosOf (toward back rs)) i (omega (arith, many, all))))) n k l
+
+-- the iso of a run, and the type of its value
+record Found (t : List ℕ) (base : ℕ) (index : List ℕ) (back : Bool) (i j : ℕ) (rs : List Row) : Type 0 where
+  pub o : Iso
+  pub at : getElem? (isosOf (toward back rs)) i ≡ some o
+  pub type : o .from ≡ typeOf t j
+  pub lay : Laid t base index back (isosOf (toward back rs))
+
+found : (t : List ℕ) (base : ℕ) (index : List ℕ) (isos i : ℕ) (back : Bool) (j row h f : ℕ) → i < isos → j ≡ cellOf t row f → row ≡ placeAt index h → h ≡ placeAt index i
+    → f ≡ cond back 2 1 → (rs : List Row) → Prepared t base index isos rs → Found t base index back i j rs
+found t base index isos i back j row h f less ej er eh ef rs p =
+    let many = toward-length back rs (p .good .passes) in
+    let all = p .count in
+    let x = inside (isosOf (toward back rs)) i (omega (arith, many, all)) in
+    let lay = laid t base index isos rs (p .good .passes) (p .indexed) back in
+    record {
+      o = x .0;
+      at = x .1;
+      type = ap (λ y. y .from) (lay .isos i (x .0) (x .1)) ∙ from-at t base index back i
+          ∙ ap (typeOf t) (sym (ej ∙ ap₂ (cellOf t) (er ∙ ap (placeAt index) eh) ef));
+      lay = lay;
+    }
+
+-- 16
+pub no-value : (t : List ℕ) (base : ℕ) (index : List ℕ) (isos i : ℕ) (back : Bool) (budget : ℕ) (value o : List ℕ) (r : R.Ran) (j row h f : ℕ) (b : Bool) → i < isos
+    → j ≡ cellOf t row f → row ≡ placeAt index h → h ≡ placeAt index i → f ≡ cond back 2 1 → b ≡ alone (behind (typeOf t j) value) → b ≡ false
+    → refusalView (r .refusal) ≡ some noValue → r .count ≡ 0 → r .length ≡ 0 → (rs : List Row) → Prepared t base index isos rs → RanAs (answerFor rs i back budget value) o o r
+no-value t base index isos i back budget value o r j row h f b less ej er eh ef eb not′ n k l rs p =
+    let x = found t base index isos i back j row h f less ej er eh ef rs p in
+    let none′ : argument (x .o) value ≡ none =
+    argument-none (x .o) value (λ y. alone-false (behind (typeOf t j) value) (sym eb ∙ not′) (ap (λ a. behind a value) (sym (x .type)) ∙ y)) in
+    ran-refused (answerFor rs i back budget value) o r noValue
+    (ap answerOfRun (on-some (toward back rs) i budget value (x .at) ∙ ap (from (isosOf (toward back rs)) i budget) none′)) n k l
+
+-- ---- a run
+
+-- a value of the starting type, what it gives and with how many applications
+record Begun (t : List ℕ) (base : ℕ) (index : List ℕ) (i : ℕ) (back : Bool) (budget : ℕ) (value : List ℕ) (rs : List Row) : Type 0 where
+  pub v : Val
+  pub spelled : value ≡ letters v
+  pub w : Val
+  pub m : ℕ
+  pub small : Small v
+  pub less : Small w
+  pub depth : ℕ
+  pub runs : Runs depth (isosOf (toward back rs)) i v w m
+  pub lay : Laid t base index back (isosOf (toward back rs))
+  pub answer : answerFor rs i back budget value ≡ answerOfRun (within budget (some (w, m)))
+  pub few : i < maxIsos
+
+begun : (t : List ℕ) (base : ℕ) (index : List ℕ) (isos i : ℕ) (back : Bool) (budget : ℕ) (value : List ℕ) (j row h f : ℕ) (b : Bool) → i < isos
+    → j ≡ cellOf t row f → row ≡ placeAt index h → h ≡ placeAt index i → f ≡ cond back 2 1 → b ≡ alone (behind (typeOf t j) value) → b ≡ true
+    → (rs : List Row) → Prepared t base index isos rs → Begun t base index i back budget value rs
+begun t base index isos i back budget value j row h f b less ej er eh ef eb yes′ rs p =
+    let x = found t base index isos i back j row h f less ej er eh ef rs p in
+    let a = argument-some (x .o) value (ap (λ y. behind y value) (x .type) ∙ alone-true (behind (typeOf t j) value) (sym eb ∙ yes′)) in
+    let g = good-toward back rs (p .good) in
+    let r = traced (toward back rs) g i (x .o) (x .at) (a .0) (a .3) in
+    let n = isos-small rs (p .good .passes) in
+    let c = p .count in
+    record {
+      v = a .0;
+      spelled = a .2;
+      w = r .0;
+      m = r .1;
+      small = r .4;
+      less = r .5;
+      depth = length (isosOf (toward back rs));
+      runs = r .3;
+      lay = x .lay;
+      answer = ap answerOfRun (on-some (toward back rs) i budget value (x .at) ∙ ap (from (isosOf (toward back rs)) i budget) (a .1) ∙ ap (within budget) (r .2));
+      few = omega (arith, n, c);
+    }
+
+-- the application in the work area
+applied : {t : List ℕ} {base : ℕ} {index : List ℕ} {i : ℕ} {back : Bool} {budget : ℕ} {value : List ℕ} {rs : List Row} (work : List ℕ) {work₁ work₂ : List ℕ} {r : D.Reduced}
+    → (g : Begun t base index i back budget value rs) → 40960 ≤ length work → length work ≤ 65536 → length work₁ ≡ length work
+    → (length value ≤ length value → length value ≤ length work → work₁ ≡ paste work 0 value (length value))
+    → ApplySays t base index back i work₁ work₂ 0 (length value) budget r → Applied work₁ work₂ 0 budget (g .w) (g .m) r
+applied {i = i} {value = value} work g long most wide copy says =
+    let small = g .small in
+    let few = g .few in
+    let n : length value ≡ length (letters (g .v)) = ap length (g .spelled) in
+    let front = copy (omega arith) (omega (arith, n, small, long)) in
+    says _ (g .depth) (g .v) (g .w) (g .m) (g .lay) (g .runs) (value-front work value (g .v) (g .spelled) front) small (n ∙ sym (zero-add (length (letters (g .v)))))
+    (omega (arith, few, long, wide)) (omega (arith, wide, most))
+
+within-gives : (budget m : ℕ) (w : Val) → m ≤ budget → within budget (some (w, m)) ≡ gives m (letters w)
+within-gives budget m w h = ap (λ b. cond b (gives m (letters w)) (failed spent)) (le-leb h)
+
+within-spent : (budget m : ℕ) (w : Val) → budget < m → within budget (some (w, m)) ≡ failed spent
+within-spent budget m w h = ap (λ b. cond b (gives m (letters w)) (failed spent)) (not-leb h)
+
+either : (m n : ℕ) → (m ≤ n) ⊎ (n < m)
+either m n = go (bool-cases (leb m n))
+  where
+    go : (leb m n ≡ true) ⊎ (leb m n ≡ false) → (m ≤ n) ⊎ (n < m)
+    go (inl t) = inl (leb-le m n t)
+    go (inr f) = inr (leb-false m n f)
+
+-- a result within the budget
+ran-done : {t : List ℕ} {base : ℕ} {index : List ℕ} {i : ℕ} {back : Bool} {budget : ℕ} {value : List ℕ} {rs : List Row} (work₁ work₂ o o′ : List ℕ) (n left : ℕ) {z : D.Reduced} (r : R.Ran)
+    → (g : Begun t base index i back budget value rs) → Applied work₁ work₂ 0 budget (g .w) (g .m) z → z ≡ reduced.Done n left → 127 ≤ length o → 40960 ≤ length work₂
+    → (n ≤ length work₂ → n ≤ length o → o′ ≡ paste o 0 work₂ n) → refusalView (r .refusal) ≡ none → r .count ≡ budget - left → r .length ≡ n
+    → RanAs (answerFor rs i back budget value) o o′ r
+ran-done {i = i} {back = back} {budget = budget} {value = value} {rs = rs} work₁ work₂ o o′ n left {z} r g a told long room copy e k l = go (either (g .m) budget)
+  where
+    go : (g .m ≤ budget) ⊎ (budget < g .m) → RanAs (answerFor rs i back budget value) o o′ r
+    go (inr h) = absurd (done≢spent (sym told ∙ a .spent h))
+    go (inl h) =
+        let bs : List ℕ = letters (g .w) in
+        let less = g .less in
+        let place : n ≡ length bs = done-place (sym told ∙ a .done h) ∙ zero-add (length bs) in
+        let rest = done-left (sym told ∙ a .done h) in
+        let answer = g .answer ∙ ap answerOfRun (within-gives budget (g .m) (g .w) h) in
+        let front : take n work₂ ≡ bs = ap (λ x. take x work₂) (place ∙ sym (zero-add (length bs))) ∙ a .result h in
+        record {
+          number = ap numbered e ∙ sym (ap (λ x. x .number) answer);
+          count = k ∙ omega (arith, rest) ∙ sym (ap (λ x. x .count) answer);
+          bytes = l ∙ place ∙ sym (ap (λ x. length (x .letters)) answer);
+          result = copy (omega (arith, place, less, room)) (omega (arith, place, less, long)) ∙ paste-front o work₂ n ∙ ap₂ (λ x y. x ++ drop y o) front place
+              ∙ sym (ap (λ x. written (x .letters) o) answer);
+        }
+
+-- 17
+ran-spent : {t : List ℕ} {base : ℕ} {index : List ℕ} {i : ℕ} {back : Bool} {budget : ℕ} {value : List ℕ} {rs : List Row} (work₁ work₂ o : List ℕ) {z : D.Reduced} (r : R.Ran)
+    → (g : Begun t base index i back budget value rs) → Applied work₁ work₂ 0 budget (g .w) (g .m) z → z ≡ reduced.Spent
+    → refusalView (r .refusal) ≡ some spent → r .count ≡ 0 → r .length ≡ 0 → RanAs (answerFor rs i back budget value) o o r
+ran-spent {i = i} {back = back} {budget = budget} {value = value} {rs = rs} work₁ work₂ o {z} r g a told e k l = go (either (g .m) budget)
+  where
+    go : (g .m ≤ budget) ⊎ (budget < g .m) → RanAs (answerFor rs i back budget value) o o r
+    go (inl h) = absurd (done≢spent (sym (a .done h) ∙ told))
+    go (inr h) = ran-refused _ o r spent (g .answer ∙ ap answerOfRun (within-spent budget (g .m) (g .w) h)) e k l
+
+pub run-done : (t : List ℕ) (base : ℕ) (index : List ℕ) (isos i : ℕ) (back : Bool) (budget : ℕ) (value work work₁ work₂ o o′ : List ℕ) (n left : ℕ) {z : D.Reduced} (r : R.Ran) (j row h f : ℕ) (b : Bool)
+    → i < isos → j ≡ cellOf t row f → row ≡ placeAt index h → h ≡ placeAt index i → f ≡ cond back 2 1 → b ≡ alone (behind (typeOf t j) value) → b ≡ true
+    → length work₁ ≡ length work → (length value ≤ length value → length value ≤ length work → work₁ ≡ paste work 0 value (length value))
+    → ApplySays t base index back i work₁ work₂ 0 (length value) budget z → length work₂ ≡ length work₁ → z ≡ reduced.Done n left
+    → (n ≤ length work₂ → n ≤ length o → o′ ≡ paste o 0 work₂ n) → refusalView (r .refusal) ≡ none → r .count ≡ budget - left → r .length ≡ n
+    → (rs : List Row) → Prepared t base index isos rs → 40960 ≤ length work → length work ≤ 65536 → 127 ≤ length o → RanAs (answerFor rs i back budget value) o o′ r
+run-done t base index isos i back budget value work work₁ work₂ o o′ n left r j row h f b less ej er eh ef eb yes′ wide copy says kept told copy′ e k l rs p long most room =
+    let g = begun t base index isos i back budget value j row h f b less ej er eh ef eb yes′ rs p in
+    ran-done work₁ work₂ o o′ n left r g (applied work g long most wide copy says) told room (omega (arith, kept, wide, long)) copy′ e k l
+
+pub run-spent : (t : List ℕ) (base : ℕ) (index : List ℕ) (isos i : ℕ) (back : Bool) (budget : ℕ) (value work work₁ work₂ o : List ℕ) {z : D.Reduced} (r : R.Ran) (j row h f : ℕ) (b : Bool)
+    → i < isos → j ≡ cellOf t row f → row ≡ placeAt index h → h ≡ placeAt index i → f ≡ cond back 2 1 → b ≡ alone (behind (typeOf t j) value) → b ≡ true
+    → length work₁ ≡ length work → (length value ≤ length value → length value ≤ length work → work₁ ≡ paste work 0 value (length value))
+    → ApplySays t base index back i work₁ work₂ 0 (length value) budget z → z ≡ reduced.Spent
+    → refusalView (r .refusal) ≡ some spent → r .count ≡ 0 → r .length ≡ 0
+    → (rs : List Row) → Prepared t base index isos rs → 40960 ≤ length work → length work ≤ 65536 → 127 ≤ length o → RanAs (answerFor rs i back budget value) o o r
+run-spent t base index isos i back budget value work work₁ work₂ o r j row h f b less ej er eh ef eb yes′ wide copy says told e k l rs p long most room =
+    let g = begun t base index isos i back budget value j row h f b less ej er eh ef eb yes′ rs p in
+    ran-spent work₁ work₂ o r g (applied work g long most wide copy says) told e k l

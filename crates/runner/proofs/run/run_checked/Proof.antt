@@ -1,0 +1,127 @@
+use borrow.Author.Tests.{not-true, not-false}
+use Rattle.runner.proofs.Running.{no-iso, no-value, run-done, run-spent}
+use Rattle.model.specs.Code.{refusalView}
+use mathlib.Core.Path.{refl, ap}
+use borrow.Author.Needs.{needs}
+use Rattle.runner.proofs.run.run_checked.Statement.{statement}
+use Rattle.runner.proofs.run.run_checked.Tie as tie
+use Rattle.runner.proofs.run.run_checked.Reads as reads
+use Rattle.runner.proofs.run.run_checked.Lts as lts
+use Rattle.nodes.proofs.cell.Reads as cell-reads
+use Rattle.reduction.proofs.apply.Reads as apply-reads
+use Rattle.reduction.proofs.place.Reads as place-reads
+use Rattle.reduction.proofs.side.Reads as side-reads
+use Rattle.runner.proofs.run.copy_front.Reads as copy-front-reads
+use Rattle.runner.proofs.run.is_value.Reads as is-value-reads
+use Rattle.runner.proofs.run.refused.Reads as refused-reads
+use Rattle.runner.proofs.run.used.Reads as used-reads
+
+-- src/run.rt:105:9
+refused-requires : tie.Need-refused-requires
+refused-requires c κs = search needs
+
+-- src/run.rt:105:9
+returns : tie.Need-returns
+returns c = λ rs p long most room. no-iso (c .before .before .before .before .before .before .before .args .t .now) (c .before .before .before .before .before .before .before .args .base) (c .before .before .before .before .before .before .before .args .index .now) (c .before .before .before .before .before .before .before .args .isos) (c .before .before .before .before .before .before .before .args .i) (c .before .before .before .before .before .before .before .args .back) (c .before .before .before .before .before .before .before .args .budget) (c .before .before .before .before .before .before .before .args .value .now) (c .before .before .before .before .before .before .before .args .result .now) (c .refused .result) (c .before .if1 .taken) (ap refusalView (c .refused .ensures .0)) (c .refused .ensures .1) (c .refused .ensures .2) rs p
+
+-- src/run.rt:107:28
+place-requires : tie.Need-place-requires
+place-requires c κs = search needs
+
+-- src/run.rt:107:9
+place-requires-2 : tie.Need-place-requires-2
+place-requires-2 c κs = search needs
+
+-- src/run.rt:108:34
+side-requires : tie.Need-side-requires
+side-requires c κs = search needs
+
+-- src/run.rt:108:21
+cell-requires : tie.Need-cell-requires
+cell-requires c κs = search needs
+
+-- src/run.rt:108:9
+is-value-requires : tie.Need-is-value-requires
+is-value-requires c κs = search needs
+
+-- src/run.rt:109:9
+refused-requires-2 : tie.Need-refused-requires-2
+refused-requires-2 c κs = search needs
+
+-- src/run.rt:109:9
+returns-2 : tie.Need-returns-2
+returns-2 c = λ rs p long most room. no-value (c .before .before .before .before .before .before .before .before .before .before .before .before .before .args .t .now) (c .before .before .before .before .before .before .before .before .before .before .before .before .before .args .base) (c .before .before .before .before .before .before .before .before .before .before .before .before .before .args .index .now) (c .before .before .before .before .before .before .before .before .before .before .before .before .before .args .isos) (c .before .before .before .before .before .before .before .before .before .before .before .before .before .args .i) (c .before .before .before .before .before .before .before .before .before .before .before .before .before .args .back) (c .before .before .before .before .before .before .before .before .before .before .before .before .before .args .budget) (c .before .before .before .before .before .before .before .before .before .before .before .before .before .args .value .now) (c .before .before .before .before .before .before .before .before .before .before .before .before .before .args .result .now) (c .refused2 .result) (c .before .before .before .cell .result) (c .before .before .before .before .before .place2 .result) (c .before .before .before .before .before .before .place .result) (c .before .before .before .before .side .result) (c .before .before .is-value .result) (c .before .before .before .before .before .before .before .if1 .left) (c .before .before .before .cell .ensures .0) (c .before .before .before .before .before .place2 .ensures .0) (c .before .before .before .before .before .before .place .ensures .0) (c .before .before .before .before .side .ensures) (c .before .before .is-value .ensures) (not-true _ (c .before .if2 .taken)) (ap refusalView (c .refused2 .ensures .0)) (c .refused2 .ensures .1) (c .refused2 .ensures .2) rs p
+
+-- src/run.rt:111:5
+copy-front-requires : tie.Need-copy-front-requires
+copy-front-requires c κs = search needs
+
+-- src/run.rt:112:11
+apply-requires : tie.Need-apply-requires
+apply-requires c κs = search needs
+
+-- src/run.rt:113:23
+enum-known-n : tie.Need-enum-known-n
+enum-known-n c = search needs
+
+-- src/run.rt:114:13
+copy-front-requires-2 : tie.Need-copy-front-requires-2
+copy-front-requires-2 c κs = search needs
+
+-- src/run.rt:117:24
+used-requires : tie.Need-used-requires
+used-requires c κs = search needs
+
+-- src/run.rt:121:35
+enum-told : tie.Need-enum-told
+enum-told c = search needs
+
+-- src/run.rt:121:27
+refused-requires-3 : tie.Need-refused-requires-3
+refused-requires-3 c κs = search needs
+
+-- src/run.rt:101:1
+same-length : tie.Need-same-length
+same-length c = search needs
+
+-- src/run.rt:101:1
+same-length-2 : tie.Need-same-length-2
+same-length-2 c = search needs
+
+-- src/run.rt:101:1
+returns-3 : tie.Need-returns-3
+returns-3 c = run-done (c .before .before .before .before .before .before .before .before .before .before .before .before .before .before .before .before .before .before .before .before .before .before .before .before .before .before .before .before .before .args .t .now) (c .before .before .before .before .before .before .before .before .before .before .before .before .before .before .before .before .before .before .before .before .before .before .before .before .before .before .before .before .before .args .base) (c .before .before .before .before .before .before .before .before .before .before .before .before .before .before .before .before .before .before .before .before .before .before .before .before .before .before .before .before .before .args .index .now) (c .before .before .before .before .before .before .before .before .before .before .before .before .before .before .before .before .before .before .before .before .before .before .before .before .before .before .before .before .before .args .isos) (c .before .before .before .before .before .before .before .before .before .before .before .before .before .before .before .before .before .before .before .before .before .before .before .before .before .before .before .before .before .args .i) (c .before .before .before .before .before .before .before .before .before .before .before .before .before .before .before .before .before .before .before .before .before .before .before .before .before .before .before .before .before .args .back) (c .before .before .before .before .before .before .before .before .before .before .before .before .before .before .before .before .before .before .before .before .before .before .before .before .before .before .before .before .before .args .budget) (c .before .before .before .before .before .before .before .before .before .before .before .before .before .before .before .before .before .before .before .before .before .before .before .before .before .before .before .before .before .args .value .now) (c .before .before .before .before .before .before .before .before .before .before .before .before .before .before .before .before .before .before .before .before .before .before .before .before .before .before .before .before .before .args .work .now) _ _ (c .before .before .before .before .before .before .before .before .before .before .before .before .before .before .before .before .before .before .before .before .before .before .before .before .before .before .before .before .before .args .result .now) _ _ _ _ (c .before .before .before .before .before .before .before .before .before .before .before .before .before .before .before .before .before .before .before .cell .result) (c .before .before .before .before .before .before .before .before .before .before .before .before .before .before .before .before .before .before .before .before .before .place2 .result) (c .before .before .before .before .before .before .before .before .before .before .before .before .before .before .before .before .before .before .before .before .before .before .place .result) (c .before .before .before .before .before .before .before .before .before .before .before .before .before .before .before .before .before .before .before .before .side .result) (c .before .before .before .before .before .before .before .before .before .before .before .before .before .before .before .before .before .before .is-value .result) (c .before .before .before .before .before .before .before .before .before .before .before .before .before .before .before .before .before .before .before .before .before .before .before .if1 .left) (c .before .before .before .before .before .before .before .before .before .before .before .before .before .before .before .before .before .before .before .cell .ensures .0) (c .before .before .before .before .before .before .before .before .before .before .before .before .before .before .before .before .before .before .before .before .before .place2 .ensures .0) (c .before .before .before .before .before .before .before .before .before .before .before .before .before .before .before .before .before .before .before .before .before .before .place .ensures .0) (c .before .before .before .before .before .before .before .before .before .before .before .before .before .before .before .before .before .before .before .before .side .ensures) (c .before .before .before .before .before .before .before .before .before .before .before .before .before .before .before .before .before .before .is-value .ensures) (not-false _ (c .before .before .before .before .before .before .before .before .before .before .before .before .before .before .before .before .before .if2 .left)) (c .before .before .before .before .before .before .before .before .before .before .before .before .before .before .before .copy-front .kept .1 .1 .0) (c .before .before .before .before .before .before .before .before .before .before .before .before .before .before .before .copy-front .ensures) (c .before .before .before .before .before .before .before .before .before .before .before .apply .ensures) (c .before .before .before .before .before .before .before .before .before .before .before .apply .kept .1 .1 .1 .1 .1 .0) (c .before .before .before .before .before .before .before .n .given .1) (c .before .before .before .copy-front2 .ensures) refl (c .used .ensures) refl
+
+-- src/run.rt:101:1
+same-length-3 : tie.Need-same-length-3
+same-length-3 c = search needs
+
+-- src/run.rt:101:1
+returns-4 : tie.Need-returns-4
+returns-4 c = run-spent (c .before .before .before .before .before .before .before .before .before .before .before .before .before .before .before .before .before .before .before .before .before .before .before .args .t .now) (c .before .before .before .before .before .before .before .before .before .before .before .before .before .before .before .before .before .before .before .before .before .before .before .args .base) (c .before .before .before .before .before .before .before .before .before .before .before .before .before .before .before .before .before .before .before .before .before .before .before .args .index .now) (c .before .before .before .before .before .before .before .before .before .before .before .before .before .before .before .before .before .before .before .before .before .before .before .args .isos) (c .before .before .before .before .before .before .before .before .before .before .before .before .before .before .before .before .before .before .before .before .before .before .before .args .i) (c .before .before .before .before .before .before .before .before .before .before .before .before .before .before .before .before .before .before .before .before .before .before .before .args .back) (c .before .before .before .before .before .before .before .before .before .before .before .before .before .before .before .before .before .before .before .before .before .before .before .args .budget) (c .before .before .before .before .before .before .before .before .before .before .before .before .before .before .before .before .before .before .before .before .before .before .before .args .value .now) (c .before .before .before .before .before .before .before .before .before .before .before .before .before .before .before .before .before .before .before .before .before .before .before .args .work .now) _ _ (c .before .before .before .before .before .before .before .before .before .before .before .before .before .before .before .before .before .before .before .before .before .before .before .args .result .now) (c .refused3 .result) (c .before .before .before .before .before .before .before .before .before .before .before .before .before .cell .result) (c .before .before .before .before .before .before .before .before .before .before .before .before .before .before .before .place2 .result) (c .before .before .before .before .before .before .before .before .before .before .before .before .before .before .before .before .place .result) (c .before .before .before .before .before .before .before .before .before .before .before .before .before .before .side .result) (c .before .before .before .before .before .before .before .before .before .before .before .before .is-value .result) (c .before .before .before .before .before .before .before .before .before .before .before .before .before .before .before .before .before .if1 .left) (c .before .before .before .before .before .before .before .before .before .before .before .before .before .cell .ensures .0) (c .before .before .before .before .before .before .before .before .before .before .before .before .before .before .before .place2 .ensures .0) (c .before .before .before .before .before .before .before .before .before .before .before .before .before .before .before .before .place .ensures .0) (c .before .before .before .before .before .before .before .before .before .before .before .before .before .before .side .ensures) (c .before .before .before .before .before .before .before .before .before .before .before .before .is-value .ensures) (not-false _ (c .before .before .before .before .before .before .before .before .before .before .before .if2 .left)) (c .before .before .before .before .before .before .before .before .before .copy-front .kept .1 .1 .0) (c .before .before .before .before .before .before .before .before .before .copy-front .ensures) (c .before .before .before .before .before .apply .ensures) (c .before .enum-told .given .1) (ap refusalView (c .refused3 .ensures .0)) (c .refused3 .ensures .1) (c .refused3 .ensures .2)
+
+pub run-checked-spec : {M : Type 1} → statement M
+run-checked-spec =
+    tie.close
+    (tie.spec
+    refused-requires
+    returns
+    place-requires
+    place-requires-2
+    side-requires
+    cell-requires
+    is-value-requires
+    refused-requires-2
+    returns-2
+    copy-front-requires
+    apply-requires
+    enum-known-n
+    copy-front-requires-2
+    used-requires
+    enum-told
+    refused-requires-3
+    same-length
+    same-length-2
+    returns-3
+    same-length-3
+    returns-4)

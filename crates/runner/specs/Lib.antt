@@ -1,0 +1,2 @@
+pub mod RunSays
+pub mod Values

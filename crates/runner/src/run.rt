@@ -1,0 +1,175 @@
+// The run on a checked table, and the service.
+
+use areas::byte_at;
+use areas::clear_bytes;
+use areas::put_byte;
+use checker::Checked;
+use checker::check_file;
+use checker::is_refused;
+use index::index_isos;
+use model::Refusal;
+use nodes::cell;
+use reduction::Reduced;
+use reduction::apply;
+use reduction::place;
+use reduction::side;
+use values::Upto;
+use values::typed_end;
+ghost use mathlib.Core.Path.{_≡_};
+ghost use mathlib.Core.Bool.{cond};
+ghost use mathlib.Core.List.{List};
+ghost use Prim.Native.Nat.{ℕ, _-_, _≤_};
+ghost use lib.ListN.{length};
+ghost use lib.Seq.{paste};
+ghost use Rattle.model.specs.Lines.{Row as RowOf};
+ghost use Rattle.nodes.specs.Unfolding.{cellOf, typeOf};
+ghost use Rattle.index.specs.Index.{indexLength, placeAt};
+ghost use Rattle.checker.specs.CheckSays.{Accepted};
+ghost use Rattle.values.specs.Texts.{behind};
+ghost use Rattle.runner.specs.Values.{alone};
+ghost use Rattle.runner.specs.RunSays.{Prepared, answerFor, RanAs, RunSays};
+
+// A refusal or none, the number of applications, and the number of letters in the result area.
+pub struct Ran {
+    pub refusal: Refusal,
+    pub count: u32,
+    pub length: usize,
+}
+
+fn refused(f: Refusal) -> Ran
+    ensures { λ r. ⌜ (r .refusal ≡ f) × (r .count ≡ 0) × (r .length ≡ 0) ⌝ }
+{
+    Ran {
+        refusal: f,
+        count: 0,
+        length: 0,
+    }
+}
+
+// Copies the first n bytes of an area to the front of another.
+fn copy_front(from: &[u8], n: usize, to: &mut [u8])
+    ensures { λ r. ⌜ (n ≤ length (now (from .entry)) → n ≤ length (now (to .entry)) → now (to .exit) ≡ paste (now (to .entry)) 0 (now (from .entry)) n) ⌝ }
+{
+    let mut i: usize = 0;
+    while i < n {
+        put_byte(to, i, byte_at(from, i));
+        i += 1;
+    }
+}
+
+// Whether the letters are exactly one closed value of T line i.
+fn is_value(t: &[u16], i: usize, value: &[u8]) -> bool
+    ensures { λ r. ⌜ r ≡ alone (behind (typeOf (now (t .entry)) i) (now (value .entry))) ⌝ }
+{
+    match typed_end(t, i, value, 0) {
+        Upto::Place(n) => {
+            return value.len() <= n;
+        }
+        Upto::Nothing => {
+            return false;
+        }
+    }
+}
+
+// What a budget was spent of, where so much is left.
+fn used(budget: u32, left: u32) -> u32
+    ensures { λ r. ⌜ r ≡ budget - left ⌝ }
+{
+    if left < budget {
+        return budget - left;
+    }
+    0
+}
+
+// Indexes an accepted file, whose rows a check has left in the table.
+pub fn prepare(table: &[u16], c: Checked, index: &mut [u16])
+    ensures { λ r. ⌜ ((s : List ℕ) (a : Accepted s (now (table .entry)) c) → indexLength ≤ length (now (index .entry)) → Prepared (now (table .entry)) (c .types) (now (index .exit)) (c .isos) (a .file)) ⌝ }
+{
+    let types = c.types;
+    let patterns = c.patterns;
+    if 4096 < types {
+        return;
+    }
+    if 4096 < patterns {
+        return;
+    }
+    index_isos(table, types + patterns, c.lines, c.isos, index);
+}
+
+// Runs iso i of a table that holds a checked file, whose isos the index finds. The work area needs
+// 40,960 bytes, 1,280 for each of 32 isos; what it then holds is left open.
+pub fn run_checked(
+    t: &[u16],
+    base: usize,
+    index: &[u16],
+    isos: usize,
+    i: usize,
+    back: bool,
+    budget: u32,
+    value: &[u8],
+    work: &mut [u8],
+    result: &mut [u8],
+) -> Ran
+    ensures { λ r. ⌜ ((rs : List RowOf) → Prepared (now (t .entry)) base (now (index .entry)) isos rs → 40960 ≤ length (now (work .entry)) → length (now (work .entry)) ≤ 65536 → 127 ≤ length (now (result .entry)) → RanAs (answerFor rs i back budget (now (value .entry))) (now (result .entry)) (now (result .exit)) r) ⌝ }
+{
+    if isos <= i {
+        return refused(Refusal::NoIso);
+    }
+    let row = place(index, place(index, i));
+    if !is_value(t, cell(t, row, side(back, 1, 2)), value) {
+        return refused(Refusal::NoValue);
+    }
+    copy_front(value, value.len(), work);
+    match apply(t, base, index, back, i, work, 0, value.len(), budget) {
+        Reduced::Done(n, left) => {
+            copy_front(work, n, result);
+            Ran {
+                refusal: Refusal::Nothing,
+                count: used(budget, left),
+                length: n,
+            }
+        }
+        Reduced::Spent => refused(Refusal::Spent),
+    }
+}
+
+// Checks a file and runs its iso i on a value. The result area needs 127 bytes; a refusal leaves it
+// untouched.
+pub fn run(
+    file: &[u8],
+    table: &mut [u16],
+    work: &mut [u8],
+    i: usize,
+    back: bool,
+    budget: u32,
+    value: &[u8],
+    result: &mut [u8],
+) -> Ran
+    ensures { λ r. ⌜ RunSays (now (file .entry)) (now (table .entry)) (now (work .entry)) i back budget (now (value .entry)) (now (result .entry)) (now (table .exit)) (now (work .exit)) (now (result .exit)) r ⌝ }
+{
+    if result.len() < 127 {
+        return refused(Refusal::ShortArea);
+    }
+    let c = check_file(file, table, work);
+    let a = c.answer;
+    let f = a.refusal;
+    if is_refused(f) {
+        return refused(f);
+    }
+    let mut index = [0u16; 1090];
+    prepare(table, c, &mut index);
+    let r = run_checked(
+        table,
+        c.types,
+        &index,
+        c.isos,
+        i,
+        back,
+        budget,
+        value,
+        &mut work[0..65536],
+        result,
+    );
+    clear_bytes(work, 65536);
+    r
+}
