@@ -1,0 +1,125 @@
+//! The three services with lent areas.
+
+use crate::{check, run_rules, turn_rules, Refusal, Rules};
+
+/// "a table area of at least 16,384 numbers of 16 bits".
+pub const TABLE: usize = 16_384;
+/// "a work area of at least 65,536 bytes".
+pub const WORK: usize = 65_536;
+/// "its result area must have 127 bytes".
+pub const RESULT: usize = 127;
+
+/// What Check gives.
+#[derive(Debug, PartialEq, Eq, Clone, Copy)]
+pub struct Checked {
+    pub number: u8,
+    pub line: usize,
+}
+
+/// What Turn gives.
+#[derive(Debug, PartialEq, Eq, Clone, Copy)]
+pub struct Turned {
+    pub number: u8,
+    pub line: usize,
+    pub length: usize,
+}
+
+/// What Run gives: "a number, a count and the result's length".
+#[derive(Debug, PartialEq, Eq, Clone, Copy)]
+pub struct Ran {
+    pub number: u8,
+    pub count: u64,
+    pub length: usize,
+}
+
+/// Refusal 1, "a lent area is shorter than stated", line 0; then the file is
+/// checked and the two areas are left as document 01 says.
+fn enter(short: bool, file: &[u8], table: &mut [u16], work: &mut [u8]) -> Result<Rules, Refusal> {
+    if short || table.len() < TABLE || work.len() < WORK {
+        return Err(Refusal { number: 1, line: 0 });
+    }
+    let checked = check(file);
+    // "Refusals 1 and 2 change nothing."
+    if matches!(&checked, Err(refusal) if refusal.number == 2) {
+        return checked;
+    }
+    // "zeros fill the rest of the first 16,384. On refusals 3 to 14 those are
+    // all zero. The first 65,536 bytes of the work area are zero."
+    table[..TABLE].fill(0);
+    work[..WORK].fill(0);
+    // "the table holds, if the file is accepted, four numbers a line: the
+    // letter's ASCII code, then the fields, padded with 0".
+    if let Ok(rules) = &checked {
+        for (four, row) in table.chunks_mut(4).zip(&rules.rows) {
+            four[0] = u16::from(row.letter);
+            four[1..].copy_from_slice(&row.fields);
+        }
+    }
+    checked
+}
+
+/// Check with lent areas.
+pub fn check_areas(file: &[u8], table: &mut [u16], work: &mut [u8]) -> Checked {
+    match enter(false, file, table, work) {
+        Ok(_) => Checked { number: 0, line: 0 },
+        Err(Refusal { number, line }) => Checked { number, line },
+    }
+}
+
+/// Turn with lent areas: "Its area must be as long as the file."
+pub fn turn_areas(file: &[u8], table: &mut [u16], work: &mut [u8], output: &mut [u8]) -> Turned {
+    match enter(output.len() < file.len(), file, table, work) {
+        Ok(rules) => {
+            let written = turn_rules(&rules);
+            output[..written.len()].copy_from_slice(&written);
+            Turned {
+                number: 0,
+                line: 0,
+                length: written.len(),
+            }
+        }
+        // "Any refusal gives count 0, length 0, and leaves the output area
+        // untouched."
+        Err(Refusal { number, line }) => Turned {
+            number,
+            line,
+            length: 0,
+        },
+    }
+}
+
+/// The four things a query names.
+#[derive(Debug, PartialEq, Eq, Clone, Copy)]
+pub struct Query<'a> {
+    pub iso: u16,
+    pub back: bool,
+    pub budget: u32,
+    pub value: &'a [u8],
+}
+
+/// Run with lent areas.
+pub fn run_areas(
+    file: &[u8],
+    table: &mut [u16],
+    work: &mut [u8],
+    query: Query,
+    result: &mut [u8],
+) -> Ran {
+    let ran = enter(result.len() < RESULT, file, table, work)
+        .and_then(|rules| run_rules(&rules, query.iso, query.back, query.budget, query.value));
+    match ran {
+        Ok((count, letters)) => {
+            result[..letters.len()].copy_from_slice(&letters);
+            Ran {
+                number: 0,
+                count,
+                length: letters.len(),
+            }
+        }
+        Err(Refusal { number, .. }) => Ran {
+            number,
+            count: 0,
+            length: 0,
+        },
+    }
+}

@@ -1,0 +1,9 @@
+//! Standard input to standard output through the desk program.
+
+use std::io::{self, Read, Write};
+
+fn main() -> io::Result<()> {
+    let mut input = Vec::new();
+    io::stdin().lock().read_to_end(&mut input)?;
+    io::stdout().lock().write_all(&apart::desk::desk(&input))
+}

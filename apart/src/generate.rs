@@ -1,0 +1,55 @@
+//! Files and queries made from a seed: accepted files of many shapes, near
+//! misses of each refusal, damaged bytes, and queries.
+
+pub mod ceiling;
+pub mod damage;
+pub mod draft;
+pub mod miss;
+pub mod plan;
+pub mod query;
+pub mod random;
+pub mod scribe;
+pub mod shape;
+
+use crate::check;
+use random::Random;
+
+/// An accepted file. A plan that passes a ceiling is thrown away; any other
+/// refusal of a planned file stops the program.
+pub fn accepted(random: &mut Random) -> Vec<u8> {
+    loop {
+        let file = match random.below(12) {
+            0 => ceiling::at_ceiling(random, false),
+            1 => plan::tower(random),
+            _ => {
+                let isos = plan::isos(random);
+                scribe::file(random, &isos)
+            }
+        };
+        match check(&file) {
+            Ok(rules) if random.chance(15) => return crate::turn_rules(&rules),
+            Ok(_) => return file,
+            Err(refusal) => assert!(
+                matches!(refusal.number, 2 | 7),
+                "a planned file is refused {},{}:\n{}",
+                refusal.number,
+                refusal.line,
+                String::from_utf8_lossy(&file)
+            ),
+        }
+    }
+}
+
+/// A file of any kind, accepted or not.
+pub fn any_file(random: &mut Random) -> Vec<u8> {
+    match random.below(100) {
+        0..=44 => accepted(random),
+        45..=74 => {
+            let number = 2 + random.below(13) as u8;
+            miss::aimed(random, number)
+        }
+        75..=84 => miss::two_faults(random),
+        85..=96 => damage::damaged(random),
+        _ => damage::noise(random),
+    }
+}

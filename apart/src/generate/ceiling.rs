@@ -1,0 +1,175 @@
+//! Files that stand at one of the ceilings, or one over it.
+
+use super::draft::Draft;
+use super::plan;
+use super::random::Random;
+use super::scribe;
+use super::shape::exact_type;
+use crate::lines::{BYTES, ISOS, LETS, LINES, PATTERNS, SIDES, TYPES};
+use crate::tree::Type;
+
+/// A file at one of the ceilings; with `over` one line or node over it.
+pub fn at_ceiling(random: &mut Random, over: bool) -> Vec<u8> {
+    let mut isos = plan::isos(random);
+    isos.truncate(6);
+    let mut draft = Draft::of(&scribe::file(random, &isos));
+    match random.below(8) {
+        0 if !over && random.chance(40) => return many_lines(random, false),
+        0 => fill(&mut draft, b'T', TYPES, over),
+        1 => fill(&mut draft, b'P', PATTERNS, over),
+        2 => many_isos(&mut draft, over),
+        3 => return many_clauses(random, over),
+        4 => many_lets(&mut draft, over),
+        5 => wide_type(random, &mut draft, over),
+        6 => wide_pattern(random, &mut draft, over),
+        _ => many_sides(random, &mut draft, over),
+    }
+    draft.bytes()
+}
+
+/// Unused lines up to the ceiling: "nothing tests it".
+fn fill(draft: &mut Draft, letter: u8, ceiling: usize, over: bool) {
+    let unit = draft.unit(letter);
+    while draft.count(letter) < ceiling + usize::from(over) {
+        if letter == b'T' {
+            draft.add(letter, [1, unit, unit]);
+        } else {
+            draft.add(letter, [3, unit, 0]);
+        }
+    }
+}
+
+fn many_isos(draft: &mut Draft, over: bool) {
+    let (ty, pattern) = (draft.unit(b'T'), draft.unit(b'P'));
+    while draft.count(b'I') < ISOS + usize::from(over) {
+        draft.push(b'I', &[ty, ty]);
+        draft.push(b'C', &[pattern, pattern]);
+    }
+}
+
+fn many_clauses(random: &mut Random, over: bool) -> Vec<u8> {
+    let isos = [plan::wide(random)];
+    let mut draft = Draft::of(&scribe::file(random, &isos));
+    if over {
+        draft.push(b'C', &[0, 0]);
+    }
+    draft.bytes()
+}
+
+fn many_lets(draft: &mut Draft, over: bool) {
+    let (ty, pattern) = (draft.unit(b'T'), draft.unit(b'P'));
+    let callee = draft.count(b'I') as u32;
+    for _ in 0..2 {
+        draft.push(b'I', &[ty, ty]);
+        draft.push(b'C', &[pattern, pattern]);
+    }
+    for _ in 0..LETS + usize::from(over) {
+        draft.push(b'L', &[pattern, callee, pattern]);
+    }
+}
+
+fn wide_type(random: &mut Random, draft: &mut Draft, over: bool) {
+    let ty = exact_type(random, 127);
+    let number = add_type(draft, &ty);
+    if over {
+        let unit = draft.unit(b'T');
+        draft.add(b'T', [1 + random.below(2) as u32, unit, number]);
+    }
+}
+
+fn add_type(draft: &mut Draft, ty: &Type) -> u32 {
+    match ty {
+        Type::Unit => draft.unit(b'T'),
+        Type::Sum(a, b) => {
+            let (a, b) = (add_type(draft, a), add_type(draft, b));
+            draft.add(b'T', [1, a, b])
+        }
+        Type::Product(a, b) => {
+            let (a, b) = (add_type(draft, a), add_type(draft, b));
+            draft.add(b'T', [2, a, b])
+        }
+    }
+}
+
+/// 63 pairs with 64 leaves: 127 nodes.
+fn wide_pattern(random: &mut Random, draft: &mut Draft, over: bool) {
+    let leaf = draft.add(b'P', [1, random.below(32) as u32, 0]);
+    let mut number = leaf;
+    for _ in 0..63 {
+        let (a, b) = if random.chance(50) {
+            (number, leaf)
+        } else {
+            (leaf, number)
+        };
+        number = draft.add(b'P', [4, a, b]);
+    }
+    if over {
+        draft.add(b'P', [2 + random.below(2) as u32, number, 0]);
+    }
+}
+
+/// Forty left and right nodes, some of them below pairs.
+fn many_sides(random: &mut Random, draft: &mut Draft, over: bool) {
+    let unit = draft.unit(b'P');
+    let one = draft.add(b'P', [2, unit, 0]);
+    let (mut number, mut sides) = (unit, 0);
+    while sides < SIDES {
+        let pair = random.chance(40);
+        let kind = 2 + random.below(2) as u32;
+        number = draft.add(
+            b'P',
+            if pair {
+                [4, one, number]
+            } else {
+                [kind, number, 0]
+            },
+        );
+        sides += 1;
+    }
+    draft.add(b'P', [4, unit, number]);
+    if over {
+        draft.add(b'P', [2 + random.below(2) as u32, number, 0]);
+    }
+}
+
+/// A file of exactly 4,096 lines; with `over` one more line.
+pub fn many_lines(random: &mut Random, over: bool) -> Vec<u8> {
+    let mut isos = vec![plan::small()];
+    let wide = plan::wide(random);
+    isos.extend((0..15).map(|_| wide.clone()));
+    let mut draft = Draft::of(&scribe::file(random, &isos));
+    let unit = draft.unit(b'P');
+    let wanted = LINES + usize::from(over);
+    let mut rows = Vec::new();
+    let mut spare = wanted.saturating_sub(draft.0.len());
+    let mut isos = 0;
+    for row in draft.0.drain(..) {
+        let letter = row.0;
+        isos += usize::from(letter == b'I');
+        rows.push(row);
+        if letter == b'C' && isos > 1 {
+            for _ in 0..spare.min(LETS) {
+                rows.push((b'L', vec![unit, 0, unit]));
+                spare -= 1;
+            }
+        }
+    }
+    Draft(rows).bytes()
+}
+
+/// A file of exactly 65,536 bytes, or one more: its lines are few and long, so
+/// it is refused either way.
+pub fn many_bytes(random: &mut Random, over: bool) -> Vec<u8> {
+    let isos = plan::isos(random);
+    let mut file = scribe::file(random, &isos);
+    let end = random.chance(50);
+    let length = BYTES + usize::from(over);
+    file.truncate(length / 2);
+    while file.len() < length {
+        file.push(*random.pick(b"TPICL,0123456789"));
+    }
+    if end {
+        file[length - 1] = b'\n';
+    }
+    file
+}

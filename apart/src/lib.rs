@@ -1,0 +1,140 @@
+//! Check, turn and run of rule files, after document 01 ("The rule file and
+//! its exact rules"), written apart from any other implementation of it.
+
+pub mod areas;
+pub mod clause;
+pub mod cover;
+pub mod desk;
+pub mod generate;
+pub mod lines;
+pub mod reduce;
+pub mod tree;
+
+use crate::lines::{Iso, Row};
+use crate::reduce::{apply, turned, Counter};
+use crate::tree::Value;
+use std::rc::Rc;
+
+/// A refusal by its number, with the line it names; "Where no line is named
+/// for a refusal, it is 0."
+#[derive(Debug, PartialEq, Eq, Clone, Copy)]
+pub struct Refusal {
+    pub number: u8,
+    pub line: usize,
+}
+
+/// An accepted file: its lines, its isos as trees, and the isos of the turned
+/// file.
+pub struct Rules {
+    pub rows: Vec<Row>,
+    pub isos: Vec<Iso>,
+    pub turned: Vec<Iso>,
+}
+
+/// "**Check** gives a number and a line, `0,0` when accepted."
+///
+/// "Order: 1, then 2. Then all lines from the first, on each the lowest of 3
+/// to 7. Only then the isos in order: each clause in order, lowest of 8 to 10,
+/// then the iso, lowest of 11 to 14."
+pub fn check(file: &[u8]) -> Result<Rules, Refusal> {
+    let reader = lines::read(file)?;
+    for (place, iso) in reader.isos.iter().enumerate() {
+        for clause in &iso.clauses {
+            if let Some(number) = clause::fault(clause, iso, &reader.isos[..place]) {
+                let line = clause.line;
+                return Err(Refusal { number, line });
+            }
+        }
+        if let Some(number) = cover::fault(iso) {
+            let line = iso.line;
+            return Err(Refusal { number, line });
+        }
+    }
+    let turned = reader.isos.iter().map(turned).collect();
+    Ok(Rules {
+        rows: reader.rows,
+        isos: reader.isos,
+        turned,
+    })
+}
+
+/// "**Turn** also writes the turned file and gives its length".
+pub fn turn(file: &[u8]) -> Result<Vec<u8>, Refusal> {
+    check(file).map(|rules| turn_rules(&rules))
+}
+
+/// The turned file of an accepted file.
+pub fn turn_rules(rules: &Rules) -> Vec<u8> {
+    let mut written = Vec::new();
+    let mut lets: Vec<&Row> = Vec::new();
+    for row in &rules.rows {
+        if row.letter == b'L' {
+            lets.push(row);
+            continue;
+        }
+        write_lets(&mut lets, &mut written);
+        let [a, b, c] = row.fields;
+        match row.letter {
+            // "I lines with their types exchanged, C lines with their sides
+            // exchanged"
+            b'I' | b'C' => write_line(row.letter, &[b, a], &mut written),
+            // "T and P lines as they were"
+            _ => write_line(row.letter, &[a, b, c], &mut written),
+        }
+    }
+    write_lets(&mut lets, &mut written);
+    written
+}
+
+/// "the L lines of each clause last to first with p and q exchanged".
+fn write_lets(lets: &mut Vec<&Row>, written: &mut Vec<u8>) {
+    while let Some(row) = lets.pop() {
+        let [p, i, q] = row.fields;
+        write_line(b'L', &[q, i, p], written);
+    }
+}
+
+fn write_line(letter: u8, fields: &[u16], written: &mut Vec<u8>) {
+    written.push(letter);
+    for field in fields {
+        written.extend_from_slice(format!(",{field}").as_bytes());
+    }
+    written.push(b'\n');
+}
+
+/// "**Run** takes an iso number, a direction (0 forward, 1 back), a budget of
+/// 0 to 4,294,967,295 and a value": the count and the letters of the result.
+pub fn run(
+    file: &[u8],
+    iso: u16,
+    back: bool,
+    budget: u32,
+    value: &[u8],
+) -> Result<(u64, Vec<u8>), Refusal> {
+    run_rules(&check(file)?, iso, back, budget, value)
+}
+
+/// Run of an accepted file. "For a run, 15, 16, 17 follow."
+pub fn run_rules(
+    rules: &Rules,
+    iso: u16,
+    back: bool,
+    budget: u32,
+    value: &[u8],
+) -> Result<(u64, Vec<u8>), Refusal> {
+    let refused = |number| Refusal { number, line: 0 };
+    // "A run back is a run forward of the turned file."
+    let isos = if back { &rules.turned } else { &rules.isos };
+    let place = usize::from(iso);
+    // 15: "iso number not in the file".
+    let start = &isos.get(place).ok_or(refused(15))?.from;
+    // 16: "not exactly one closed value of the starting type".
+    let value = Value::read(value, start).ok_or(refused(16))?;
+    let mut counter = Counter {
+        made: 0,
+        budget: u64::from(budget),
+    };
+    // 17: "the full count would pass the budget".
+    let given = apply(isos, place, &Rc::new(value), &mut counter).ok_or(refused(17))?;
+    Ok((counter.made, given.letters()))
+}

@@ -1,0 +1,135 @@
+//! The trees that unfolded T and P lines give, and closed values.
+
+use std::rc::Rc;
+
+/// "kind, a, b: 0 unit (a = b = 0); 1 sum; 2 product of types a and b".
+///
+/// "Two types are the same when their trees are equal, under any line numbers":
+/// the derived equality compares trees.
+#[derive(Debug, PartialEq, Eq, Clone)]
+pub enum Type {
+    Unit,
+    Sum(Rc<Type>, Rc<Type>),
+    Product(Rc<Type>, Rc<Type>),
+}
+
+/// "kind, a, b: 0 unit (a = b = 0); 1 variable number a, 0 to 31 (b = 0);
+/// 2 left of a (b = 0); 3 right of a (b = 0); 4 pair a, b".
+#[derive(Debug, PartialEq, Eq, Clone)]
+pub enum Pattern {
+    Unit,
+    Variable(u16),
+    Left(Rc<Pattern>),
+    Right(Rc<Pattern>),
+    Pair(Rc<Pattern>, Rc<Pattern>),
+}
+
+/// "A closed value has no variable".
+#[derive(Debug, PartialEq, Eq, Clone)]
+pub enum Value {
+    Unit,
+    Left(Rc<Value>),
+    Right(Rc<Value>),
+    Pair(Rc<Value>, Rc<Value>),
+}
+
+impl Type {
+    /// Nodes of the unfolded tree, a shared line as often as it is reached.
+    pub fn nodes(&self) -> usize {
+        match self {
+            Type::Unit => 1,
+            Type::Sum(a, b) | Type::Product(a, b) => 1 + a.nodes() + b.nodes(),
+        }
+    }
+}
+
+impl Pattern {
+    /// Nodes of the unfolded tree, a shared line as often as it is reached.
+    pub fn nodes(&self) -> usize {
+        match self {
+            Pattern::Unit | Pattern::Variable(_) => 1,
+            Pattern::Left(a) | Pattern::Right(a) => 1 + a.nodes(),
+            Pattern::Pair(a, b) => 1 + a.nodes() + b.nodes(),
+        }
+    }
+
+    /// Left and right nodes together in the unfolded tree.
+    pub fn sides(&self) -> usize {
+        match self {
+            Pattern::Unit | Pattern::Variable(_) => 0,
+            Pattern::Left(a) | Pattern::Right(a) => 1 + a.sides(),
+            Pattern::Pair(a, b) => a.sides() + b.sides(),
+        }
+    }
+
+    /// Every variable of the unfolded tree, from left to right, with repeats.
+    pub fn variables(&self) -> Vec<u16> {
+        match self {
+            Pattern::Unit => Vec::new(),
+            Pattern::Variable(number) => vec![*number],
+            Pattern::Left(a) | Pattern::Right(a) => a.variables(),
+            Pattern::Pair(a, b) => [a.variables(), b.variables()].concat(),
+        }
+    }
+}
+
+impl Value {
+    /// "A value is written in prefix order with the letters U (unit), L, R, P (pair)".
+    pub fn letters(&self) -> Vec<u8> {
+        let mut written = Vec::new();
+        self.write(&mut written);
+        written
+    }
+
+    fn write(&self, written: &mut Vec<u8>) {
+        match self {
+            Value::Unit => written.push(b'U'),
+            Value::Left(a) => {
+                written.push(b'L');
+                a.write(written);
+            }
+            Value::Right(a) => {
+                written.push(b'R');
+                a.write(written);
+            }
+            Value::Pair(a, b) => {
+                written.push(b'P');
+                a.write(written);
+                b.write(written);
+            }
+        }
+    }
+
+    /// "not exactly one closed value of the starting type": `None` when the
+    /// letters are anything else than one closed value of `ty`.
+    pub fn read(letters: &[u8], ty: &Type) -> Option<Value> {
+        match Value::take(letters, ty) {
+            Some((value, [])) => Some(value),
+            _ => None,
+        }
+    }
+
+    /// "U for the unit type; L or R before a closed value of the left or right
+    /// type for a sum; P before one of each part for a product": takes one
+    /// value from the front of the letters and hands back the others.
+    fn take<'a>(letters: &'a [u8], ty: &Type) -> Option<(Value, &'a [u8])> {
+        let (first, others) = letters.split_first()?;
+        match (ty, first) {
+            (Type::Unit, b'U') => Some((Value::Unit, others)),
+            (Type::Sum(a, _), b'L') => {
+                let (value, others) = Value::take(others, a)?;
+                Some((Value::Left(Rc::new(value)), others))
+            }
+            (Type::Sum(_, b), b'R') => {
+                let (value, others) = Value::take(others, b)?;
+                Some((Value::Right(Rc::new(value)), others))
+            }
+            (Type::Product(a, b), b'P') => {
+                let (one, others) = Value::take(others, a)?;
+                let (two, others) = Value::take(others, b)?;
+                Some((Value::Pair(Rc::new(one), Rc::new(two)), others))
+            }
+            _ => None,
+        }
+    }
+}

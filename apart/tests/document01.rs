@@ -1,0 +1,827 @@
+//! Every example of document 01, one file for each refusal, pairs of faults,
+//! the readings of open points, there and back, turning twice.
+
+use apart::areas::{check_areas, run_areas, turn_areas, Checked, Query, Ran, Turned};
+use apart::desk::desk;
+use apart::{check, run, turn};
+
+/// "File S (one line each, parted here by blanks)".
+const S: &str = "T,0,0,0 T,1,0,0 T,2,1,1 P,0,0,0 P,2,0,0 P,3,0,0 P,1,0,0 P,1,1,0 \
+P,4,1,3 P,4,1,4 P,4,2,3 I,1,1 C,1,2 C,2,1 I,2,2 C,5,6 L,4,0,3 C,7,7";
+
+/// Lines parted by blanks, each given its line feed.
+fn file(words: &str) -> Vec<u8> {
+    let lines: Vec<String> = words.split_whitespace().map(|w| format!("{w}\n")).collect();
+    lines.concat().into_bytes()
+}
+
+/// `(number, line)` of the check, `(0, 0)` when accepted.
+fn checked(bytes: &[u8]) -> (u8, usize) {
+    match check(bytes) {
+        Ok(_) => (0, 0),
+        Err(refusal) => (refusal.number, refusal.line),
+    }
+}
+
+fn of(words: &str) -> (u8, usize) {
+    checked(&file(words))
+}
+
+/// S with one of its lines (from 1) replaced by other lines, or by none.
+fn s_with(line: usize, words: &str) -> String {
+    let mut lines: Vec<&str> = S.split_whitespace().collect();
+    lines[line - 1] = words;
+    lines.join(" ")
+}
+
+fn printed(words: &str, queries: &str) -> String {
+    let input = [file(words), queries.as_bytes().to_vec()].concat();
+    String::from_utf8(desk(&input)).unwrap()
+}
+
+/// A right-nested sum of `leaves` units and its patterns: T line `leaves - 1`
+/// is the type; the P lines of the leaves are returned.
+fn wide_sum(leaves: usize) -> (String, Vec<usize>) {
+    let mut words = String::from("T,0,0,0");
+    for place in 1..leaves {
+        words += &format!(" T,1,0,{}", place - 1);
+    }
+    words += " P,0,0,0 P,2,0,0";
+    let mut next = 2;
+    let mut names = Vec::new();
+    for depth in 0..leaves {
+        let last = depth == leaves - 1;
+        let mut inner = if last { 0 } else { 1 };
+        for _ in 0..depth {
+            words += &format!(" P,3,{inner},0");
+            inner = next;
+            next += 1;
+        }
+        names.push(inner);
+    }
+    (words, names)
+}
+
+#[test]
+fn the_table_of_queries() {
+    let queries = [
+        ("Q,1,0,9,PLURU", "0,2,PLULU"),
+        ("Q,1,1,9,PLULU", "0,2,PLURU"),
+        ("Q,1,0,2,PRULU", "0,1,PRULU"),
+        ("Q,1,0,2,PLURU", "0,2,PLULU"),
+        ("Q,1,0,1,PLURU", "17,0,"),
+        ("Q,2,0,9,U", "15,0,"),
+        ("Q,1,0,9,PLU", "16,0,"),
+    ];
+    let mut asked = String::new();
+    let mut wanted = String::from("0,0\n");
+    for (query, line) in queries {
+        assert_eq!(printed(S, &format!("{query}\n")), format!("0,0\n{line}\n"));
+        asked += &format!("{query}\n");
+        wanted += &format!("{line}\n");
+    }
+    assert_eq!(printed(S, &asked), wanted);
+}
+
+#[test]
+fn the_further_examples() {
+    assert_eq!(checked(b""), (0, 0));
+    assert_eq!(desk(b""), b"0,0\n");
+    let turned = String::from_utf8(turn(&file(S)).unwrap()).unwrap();
+    let turned: Vec<&str> = turned.lines().collect();
+    let own: Vec<&str> = S.split_whitespace().collect();
+    assert_eq!(turned[..12], own[..12]);
+    assert_eq!(turned[12..14], ["C,2,1", "C,1,2"]);
+    assert_eq!(turned[14], "I,2,2");
+    assert_eq!(turned[15..], ["C,6,5", "L,3,0,4", "C,7,7"]);
+    assert_eq!(of(&s_with(18, "")), (13, 15));
+    assert_eq!(of(&s_with(18, "C,7,7 C,7,7")), (11, 15));
+    assert_eq!(of(&s_with(17, "L,4,1,3")), (6, 17));
+    assert_eq!(of(&s_with(17, "")), (8, 16));
+    assert_eq!(of(&s_with(17, "L,4,0,1")), (8, 16));
+    let gap = "T,0,0,0 T,1,0,0 P,0,0,0 P,2,0,0 I,0,1 C,0,1";
+    assert_eq!(of(gap), (14, 5));
+    let seven = "T,0,0,0 T,2,0,0 T,2,1,1 T,2,2,2 T,2,3,3 T,2,4,4 T,2,5,5";
+    assert_eq!(of(seven), (0, 0));
+    assert_eq!(of(&format!("{seven} T,2,6,6")), (7, 8));
+}
+
+#[test]
+fn refusal_2_by_bytes_and_lines() {
+    let long = vec![b'x'; 65_536];
+    assert_eq!(checked(&long), (3, 1));
+    assert_eq!(checked(&[long.clone(), vec![b'x']].concat()), (2, 0));
+    assert_eq!(checked(&b"\n".repeat(4_096)), (3, 1));
+    assert_eq!(checked(&b"\n".repeat(4_097)), (2, 0));
+    let open = [b"\n".repeat(4_096), b"x".to_vec()].concat();
+    assert_eq!(checked(&open), (2, 0));
+    assert_eq!(checked(&open[1..]), (3, 1));
+}
+
+#[test]
+fn four_thousand_and_ninety_six_lines() {
+    // Thirteen isos of 32 clauses, with as many let steps of the unit type
+    // as fill the file.
+    let (mut words, names) = wide_sum(32);
+    words += " I,0,0 C,0,0";
+    let mut spare = 4_096 - words.split_whitespace().count() - 13 * 33;
+    for _ in 0..13 {
+        words += " I,31,31";
+        for name in &names {
+            let lets = spare.min(8);
+            spare -= lets;
+            words += &format!(" C,{name},{name}");
+            words += &" L,0,0,0".repeat(lets);
+        }
+    }
+    assert_eq!(words.split_whitespace().count(), 4_096);
+    assert_eq!(of(&words), (0, 0));
+    assert_eq!(of(&format!("{words} C,0,0")), (2, 0));
+    let (mut table, mut work, _) = areas();
+    let answer = check_areas(&file(&words), &mut table, &mut work);
+    assert_eq!(answer, Checked { number: 0, line: 0 });
+    assert_eq!(
+        table[16_380..16_385],
+        [
+            67,
+            u16::try_from(names[31]).unwrap(),
+            u16::try_from(names[31]).unwrap(),
+            0,
+            7
+        ]
+    );
+}
+
+#[test]
+fn refusal_3_by_form() {
+    let bad = [
+        "t,0,0,0",
+        "X,0,0,0",
+        "T,0,0",
+        "T,0,0,0,0",
+        "T",
+        "T,",
+        ",0,0,0",
+        "T,,0,0",
+        "T,0,,0",
+        "T,0,0,",
+        "T,00,0,0",
+        "T,0,01,0",
+        "T,+0,0,0",
+        "T,-1,0,0",
+        "T,65536,0,0",
+        "T,0,99999,0",
+        "T,0,0,18446744073709551616",
+        "TT,0,0,0",
+        "\"T\",0,0,0",
+        "T;0;0;0",
+        "T,0x0,0,0",
+        "I,0",
+        "I,0,0,0",
+        "C,0",
+        "C,0,0,0",
+        "L,0,0",
+        "L,0,0,0,0",
+        "P,0,0",
+        "T,0,0,0\r",
+        "T,\0,0,0",
+        "T,0,0,0x",
+        "T,1e1,0,0",
+        "T,\u{0661},0,0",
+    ];
+    for line in bad {
+        let bytes = format!("T,0,0,0\n{line}\n");
+        assert_eq!(checked(bytes.as_bytes()), (3, 2), "{line:?}");
+    }
+    for line in [
+        "T,0,0, 0",
+        " T,0,0,0",
+        "T,0,0,0 ",
+        "T ,0,0,0",
+        "T,0,\t0,0",
+        "",
+    ] {
+        let bytes = format!("T,0,0,0\n{line}\n");
+        assert_eq!(checked(bytes.as_bytes()), (3, 2), "{line:?}");
+    }
+    assert_eq!(checked(b"\n"), (3, 1));
+    assert_eq!(checked(b"T,0,0,0"), (3, 1));
+    assert_eq!(checked(b"T,0,0,0\nT,0,0,0"), (3, 2));
+    assert_eq!(checked(b"T,0,0,0\r\n"), (3, 1));
+    assert_eq!(checked(b"T,7,0,0\nT,0,0,0"), (5, 1));
+    assert_eq!(of("T,65535,0,0"), (5, 1));
+}
+
+#[test]
+fn refusal_4_by_the_lines_above() {
+    assert_eq!(of("P,0,0,0 T,0,0,0"), (4, 2));
+    assert_eq!(of("T,0,0,0 I,0,0 T,0,0,0"), (4, 3));
+    assert_eq!(of("T,0,0,0 I,0,0 P,0,0,0"), (4, 3));
+    assert_eq!(of("T,0,0,0 P,0,0,0 I,0,0 C,0,0 P,0,0,0"), (4, 5));
+    assert_eq!(of("T,0,0,0 P,0,0,0 I,0,0 C,0,0 T,0,0,0"), (4, 5));
+    assert_eq!(of("T,0,0,0 P,0,0,0 C,0,0"), (4, 3));
+    assert_eq!(of("C,0,0"), (4, 1));
+    assert_eq!(of("L,0,0,0"), (4, 1));
+    assert_eq!(of("T,0,0,0 P,0,0,0 I,0,0 L,0,0,0"), (4, 4));
+    assert_eq!(of("T,0,0,0 P,0,0,0 L,0,0,0"), (4, 3));
+    assert_eq!(of("I,0,0"), (6, 1));
+    assert_eq!(
+        of("T,0,0,0 P,0,0,0 I,0,0 I,0,0 C,0,0 L,0,0,0 L,0,0,0"),
+        (13, 3)
+    );
+}
+
+#[test]
+fn refusal_5_by_kind_idle_and_variable() {
+    for line in ["T,3,0,0", "T,0,1,0", "T,0,0,1", "T,3,9,9"] {
+        assert_eq!(of(&format!("T,0,0,0 {line}")), (5, 2), "{line}");
+    }
+    for line in [
+        "P,5,0,0", "P,0,1,0", "P,0,0,1", "P,1,32,0", "P,1,0,1", "P,2,0,1", "P,3,0,1", "P,9,9,9",
+    ] {
+        assert_eq!(of(&format!("P,0,0,0 {line}")), (5, 2), "{line}");
+    }
+    assert_eq!(of("P,1,31,0"), (0, 0));
+}
+
+#[test]
+fn refusal_6_by_name() {
+    for words in ["T,1,0,0", "T,2,0,0", "P,2,0,0", "P,3,0,0", "P,4,0,0"] {
+        assert_eq!(of(words), (6, 1), "{words}");
+    }
+    for line in ["T,1,0,1", "T,1,1,0", "T,2,0,1", "T,2,1,0", "I,0,1", "I,1,0"] {
+        assert_eq!(of(&format!("T,0,0,0 {line}")), (6, 2), "{line}");
+    }
+    for line in ["P,4,0,1", "P,4,1,0", "P,2,1,0", "P,3,1,0"] {
+        assert_eq!(of(&format!("P,0,0,0 {line}")), (6, 2), "{line}");
+    }
+    let one = "T,0,0,0 P,0,0,0 I,0,0 C,0,0 I,0,0";
+    assert_eq!(of(&format!("{one} C,0,1")), (6, 6));
+    assert_eq!(of(&format!("{one} C,1,0")), (6, 6));
+    for line in ["L,1,0,0", "L,0,0,1", "L,0,1,0", "L,0,2,0", "L,0,65535,0"] {
+        assert_eq!(of(&format!("{one} C,0,0 {line}")), (6, 7), "{line}");
+    }
+    assert_eq!(of(&format!("{one} C,0,0 L,0,0,0")), (0, 0));
+    assert_eq!(of("T,0,0,0 P,0,0,0 I,0,0 C,0,0 L,0,0,0"), (6, 5));
+}
+
+#[test]
+fn refusal_7_by_counts() {
+    assert_eq!(of(&"T,0,0,0 ".repeat(256)), (0, 0));
+    assert_eq!(of(&"T,0,0,0 ".repeat(257)), (7, 257));
+    assert_eq!(of(&"P,0,0,0 ".repeat(1_024)), (0, 0));
+    assert_eq!(of(&"P,0,0,0 ".repeat(1_025)), (7, 1_025));
+    let start = "T,0,0,0 P,0,0,0 ";
+    let iso = "I,0,0 C,0,0 ";
+    assert_eq!(of(&format!("{start}{}", iso.repeat(32))), (0, 0));
+    assert_eq!(of(&format!("{start}{}", iso.repeat(33))), (7, 67));
+    let more = |count: usize| format!("{start}{iso}{iso}{}", "L,0,0,0 ".repeat(count));
+    assert_eq!(of(&more(8)), (0, 0));
+    assert_eq!(of(&more(9)), (7, 15));
+    assert_eq!(
+        of(&format!("{}C,0,0 {}", more(8), "L,0,0,0 ".repeat(8))),
+        (11, 5)
+    );
+    let (words, names) = wide_sum(32);
+    let clauses: Vec<String> = names.iter().map(|n| format!(" C,{n},{n}")).collect();
+    let full = format!("{words} I,31,31{}", clauses.concat());
+    assert_eq!(of(&full), (0, 0));
+    let lines = full.split_whitespace().count();
+    assert_eq!(of(&format!("{full} C,0,0")), (7, lines + 1));
+    assert_eq!(of(&format!("{full} I,0,0 C,0,0")), (0, 0));
+}
+
+#[test]
+fn refusal_7_by_trees() {
+    let pairs = "P,0,0,0 P,4,0,0 P,4,1,1 P,4,2,2 P,4,3,3 P,4,4,4 P,4,5,5";
+    assert_eq!(of(pairs), (0, 0));
+    assert_eq!(of(&format!("{pairs} P,2,6,0")), (7, 8));
+    assert_eq!(of(&format!("{pairs} P,4,0,5")), (0, 0));
+    assert_eq!(of(&format!("{pairs} P,4,0,6")), (7, 8));
+    let sums = "T,0,0,0 T,1,0,0 T,1,1,1 T,1,2,2 T,1,3,3 T,1,4,4 T,1,5,5";
+    assert_eq!(of(sums), (0, 0));
+    assert_eq!(of(&format!("{sums} T,1,0,6")), (7, 8));
+    assert_eq!(of(&format!("{sums} T,1,6,6")), (7, 8));
+    let mut deep = String::from("P,0,0,0");
+    for place in 0..40 {
+        deep += &format!(" P,{},{place},0", 2 + place % 2);
+    }
+    assert_eq!(of(&deep), (0, 0));
+    assert_eq!(of(&format!("{deep} P,4,40,0")), (0, 0));
+    assert_eq!(of(&format!("{deep} P,3,40,0")), (7, 42));
+    assert_eq!(of(&format!("{deep} P,4,20,20 P,4,20,21")), (7, 43));
+    assert_eq!(of(&format!("{deep} P,4,40,1")), (7, 42));
+}
+
+/// Unit, a sum of two units, and patterns: 0 unit, 1 x0, 2 x1, 3 left unit,
+/// 4 right unit, 5 pair x0 x1, 6 pair x0 x0, 7 pair x1 x0.
+const HEAD: &str = "T,0,0,0 T,1,0,0 T,2,1,1 P,0,0,0 P,1,0,0 P,1,1,0 P,2,0,0 P,3,0,0 P,4,1,2 \
+P,4,1,1 P,4,2,1 P,2,1,0 P,3,1,0 ";
+
+#[test]
+fn refusal_8_by_variables() {
+    let plain = format!("{HEAD} I,1,1 C,3,4 C,4,3");
+    assert_eq!(of(&plain), (0, 0));
+    for clause in [
+        "C,6,6", // bound twice, used twice
+        "C,5,6", // x0 used twice, x1 not used
+        "C,6,5", // x0 bound twice
+        "C,1,2", // x1 not bound
+        "C,0,1", "C,1,0", "C,5,1",
+    ] {
+        assert_eq!(of(&format!("{plain} I,2,2 {clause}")), (8, 18), "{clause}");
+    }
+    let lets = [
+        ("C,1,1 L,1,0,1", 8),         // a used-up number is not bound again
+        ("C,1,2 L,2,0,1", 0),         // sent through
+        ("C,1,1 L,2,0,1", 8),         // used twice, x1 not used
+        ("C,1,2 L,2,0,2", 8),         // used before bound
+        ("C,1,1 L,2,0,1 L,1,0,2", 8), // bound again by a later line
+        ("C,1,2 L,1,0,2 L,2,0,1", 8),
+        ("C,1,2 L,2,0,1 L,2,0,1", 8),
+        ("C,1,1 L,0,0,0", 10), // variables hold, types do not
+    ];
+    for (clause, number) in lets {
+        let line = if number == 0 { 0 } else { 18 };
+        assert_eq!(
+            of(&format!("{plain} I,1,1 {clause}")),
+            (number, line),
+            "{clause}"
+        );
+    }
+}
+
+#[test]
+fn refusal_9_by_let_shape() {
+    let sum = format!("{HEAD} I,1,1 C,3,4 C,4,3 I,0,1");
+    assert_eq!(of(&format!("{sum} C,1,2 L,2,0,8")), (9, 18));
+    assert_eq!(of(&format!("{sum} C,1,2 L,9,0,1")), (8, 18));
+    assert_eq!(of(&format!("{sum} C,0,1 L,1,0,3")), (9, 18));
+    assert_eq!(of(&format!("{sum} C,1,0 L,3,0,1")), (9, 18));
+    // below a pair as well
+    let deep = "T,0,0,0 T,1,0,0 T,2,1,1 P,0,0,0 P,2,0,0 P,1,0,0 P,1,1,0 P,4,1,2 \
+I,2,2 C,2,2 I,1,2 C,2,3 L,3,0,4";
+    assert_eq!(of(deep), (9, 12));
+}
+
+#[test]
+fn refusal_10_by_types() {
+    let plain = format!("{HEAD} I,1,1 C,3,4 C,4,3");
+    for (iso, clause) in [
+        ("I,1,0", "C,1,1"),
+        ("I,1,1", "C,0,3"),
+        ("I,0,0", "C,3,0"),
+        ("I,1,2", "C,5,5"),
+        ("I,2,1", "C,5,5"),
+        ("I,0,0", "C,1,2 L,2,0,1"),
+        ("I,2,2", "C,1,2 L,2,0,1"),
+        ("I,2,1", "C,5,2 L,0,0,1"),
+    ] {
+        assert_eq!(of(&format!("{plain} {iso} {clause}")), (10, 18), "{clause}");
+    }
+    // "Types compared by line number" is a wrong reading.
+    let twice = "T,0,0,0 T,0,0,0 T,1,0,1 T,1,1,0 P,1,0,0 I,2,3 C,0,0";
+    assert_eq!(of(twice), (0, 0));
+    let chained = "T,0,0,0 T,0,0,0 T,1,0,1 T,1,1,0 P,1,0,0 P,1,1,0 I,2,3 C,0,0 I,3,2 C,0,1 L,1,0,0";
+    assert_eq!(of(chained), (0, 0));
+    // unlike sums are not the same
+    let unlike = "T,0,0,0 T,1,0,0 T,1,1,0 T,1,0,1 P,1,0,0 I,2,3 C,0,0";
+    assert_eq!(of(unlike), (10, 7));
+}
+
+#[test]
+fn refusals_11_to_14() {
+    let iso = format!("{HEAD} I,1,1");
+    assert_eq!(of(&format!("{iso} C,3,3 C,3,4")), (11, 14));
+    assert_eq!(of(&format!("{iso} C,3,3 C,4,3")), (12, 14));
+    assert_eq!(of(&format!("{iso} C,1,1 C,4,4")), (11, 14));
+    assert_eq!(of(&format!("{iso} C,3,3")), (13, 14));
+    assert_eq!(of(&iso), (13, 14));
+    assert_eq!(of(&format!("{HEAD} I,0,1 C,0,3")), (14, 14));
+    assert_eq!(of(&format!("{HEAD} I,0,1 C,0,3 C,0,4")), (11, 14));
+    assert_eq!(of(&format!("{HEAD} I,1,0 C,3,0 C,4,0")), (12, 14));
+    assert_eq!(of(&format!("{HEAD} I,0,0")), (13, 14));
+    // a variable of unit type overlaps the unit pattern
+    assert_eq!(of(&format!("{HEAD} I,0,0 C,0,0 C,1,1")), (11, 14));
+    // an earlier iso goes first, whole
+    assert_eq!(of(&format!("{iso} C,3,3 I,1,1 C,1,2")), (13, 14));
+    assert_eq!(of(&format!("{iso} C,3,3 C,3,4 C,1,2")), (8, 17));
+}
+
+/// Three sums: the five patterns that no splitting of one part alone gives.
+fn cyclic(names: &str) -> String {
+    let head = "T,0,0,0 T,1,0,0 T,2,1,1 T,2,1,2 P,0,0,0 P,1,0,0 P,2,0,0 P,3,0,0 \
+P,4,3,1 P,4,2,4 P,4,2,3 P,4,1,6 P,4,1,2 P,4,3,8 P,4,2,2 P,4,2,10 P,4,3,3 P,4,3,12";
+    // 5 (L,R,x) 7 (x,L,R) 9 (R,x,L) 11 (L,L,L) 13 (R,R,R)
+    format!("{head} I,3,3 {names}")
+}
+
+#[test]
+fn covering_is_by_closed_values() {
+    let all = "C,5,5 C,7,7 C,9,9 C,11,11 C,13,13";
+    assert_eq!(of(&cyclic(all)), (0, 0));
+    for gone in ["C,5,5", "C,7,7", "C,9,9", "C,11,11", "C,13,13"] {
+        assert_eq!(of(&cyclic(&all.replace(gone, ""))), (13, 19), "{gone}");
+    }
+    assert_eq!(of(&cyclic("C,5,7 C,7,9 C,9,5 C,11,13 C,13,11")), (0, 0));
+    assert_eq!(of(&cyclic("C,5,7 C,7,9 C,9,7 C,11,13 C,13,11")), (12, 19));
+}
+
+#[test]
+fn pairs_of_faults_in_both_orders() {
+    // on one line the lowest
+    assert_eq!(of("P,0,0,0 T,9,9,9"), (4, 2));
+    assert_eq!(of("P,0,0,0 T,1,9,9"), (4, 2));
+    assert_eq!(of("T,1,9,9"), (6, 1));
+    assert_eq!(of("P,2,9,9"), (5, 1));
+    assert_eq!(of("P,0,0,0 T,00,0,0"), (3, 2));
+    assert_eq!(
+        of(&format!("{}T,1,0,256", "T,0,0,0 ".repeat(256))),
+        (6, 257)
+    );
+    assert_eq!(of(&format!("{}T,0,0,1", "T,0,0,0 ".repeat(256))), (5, 257));
+    assert_eq!(
+        of(&format!("{}P,2,1024,0", "P,0,0,0 ".repeat(1_024))),
+        (6, 1_025)
+    );
+    // two lines: the first
+    assert_eq!(of("T,1,0,0 x"), (6, 1));
+    assert_eq!(of("x T,1,0,0"), (3, 1));
+    assert_eq!(of("T,7,0,0 x P,1,77,0"), (5, 1));
+    assert_eq!(of(&format!("{}x", "T,0,0,0 ".repeat(257))), (7, 257));
+    assert_eq!(of(&format!("x {}", "T,0,0,0 ".repeat(257))), (3, 1));
+    // a line fault goes before every clause and iso fault
+    assert_eq!(of(&format!("{HEAD} I,1,1 C,3,3 x")), (3, 16));
+    assert_eq!(of(&format!("{HEAD} I,1,1 C,1,2 I,1,99")), (6, 16));
+    // clauses: 8 in a later clause goes before 11 to 14 of the same iso
+    assert_eq!(of(&format!("{HEAD} I,1,1 C,3,3 C,3,3 C,1,2")), (8, 17));
+    assert_eq!(of(&format!("{HEAD} I,1,1 C,0,0 C,1,2")), (10, 15));
+    assert_eq!(of(&format!("{HEAD} I,1,1 C,1,2 C,0,0")), (8, 15));
+    // isos: the lowest of 11 to 14
+    assert_eq!(of(&format!("{HEAD} I,1,1 C,3,3 C,3,3")), (11, 14));
+    assert_eq!(of(&format!("{HEAD} I,2,1 C,5,5")), (10, 15));
+    let four = "T,0,0,0 T,1,0,0 T,1,1,1 P,0,0,0 P,2,0,0 P,3,0,0 P,2,1,0 P,2,2,0 P,3,1,0";
+    assert_eq!(of(&format!("{four} I,2,2 C,3,3 C,4,3")), (12, 10));
+    assert_eq!(of(&format!("{four} I,2,2 C,3,3 C,4,4")), (13, 10));
+    assert_eq!(of(&format!("{four} I,1,2 C,1,3 C,2,4")), (14, 10));
+    assert_eq!(of(&format!("{four} I,1,2 C,1,3")), (13, 10));
+    // isos one by one
+    assert_eq!(of(&format!("{four} I,1,2 C,1,3 I,1,1 C,0,0")), (13, 10));
+    assert_eq!(of(&format!("{four} I,1,1 C,0,0 I,1,2 C,1,3")), (10, 11));
+}
+
+#[test]
+fn the_run_in_its_order() {
+    let bytes = file(S);
+    let number = |iso, back, budget, value: &[u8]| match run(&bytes, iso, back, budget, value) {
+        Ok(_) => 0,
+        Err(refusal) => refusal.number,
+    };
+    assert_eq!(number(2, false, 0, b"x"), 15);
+    assert_eq!(number(65_535, true, 0, b"x"), 15);
+    assert_eq!(number(1, false, 0, b"x"), 16);
+    assert_eq!(number(1, false, 0, b"PLULU"), 17);
+    assert_eq!(number(0, false, 0, b"LU"), 17);
+    assert_eq!(number(0, false, 1, b"LU"), 0);
+    for value in ["", "U", "L", "LUU", "LL", "PLU", "lU", "LU,", "LU ", "\0"] {
+        assert_eq!(number(0, false, 9, value.as_bytes()), 16, "{value:?}");
+    }
+    assert_eq!(number(0, false, 9, &[b'P'; 5_000]), 16);
+    let refused = run(&file("x"), 9, false, 0, b"x").unwrap_err();
+    assert_eq!((refused.number, refused.line), (3, 1));
+}
+
+#[test]
+fn the_starting_type_of_a_run_back_is_the_to_type() {
+    let words = "T,0,0,0 T,1,0,0 T,2,0,1 P,0,0,0 P,1,0,0 P,4,0,1 I,1,2 C,1,2";
+    let asked = "Q,0,0,1,LU\nQ,0,1,1,PULU\nQ,0,1,1,LU\nQ,0,0,1,PULU\n";
+    let wanted = "0,0\n0,1,PULU\n0,1,LU\n16,0,\n16,0,\n";
+    assert_eq!(printed(words, asked), wanted);
+}
+
+/// Iso 0 exchanges two units; iso k sends its value through iso k - 1 twice.
+fn tower(height: usize) -> String {
+    let mut words = String::from(
+        "T,0,0,0 T,1,0,0 P,0,0,0 P,2,0,0 P,3,0,0 P,1,0,0 P,1,1,0 P,1,2,0 I,1,1 C,1,2 C,2,1",
+    );
+    for below in 0..height {
+        words += &format!(" I,1,1 C,3,5 L,4,{below},3 L,5,{below},4");
+    }
+    words
+}
+
+#[test]
+fn the_count_of_a_tower() {
+    let bytes = file(&tower(31));
+    assert_eq!(run(&bytes, 3, false, 15, b"LU"), Ok((15, b"LU".to_vec())));
+    assert_eq!(run(&bytes, 3, false, 14, b"LU").unwrap_err().number, 17);
+    assert_eq!(run(&bytes, 3, true, 15, b"RU"), Ok((15, b"RU".to_vec())));
+    assert_eq!(run(&bytes, 0, true, 15, b"RU"), Ok((1, b"LU".to_vec())));
+    assert_eq!(run(&bytes, 31, true, 1_000, b"RU").unwrap_err().number, 17);
+}
+
+#[test]
+fn the_let_steps_of_a_run_back_are_last_to_first() {
+    // Three values a, b, c in a round; iso 0 goes a to b to c to a, iso 1
+    // exchanges a and b; iso 2 does iso 0 and then iso 1.
+    let words = "T,0,0,0 T,1,0,0 T,1,0,1 P,0,0,0 P,2,0,0 P,3,0,0 P,3,1,0 P,3,2,0 \
+P,1,0,0 P,1,1,0 P,1,2,0 I,2,2 C,1,3 C,3,4 C,4,1 I,2,2 C,1,3 C,3,1 C,4,4 \
+I,2,2 C,5,7 L,6,0,5 L,7,1,6";
+    let asked = "Q,2,0,3,LU\nQ,2,0,3,RLU\nQ,2,0,3,RRU\nQ,2,1,3,LU\nQ,2,1,3,RRU\nQ,2,1,3,RLU\n";
+    let wanted = "0,0\n0,3,LU\n0,3,RRU\n0,3,RLU\n0,3,LU\n0,3,RLU\n0,3,RRU\n";
+    assert_eq!(printed(words, asked), wanted);
+}
+
+#[test]
+fn there_and_back_and_turning_twice() {
+    let files = [
+        S.to_string(),
+        tower(5),
+        cyclic("C,5,7 C,7,9 C,9,5 C,11,13 C,13,11"),
+    ];
+    for words in &files {
+        let bytes = file(words);
+        let turned = turn(&bytes).unwrap();
+        assert_eq!(turned.len(), bytes.len());
+        assert_eq!(turn(&turned).unwrap(), bytes);
+        for iso in 0..6 {
+            for value in [
+                "LU", "RU", "PLURU", "PLULU", "PRULU", "PLUPRULU", "PRUPRURU",
+            ] {
+                there_and_back(&bytes, &turned, iso, value.as_bytes());
+            }
+        }
+    }
+}
+
+fn there_and_back(bytes: &[u8], turned: &[u8], iso: u16, value: &[u8]) {
+    let Ok((count, given)) = run(bytes, iso, false, 10_000, value) else {
+        return;
+    };
+    assert_eq!(
+        run(bytes, iso, true, 10_000, &given),
+        Ok((count, value.to_vec()))
+    );
+    assert_eq!(
+        run(turned, iso, false, 10_000, &given),
+        Ok((count, value.to_vec()))
+    );
+    assert_eq!(run(turned, iso, true, 10_000, value), Ok((count, given)));
+}
+
+#[test]
+fn a_variable_may_wait_and_order_of_lets_counts() {
+    // q and p hold pairs; a unit goes in, a unit comes out.
+    let words = "T,0,0,0 T,1,0,0 T,2,1,0 P,0,0,0 P,1,0,0 P,1,1,0 P,1,2,0 P,4,1,0 P,4,2,0 P,4,2,1 \
+P,4,1,2 P,4,3,1 T,9,9,9";
+    assert_eq!(of(words), (4, 13));
+    let words = "T,0,0,0 T,1,0,0 T,2,1,0 T,2,1,1 P,0,0,0 P,1,0,0 P,1,1,0 P,1,2,0 P,4,1,0 P,4,3,0 \
+P,4,1,2 P,4,2,3 I,2,2 C,4,4 I,3,3 C,6,7 L,5,0,4";
+    assert_eq!(printed(words, "Q,1,0,2,PLURU\n"), "0,0\n0,2,PRULU\n");
+}
+
+#[test]
+fn the_desk_readings() {
+    assert_eq!(desk(b"Q,0,0,0,\n"), b"0,0\n15,0,\n");
+    assert_eq!(desk(b"Q"), b"0,0\n3,0,\n");
+    assert_eq!(desk(b"Q\n\nx\nQ,0,0,0"), b"0,0\n3,0,\n3,0,\n3,0,\n3,0,\n");
+    assert_eq!(desk(b"x\nQ,0,0,0,\n"), b"3,1\n");
+    assert_eq!(desk(b"T,0,0,0"), b"3,1\n");
+    assert_eq!(desk(&vec![b'x'; 65_537]), b"2,0\n");
+    let long = [vec![b'x'; 65_537], b"\nQ,0,0,0,\n".to_vec()].concat();
+    assert_eq!(desk(&long), b"2,0\n");
+    let bad = [
+        "Q,65536,0,1,LU",
+        "Q,0,2,1,LU",
+        "Q,0,0,4294967296,LU",
+        "Q,00,0,1,LU",
+        "Q,0,00,1,LU",
+        "Q,0,0,01,LU",
+        "Q,0,0,1",
+        "Q,0,0",
+        "Q",
+        "Qx,0,0,1,LU",
+        "Q ,0,0,1,LU",
+        "Q,,0,1,LU",
+        "Q,0,,1,LU",
+        "Q,0,0,,LU",
+        "Q,-0,0,1,LU",
+        "Q,0, 0,1,LU",
+        "",
+        "T,0,0,0",
+        "Q;0;0;1;LU",
+        "Q,0,01,1,LU",
+        "Q,0,0,99999999999999999999999,LU",
+        "q,0,0,1,LU",
+        ",0,0,1,LU",
+    ];
+    for query in bad {
+        let asked = format!("Q,0,0,1,LU\n{query}\nQ,0,0,1,RU\n");
+        assert_eq!(printed(S, &asked), "0,0\n0,1,RU\n3,0,\n0,1,LU\n", "{query}");
+    }
+    let asked = "Q,0,0,4294967295,LU\nQ,0,0,1,\nQ,0,0,1,,\nQ,0,0,1,LU,\nQ,0,0,1,\0\nQ,0,0,1,LU\r\nQ,65535,1,0,\n";
+    let wanted = "0,0\n0,1,RU\n16,0,\n16,0,\n16,0,\n16,0,\n16,0,\n15,0,\n";
+    assert_eq!(printed(S, asked), wanted);
+    let at = format!("Q,0,0,1,{}\n", "U".repeat(191));
+    assert_eq!(at.len(), 200);
+    assert_eq!(printed(S, &at), "0,0\n16,0,\n");
+    let over = format!("Q,0,0,1,{}\n", "U".repeat(192));
+    assert_eq!(printed(S, &over), "0,0\n3,0,\n");
+    assert_eq!(printed(S, "Q,0,0,1,LU"), "0,0\n3,0,\n");
+}
+
+/// Areas longer than stated, filled with what is not zero.
+fn areas() -> (Vec<u16>, Vec<u8>, Vec<u8>) {
+    (vec![7; 16_390], vec![8; 65_540], vec![9; 70_000])
+}
+
+#[test]
+fn the_areas_of_an_accepted_file() {
+    let bytes = file(S);
+    let (mut table, mut work, mut output) = areas();
+    let answer = check_areas(&bytes, &mut table, &mut work);
+    assert_eq!(answer, Checked { number: 0, line: 0 });
+    assert_eq!(table[..8], [84, 0, 0, 0, 84, 1, 0, 0]);
+    assert_eq!(table[44..56], [73, 1, 1, 0, 67, 1, 2, 0, 67, 2, 1, 0]);
+    assert_eq!(table[64..72], [76, 4, 0, 3, 67, 7, 7, 0]);
+    assert!(table[72..16_384].iter().all(|number| *number == 0));
+    assert!(table[16_384..].iter().all(|number| *number == 7));
+    assert!(work[..65_536].iter().all(|byte| *byte == 0));
+    assert!(work[65_536..].iter().all(|byte| *byte == 8));
+    let held = table.clone();
+    let length = bytes.len();
+    let answer = turn_areas(&bytes, &mut table, &mut work, &mut output);
+    assert_eq!(
+        answer,
+        Turned {
+            number: 0,
+            line: 0,
+            length
+        }
+    );
+    assert_eq!(output[..length], turn(&bytes).unwrap());
+    assert!(output[length..].iter().all(|byte| *byte == 9));
+    assert_eq!(table, held);
+    let query = Query {
+        iso: 1,
+        back: true,
+        budget: 2,
+        value: b"PLULU",
+    };
+    let mut result = vec![9; 130];
+    let answer = run_areas(&bytes, &mut table, &mut work, query, &mut result);
+    assert_eq!(
+        answer,
+        Ran {
+            number: 0,
+            count: 2,
+            length: 5
+        }
+    );
+    assert_eq!(&result[..6], b"PLURU\x09");
+    assert_eq!(table, held);
+}
+
+#[test]
+fn the_areas_of_a_refused_run() {
+    let bytes = file(S);
+    for (iso, budget, value, number) in [(2, 9, "U", 15), (1, 9, "U", 16), (1, 1, "PLULU", 17)] {
+        let (mut table, mut work, mut output) = areas();
+        let query = Query {
+            iso,
+            back: false,
+            budget,
+            value: value.as_bytes(),
+        };
+        let answer = run_areas(&bytes, &mut table, &mut work, query, &mut output);
+        assert_eq!(
+            answer,
+            Ran {
+                number,
+                count: 0,
+                length: 0
+            }
+        );
+        assert_eq!(table[..4], [84, 0, 0, 0]);
+        assert_eq!(table[68..76], [67, 7, 7, 0, 0, 0, 0, 0]);
+        assert!(work[..65_536].iter().all(|byte| *byte == 0));
+        assert!(output.iter().all(|byte| *byte == 9));
+    }
+}
+
+#[test]
+fn the_areas_of_refusals_1_and_2_keep_all() {
+    let fine = file(S);
+    let long = vec![b'x'; 65_537];
+    let query = Query {
+        iso: 0,
+        back: false,
+        budget: 1,
+        value: b"LU",
+    };
+    for (t, w, o, bytes, number) in [
+        (16_383, 65_536, 70_000, &fine, 1),
+        (16_384, 65_535, 70_000, &fine, 1),
+        (16_384, 65_536, 126, &fine, 1),
+        (16_384, 65_536, 70_000, &long, 2),
+        (16_383, 65_536, 70_000, &long, 1),
+        (16_384, 65_536, 126, &long, 1),
+    ] {
+        let (mut table, mut work, mut output) = (vec![7u16; t], vec![8u8; w], vec![9u8; o]);
+        let ran = run_areas(bytes, &mut table, &mut work, query, &mut output);
+        assert_eq!(
+            ran,
+            Ran {
+                number,
+                count: 0,
+                length: 0
+            }
+        );
+        let turned = turn_areas(bytes, &mut table, &mut work, &mut output);
+        assert_eq!(
+            turned,
+            Turned {
+                number,
+                line: 0,
+                length: 0
+            }
+        );
+        if o > 126 {
+            let answer = check_areas(bytes, &mut table, &mut work);
+            assert_eq!(answer, Checked { number, line: 0 });
+        }
+        assert_eq!((table, work, output), (vec![7; t], vec![8; w], vec![9; o]));
+    }
+    let (mut table, mut work, _) = areas();
+    let mut output = vec![9; fine.len()];
+    let turned = turn_areas(&fine, &mut table, &mut work, &mut output[1..]);
+    assert_eq!((turned.number, table[0], work[0], output[1]), (1, 7, 8, 9));
+    let turned = turn_areas(&fine, &mut table, &mut work, &mut output);
+    assert_eq!((turned.number, turned.length), (0, fine.len()));
+}
+
+#[test]
+fn the_areas_of_refusals_3_to_14_are_zero() {
+    for words in [
+        "x",
+        "P,0,0,0 T,0,0,0",
+        "T,9,0,0",
+        "T,1,0,0",
+        "T,0,0,0 I,0,0",
+    ] {
+        let (mut table, mut work, mut output) = areas();
+        let answer = turn_areas(&file(words), &mut table, &mut work, &mut output);
+        assert_eq!((answer.number, answer.line), of(words));
+        assert_eq!(answer.length, 0);
+        assert!(table[..16_384].iter().all(|number| *number == 0));
+        assert!(table[16_384..].iter().all(|number| *number == 7));
+        assert!(work[..65_536].iter().all(|byte| *byte == 0));
+        assert!(work[65_536..].iter().all(|byte| *byte == 8));
+        assert!(output.iter().all(|byte| *byte == 9));
+    }
+}
+
+#[test]
+fn wide_covers_end_quickly() {
+    use apart::cover::covers;
+    use apart::tree::{Pattern, Type};
+    use std::rc::Rc;
+    // A product of twenty-one sums; pattern k has left before place k and
+    // right at it, so that all are orthogonal; the last has left everywhere.
+    let unit = Rc::new(Type::Unit);
+    let two = Rc::new(Type::Sum(Rc::clone(&unit), unit));
+    let mut ty = Rc::clone(&two);
+    for _ in 1..21 {
+        ty = Rc::new(Type::Product(Rc::clone(&two), ty));
+    }
+    assert!(ty.nodes() <= 127);
+    let any = Rc::new(Pattern::Variable(0));
+    let side = |right: bool| {
+        let inner = Rc::new(Pattern::Unit);
+        Rc::new(if right {
+            Pattern::Right(inner)
+        } else {
+            Pattern::Left(inner)
+        })
+    };
+    let part = |row: usize, place: usize| match place.cmp(&row) {
+        std::cmp::Ordering::Less => side(false),
+        std::cmp::Ordering::Equal => side(true),
+        std::cmp::Ordering::Greater => Rc::clone(&any),
+    };
+    let row = |row: usize| {
+        let mut pattern = part(row, 20);
+        for place in (0..20).rev() {
+            pattern = Rc::new(Pattern::Pair(part(row, place), pattern));
+        }
+        pattern
+    };
+    let rows: Vec<Rc<Pattern>> = (0..22).map(row).collect();
+    let all: Vec<&Pattern> = rows.iter().map(|row| &**row).collect();
+    assert!(covers(&ty, &all));
+    for gone in 0..22 {
+        let mut fewer = all.clone();
+        fewer.remove(gone);
+        assert!(!covers(&ty, &fewer));
+    }
+}
