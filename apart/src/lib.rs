@@ -1,5 +1,5 @@
 //! Check, turn and run of rule files, after document 01 ("The rule file and
-//! its exact rules"), written apart from any other implementation of it.
+//! its exact rules").
 
 pub mod areas;
 pub mod clause;

@@ -2,12 +2,80 @@
 //! the readings of open points, there and back, turning twice.
 
 use apart::areas::{check_areas, run_areas, turn_areas, Checked, Query, Ran, Turned};
+use apart::cover::covers;
 use apart::desk::desk;
+use apart::tree::{Pattern, Type};
 use apart::{check, run, turn};
+use std::cmp::Ordering;
+use std::rc::Rc;
 
 /// "File S (one line each, parted here by blanks)".
 const S: &str = "T,0,0,0 T,1,0,0 T,2,1,1 P,0,0,0 P,2,0,0 P,3,0,0 P,1,0,0 P,1,1,0 \
 P,4,1,3 P,4,1,4 P,4,2,3 I,1,1 C,1,2 C,2,1 I,2,2 C,5,6 L,4,0,3 C,7,7";
+
+/// Lines of none of the five forms.
+const BAD_LINES: [&str; 33] = [
+    "t,0,0,0",
+    "X,0,0,0",
+    "T,0,0",
+    "T,0,0,0,0",
+    "T",
+    "T,",
+    ",0,0,0",
+    "T,,0,0",
+    "T,0,,0",
+    "T,0,0,",
+    "T,00,0,0",
+    "T,0,01,0",
+    "T,+0,0,0",
+    "T,-1,0,0",
+    "T,65536,0,0",
+    "T,0,99999,0",
+    "T,0,0,18446744073709551616",
+    "TT,0,0,0",
+    "\"T\",0,0,0",
+    "T;0;0;0",
+    "T,0x0,0,0",
+    "I,0",
+    "I,0,0,0",
+    "C,0",
+    "C,0,0,0",
+    "L,0,0",
+    "L,0,0,0,0",
+    "P,0,0",
+    "T,0,0,0\r",
+    "T,\0,0,0",
+    "T,0,0,0x",
+    "T,1e1,0,0",
+    "T,\u{0661},0,0",
+];
+
+/// Queries of another form.
+const BAD_QUERIES: [&str; 23] = [
+    "Q,65536,0,1,LU",
+    "Q,0,2,1,LU",
+    "Q,0,0,4294967296,LU",
+    "Q,00,0,1,LU",
+    "Q,0,00,1,LU",
+    "Q,0,0,01,LU",
+    "Q,0,0,1",
+    "Q,0,0",
+    "Q",
+    "Qx,0,0,1,LU",
+    "Q ,0,0,1,LU",
+    "Q,,0,1,LU",
+    "Q,0,,1,LU",
+    "Q,0,0,,LU",
+    "Q,-0,0,1,LU",
+    "Q,0, 0,1,LU",
+    "",
+    "T,0,0,0",
+    "Q;0;0;1;LU",
+    "Q,0,01,1,LU",
+    "Q,0,0,99999999999999999999999,LU",
+    "q,0,0,1,LU",
+    ",0,0,1,LU",
+];
 
 /// Lines parted by blanks, each given its line feed.
 fn file(words: &str) -> Vec<u8> {
@@ -154,42 +222,7 @@ fn four_thousand_and_ninety_six_lines() {
 
 #[test]
 fn refusal_3_by_form() {
-    let bad = [
-        "t,0,0,0",
-        "X,0,0,0",
-        "T,0,0",
-        "T,0,0,0,0",
-        "T",
-        "T,",
-        ",0,0,0",
-        "T,,0,0",
-        "T,0,,0",
-        "T,0,0,",
-        "T,00,0,0",
-        "T,0,01,0",
-        "T,+0,0,0",
-        "T,-1,0,0",
-        "T,65536,0,0",
-        "T,0,99999,0",
-        "T,0,0,18446744073709551616",
-        "TT,0,0,0",
-        "\"T\",0,0,0",
-        "T;0;0;0",
-        "T,0x0,0,0",
-        "I,0",
-        "I,0,0,0",
-        "C,0",
-        "C,0,0,0",
-        "L,0,0",
-        "L,0,0,0,0",
-        "P,0,0",
-        "T,0,0,0\r",
-        "T,\0,0,0",
-        "T,0,0,0x",
-        "T,1e1,0,0",
-        "T,\u{0661},0,0",
-    ];
-    for line in bad {
+    for line in BAD_LINES {
         let bytes = format!("T,0,0,0\n{line}\n");
         assert_eq!(checked(bytes.as_bytes()), (3, 2), "{line:?}");
     }
@@ -450,6 +483,10 @@ fn pairs_of_faults_in_both_orders() {
     assert_eq!(of("T,7,0,0 x P,1,77,0"), (5, 1));
     assert_eq!(of(&format!("{}x", "T,0,0,0 ".repeat(257))), (7, 257));
     assert_eq!(of(&format!("x {}", "T,0,0,0 ".repeat(257))), (3, 1));
+}
+
+#[test]
+fn pairs_of_faults_in_clauses_and_isos() {
     // a line fault goes before every clause and iso fault
     assert_eq!(of(&format!("{HEAD} I,1,1 C,3,3 x")), (3, 16));
     assert_eq!(of(&format!("{HEAD} I,1,1 C,1,2 I,1,99")), (6, 16));
@@ -590,32 +627,7 @@ fn the_desk_readings() {
     assert_eq!(desk(&vec![b'x'; 65_537]), b"2,0\n");
     let long = [vec![b'x'; 65_537], b"\nQ,0,0,0,\n".to_vec()].concat();
     assert_eq!(desk(&long), b"2,0\n");
-    let bad = [
-        "Q,65536,0,1,LU",
-        "Q,0,2,1,LU",
-        "Q,0,0,4294967296,LU",
-        "Q,00,0,1,LU",
-        "Q,0,00,1,LU",
-        "Q,0,0,01,LU",
-        "Q,0,0,1",
-        "Q,0,0",
-        "Q",
-        "Qx,0,0,1,LU",
-        "Q ,0,0,1,LU",
-        "Q,,0,1,LU",
-        "Q,0,,1,LU",
-        "Q,0,0,,LU",
-        "Q,-0,0,1,LU",
-        "Q,0, 0,1,LU",
-        "",
-        "T,0,0,0",
-        "Q;0;0;1;LU",
-        "Q,0,01,1,LU",
-        "Q,0,0,99999999999999999999999,LU",
-        "q,0,0,1,LU",
-        ",0,0,1,LU",
-    ];
-    for query in bad {
+    for query in BAD_QUERIES {
         let asked = format!("Q,0,0,1,LU\n{query}\nQ,0,0,1,RU\n");
         assert_eq!(printed(S, &asked), "0,0\n0,1,RU\n3,0,\n0,1,LU\n", "{query}");
     }
@@ -638,7 +650,7 @@ fn areas() -> (Vec<u16>, Vec<u8>, Vec<u8>) {
 #[test]
 fn the_areas_of_an_accepted_file() {
     let bytes = file(S);
-    let (mut table, mut work, mut output) = areas();
+    let (mut table, mut work, _) = areas();
     let answer = check_areas(&bytes, &mut table, &mut work);
     assert_eq!(answer, Checked { number: 0, line: 0 });
     assert_eq!(table[..8], [84, 0, 0, 0, 84, 1, 0, 0]);
@@ -648,6 +660,13 @@ fn the_areas_of_an_accepted_file() {
     assert!(table[16_384..].iter().all(|number| *number == 7));
     assert!(work[..65_536].iter().all(|byte| *byte == 0));
     assert!(work[65_536..].iter().all(|byte| *byte == 8));
+}
+
+#[test]
+fn the_areas_of_turn_and_run() {
+    let bytes = file(S);
+    let (mut table, mut work, mut output) = areas();
+    check_areas(&bytes, &mut table, &mut work);
     let held = table.clone();
     let length = bytes.len();
     let answer = turn_areas(&bytes, &mut table, &mut work, &mut output);
@@ -709,49 +728,55 @@ fn the_areas_of_a_refused_run() {
     }
 }
 
-#[test]
-fn the_areas_of_refusals_1_and_2_keep_all() {
-    let fine = file(S);
-    let long = vec![b'x'; 65_537];
+/// Lengths of table, work and output, all of which stay as they were.
+fn all_kept([t, w, o]: [usize; 3], bytes: &[u8], number: u8) {
+    let (mut table, mut work, mut output) = (vec![7u16; t], vec![8u8; w], vec![9u8; o]);
     let query = Query {
         iso: 0,
         back: false,
         budget: 1,
         value: b"LU",
     };
-    for (t, w, o, bytes, number) in [
-        (16_383, 65_536, 70_000, &fine, 1),
-        (16_384, 65_535, 70_000, &fine, 1),
-        (16_384, 65_536, 126, &fine, 1),
-        (16_384, 65_536, 70_000, &long, 2),
-        (16_383, 65_536, 70_000, &long, 1),
-        (16_384, 65_536, 126, &long, 1),
-    ] {
-        let (mut table, mut work, mut output) = (vec![7u16; t], vec![8u8; w], vec![9u8; o]);
-        let ran = run_areas(bytes, &mut table, &mut work, query, &mut output);
-        assert_eq!(
-            ran,
-            Ran {
-                number,
-                count: 0,
-                length: 0
-            }
-        );
-        let turned = turn_areas(bytes, &mut table, &mut work, &mut output);
-        assert_eq!(
-            turned,
-            Turned {
-                number,
-                line: 0,
-                length: 0
-            }
-        );
-        if o > 126 {
-            let answer = check_areas(bytes, &mut table, &mut work);
-            assert_eq!(answer, Checked { number, line: 0 });
+    let ran = run_areas(bytes, &mut table, &mut work, query, &mut output);
+    assert_eq!(
+        ran,
+        Ran {
+            number,
+            count: 0,
+            length: 0
         }
-        assert_eq!((table, work, output), (vec![7; t], vec![8; w], vec![9; o]));
+    );
+    let turned = turn_areas(bytes, &mut table, &mut work, &mut output);
+    assert_eq!(
+        turned,
+        Turned {
+            number,
+            line: 0,
+            length: 0
+        }
+    );
+    if o > 126 {
+        let answer = check_areas(bytes, &mut table, &mut work);
+        assert_eq!(answer, Checked { number, line: 0 });
     }
+    assert_eq!((table, work, output), (vec![7; t], vec![8; w], vec![9; o]));
+}
+
+#[test]
+fn the_areas_of_refusals_1_and_2_keep_all() {
+    let fine = file(S);
+    let long = vec![b'x'; 65_537];
+    all_kept([16_383, 65_536, 70_000], &fine, 1);
+    all_kept([16_384, 65_535, 70_000], &fine, 1);
+    all_kept([16_384, 65_536, 126], &fine, 1);
+    all_kept([16_384, 65_536, 70_000], &long, 2);
+    all_kept([16_383, 65_536, 70_000], &long, 1);
+    all_kept([16_384, 65_536, 126], &long, 1);
+}
+
+#[test]
+fn the_area_of_turn_is_as_long_as_the_file() {
+    let fine = file(S);
     let (mut table, mut work, _) = areas();
     let mut output = vec![9; fine.len()];
     let turned = turn_areas(&fine, &mut table, &mut work, &mut output[1..]);
@@ -781,13 +806,21 @@ fn the_areas_of_refusals_3_to_14_are_zero() {
     }
 }
 
+/// Place `place` of row `row`: left before place `row`, right at it, and a
+/// variable behind it.
+fn part(row: usize, place: usize) -> Rc<Pattern> {
+    let inner = Rc::new(Pattern::Unit);
+    Rc::new(match place.cmp(&row) {
+        Ordering::Less => Pattern::Left(inner),
+        Ordering::Equal => Pattern::Right(inner),
+        Ordering::Greater => Pattern::Variable(0),
+    })
+}
+
 #[test]
 fn wide_covers_end_quickly() {
-    use apart::cover::covers;
-    use apart::tree::{Pattern, Type};
-    use std::rc::Rc;
-    // A product of twenty-one sums; pattern k has left before place k and
-    // right at it, so that all are orthogonal; the last has left everywhere.
+    // A product of twenty-one sums; all rows are orthogonal, and the last has
+    // left everywhere.
     let unit = Rc::new(Type::Unit);
     let two = Rc::new(Type::Sum(Rc::clone(&unit), unit));
     let mut ty = Rc::clone(&two);
@@ -795,20 +828,6 @@ fn wide_covers_end_quickly() {
         ty = Rc::new(Type::Product(Rc::clone(&two), ty));
     }
     assert!(ty.nodes() <= 127);
-    let any = Rc::new(Pattern::Variable(0));
-    let side = |right: bool| {
-        let inner = Rc::new(Pattern::Unit);
-        Rc::new(if right {
-            Pattern::Right(inner)
-        } else {
-            Pattern::Left(inner)
-        })
-    };
-    let part = |row: usize, place: usize| match place.cmp(&row) {
-        std::cmp::Ordering::Less => side(false),
-        std::cmp::Ordering::Equal => side(true),
-        std::cmp::Ordering::Greater => Rc::clone(&any),
-    };
     let row = |row: usize| {
         let mut pattern = part(row, 20);
         for place in (0..20).rev() {

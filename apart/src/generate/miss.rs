@@ -38,6 +38,7 @@ fn attempt(random: &mut Random, base: &[u8], number: u8) -> Vec<u8> {
         3 if random.chance(5) => ceiling::many_bytes(random, false),
         3 => bad_text(random, base),
         7 if special => ceiling::at_ceiling(random, true),
+        8 if special => plan::bound_again(random),
         11..=14 if special => plan::one_bad_side(random),
         _ => changed(random, base, number),
     }
@@ -58,11 +59,26 @@ pub fn two_faults(random: &mut Random) -> Vec<u8> {
     }
     match random.below(6) {
         0 => bad_text(random, &file),
+        1..=2 => same_line(random, &file),
         _ => {
             let other = 4 + random.below(11) as u8;
             changed(random, &file, other)
         }
     }
+}
+
+/// One more fault on the line that is refused already.
+fn same_line(random: &mut Random, file: &[u8]) -> Vec<u8> {
+    let over = ceiling::at_ceiling(random, true);
+    let file = if random.chance(40) { &over } else { file };
+    let mut draft = Draft::of(file);
+    let line = check(file).err().map_or(0, |refusal| refusal.line);
+    if line > 0 {
+        let fields = &mut draft.0[line - 1].1;
+        let field = random.below(fields.len());
+        fields[field] = *random.pick(&[0, 1, 5, 32, 1_024, 1_025, 60_000]);
+    }
+    draft.bytes()
 }
 
 type Change = fn(&mut Random, &mut Draft) -> Option<()>;
@@ -72,7 +88,7 @@ fn changes(number: u8) -> &'static [Change] {
     match number {
         4 => &[swap_rows, move_row, change_letter, delete_row],
         5 => &[change_kind, change_idle, change_field],
-        6 => &[change_name, change_field, delete_row],
+        6 => &[change_name, change_name, own_iso, change_field, delete_row],
         7 => &[grow_type, grow_pattern, double_clause],
         8 => &[
             change_variable,
@@ -83,7 +99,15 @@ fn changes(number: u8) -> &'static [Change] {
             change_field,
         ],
         9 => &[wrap_in_let, wrap_in_let, change_field],
-        10 => &[wrap_type, wrap_side, change_kind, change_field, flip_side],
+        10 => &[
+            wrap_type,
+            wrap_side,
+            flip_kind,
+            swap_parts,
+            mirror_type,
+            change_field,
+            flip_side,
+        ],
         11 => &[double_clause, copy_side, flip_side],
         12 => &[copy_side, flip_side],
         13 => &[drop_clause, bare_iso, widen],
@@ -204,6 +228,49 @@ fn change_name(random: &mut Random, draft: &mut Draft) -> Option<()> {
     Some(())
 }
 
+/// A let step that names its own iso, or one behind it.
+fn own_iso(random: &mut Random, draft: &mut Draft) -> Option<()> {
+    let place = draft.some_place(random, b'L')?;
+    let isos = draft.0[..place].iter().filter(|row| row.0 == b'I').count();
+    draft.0[place].1[1] = (isos + random.below(2)).saturating_sub(1) as u32;
+    Some(())
+}
+
+/// A sum made a product, or the other way.
+fn flip_kind(random: &mut Random, draft: &mut Draft) -> Option<()> {
+    let place = draft.some_place(random, b'T')?;
+    let kind = &mut draft.0[place].1[0];
+    if *kind > 0 {
+        *kind = 3 - *kind;
+    }
+    Some(())
+}
+
+/// The two parts of a type or a pair exchanged.
+fn swap_parts(random: &mut Random, draft: &mut Draft) -> Option<()> {
+    let letter = *random.pick(b"TP");
+    let place = draft.some_place(random, letter)?;
+    let fields = &mut draft.0[place].1;
+    if fields[0] == 4 || letter == b'T' {
+        fields.swap(1, 2);
+    }
+    Some(())
+}
+
+/// An iso gets one of its types with the two parts exchanged.
+fn mirror_type(random: &mut Random, draft: &mut Draft) -> Option<()> {
+    let place = draft.some_place(random, b'I')?;
+    let field = random.below(2);
+    let number = draft.0[place].1[field] as usize;
+    let row = *draft.places(b'T').get(number)?;
+    let [kind, a, b] = draft.0[row].1[..] else {
+        return None;
+    };
+    let new = draft.add(b'T', [kind, b, a]);
+    *draft.0.get_mut(place + 1)?.1.get_mut(field)? = new;
+    Some(())
+}
+
 fn delete_row(random: &mut Random, draft: &mut Draft) -> Option<()> {
     let place = row(random, draft);
     draft.0.remove(place);
@@ -288,8 +355,9 @@ fn turn_let(random: &mut Random, draft: &mut Draft) -> Option<()> {
 
 fn swap_lets(random: &mut Random, draft: &mut Draft) -> Option<()> {
     let place = draft.some_place(random, b'L')?;
-    if draft.0[place - 1].0 == b'L' {
-        draft.0.swap(place, place - 1);
+    let above = place.checked_sub(1)?;
+    if draft.0[above].0 == b'L' {
+        draft.0.swap(place, above);
     }
     Some(())
 }
@@ -311,7 +379,8 @@ fn wrap_side(random: &mut Random, draft: &mut Draft) -> Option<()> {
 fn wrap(random: &mut Random, draft: &mut Draft, place: usize, field: usize) -> Option<()> {
     let before = draft.0.len();
     let unit = draft.unit(b'P');
-    let old = draft.0[place + draft.0.len() - before].1[field];
+    let moved = place + draft.0.len() - before;
+    let old = *draft.0.get(moved)?.1.get(field)?;
     let new = match random.below(3) {
         0 => draft.add(b'P', [2, old, 0]),
         1 => draft.add(b'P', [3, old, 0]),
@@ -321,7 +390,7 @@ fn wrap(random: &mut Random, draft: &mut Draft, place: usize, field: usize) -> O
         }
     };
     let moved = place + draft.0.len() - before;
-    draft.0[moved].1[field] = new;
+    *draft.0.get_mut(moved)?.1.get_mut(field)? = new;
     Some(())
 }
 
@@ -330,7 +399,7 @@ fn wrap_type(random: &mut Random, draft: &mut Draft) -> Option<()> {
     let field = random.below(2);
     let old = draft.0[place].1[field];
     let new = draft.add(b'T', [1 + random.below(2) as u32, old, old]);
-    draft.0[place + 1].1[field] = new;
+    *draft.0.get_mut(place + 1)?.1.get_mut(field)? = new;
     Some(())
 }
 
@@ -387,21 +456,21 @@ fn widen(random: &mut Random, draft: &mut Draft) -> Option<()> {
     let start = draft.some_place(random, b'I')?;
     let (field, kind) = (random.below(2), 2 + random.below(2) as u32);
     let old = draft.0[start].1[field];
-    let other = random.below(draft.count(b'T')) as u32;
+    let other = random.below(draft.count(b'T').max(1)) as u32;
     let parts = if kind == 2 {
         [1, old, other]
     } else {
         [1, other, old]
     };
     let new = draft.add(b'T', parts);
-    draft.0[start + 1].1[field] = new;
+    *draft.0.get_mut(start + 1)?.1.get_mut(field)? = new;
     let mut place = start + 2;
     while place < draft.0.len() && draft.0[place].0 != b'I' {
         if draft.0[place].0 == b'C' {
             let old = draft.0[place].1[field];
             let new = draft.add(b'P', [kind, old, 0]);
             place += 1;
-            draft.0[place].1[field] = new;
+            *draft.0.get_mut(place)?.1.get_mut(field)? = new;
         }
         place += 1;
     }

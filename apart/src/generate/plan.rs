@@ -110,7 +110,11 @@ fn some_type(random: &mut Random, earlier: &[Iso]) -> Rc<Type> {
         }
         _ => {
             let depth = 1 + random.below(5);
-            random_type(random, depth, &pool(earlier))
+            let ty = random_type(random, depth, &pool(earlier));
+            if ty.nodes() > NODES {
+                return two();
+            }
+            ty
         }
     }
 }
@@ -500,13 +504,14 @@ fn arranged(random: &mut Random, mut held: Held) -> (Rc<Type>, Rc<Pattern>) {
 /// A tower: each iso sends its value through the one below several times, so
 /// that the count grows by that factor with each storey.
 pub fn tower(random: &mut Random) -> Vec<u8> {
-    let ty = some_type(random, &[]);
     let base = loop {
+        let ty = some_type(random, &[]);
         let cases = cover(random, &ty);
         if let Some(iso) = permuted(random, &ty, &cases, &[]).filter(fits) {
             break iso;
         }
     };
+    let ty = Rc::clone(&base.from);
     let mut isos = vec![base];
     let height = if random.chance(20) {
         31
@@ -608,4 +613,48 @@ pub fn one_bad_side(random: &mut Random) -> Vec<u8> {
         all.push(if random.chance(50) { turned(&iso) } else { iso });
     }
     scribe::file(random, &all)
+}
+
+/// A file with one let step whose p binds a number that is used up, and all
+/// else in order.
+pub fn bound_again(random: &mut Random) -> Vec<u8> {
+    let mut all = isos(random);
+    let clauses = all.iter_mut().flat_map(|iso| &mut iso.clauses);
+    let mut clauses: Vec<&mut Clause> = clauses.filter(|clause| !clause.lets.is_empty()).collect();
+    if !clauses.is_empty() {
+        let place = random.below(clauses.len());
+        rebind(random, clauses[place]);
+    }
+    scribe::file(random, &all)
+}
+
+/// Renames a variable of some p to one that its q, or an earlier q, has used.
+fn rebind(random: &mut Random, clause: &mut Clause) {
+    let step = random.below(clause.lets.len());
+    let olds = clause.lets[step].p.variables();
+    let used = clause.lets[..=step]
+        .iter()
+        .flat_map(|step| step.q.variables());
+    let used: Vec<u16> = used.collect();
+    if olds.is_empty() || used.is_empty() {
+        return;
+    }
+    let (old, new) = (*random.pick(&olds), *random.pick(&used));
+    clause.right = renamed(&clause.right, old, new);
+    for step in &mut clause.lets[step..] {
+        step.p = renamed(&step.p, old, new);
+    }
+    for step in &mut clause.lets[step + 1..] {
+        step.q = renamed(&step.q, old, new);
+    }
+}
+
+fn renamed(pattern: &Rc<Pattern>, old: u16, new: u16) -> Rc<Pattern> {
+    Rc::new(match &**pattern {
+        Pattern::Unit => Pattern::Unit,
+        Pattern::Variable(number) => Pattern::Variable(if *number == old { new } else { *number }),
+        Pattern::Left(a) => Pattern::Left(renamed(a, old, new)),
+        Pattern::Right(a) => Pattern::Right(renamed(a, old, new)),
+        Pattern::Pair(a, b) => Pattern::Pair(renamed(a, old, new), renamed(b, old, new)),
+    })
 }

@@ -7,6 +7,40 @@ use crate::{run_rules, Rules};
 /// Counts above this are not looked for; such runs get budgets below it.
 const LONGEST: u32 = 3_000;
 
+/// Queries of another form.
+const FORMS: [&[u8]; 30] = [
+    b"Q",
+    b"Q,",
+    b"Q,0",
+    b"Q,0,0",
+    b"Q,0,0,1",
+    b"Q,,0,1,LU",
+    b"Q,0,,1,LU",
+    b"Q,0,0,,LU",
+    b"Q,00,0,1,LU",
+    b"Q,0,00,1,LU",
+    b"Q,0,0,01,LU",
+    b"Q,0,2,1,LU",
+    b"Q,65536,0,1,LU",
+    b"Q,0,0,4294967296,LU",
+    b"Q,-1,0,1,LU",
+    b"Q,+0,0,1,LU",
+    b"Q, 0,0,1,LU",
+    b"Q,0,0,1 ,LU",
+    b"",
+    b"x",
+    b"q,0,0,1,LU",
+    b"QQ,0,0,1,LU",
+    b"Q;0;0;1;LU",
+    b"\r",
+    b"T,0,0,0",
+    b",0,0,1,LU",
+    b"Q,0,10,1,LU",
+    b"Q,0,0,99999999999999999999,LU",
+    b"Q,0,0,1\0,LU",
+    b"Q,0,0,1,LU\r",
+];
+
 /// One query line, most often well formed, and with its line feed.
 pub fn query(random: &mut Random, rules: &Rules) -> Vec<u8> {
     match random.below(20) {
@@ -116,39 +150,7 @@ fn budget(random: &mut Random, rules: &Rules, iso: usize, back: bool, letters: &
 
 /// A query line of another form.
 fn malformed(random: &mut Random) -> Vec<u8> {
-    let forms: [&[u8]; 30] = [
-        b"Q",
-        b"Q,",
-        b"Q,0",
-        b"Q,0,0",
-        b"Q,0,0,1",
-        b"Q,,0,1,LU",
-        b"Q,0,,1,LU",
-        b"Q,0,0,,LU",
-        b"Q,00,0,1,LU",
-        b"Q,0,00,1,LU",
-        b"Q,0,0,01,LU",
-        b"Q,0,2,1,LU",
-        b"Q,65536,0,1,LU",
-        b"Q,0,0,4294967296,LU",
-        b"Q,-1,0,1,LU",
-        b"Q,+0,0,1,LU",
-        b"Q, 0,0,1,LU",
-        b"Q,0,0,1 ,LU",
-        b"",
-        b"x",
-        b"q,0,0,1,LU",
-        b"QQ,0,0,1,LU",
-        b"Q;0;0;1;LU",
-        b"\r",
-        b"T,0,0,0",
-        b",0,0,1,LU",
-        b"Q,0,10,1,LU",
-        b"Q,0,0,99999999999999999999,LU",
-        b"Q,0,0,1\0,LU",
-        b"Q,0,0,1,LU\r",
-    ];
-    let mut line = random.pick(&forms).to_vec();
+    let mut line = random.pick(&FORMS).to_vec();
     if random.chance(15) {
         let length = *random.pick(&[190, 191, 192, 193, 500]);
         line = b"Q,0,0,1,".to_vec();
