@@ -3,7 +3,7 @@ use Prim.Native.Nat.{ℕ, zero, suc, _+_, _-_, _*_, _≤_, _<_, min}
 use native.Mathlib.Nat.{zero-add, sub-zero, suc-sub-suc, le-of-suc-le-suc, not-suc-le-zero}
 use native.Mathlib.Omega.{arith}
 use mathlib.Core.Path.{_≡_, refl, sym, ap, ap₂, _∙_, subst}
-use mathlib.Core.Bool.{Bool, true, false, cond, _||_, true≢false}
+use mathlib.Core.Bool.{Bool, true, false, cond, _||_, or-true, true≢false}
 use mathlib.Core.Option.{Option, none, some}
 use mathlib.Core.List.{List, [], _∷_, _++_, map, length as lengthᵘ}
 use lib.Dec.{leb, ltb, lit≤, lit<}
@@ -138,10 +138,6 @@ unfolding verdict over
 verdict-not-over s h k =
     ap (λ b. cond b (refused tooLong 0) (afterReading (readFrom start 1 (lines s)))) (ap₂ _||_ (le-ltb _ _ h) (le-ltb _ _ k))
 
-or-right : (b : Bool) → (b || true) ≡ true
-or-right true = refl
-or-right false = refl
-
 pub verdict-bytes : (s : List ℕ) → maxBytes < length s → verdict s ≡ refused tooLong 0
 unfolding verdict over
 verdict-bytes s h =
@@ -151,7 +147,7 @@ pub verdict-lines : (s : List ℕ) → maxLines < length (lines s) → verdict s
 unfolding verdict over
 verdict-lines s h =
     ap (λ b. cond (ltb maxBytes (length s) || b) (refused tooLong 0) (afterReading (readFrom start 1 (lines s)))) (lt-ltb _ _ h)
-    ∙ ap (λ b. cond b (refused tooLong 0) (afterReading (readFrom start 1 (lines s)))) (or-right (ltb maxBytes (length s)))
+    ∙ ap (λ b. cond b (refused tooLong 0) (afterReading (readFrom start 1 (lines s)))) (or-true (ltb maxBytes (length s)))
 
 -- ---- Check, by the verdict
 
@@ -188,7 +184,7 @@ pub short-work : (s t w : List ℕ) (r : A.Answer) → length w < workLength →
 short-work s t w r h n p =
     says-refused s t w t w r shortArea
     (ap (λ b. unless (ltb (length t) tableLength || b) (verdict s)) (lt-ltb _ _ h)
-    ∙ ap (λ b. unless b (verdict s)) (or-right (ltb (length t) tableLength))
+    ∙ ap (λ b. unless b (verdict s)) (or-true (ltb (length t) tableLength))
     ∙ ap (refused shortArea) (sym p)) n refl refl
 
 -- 2: too many bytes or lines
@@ -365,7 +361,7 @@ check-accepted s t w t₀ t₁ w′ a r ht hw hb hl e₀ o k n p ew =
 flag-some : (b : Bool) (x : Option Refusal) → b ≡ isSome x → b ≡ true → (f : Refusal) × (x ≡ some f)
 flag-some b x e h = isSome-true x (sym e ∙ h)
 
-flag-none : (b : Bool) (x : Option Refusal) → b ≡ isSome x → b ≡ false → x ≡ none
+pub flag-none : (b : Bool) (x : Option Refusal) → b ≡ isSome x → b ≡ false → x ≡ none
 flag-none b none e h = refl
 flag-none b (some f) e h = absurd (true≢false (sym e ∙ h))
 

@@ -1,6 +1,7 @@
 // Where each iso and each clause begins, found once. The rows of the I and C lines stand from place
 // `first` of the index on, the number of rows behind them at place 1,089; number i is the place of
-// iso i's row, and behind the last iso's stands 1,089.
+// iso i's row, and behind the last iso's stands 1,089. So an index has 1,090 numbers: 33 places of
+// isos, 1,056 rows, and the number of rows.
 
 use areas::narrow;
 use areas::store_word;
@@ -15,9 +16,6 @@ ghost use Rattle.nodes.specs.Unfolding.{cellOf};
 ghost use Rattle.nodes.specs.Walk.{FileIn};
 ghost use Rattle.index.specs.Index.{isosAt, indexLength};
 ghost use Rattle.index.specs.Indexed.{Indexed};
-
-// The length of an index: 33 places of isos, 1,056 rows, and the number of rows.
-pub const LENGTH: usize = 1090;
 
 // Where the next row up goes, and how many isos are still to come.
 pub struct Left {

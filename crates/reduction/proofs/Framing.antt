@@ -15,7 +15,7 @@ use Rattle.model.specs.Trees.{Pat, Val, Let, Clause, Iso}
 use Rattle.model.specs.Slots.{Slots, empty}
 use Rattle.model.specs.Letters.{letters}
 use Rattle.model.specs.Reduction.{bind, build}
-use Rattle.model.proofs.Basic.{none≢some, bool-cases, ltb-lt, ltb-false, not-both}
+use Rattle.model.proofs.Basic.{bool-cases, ltb-lt, ltb-false, not-both, index-below}
 use Rattle.model.proofs.Binding.{bind-length, build-length}
 use Rattle.areas.specs.Areas.{Writes}
 use Rattle.nodes.specs.Unfolding.{cellOf, patternOf}
@@ -26,12 +26,13 @@ use Rattle.values.specs.declared.Upto.the-variants as upto
 use Rattle.values.specs.Texts.{At, alike, matched, Below, ranges, built}
 use Rattle.values.specs.Agrees.{Agrees}
 use Rattle.values.specs.Traces.{Small, LetsTrace, done, step, ClauseTrace, Runs}
+use Rattle.values.proofs.Matching.{place-alike, nothing-alike}
 use Rattle.values.proofs.Agreeing.{at-within, at-take, at-sets, take-sets, bind-alike, length-ranges, below-ranges, below-more, agrees-empty, agrees-more, agrees-bind, built-build, at-slice}
 use Rattle.reduction.specs.declared.Reduced as R
 use Rattle.reduction.specs.declared.Reduced.the-variants as reduced
 use Rattle.values.proofs.Tracing.{runs-least}
 use Rattle.reduction.specs.Frames.{frame, EnvAt, sided, sidedClause, sidedLet, sidedLets, sideAt, Laid, Chosen, Applied, Stepped, LetsRan}
-use Rattle.reduction.proofs.Laying.{clause-at, lhs-at, rhs-at, lets-at, length-sided, let-at, let-q, let-p, let-iso}
+use Rattle.reduction.proofs.Laying.{inside, clause-at, lhs-at, rhs-at, lets-at, length-sided, let-at, let-q, let-p, let-iso}
 
 -- ---- answers
 
@@ -57,28 +58,12 @@ done≢spent e = true≢false (ap isDone e)
     isDone reduced.Spent = false
 
 -- within a budget or not
-either : (m n : ℕ) → (m ≤ n) ⊎ (n < m)
+pub either : (m n : ℕ) → (m ≤ n) ⊎ (n < m)
 either m n = go (bool-cases (ltb n m))
   where
     go : (ltb n m ≡ true) ⊎ (ltb n m ≡ false) → (m ≤ n) ⊎ (n < m)
     go (inl t) = inr (ltb-lt n m t)
     go (inr f) = inl (ltb-false n m f)
-
-matched-place : (b : Bool) (n m : ℕ) → upto.Place n ≡ matched b m → b ≡ true
-matched-place true n m e = refl
-matched-place false n m e = absurd (true≢false (ap isPlace e))
-  where
-    isPlace : U.Upto → Bool
-    isPlace (upto.Place x) = true
-    isPlace upto.Nothing = false
-
-matched-nothing : (b : Bool) (m : ℕ) → upto.Nothing ≡ matched b m → b ≡ false
-matched-nothing false m e = refl
-matched-nothing true m e = absurd (true≢false (ap isNothing e))
-  where
-    isNothing : U.Upto → Bool
-    isNothing (upto.Place x) = false
-    isNothing upto.Nothing = true
 
 -- ---- the choice of a clause
 
@@ -109,7 +94,7 @@ choosing-next {S} {work} {at} {from} {stop} {vars₀} {vars} {vars′} {m} q c e
       notYet = λ v n a b h hit miss.
           let r = c .notYet v n a b h hit miss in
           let r₀ = r .0 in
-          let f : alike (S m) v ≡ false = subst (λ p. alike p v ≡ false) e (matched-nothing _ _ (missed v a)) in
+          let f : alike (S m) v ≡ false = subst (λ p. alike p v ≡ false) e (nothing-alike _ _ (missed v a)) in
           let other : m ≡ from + n → ⊥ = λ k. not-both hit (subst (λ x. alike (S x) v ≡ false) k f) in
           let later : m < from + n = further m (from + n) r₀ other in
           (omega (arith, later), subst (λ u. Below u (at + length (letters v))) (sym (range v a)) (below-ranges q v at vars _ (r .1) (omega arith)));
@@ -129,7 +114,7 @@ pub choosing-found : {S : ℕ → Pat} {work : List ℕ} {at from stop : ℕ} {v
     → ((k : ℕ) → k < n → alike (S (from + k)) v ≡ false) → Chosen (S (from + n)) v at vars₀ vars′ (from + n) m
 choosing-found {S} {work} {at} {from} {stop} {vars₀} {vars} {vars′} {m} q c e took range v n a b h hit miss =
     let r = c .notYet v n a b h hit miss in
-    let hits : alike (S m) v ≡ true = subst (λ p. alike p v ≡ true) e (matched-place _ _ _ (took v a)) in
+    let hits : alike (S m) v ≡ true = subst (λ p. alike p v ≡ true) e (place-alike _ _ _ (took v a) .0) in
     let same : m ≡ from + n = here (either (from + n) m) (r .0) (c .onward) hits in
     record {
       place = same;
@@ -558,15 +543,9 @@ placed t base index back i o v place c {first} e chosen bound before =
       within = here .0;
       is = here .1;
       hit = subst (λ p. alike p v ≡ true) (ap (λ x. x .lhs) (here .1) ∙ lhs-at t base back _ _) hits;
-      miss = λ k h. missed k h (before-some (o .clauses) place k chosen h);
+      miss = λ k h. missed k h (inside (o .clauses) k (let b = index-below (o .clauses) place chosen in omega (arith, b)));
     }
   where
-    before-some : (cs : List Clause) (n k : ℕ) → getElem? cs n ≡ some c → k < n → (b : Clause) × (getElem? cs k ≡ some b)
-    before-some [] n k h less = absurd (none≢some h)
-    before-some (x ∷ xs) n zero h less = (x, refl)
-    before-some (x ∷ xs) zero (suc k) h less = absurd (omega arith)
-    before-some (x ∷ xs) (suc n) (suc k) h less = before-some xs n k h (omega arith)
-
     missed : (k : ℕ) → k < place → (b : Clause) × (getElem? (o .clauses) k ≡ some b) → alike (sideAt t base index back (placeAt index i + 1 + k)) v ≡ false
     missed k h b =
         let there = clause-at t base index back i k (subst (λ x. getElem? (x .clauses) k ≡ some (b .0)) e (b .1)) in
@@ -702,6 +681,11 @@ applied-done {i = i} {end = end} {left = left} {rest = rest} {top = top} {after 
             let both = length-append (take a l) bs in
             ap (take (a + length bs)) (sets-eq bs l a h) ∙ take-at (take a l ++ bs) (drop (a + length bs) l) (a + length bs) (omega (arith, t, both))
 
+-- a budget that is not spent, less one and one more
+one-left : (n : ℕ) → (n ≡ 0 → ⊥) → n - 1 + 1 ≡ n
+one-left zero h = absurd (h refl)
+one-left (suc n) h = omega arith
+
 -- the choice in an application: its clause, by the places read
 pub choice : (t : List ℕ) (base : ℕ) (index : List ℕ) (back : Bool) (i r row below at end : ℕ) {h stop : ℕ} {w₀ vars′ : List ℕ}
     → ChoiceSays t base index back (h + 1) stop w₀ at (replicate 64 0) vars′ r → h ≡ placeAt index i → stop ≡ placeAt index (i + 1)
@@ -724,10 +708,6 @@ pub apply-spent : (t : List ℕ) (base : ℕ) (index : List ℕ) (back : Bool) (
 apply-spent t base index back i r row below at end left says h s row′ below′ some′ lets told os d v w m laid run a small e room most =
     let p = choice t base index back i r row below at end says h s row′ below′ os d v w m laid run a small e room most .1 in
     applied-spent p (ran at v laid lets p small e room most) told (one-left left some′)
-  where
-    one-left : (n : ℕ) → (n ≡ 0 → ⊥) → n - 1 + 1 ≡ n
-    one-left zero h = absurd (h refl)
-    one-left (suc n) h = omega arith
 
 pub apply-done : (t : List ℕ) (base : ℕ) (index : List ℕ) (back : Bool) (i r row below at end left : ℕ) {h stop top x jr fr last after : ℕ} {w₀ w₁ w₂ w₃ vars vars′ : List ℕ} {z : R.Reduced}
     → ChoiceSays t base index back (h + 1) stop w₀ at (replicate 64 0) vars r → h ≡ placeAt index i → stop ≡ placeAt index (i + 1)
@@ -740,10 +720,6 @@ apply-done t base index back i r row below at end left says h s row′ below′ 
     let p = choice t base index back i r row below at end says h s row′ below′ os d v w m laid run a small e room most .1 in
     applied-done at v (patternOf t base _) p (ran at v laid lets p small e room most) told (one-left left some′) (p .few) small e room wide
     (ap (patternOf t base) (cell ∙ ap (cellOf t row) side)) writes copy
-  where
-    one-left : (n : ℕ) → (n ≡ 0 → ⊥) → n - 1 + 1 ≡ n
-    one-left zero h = absurd (h refl)
-    one-left (suc n) h = omega arith
 
 -- ---- the measures of the cycle, three for each iso
 

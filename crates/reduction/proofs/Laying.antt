@@ -23,6 +23,12 @@ use Rattle.nodes.specs.InTable.{letAt, letsIn, clauseIn}
 use Rattle.index.specs.Index.{placeAt, clausesAt, isoAt, isosAt}
 use Rattle.reduction.specs.Frames.{sided, sidedClause, sidedLet, sidedLets, sideAt, Laid}
 
+-- an element within a list
+pub inside : {A : Type 0} (xs : List A) (i : ℕ) → i < length xs → (x : A) × (getElem? xs i ≡ some x)
+inside [] i h = absurd (not-suc-le-zero h)
+inside (x ∷ xs) zero h = (x, refl)
+inside (x ∷ xs) (suc i) h = inside xs i (le-of-suc-le-suc h)
+
 -- ---- isos
 
 iso-of : (t : List ℕ) (base : ℕ) (index : List ℕ) (a n i : ℕ) {o : Iso} → getElem? (isosAt t base index a n) i ≡ some o → o ≡ isoAt t base index (a + i)

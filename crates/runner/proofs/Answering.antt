@@ -3,7 +3,7 @@ use Prim.Native.Nat.{ℕ, _+_, _-_, _≤_, _<_, min}
 use native.Mathlib.Omega.{arith}
 use native.Mathlib.Nat.{sub-zero}
 use mathlib.Core.Path.{_≡_, refl, sym, ap, ap₂, _∙_, subst}
-use mathlib.Core.Bool.{Bool, true, false, _||_, true≢false}
+use mathlib.Core.Bool.{Bool, true, false, _||_, or-true, or-false, true≢false}
 use mathlib.Core.Option.{Option, none, some}
 use mathlib.Core.List.{List, [], _++_}
 use lib.Dec.{ltb}
@@ -22,29 +22,14 @@ use Rattle.model.proofs.Basic.{isSome-true, ltb-false}
 use Rattle.areas.specs.Areas.{cleared}
 use Rattle.checker.specs.CheckSays.{CheckSays, Accepted}
 use Rattle.checker.specs.declared.Checked as C
-use Rattle.checker.proofs.Checks.{cleared-filled, number-positive, unless-accepted}
+use Rattle.checker.proofs.Checks.{cleared-filled, number-positive, unless-accepted, flag-none}
 use Rattle.runner.specs.declared.run.Ran as R
 use Rattle.runner.specs.RunSays.{Prepared, answerFor, RanAs, RunSays}
 
-or-true : (b : Bool) → (b || true) ≡ true
-or-true true = refl
-or-true false = refl
-
-or-false : (b : Bool) → (b || false) ≡ b
-or-false true = refl
-or-false false = refl
-
-or-left : (a b : Bool) → (a || b) ≡ false → a ≡ false
-or-left true b e = absurd (true≢false e)
-or-left false b e = refl
-
+-- neither of two is so
 or-right : (a b : Bool) → (a || b) ≡ false → b ≡ false
 or-right true b e = absurd (true≢false e)
 or-right false b e = e
-
-isSome-false : {A : Type 0} (x : Option A) → isSome x ≡ false → x ≡ none
-isSome-false none e = refl
-isSome-false (some a) e = absurd (true≢false e)
 
 -- ---- Run, by the verdict
 
@@ -116,7 +101,7 @@ whole : (s t w t′ w′ : List ℕ) (c : C.Checked) (b : Bool) → CheckSays s 
     → b ≡ isSome (refusalView (c .answer .refusal)) → b ≡ false → Whole s t w t′ w′ c
 unfolding check
 whole s t w t′ w′ c b says acc e y =
-    let n : refusalView (c .answer .refusal) ≡ none = isSome-false (refusalView (c .answer .refusal)) (sym e ∙ y) in
+    let n : refusalView (c .answer .refusal) ≡ none = flag-none b (refusalView (c .answer .refusal)) e y in
     let a = acc n in
     let u = unless-accepted (short t w) (verdict s) (sym (says .number) ∙ ap numbered n) in
     let v : unless (short t w) (verdict s) ≡ accepted (a .file) = u .1 ∙ a .accepts in

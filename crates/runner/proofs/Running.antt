@@ -40,8 +40,8 @@ use Rattle.values.proofs.Tracing.{traced}
 use Rattle.reduction.specs.declared.Reduced as D
 use Rattle.reduction.specs.declared.Reduced.the-variants as reduced
 use Rattle.reduction.specs.Frames.{sided, frame, Laid, Applied}
-use Rattle.reduction.proofs.Laying.{laid, from-at}
-use Rattle.reduction.proofs.Framing.{ApplySays, done-place, done-left, done≢spent}
+use Rattle.reduction.proofs.Laying.{inside, laid, from-at}
+use Rattle.reduction.proofs.Framing.{ApplySays, either, done-place, done-left, done≢spent}
 use Rattle.runner.specs.declared.run.Ran as R
 use Rattle.runner.specs.Values.{alone}
 use Rattle.runner.specs.RunSays.{Prepared, answerFor, RanAs}
@@ -64,11 +64,6 @@ past : {A : Type 0} (xs : List A) (i : ℕ) → length xs ≤ i → getElem? xs 
 past [] i h = refl
 past (x ∷ xs) zero h = absurd (omega arith)
 past (x ∷ xs) (suc i) h = past xs i (omega arith)
-
-inside : {A : Type 0} (xs : List A) (i : ℕ) → i < length xs → (x : A) × (getElem? xs i ≡ some x)
-inside [] i h = absurd (omega arith)
-inside (x ∷ xs) zero h = (x, refl)
-inside (x ∷ xs) (suc i) h = inside xs i (omega arith)
 
 -- the model's run, by its cases
 on-none : (rs : List Row) (i budget : ℕ) (value : List ℕ) → getElem? (isosOf rs) i ≡ none → runRows rs i budget value ≡ failed noIso
@@ -201,13 +196,6 @@ within-gives budget m w h = ap (λ b. cond b (gives m (letters w)) (failed spent
 
 within-spent : (budget m : ℕ) (w : Val) → budget < m → within budget (some (w, m)) ≡ failed spent
 within-spent budget m w h = ap (λ b. cond b (gives m (letters w)) (failed spent)) (not-leb h)
-
-either : (m n : ℕ) → (m ≤ n) ⊎ (n < m)
-either m n = go (bool-cases (leb m n))
-  where
-    go : (leb m n ≡ true) ⊎ (leb m n ≡ false) → (m ≤ n) ⊎ (n < m)
-    go (inl t) = inl (leb-le m n t)
-    go (inr f) = inr (leb-false m n f)
 
 -- a result within the budget
 ran-done : {t : List ℕ} {base : ℕ} {index : List ℕ} {i : ℕ} {back : Bool} {budget : ℕ} {value : List ℕ} {rs : List Row} (work₁ work₂ o o′ : List ℕ) (n left : ℕ) {z : D.Reduced} (r : R.Ran)

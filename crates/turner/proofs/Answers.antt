@@ -3,7 +3,7 @@ use Prim.Native.Nat.{ℕ, _+_, _≤_, _<_}
 use native.Mathlib.Nat.{zero-add}
 use native.Mathlib.Omega.{arith}
 use mathlib.Core.Path.{_≡_, refl, sym, ap, _∙_, subst}
-use mathlib.Core.Bool.{Bool, true, false, _||_, true≢false}
+use mathlib.Core.Bool.{Bool, true, false, _||_, or-true, or-false}
 use mathlib.Core.Option.{Option, none, some}
 use mathlib.Core.List.{List, [], _++_}
 use lib.Dec.{ltb}
@@ -20,7 +20,7 @@ use Rattle.model.proofs.Basic.{isSome-true}
 use Rattle.model.proofs.Files.{turned-length}
 use Rattle.areas.specs.Areas.{Writes}
 use Rattle.checker.specs.CheckSays.{CheckSays, Accepted}
-use Rattle.checker.proofs.Checks.{number-positive, unless-accepted}
+use Rattle.checker.proofs.Checks.{number-positive, unless-accepted, flag-none}
 use Rattle.checker.specs.declared.Checked as C
 use Rattle.turner.specs.Written.{FileWritten}
 use Rattle.turner.specs.TurnSays.{TurnSays}
@@ -28,24 +28,12 @@ use Rattle.turner.specs.declared.Turned as T
 
 -- ---- refusals
 
-isSome-false : {A : Type 0} (x : Option A) → isSome x ≡ false → x ≡ none
-isSome-false none e = refl
-isSome-false (some a) e = absurd (true≢false e)
-
 -- a refusal writes nothing
 nothing-turned : (v : Verdict) → 0 < answerOf v .number → turnedOf v ≡ []
 nothing-turned (accepted rs) h = absurd (omega arith)
 nothing-turned (refused f n) h = refl
 
 -- ---- Turn, by the verdict
-
-or-true : (b : Bool) → (b || true) ≡ true
-or-true true = refl
-or-true false = refl
-
-or-false : (b : Bool) → (b || false) ≡ b
-or-false true = refl
-or-false false = refl
 
 -- an answer, a length and areas that agree with a verdict
 record Agrees (t w o t′ w′ o′ : List ℕ) (r : T.Turned) (v : Verdict) : Type 0 where
@@ -115,7 +103,7 @@ pub turn-accepted : (s t w o t′ w′ o′ : List ℕ) (c : C.Checked) (r : T.T
 unfolding check
 turn-accepted s t w o t′ w′ o′ c r b end h says acc e y file same l =
     let v : Verdict = unless (short t w) (verdict s) in
-    let n : refusalView (c .answer .refusal) ≡ none = isSome-false (refusalView (c .answer .refusal)) (sym e ∙ y) in
+    let n : refusalView (c .answer .refusal) ≡ none = flag-none b (refusalView (c .answer .refusal)) e y in
     let a : Accepted s t′ c = acc n in
     let rs : List Row = a .file in
     let whole : v ≡ accepted rs = unless-accepted (short t w) (verdict s) (sym (says .number) ∙ ap numbered n) .1 ∙ a .accepts in

@@ -16,11 +16,7 @@ use Rattle.nodes.proofs.Unfolding.{pattern-unit, pattern-var, pattern-left, pat
 use Rattle.values.specs.Texts.{Below, built}
 use Rattle.values.proofs.Lines.{named}
 use Rattle.values.proofs.Copying.{put-place}
-
--- what stands below the place of writing stays
-take-sets : (top : ℕ) (bs l : List ℕ) (at : ℕ) → top ≤ at → take top (sets l at bs) ≡ take top l
-take-sets top [] l at h = refl
-take-sets top (b ∷ bs) l at h = take-sets top bs (set l at b) (suc at) (omega arith) ∙ take-set-le top l at b h
+use Rattle.values.proofs.Agreeing.{take-sets}
 
 -- the area l is l′ once p is written from place `at` on, `end` the place behind it
 abbrev pub Builds : List ℕ → List ℕ → List ℕ → ℕ → ℕ → Pat → Type 0
@@ -73,7 +69,7 @@ module _ {vars l : List ℕ} {at : ℕ} where
       whole k =
           let place = before .place (fits k) in
           let still : take top l₂ ≡ take top l =
-          ap (take top) (before .area (fits k)) ∙ take-sets top (80 ∷ built p (take top l) vars) l at h in
+          ap (take top) (before .area (fits k)) ∙ take-sets l (80 ∷ built p (take top l) vars) at top h in
           writes-both before (writes-as (ap (λ x. built q x vars) still) (g top b (omega arith)))
 
 -- ---- P lines: k is the kind, x and y the numbers behind it, a and c the lines that line j names

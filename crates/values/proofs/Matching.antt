@@ -137,12 +137,12 @@ module _ {s : List ℕ} {at : ℕ} {vars : List ℕ} where
       right-ranges (vpair v w) a = refl
 
 -- a place is answered: the shapes are alike
-place-alike : (b : Bool) (m n : ℕ) → upto.Place m ≡ matched b n → (b ≡ true) × (m ≡ n)
+pub place-alike : (b : Bool) (m n : ℕ) → upto.Place m ≡ matched b n → (b ≡ true) × (m ≡ n)
 place-alike true m n e = (refl, cc)
 place-alike false m n e = let z : _≡_ {A = ℕ} 0 1 = cc in absurd (omega arith)
 
 -- no place: the shapes differ
-nothing-alike : (b : Bool) (n : ℕ) → upto.Nothing ≡ matched b n → b ≡ false
+pub nothing-alike : (b : Bool) (n : ℕ) → upto.Nothing ≡ matched b n → b ≡ false
 nothing-alike true n e = let z : _≡_ {A = ℕ} 0 1 = cc in absurd (omega arith)
 nothing-alike false n e = refl
 

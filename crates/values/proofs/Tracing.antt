@@ -32,23 +32,10 @@ use Rattle.model.proofs.Joins.{EnvOf, build-total, build-all, bind-total, lhs-t
 use Rattle.model.proofs.Totality.{Sound}
 use Rattle.model.proofs.Runs.{Good, GoodRows, good, results}
 use Rattle.values.specs.Texts.{alike}
+use Rattle.values.proofs.Agreeing.{of-small}
 use Rattle.values.specs.Traces.{Small, LetsTrace, ClauseTrace, Runs}
 
 -- ---- a value has no more letters than its type has nodes
-
--- a part of a sum has fewer nodes
-part-nodes : (t : Tag) (a b : Ty) → suc (typeNodes (part t a b)) ≤ typeNodes (tsum a b)
-part-nodes left a b = omega arith
-part-nodes right a b = omega arith
-
--- at most one letter a node
-pub letters-nodes : {v : Val} {a : Ty} → Of v a → length (letters v) ≤ typeNodes a
-letters-nodes Of.unit = omega arith
-letters-nodes (Of.inj {t = t} {v = v} {a = a} {b = b} o) = let h = letters-nodes o in let k = part-nodes t a b in omega arith
-letters-nodes (Of.pair {v = v} {w = w} o p) =
-    let h = letters-nodes o in let k = letters-nodes p in omega (arith, length-append (letters v) (letters w))
-
--- ---- patterns of a value's shape
 
 -- the test, as a judgement
 pub alike-of : (p : Pat) (v : Val) → alike p v ≡ true → Alike p v
@@ -118,8 +105,8 @@ called-told {os} {call} {rel} small h j {s} {u} {w} {k} e t c =
     told n f o =
         let r = h j n f u w k o c in
         let b = small n (index-mem os j f) in
-        let x = letters-nodes o in
-        let y = letters-nodes (r .1) in
+        let x = of-small o in
+        let y = of-small (r .1) in
         record { called = r .0; given = omega arith; gives = omega arith; typed = r .1 }
 
 -- let steps that have run, with values of the context's types before and after
@@ -182,7 +169,7 @@ module _ {os : List Iso} (S : Sound os) (small : SmallTypes os) (few : AllFewLet
   clause-traced c n f r ls =
       let mem = index-mem os i e in
       let typed = built-typed (ls .fits) (ls .env) (r .built) in
-      let short = letters-nodes typed in
+      let short = of-small typed in
       let b = small o mem in (
         record {
           place = n;
@@ -332,10 +319,10 @@ runs-least (suc d) os i v w m r = let h = r .2 .counts in omega arith
 
 -- the letters of a closed value of an iso's from-type, and of its to-type, fit a frame
 pub from-small : (rs : List Row) → GoodRows rs → (i : ℕ) (o : Iso) → getElem? (isosOf rs) i ≡ some o → (v : Val) → Of v (o .from) → Small v
-from-small rs g i o e v t = let b = small-types (g .passes) o (index-mem (isosOf rs) i e) in let n = letters-nodes t in omega arith
+from-small rs g i o e v t = let b = small-types (g .passes) o (index-mem (isosOf rs) i e) in let n = of-small t in omega arith
 
 pub to-small : (rs : List Row) → GoodRows rs → (i : ℕ) (o : Iso) → getElem? (isosOf rs) i ≡ some o → (w : Val) → Of w (o .to) → Small w
-to-small rs g i o e w t = let b = small-types (g .passes) o (index-mem (isosOf rs) i e) in let n = letters-nodes t in omega arith
+to-small rs g i o e w t = let b = small-types (g .passes) o (index-mem (isosOf rs) i e) in let n = of-small t in omega arith
 
 -- from a closed value of the from-type there is a trace, as deep as there are isos
 pub traced : (rs : List Row) → GoodRows rs → (i : ℕ) (o : Iso) → getElem? (isosOf rs) i ≡ some o → (v : Val) → Of v (o .from)
