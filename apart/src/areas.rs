@@ -32,62 +32,6 @@ pub struct Ran {
     pub length: usize,
 }
 
-/// Refusal 1, "a lent area is shorter than stated", line 0; then the file is
-/// checked and the two areas are left as document 01 says.
-fn enter(short: bool, file: &[u8], table: &mut [u16], work: &mut [u8]) -> Result<Rules, Refusal> {
-    if short || table.len() < TABLE || work.len() < WORK {
-        return Err(Refusal { number: 1, line: 0 });
-    }
-    let checked = check(file);
-    // "Refusals 1 and 2 change nothing."
-    if matches!(&checked, Err(refusal) if refusal.number == 2) {
-        return checked;
-    }
-    // "zeros fill the rest of the first 16,384. On refusals 3 to 14 those are
-    // all zero. The first 65,536 bytes of the work area are zero."
-    table[..TABLE].fill(0);
-    work[..WORK].fill(0);
-    // "the table holds, if the file is accepted, four numbers a line: the
-    // letter's ASCII code, then the fields, padded with 0".
-    if let Ok(rules) = &checked {
-        for (four, row) in table.chunks_mut(4).zip(&rules.rows) {
-            four[0] = u16::from(row.letter);
-            four[1..].copy_from_slice(&row.fields);
-        }
-    }
-    checked
-}
-
-/// Check with lent areas.
-pub fn check_areas(file: &[u8], table: &mut [u16], work: &mut [u8]) -> Checked {
-    match enter(false, file, table, work) {
-        Ok(_) => Checked { number: 0, line: 0 },
-        Err(Refusal { number, line }) => Checked { number, line },
-    }
-}
-
-/// Turn with lent areas: "Its area must be as long as the file."
-pub fn turn_areas(file: &[u8], table: &mut [u16], work: &mut [u8], output: &mut [u8]) -> Turned {
-    match enter(output.len() < file.len(), file, table, work) {
-        Ok(rules) => {
-            let written = turn_rules(&rules);
-            output[..written.len()].copy_from_slice(&written);
-            Turned {
-                number: 0,
-                line: 0,
-                length: written.len(),
-            }
-        }
-        // "Any refusal gives count 0, length 0, and leaves the output area
-        // untouched."
-        Err(Refusal { number, line }) => Turned {
-            number,
-            line,
-            length: 0,
-        },
-    }
-}
-
 /// The four things a query names.
 #[derive(Debug, PartialEq, Eq, Clone, Copy)]
 pub struct Query<'a> {
@@ -97,7 +41,108 @@ pub struct Query<'a> {
     pub value: &'a [u8],
 }
 
-/// Run with lent areas.
+/// A file with what its check gives, for several calls on one file.
+pub struct Known<'a> {
+    pub file: &'a [u8],
+    pub checked: Result<Rules, Refusal>,
+}
+
+impl<'a> Known<'a> {
+    pub fn of(file: &'a [u8]) -> Known<'a> {
+        let checked = check(file);
+        Known { file, checked }
+    }
+
+    /// Refusal 1, "a lent area is shorter than stated", line 0; then what the
+    /// check of the file gives, with the two areas left as document 01 says.
+    fn enter(&self, short: bool, table: &mut [u16], work: &mut [u8]) -> Result<&Rules, Refusal> {
+        if short || table.len() < TABLE || work.len() < WORK {
+            return Err(Refusal { number: 1, line: 0 });
+        }
+        let checked = self.checked.as_ref().map_err(|refusal| *refusal);
+        // "Refusals 1 and 2 change nothing."
+        if matches!(checked, Err(refusal) if refusal.number == 2) {
+            return checked;
+        }
+        // "zeros fill the rest of the first 16,384. On refusals 3 to 14 those
+        // are all zero. The first 65,536 bytes of the work area are zero."
+        table[..TABLE].fill(0);
+        work[..WORK].fill(0);
+        // "the table holds, if the file is accepted, four numbers a line: the
+        // letter's ASCII code, then the fields, padded with 0".
+        if let Ok(rules) = checked {
+            for (four, row) in table.chunks_mut(4).zip(&rules.rows) {
+                four[0] = u16::from(row.letter);
+                four[1..].copy_from_slice(&row.fields);
+            }
+        }
+        checked
+    }
+
+    /// Check with lent areas.
+    pub fn check(&self, table: &mut [u16], work: &mut [u8]) -> Checked {
+        match self.enter(false, table, work) {
+            Ok(_) => Checked { number: 0, line: 0 },
+            Err(Refusal { number, line }) => Checked { number, line },
+        }
+    }
+
+    /// Turn with lent areas: "Its area must be as long as the file."
+    pub fn turn(&self, table: &mut [u16], work: &mut [u8], output: &mut [u8]) -> Turned {
+        match self.enter(output.len() < self.file.len(), table, work) {
+            Ok(rules) => {
+                let written = turn_rules(rules);
+                output[..written.len()].copy_from_slice(&written);
+                Turned {
+                    number: 0,
+                    line: 0,
+                    length: written.len(),
+                }
+            }
+            // "Any refusal gives count 0, length 0, and leaves the output area
+            // untouched."
+            Err(Refusal { number, line }) => Turned {
+                number,
+                line,
+                length: 0,
+            },
+        }
+    }
+
+    /// Run with lent areas.
+    pub fn run(&self, table: &mut [u16], work: &mut [u8], query: Query, result: &mut [u8]) -> Ran {
+        let ran = self
+            .enter(result.len() < RESULT, table, work)
+            .and_then(|rules| run_rules(rules, query.iso, query.back, query.budget, query.value));
+        match ran {
+            Ok((count, letters)) => {
+                result[..letters.len()].copy_from_slice(&letters);
+                Ran {
+                    number: 0,
+                    count,
+                    length: letters.len(),
+                }
+            }
+            Err(Refusal { number, .. }) => Ran {
+                number,
+                count: 0,
+                length: 0,
+            },
+        }
+    }
+}
+
+/// Check of a file with lent areas.
+pub fn check_areas(file: &[u8], table: &mut [u16], work: &mut [u8]) -> Checked {
+    Known::of(file).check(table, work)
+}
+
+/// Turn of a file with lent areas.
+pub fn turn_areas(file: &[u8], table: &mut [u16], work: &mut [u8], output: &mut [u8]) -> Turned {
+    Known::of(file).turn(table, work, output)
+}
+
+/// Run of a file with lent areas.
 pub fn run_areas(
     file: &[u8],
     table: &mut [u16],
@@ -105,21 +150,5 @@ pub fn run_areas(
     query: Query,
     result: &mut [u8],
 ) -> Ran {
-    let ran = enter(result.len() < RESULT, file, table, work)
-        .and_then(|rules| run_rules(&rules, query.iso, query.back, query.budget, query.value));
-    match ran {
-        Ok((count, letters)) => {
-            result[..letters.len()].copy_from_slice(&letters);
-            Ran {
-                number: 0,
-                count,
-                length: letters.len(),
-            }
-        }
-        Err(Refusal { number, .. }) => Ran {
-            number,
-            count: 0,
-            length: 0,
-        },
-    }
+    Known::of(file).run(table, work, query, result)
 }

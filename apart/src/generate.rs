@@ -4,12 +4,16 @@
 pub mod ceiling;
 pub mod damage;
 pub mod draft;
+pub mod fault;
+pub mod ground;
 pub mod miss;
+pub mod pair;
 pub mod plan;
 pub mod query;
 pub mod random;
 pub mod scribe;
 pub mod shape;
+pub mod tower;
 
 use crate::check;
 use random::Random;
@@ -20,7 +24,7 @@ pub fn accepted(random: &mut Random) -> Vec<u8> {
     loop {
         let file = match random.below(12) {
             0 => ceiling::at_ceiling(random, false),
-            1 => plan::tower(random),
+            1 => tower::tower(random),
             _ => {
                 let isos = plan::isos(random);
                 scribe::file(random, &isos)
@@ -48,7 +52,12 @@ pub fn any_file(random: &mut Random) -> Vec<u8> {
             let number = 2 + random.below(13) as u8;
             miss::aimed(random, number)
         }
-        75..=84 => miss::two_faults(random),
+        75..=79 => miss::two_faults(random),
+        80..=84 => {
+            let pair = *random.pick(&pair::all());
+            let [both, ..] = pair::make(random, pair).files;
+            both
+        }
         85..=96 => damage::damaged(random),
         _ => damage::noise(random),
     }

@@ -4,9 +4,9 @@
 use apart::cover::{covers, orthogonal};
 use apart::generate::random::Random;
 use apart::generate::shape::{self, Sketch};
-use apart::generate::{accepted, any_file, ceiling, miss, query};
+use apart::generate::{accepted, any_file, ceiling, miss, pair, query};
 use apart::tree::{Pattern, Type};
-use apart::{check, run_rules, turn, Rules};
+use apart::{check, run_rules, turn, Refusal, Rules};
 use std::rc::Rc;
 
 #[test]
@@ -14,10 +14,10 @@ fn accepted_files_turn_twice_and_run_there_and_back() {
     let mut random = Random::new(11);
     for _ in 0..150 {
         let file = accepted(&mut random);
-        let rules = check(&file).ok().expect("accepted");
+        let rules = check(&file).expect("accepted");
         let turned = turn(&file).unwrap();
         assert_eq!(turned.len(), file.len());
-        let back = check(&turned).ok().expect("the turned file is accepted");
+        let back = check(&turned).expect("the turned file is accepted");
         assert_eq!(turn(&turned).unwrap(), file);
         for (iso, _) in rules.isos.iter().enumerate() {
             there_and_back(&mut random, &rules, &back, iso);
@@ -55,6 +55,26 @@ fn each_refusal_of_a_file_is_hit_when_aimed_at() {
             assert_eq!(
                 check(&file).err().map(|refusal| refusal.number),
                 Some(number)
+            );
+        }
+    }
+}
+
+/// The answers that a pair promises come from the order in document 01, not
+/// from the checker.
+#[test]
+fn each_pair_of_faults_is_made() {
+    let mut random = Random::new(17);
+    let pairs = pair::all();
+    assert_eq!(pairs.len(), 168);
+    for pair in pairs.iter().cycle().take(3 * pairs.len()) {
+        let made = pair::make(&mut random, *pair);
+        for (file, (number, line)) in made.files.iter().zip(made.answers) {
+            let text = String::from_utf8_lossy(file);
+            assert_eq!(
+                check(file).err(),
+                Some(Refusal { number, line }),
+                "{pair:?}\n{text}"
             );
         }
     }
@@ -98,7 +118,7 @@ fn accepted_files_take_many_shapes() {
     let (mut lets, mut wide, mut deep, mut moved, mut many) = (0, 0, 0, 0, 0);
     let (mut full, mut split, mut paired) = (0, 0, 0);
     for _ in 0..400 {
-        let rules = check(&accepted(&mut random)).ok().expect("accepted");
+        let rules = check(&accepted(&mut random)).expect("accepted");
         let clauses = || rules.isos.iter().flat_map(|iso| &iso.clauses);
         let steps = || clauses().flat_map(|clause| &clause.lets);
         lets += usize::from(steps().next().is_some());

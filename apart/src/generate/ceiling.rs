@@ -5,26 +5,74 @@ use super::plan;
 use super::random::Random;
 use super::scribe;
 use super::shape::exact_type;
+use crate::check;
 use crate::lines::{BYTES, ISOS, LETS, LINES, PATTERNS, SIDES, TYPES};
 use crate::tree::Type;
 
-/// A file at one of the ceilings; with `over` one line or node over it.
+/// The ceilings of document 01 that an accepted file can stand at. None has
+/// 65,536 bytes: its 4,096 lines are too short for that.
+#[derive(Debug, Clone, Copy, PartialEq, Eq)]
+pub enum Ceiling {
+    Lines,
+    Types,
+    Patterns,
+    Isos,
+    Clauses,
+    Lets,
+    TypeNodes,
+    PatternNodes,
+    Sides,
+}
+
+pub const CEILINGS: [Ceiling; 9] = [
+    Ceiling::Lines,
+    Ceiling::Types,
+    Ceiling::Patterns,
+    Ceiling::Isos,
+    Ceiling::Clauses,
+    Ceiling::Lets,
+    Ceiling::TypeNodes,
+    Ceiling::PatternNodes,
+    Ceiling::Sides,
+];
+
+/// A file at one of the ceilings; with `over` one line or node over one that
+/// is refused with 7.
 pub fn at_ceiling(random: &mut Random, over: bool) -> Vec<u8> {
-    let mut isos = plan::isos(random);
-    isos.truncate(6);
-    let mut draft = Draft::of(&scribe::file(random, &isos));
-    match random.below(8) {
-        0 if !over && random.chance(40) => return many_lines(random, false),
-        0 => fill(&mut draft, b'T', TYPES, over),
-        1 => fill(&mut draft, b'P', PATTERNS, over),
-        2 => many_isos(&mut draft, over),
-        3 => return many_clauses(random, over),
-        4 => many_lets(&mut draft, over),
-        5 => wide_type(random, &mut draft, over),
-        6 => wide_pattern(random, &mut draft, over),
-        _ => many_sides(random, &mut draft, over),
+    let ceiling = match random.below(8) {
+        0 if !over && random.chance(40) => Ceiling::Lines,
+        place => CEILINGS[1 + place],
+    };
+    at(random, ceiling, over)
+}
+
+/// A file at the ceiling; with `over` one line or node over it.
+pub fn at(random: &mut Random, ceiling: Ceiling, over: bool) -> Vec<u8> {
+    let mut draft = Draft::of(&base(random, 6));
+    match ceiling {
+        Ceiling::Lines => return many_lines(random, over),
+        Ceiling::Types => fill(&mut draft, b'T', TYPES, over),
+        Ceiling::Patterns => fill(&mut draft, b'P', PATTERNS, over),
+        Ceiling::Isos => many_isos(&mut draft, over),
+        Ceiling::Clauses => return many_clauses(random, over),
+        Ceiling::Lets => many_lets(&mut draft, over),
+        Ceiling::TypeNodes => one_over_type(random, &mut draft, over),
+        Ceiling::PatternNodes => one_over_pattern(random, &mut draft, over),
+        Ceiling::Sides => one_over_sides(random, &mut draft, over),
     }
     draft.bytes()
+}
+
+/// An accepted file with at most so many isos.
+pub fn base(random: &mut Random, most: usize) -> Vec<u8> {
+    loop {
+        let mut isos = plan::isos(random);
+        isos.truncate(most);
+        let file = scribe::file(random, &isos);
+        if check(&file).is_ok() {
+            return file;
+        }
+    }
 }
 
 /// Unused lines up to the ceiling: "nothing tests it".
@@ -68,13 +116,18 @@ fn many_lets(draft: &mut Draft, over: bool) {
     }
 }
 
-fn wide_type(random: &mut Random, draft: &mut Draft, over: bool) {
-    let ty = exact_type(random, 127);
-    let number = add_type(draft, &ty);
+fn one_over_type(random: &mut Random, draft: &mut Draft, over: bool) {
+    let number = wide_type(random, draft);
     if over {
         let unit = draft.unit(b'T');
         draft.add(b'T', [1 + random.below(2) as u32, unit, number]);
     }
+}
+
+/// Adds a type of 127 nodes.
+fn wide_type(random: &mut Random, draft: &mut Draft) -> u32 {
+    let ty = exact_type(random, 127);
+    add_type(draft, &ty)
 }
 
 fn add_type(draft: &mut Draft, ty: &Type) -> u32 {
@@ -91,8 +144,15 @@ fn add_type(draft: &mut Draft, ty: &Type) -> u32 {
     }
 }
 
-/// 63 pairs with 64 leaves: 127 nodes.
-fn wide_pattern(random: &mut Random, draft: &mut Draft, over: bool) {
+fn one_over_pattern(random: &mut Random, draft: &mut Draft, over: bool) {
+    let number = wide_pattern(random, draft);
+    if over {
+        draft.add(b'P', [2 + random.below(2) as u32, number, 0]);
+    }
+}
+
+/// Adds a pattern of 63 pairs with 64 leaves: 127 nodes.
+fn wide_pattern(random: &mut Random, draft: &mut Draft) -> u32 {
     let leaf = draft.add(b'P', [1, random.below(32) as u32, 0]);
     let mut number = leaf;
     for _ in 0..63 {
@@ -103,33 +163,35 @@ fn wide_pattern(random: &mut Random, draft: &mut Draft, over: bool) {
         };
         number = draft.add(b'P', [4, a, b]);
     }
+    number
+}
+
+fn one_over_sides(random: &mut Random, draft: &mut Draft, over: bool) {
+    let number = many_sides(random, draft);
+    let unit = draft.unit(b'P');
+    draft.add(b'P', [4, unit, number]);
     if over {
         draft.add(b'P', [2 + random.below(2) as u32, number, 0]);
     }
 }
 
-/// Forty left and right nodes, some of them below pairs.
-fn many_sides(random: &mut Random, draft: &mut Draft, over: bool) {
+/// Adds a pattern of forty left and right nodes, some of them below pairs.
+fn many_sides(random: &mut Random, draft: &mut Draft) -> u32 {
     let unit = draft.unit(b'P');
     let one = draft.add(b'P', [2, unit, 0]);
-    let (mut number, mut sides) = (unit, 0);
-    while sides < SIDES {
-        let pair = random.chance(40);
+    let mut number = unit;
+    for _ in 0..SIDES {
         let kind = 2 + random.below(2) as u32;
         number = draft.add(
             b'P',
-            if pair {
+            if random.chance(40) {
                 [4, one, number]
             } else {
                 [kind, number, 0]
             },
         );
-        sides += 1;
     }
-    draft.add(b'P', [4, unit, number]);
-    if over {
-        draft.add(b'P', [2 + random.below(2) as u32, number, 0]);
-    }
+    number
 }
 
 /// A file of exactly 4,096 lines; with `over` one more line.
@@ -138,7 +200,12 @@ pub fn many_lines(random: &mut Random, over: bool) -> Vec<u8> {
     let wide = plan::wide(random);
     isos.extend((0..15).map(|_| wide.clone()));
     let mut draft = Draft::of(&scribe::file(random, &isos));
-    let unit = draft.unit(b'P');
+    let mut unit = draft.unit(b'P');
+    if random.chance(50) {
+        // The unit's last line has a number of four digits.
+        fill(&mut draft, b'P', PATTERNS - 1, false);
+        unit = draft.add(b'P', [0, 0, 0]);
+    }
     let wanted = LINES + usize::from(over);
     let mut rows = Vec::new();
     let mut spare = wanted.saturating_sub(draft.0.len());
@@ -160,8 +227,7 @@ pub fn many_lines(random: &mut Random, over: bool) -> Vec<u8> {
 /// A file of exactly 65,536 bytes, or one more: its lines are few and long, so
 /// it is refused either way.
 pub fn many_bytes(random: &mut Random, over: bool) -> Vec<u8> {
-    let isos = plan::isos(random);
-    let mut file = scribe::file(random, &isos);
+    let mut file = base(random, ISOS);
     let end = random.chance(50);
     let length = BYTES + usize::from(over);
     file.truncate(length / 2);
@@ -172,4 +238,11 @@ pub fn many_bytes(random: &mut Random, over: bool) -> Vec<u8> {
         file[length - 1] = b'\n';
     }
     file
+}
+
+/// A file repeated until it is too long by far.
+pub fn far_over(random: &mut Random) -> Vec<u8> {
+    let file = [&base(random, ISOS), &b"T,0,0,0\n"[..]].concat();
+    let length = BYTES + 1 + random.below(2 * BYTES);
+    file.into_iter().cycle().take(length).collect()
 }

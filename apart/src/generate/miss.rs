@@ -33,6 +33,7 @@ pub fn aimed(random: &mut Random, number: u8) -> Vec<u8> {
 fn attempt(random: &mut Random, base: &[u8], number: u8) -> Vec<u8> {
     let special = random.chance(50);
     match number {
+        2 if random.chance(20) => ceiling::far_over(random),
         2 if special => ceiling::many_lines(random, true),
         2 => ceiling::many_bytes(random, true),
         3 if random.chance(5) => ceiling::many_bytes(random, false),

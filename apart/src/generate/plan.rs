@@ -14,13 +14,13 @@ use crate::tree::{Pattern, Type};
 use std::rc::Rc;
 
 /// Typed variables.
-type Held = Vec<(u16, Rc<Type>)>;
+pub(super) type Held = Vec<(u16, Rc<Type>)>;
 
 /// A clause whose right pattern is not made yet.
-struct Open {
-    left: Rc<Pattern>,
-    lets: Vec<Let>,
-    held: Held,
+pub(super) struct Open {
+    pub left: Rc<Pattern>,
+    pub lets: Vec<Let>,
+    pub held: Held,
     fresh: Vec<u16>,
 }
 
@@ -28,7 +28,7 @@ fn unit() -> Rc<Type> {
     Rc::new(Type::Unit)
 }
 
-fn two() -> Rc<Type> {
+pub(super) fn two() -> Rc<Type> {
     Rc::new(Type::Sum(unit(), unit()))
 }
 
@@ -56,7 +56,7 @@ pub fn isos(random: &mut Random) -> Vec<Iso> {
 }
 
 /// The ceilings of trees and clauses.
-fn fits(iso: &Iso) -> bool {
+pub(super) fn fits(iso: &Iso) -> bool {
     let types = [&iso.from, &iso.to];
     let small = |pattern: &Pattern| pattern.nodes() <= NODES && pattern.sides() <= SIDES;
     types.iter().all(|ty| ty.nodes() <= NODES)
@@ -93,7 +93,7 @@ fn pool(earlier: &[Iso]) -> Vec<Rc<Type>> {
     types
 }
 
-fn some_type(random: &mut Random, earlier: &[Iso]) -> Rc<Type> {
+pub(super) fn some_type(random: &mut Random, earlier: &[Iso]) -> Rc<Type> {
     match random.below(12) {
         0 => exact_type(random, 127),
         1 => {
@@ -120,7 +120,7 @@ fn some_type(random: &mut Random, earlier: &[Iso]) -> Rc<Type> {
 }
 
 /// Cases that cover the type, no two of which match one value.
-fn cover(random: &mut Random, ty: &Rc<Type>) -> Vec<Sketch> {
+pub(super) fn cover(random: &mut Random, ty: &Rc<Type>) -> Vec<Sketch> {
     let most = if random.chance(20) {
         CLAUSES
     } else {
@@ -151,7 +151,7 @@ fn numbers(random: &mut Random) -> Vec<u16> {
 }
 
 /// Opens a clause by its left pattern; `None` when 32 variables do not do.
-fn open(random: &mut Random, case: &Sketch) -> Option<Open> {
+pub(super) fn open(random: &mut Random, case: &Sketch) -> Option<Open> {
     if case.holes().len() > 32 {
         return None;
     }
@@ -224,7 +224,12 @@ fn by_permutation(random: &mut Random, earlier: &[Iso]) -> Option<Iso> {
 
 /// The cases are permuted among those whose holes have the same types, and
 /// the variables among those of one type.
-fn permuted(random: &mut Random, ty: &Rc<Type>, cases: &[Sketch], earlier: &[Iso]) -> Option<Iso> {
+pub(super) fn permuted(
+    random: &mut Random,
+    ty: &Rc<Type>,
+    cases: &[Sketch],
+    earlier: &[Iso],
+) -> Option<Iso> {
     let mut free: Vec<&Sketch> = cases.iter().collect();
     random.shuffle(&mut free);
     let mut clauses = Vec::new();
@@ -322,7 +327,7 @@ fn add_lets(random: &mut Random, clause: &mut Open, earlier: &[Iso], same: bool)
 }
 
 /// A held variable of the type, taken out.
-fn one_of(random: &mut Random, ty: &Rc<Type>, held: &mut Held) -> Option<Rc<Pattern>> {
+pub(super) fn one_of(random: &mut Random, ty: &Rc<Type>, held: &mut Held) -> Option<Rc<Pattern>> {
     let equal: Vec<usize> = (0..held.len())
         .filter(|place| held[*place].1 == *ty)
         .collect();
@@ -351,7 +356,7 @@ fn gather(random: &mut Random, ty: &Rc<Type>, held: &mut Held) -> Option<Rc<Patt
 }
 
 /// A new variable of the type.
-fn variable(clause: &mut Open, ty: &Rc<Type>) -> Rc<Pattern> {
+pub(super) fn variable(clause: &mut Open, ty: &Rc<Type>) -> Rc<Pattern> {
     let number = clause.fresh.pop().expect("a number is left");
     clause.held.push((number, Rc::clone(ty)));
     Rc::new(Pattern::Variable(number))
@@ -499,61 +504,6 @@ fn arranged(random: &mut Random, mut held: Held) -> (Rc<Type>, Rc<Pattern>) {
         Rc::new(Type::Product(a, b)),
         Rc::new(Pattern::Pair(one, two)),
     )
-}
-
-/// A tower: each iso sends its value through the one below several times, so
-/// that the count grows by that factor with each storey.
-pub fn tower(random: &mut Random) -> Vec<u8> {
-    let base = loop {
-        let ty = some_type(random, &[]);
-        let cases = cover(random, &ty);
-        if let Some(iso) = permuted(random, &ty, &cases, &[]).filter(fits) {
-            break iso;
-        }
-    };
-    let ty = Rc::clone(&base.from);
-    let mut isos = vec![base];
-    let height = if random.chance(20) {
-        31
-    } else {
-        1 + random.below(8)
-    };
-    for below in 0..height {
-        let mut clause = open(random, &Sketch::Hole(Rc::clone(&ty))).expect("one variable");
-        let times = if random.chance(80) {
-            2
-        } else {
-            1 + random.below(8)
-        };
-        for _ in 0..times {
-            let iso = if random.chance(90) {
-                below
-            } else {
-                random.below(below + 1)
-            };
-            let q = one_of(random, &ty, &mut clause.held).expect("one is held");
-            let p = variable(&mut clause, &ty);
-            clause.lets.push(Let { p, iso, q });
-        }
-        isos.push(closed_by_merge_of_one(&ty, clause));
-    }
-    scribe::file(random, &isos)
-}
-
-fn closed_by_merge_of_one(ty: &Rc<Type>, clause: Open) -> Iso {
-    let right = Rc::new(Pattern::Variable(clause.held[0].0));
-    let clauses = vec![Clause {
-        line: 0,
-        left: clause.left,
-        right,
-        lets: clause.lets,
-    }];
-    Iso {
-        line: 0,
-        from: Rc::clone(ty),
-        to: Rc::clone(ty),
-        clauses,
-    }
 }
 
 /// A sum of 32 units, its closed values exchanged: 32 clauses.

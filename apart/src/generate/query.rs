@@ -4,8 +4,10 @@ use super::random::Random;
 use crate::tree::Type;
 use crate::{run_rules, Rules};
 
-/// Counts above this are not looked for; such runs get budgets below it.
+/// Counts above this are not looked for; such runs get budgets up to it.
 const LONGEST: u32 = 3_000;
+/// The same now and then.
+const LONGER: u32 = 140_000;
 
 /// Queries of another form.
 const FORMS: [&[u8]; 30] = [
@@ -60,7 +62,8 @@ pub fn cut_query(random: &mut Random, rules: &Rules) -> Vec<u8> {
     line
 }
 
-fn line(iso: usize, back: bool, budget: u32, letters: &[u8]) -> Vec<u8> {
+/// A well formed query line.
+pub fn line(iso: usize, back: bool, budget: u32, letters: &[u8]) -> Vec<u8> {
     let head = format!("Q,{iso},{},{budget},", u8::from(back)).into_bytes();
     [&head, letters, b"\n"].concat()
 }
@@ -138,13 +141,23 @@ fn damage(random: &mut Random, letters: &mut Vec<u8>) {
 /// only such as are soon spent.
 fn budget(random: &mut Random, rules: &Rules, iso: usize, back: bool, letters: &[u8]) -> u32 {
     let small = random.below(20) as u32;
-    match run_rules(rules, iso as u16, back, LONGEST, letters) {
+    let longest = longest(random);
+    match run_rules(rules, iso as u16, back, longest, letters) {
         Ok((count, _)) => {
             let count = count as u32;
             *random.pick(&[count - 1, count, count, count + 1, 0, u32::MAX, small])
         }
         Err(refusal) if refusal.number == 16 => *random.pick(&[0, 1, small, u32::MAX]),
-        Err(_) => *random.pick(&[0, 1, small, LONGEST, 256, 255]),
+        Err(_) => *random.pick(&[0, 1, small, longest, 256, 255]),
+    }
+}
+
+/// The highest count that is looked for.
+pub fn longest(random: &mut Random) -> u32 {
+    if random.chance(8) {
+        LONGER
+    } else {
+        LONGEST
     }
 }
 

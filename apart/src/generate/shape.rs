@@ -2,6 +2,7 @@
 
 use super::random::Random;
 use crate::cover::orthogonal;
+use crate::lines::NODES;
 use crate::tree::{Pattern, Type};
 use std::rc::Rc;
 
@@ -70,13 +71,24 @@ pub fn random_type(random: &mut Random, depth: usize, pool: &[Rc<Type>]) -> Rc<T
 
 /// A type with exactly so many nodes, an odd number.
 pub fn exact_type(random: &mut Random, nodes: usize) -> Rc<Type> {
+    grown(random, nodes, 40)
+}
+
+/// A type of products and units alone, with 127 nodes: its closed value has
+/// 127 letters.
+pub fn longest_type(random: &mut Random) -> Rc<Type> {
+    grown(random, NODES, 0)
+}
+
+/// A type with exactly so many nodes, of which so many of a hundred are sums.
+fn grown(random: &mut Random, nodes: usize, sums: usize) -> Rc<Type> {
     if nodes == 1 {
         return Rc::new(Type::Unit);
     }
     let first = 1 + 2 * random.below((nodes - 1) / 2);
-    let a = exact_type(random, first);
-    let b = exact_type(random, nodes - 1 - first);
-    Rc::new(if random.chance(40) {
+    let a = grown(random, first, sums);
+    let b = grown(random, nodes - 1 - first, sums);
+    Rc::new(if random.chance(sums) {
         Type::Sum(a, b)
     } else {
         Type::Product(a, b)

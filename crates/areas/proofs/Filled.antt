@@ -3,7 +3,7 @@ use Prim.Native.Nat.{ℕ, _+_, _-_, _≤_, _<_, min}
 use native.Mathlib.Nat.{le-antisymm, sub-zero}
 use native.Mathlib.Omega.{arith}
 use mathlib.Core.Path.{_≡_, refl, sym, ap, ap₂, _∙_}
-use mathlib.Core.List.{List, [], _++_, append-nil}
+use mathlib.Core.List.{List, _++_, append-nil}
 use lib.ListN.{length, take, drop, set, replicate, length-set, drop-of-length-le}
 use lib.Seq.{length-take-le}
 use borrow.Rule.Slice.PartMut.{midOf, postOf}

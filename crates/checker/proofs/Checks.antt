@@ -5,8 +5,8 @@ use native.Mathlib.Omega.{arith}
 use mathlib.Core.Path.{_≡_, refl, sym, ap, ap₂, _∙_, subst}
 use mathlib.Core.Bool.{Bool, true, false, cond, _||_, or-true, true≢false}
 use mathlib.Core.Option.{Option, none, some}
-use mathlib.Core.List.{List, [], _∷_, _++_, map, length as lengthᵘ}
-use lib.Dec.{leb, ltb, lit≤, lit<}
+use mathlib.Core.List.{List, [], _∷_, _++_, map}
+use lib.Dec.{ltb, lit≤}
 use lib.ListN.{length, drop, replicate, length-append, length-drop, length-replicate, length-map}
 use borrow.Author.Tests.{lt-ltb, le-ltb, lt-leb}
 use Rattle.model.specs.Limits.{maxBytes, maxLines, tableLength, workLength, rowWidth}

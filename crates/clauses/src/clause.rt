@@ -1,6 +1,7 @@
 // Refusals 8 to 10 of a clause: its C row, and its L rows up to `end`. `starts` holds the rows of the I
 // lines. Of a C row past the table's 4096 rows nothing is said.
 
+use areas::wide;
 use model::Refusal;
 use nodes::cell;
 use trees::Env;
@@ -74,12 +75,6 @@ fn shapes_kept(t: &[u16], base: usize, from: usize, to: usize) -> bool
         }
     }
     true
-}
-
-fn wide(n: u16) -> usize
-    ensures { λ r. ⌜ r ≡ n ⌝ }
-{
-    n as usize
 }
 
 // No types fit any more.

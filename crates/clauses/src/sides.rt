@@ -1,6 +1,7 @@
 // Refusals 11 to 14 of an iso, over the rows of its clauses. Field 1 of a C row is its left pattern,
 // field 2 its right one.
 
+use areas::wide;
 use model::Refusal;
 use model::Side;
 use nodes::cell;
@@ -15,12 +16,6 @@ ghost use Rattle.model.specs.Code.{refusalView};
 ghost use Rattle.model.specs.Clauses.{clash as clashes, apart as apartAll, weight as weightOf};
 ghost use Rattle.nodes.specs.Unfolding.{patternOf};
 ghost use Rattle.nodes.specs.InTable.{patternsAt, weightAt, sidesFault};
-
-fn wide(n: u16) -> usize
-    ensures { λ r. ⌜ r ≡ n ⌝ }
-{
-    n as usize
-}
 
 // Whether P line p clashes with field k of each clause row from place `from` on.
 fn clashes_with(t: &[u16], base: usize, p: usize, k: usize, rows: &[u16], from: usize) -> bool

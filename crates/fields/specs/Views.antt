@@ -1,6 +1,6 @@
 -- What the answers of the cursor's methods mean, as the definitions of the model have it: a number and the bytes behind it, or nothing.
 use Prim.Native.Nat.{ℕ}
-use mathlib.Core.Bool.{Bool, true, false}
+use mathlib.Core.Bool.{Bool}
 use mathlib.Core.Option.{Option, none, some}
 use mathlib.Core.List.{List}
 use lib.ListN.{drop}

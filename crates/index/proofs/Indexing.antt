@@ -15,16 +15,13 @@ use Rattle.nodes.specs.Unfolding.{cellOf, typeOf, patternOf}
 use Rattle.nodes.specs.InTable.{letAt, letsIn, clauseIn}
 use Rattle.nodes.specs.Walk.{FileIn, isoRows, tailAt}
 use Rattle.nodes.proofs.Rows.{clause≢iso, let≢iso}
-use Rattle.nodes.proofs.Walking.{row-of, lines-few, whole-file, head-few, letter-iso, letter-clause, other-let, iso-rows-few, iso-rows-other, iso-rows-longer, iso-rows-early}
+use Rattle.areas.proofs.Writing.{narrow-same}
+use Rattle.nodes.proofs.Walking.{no-lets, one-let-more, tail-end, row-of, lines-few, whole-file, head-few, letter-iso, letter-clause, other-let, iso-rows-few, iso-rows-other, iso-rows-longer, iso-rows-early}
 use Rattle.index.specs.Index.{indexLength, placeAt, clausesAt, isoBetween, isosAt}
 use Rattle.index.specs.Indexed.{placesOf, places, Indexed}
 use Rattle.index.proofs.Counting.{places-few, places-step}
 use Rattle.index.proofs.Agreeing.{SameFrom, SameIsos, clauses-agree, isos-agree, stored-here, stored-other}
-use Rattle.index.proofs.Adding.{no-lets, one-let-more, tail-let, tail-clause, tail-iso, tail-end, tail-whole, iso-count}
-
--- the rows and the places of the index are small
-narrow-same : {n r : ℕ} → r ≡ n % 65536 → n < 65536 → r ≡ n
-narrow-same e h = omega arith
+use Rattle.index.proofs.Adding.{tail-let, tail-clause, tail-iso, tail-whole, iso-count}
 
 module _ {t : List ℕ} {types patterns lines : ℕ} {rs : List Row} (f : FileIn t types patterns lines rs) where
   -- ---- the last row's end
@@ -40,7 +37,7 @@ module _ {t : List ℕ} {types patterns lines : ℕ} {rs : List Row} (f : FileIn
         number = same ∙ ap (λ l. length (isoRows 0 l)) (sym (whole-file f));
         few = omega (arith, none, same, iso-rows-few f);
         further = omega (arith, last);
-        lets = ap (λ (o : Tail). o .lets) (tail-end f) ∙ no-lets t types lines ∙ ap (λ m. letsIn t types lines (m - lines)) (sym last);
+        lets = ap (λ (o : Tail). o .lets) (tail-end f) ∙ sym (no-lets t types lines) ∙ ap (λ m. letsIn t types lines (m - lines)) (sym last);
         begins = λ i l u. let here : i ≡ isos = omega (arith, none) in omega (arith, ap (placeAt full) here, behind);
         clauses = ap (λ (o : Tail). o .clauses) (tail-end f) ∙ ap (λ m. clausesAt t types full 1089 (m - 1089)) (sym behind);
         isos = ap (λ (o : Tail). o .isos) (tail-end f) ∙ ap (isosAt t types full isos) (sym none);
@@ -82,7 +79,7 @@ module _ {t : List ℕ} {types patterns lines : ℕ} {rs : List Row} (f : FileIn
           lets =
               ap (λ (o : Tail). o .lets) here
               ∙ ap (λ ls. letAt t types n ∷ ls) (s .lets)
-              ∙ one-let-more t types n (placeAt index first) (s .further);
+              ∙ sym (one-let-more t types n (placeAt index first) (s .further));
           begins = λ i l u. s .begins i l (omega (arith, count));
           clauses = ap (λ (o : Tail). o .clauses) here ∙ s .clauses;
           isos = ap (λ (o : Tail). o .isos) here ∙ s .isos ∙ ap (isosAt t types index left) (sym count);
@@ -107,7 +104,7 @@ module _ {t : List ℕ} {types patterns lines : ℕ} {rs : List Row} (f : FileIn
           number = s .number ∙ ap length (iso-rows-other f n e (λ i. clause≢iso (sym k ∙ i)));
           few = omega (arith, s .few, count);
           further = omega (arith, row);
-          lets = ap (λ (o : Tail). o .lets) here ∙ no-lets t types n ∙ ap (λ m. letsIn t types n (m - n)) (sym row);
+          lets = ap (λ (o : Tail). o .lets) here ∙ sym (no-lets t types n) ∙ ap (λ m. letsIn t types n (m - n)) (sym row);
           begins = λ i l u.
               let u′ : i ≤ left + length (tailAt rs (suc n) .isos) = omega (arith, count) in omega (arith, s .begins i l u′, fronts i l u′ .0);
           clauses =
@@ -171,7 +168,7 @@ module _ {t : List ℕ} {types patterns lines : ℕ} {rs : List Row} (f : FileIn
           number = omega (arith, s .number, iso-rows-longer f n e k);
           few = omega (arith, s .few, count);
           further = omega (arith, row);
-          lets = ap (λ (o : Tail). o .lets) here ∙ no-lets t types n ∙ ap (λ m. letsIn t types n (m - n)) (sym row);
+          lets = ap (λ (o : Tail). o .lets) here ∙ sym (no-lets t types n) ∙ ap (λ m. letsIn t types n (m - n)) (sym row);
           begins = λ i l u. begun i (eq-or-lt-of-le l) u;
           clauses =
               ap (λ (o : Tail). o .clauses) here

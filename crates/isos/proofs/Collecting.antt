@@ -1,5 +1,5 @@
 -- The rows of the I lines, collected row by row.
-use Prim.Native.Nat.{ℕ, suc, _+_, _-_, _%_, _≤_, _<_}
+use Prim.Native.Nat.{ℕ, suc, _+_, _-_, _≤_, _<_}
 use native.Mathlib.Nat.{sub-zero}
 use native.Mathlib.Numerals.{add-one}
 use native.Mathlib.Omega.{arith}
@@ -13,10 +13,6 @@ use Rattle.nodes.specs.Walk.{FileIn, isoRows}
 use Rattle.nodes.proofs.Walking.{row-of, lines-few, whole-file, head-few, letter-iso, iso-letter, iso-rows-few, iso-rows-iso, iso-rows-other, iso-rows-longer, iso-rows-room, iso-rows-early}
 use Rattle.isos.specs.declared.Starts as S
 use Rattle.isos.specs.Walked.{StartsOf}
-
--- a row's number is small
-pub narrow-same : {n r : ℕ} → r ≡ n % 65536 → n < 65536 → r ≡ n
-narrow-same e h = omega arith
 
 -- what with_start ensures
 abbrev OneMore : S.Starts → ℕ → S.Starts → Type 0

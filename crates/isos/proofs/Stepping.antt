@@ -25,7 +25,7 @@ use Rattle.trees.specs.Rules.{Slotted}
 use Rattle.isos.specs.declared.Walk as W
 use Rattle.isos.specs.Answers.{asFault}
 use Rattle.isos.specs.Walked.{Walked}
-use Rattle.isos.proofs.Collecting.{narrow-same}
+use Rattle.areas.proofs.Writing.{narrow-same}
 
 -- a store in front of the rows that are kept
 stored : (l : List ℕ) (k a : ℕ) → k < length l → drop k (set l k a) ≡ a ∷ drop (suc k) l

@@ -1,6 +1,8 @@
 // All isos of a table. The rows are walked from the last to the first, so that L rows are known before
 // their C row and C rows before their I row; an earlier refusal replaces a later one.
 
+use areas::narrow;
+use areas::wide;
 use areas::word_at;
 use clauses::clause::clause_fault;
 use clauses::sides::side_fault;
@@ -10,7 +12,7 @@ use nodes::cell;
 ghost use mathlib.Core.Path.{_≡_};
 ghost use mathlib.Core.List.{List};
 ghost use mathlib.Core.Option.{none as nothing};
-ghost use Prim.Native.Nat.{ℕ, suc, _+_, _%_, _≤_, _<_};
+ghost use Prim.Native.Nat.{ℕ, suc, _+_, _≤_, _<_};
 ghost use lib.ListN.{length, take, set};
 ghost use Rattle.model.specs.Lines.{Row as RowOf};
 ghost use Rattle.model.specs.Tools.{orElse};
@@ -27,12 +29,6 @@ ghost use Rattle.isos.specs.Walked.{StartsOf, Walked};
 pub struct Starts {
     pub rows: [u16; 32],
     pub count: usize,
-}
-
-fn narrow(n: usize) -> u16
-    ensures { λ r. ⌜ r ≡ n % 65536 ⌝ }
-{
-    (n % 65536) as u16
 }
 
 // One I line more, where there is room for it.
@@ -107,12 +103,6 @@ fn sooner(f: Refusal, place: usize, later: Answer) -> Answer
             refusal: f,
         },
     }
-}
-
-fn wide(n: u16) -> usize
-    ensures { λ r. ⌜ r ≡ n ⌝ }
-{
-    n as usize
 }
 
 // The walk with the C row n.

@@ -2,23 +2,21 @@
 use Prim.Native.Nat.{ℕ, zero, suc, _+_, _*_, _≤_, _<_}
 use native.Mathlib.Nat.{zero-mul, zero-add}
 use native.Mathlib.Omega.{arith}
-use mathlib.Core.Path.{_≡_, refl, sym, ap, ap₂, _∙_, subst}
-use mathlib.Core.Option.{Option, none, some}
+use mathlib.Core.Path.{_≡_, ap, ap₂, _∙_, subst}
+use mathlib.Core.Option.{none, some}
 use mathlib.Core.List.{List, [], _∷_, _++_, map, append-assoc}
 use lib.ListN.{length, getD, getElem?, drop, length-map, List·getD-append}
 use lib.Seq.{getD-append-add}
 use lib.Dec.{lit<}
-use Rattle.model.specs.Limits.{tableLength, maxLines, rowWidth}
+use Rattle.model.specs.Limits.{maxLines, rowWidth}
 use Rattle.model.specs.Tools.{concat}
-use Rattle.model.specs.Trees.{tunit, punit}
-use Rattle.model.specs.Lines.{Row, letter, lines, numbers, print}
-use Rattle.model.specs.Judge.{start, afterAll}
+use Rattle.model.specs.Lines.{Row, lines, numbers, print}
+use Rattle.model.specs.Judge.{start}
 use Rattle.model.proofs.Basic.{none≢some, some-inj, index-below}
 use Rattle.model.proofs.Printing.{read-rows}
-use Rattle.nodes.specs.Unfolding.{cellOf, typeOf, patternOf}
+use Rattle.nodes.specs.Unfolding.{cellOf, patternOf}
 use Rattle.nodes.specs.Walk.{FileIn}
 use Rattle.nodes.proofs.Unfolding.{cell-within}
-use Rattle.lines.specs.Told.{Told}
 use Rattle.lines.specs.Reads.{Holds}
 use Rattle.lines.specs.declared.read.Read as R
 

@@ -1,3 +1,1 @@
-pub mod Split
-pub mod Told
 pub mod Reads

@@ -3,7 +3,7 @@
 use Prim.Native.Nat.{ℕ, _≤_, _<_}
 use mathlib.Core.Path.{_≡_}
 use mathlib.Core.Option.{none, some}
-use mathlib.Core.List.{List, [], _∷_, List·Memᴰ}
+use mathlib.Core.List.{List, _∷_, List·Memᴰ}
 use lib.ListN.{getElem?}
 use Rattle.model.specs.Trees.{Ty, Val, Clause, Iso, left, right}
 use Rattle.model.specs.Refusals.{Refusal, variable, letShape, badType, overlap, gap, noIso, noValue, spent}

@@ -1,13 +1,13 @@
 -- "What a clause and an iso must satisfy", as tests that compute: refusals 8 to 14.
-use Prim.Native.Nat.{ℕ, zero, suc, _+_, _-_, _^_}
+use Prim.Native.Nat.{ℕ, _+_, _-_, _^_}
 use mathlib.Core.Bool.{Bool, true, false, cond, not, _&&_, _||_}
 use mathlib.Core.Option.{Option, none, some}
 use mathlib.Core.List.{List, [], _∷_, _++_, map}
 use lib.Dec.{eqb}
 use lib.ListN.{getElem?}
 use Rattle.model.specs.Limits.{maxTags}
-use Rattle.model.specs.Tools.{_>>=_, all, concat, select, total, firstFailing, firstOf, orElse}
-use Rattle.model.specs.Trees.{Ty, tunit, tsum, tprod, Tag, left, right, Pat, punit, pvar, pinj, ppair, Let, Clause, Iso, sameTag, sameType, part, tags, vars}
+use Rattle.model.specs.Tools.{_>>=_, all, total, firstFailing, firstOf, orElse}
+use Rattle.model.specs.Trees.{Ty, tunit, tsum, tprod, left, right, Pat, punit, pvar, pinj, ppair, Let, Clause, Iso, sameTag, sameType, part, tags, vars}
 use Rattle.model.specs.Refusals.{Refusal, variable, letShape, badType, overlap, gap}
 
 -- 8. "the left pattern binds its variables; each L in order uses those of q, then binds those of p; the right pattern uses the

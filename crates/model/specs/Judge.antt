@@ -1,8 +1,8 @@
 -- Refusals 4 to 7 of a row, judged by the rows above it, and the reading of a whole file.
 use Prim.Native.Nat.{ℕ, zero, suc, _+_}
-use mathlib.Core.Bool.{Bool, true, false, cond, _&&_}
+use mathlib.Core.Bool.{Bool, true, false, _&&_}
 use mathlib.Core.Option.{Option, none, some}
-use mathlib.Core.List.{List, [], _∷_, _++_, foldl}
+use mathlib.Core.List.{List, [], _∷_, _++_}
 use lib.Dec.{leb, ltb, eqb}
 use lib.ListN.{getD, length}
 use Rattle.model.specs.Limits.{maxTypes, maxPatterns, maxIsos, maxClauses, maxLets, maxNodes, maxTags, variables}

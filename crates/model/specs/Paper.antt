@@ -1,18 +1,17 @@
 -- What the paper and document 01 say, as judgements: the rules of sections 2.2 and 2.3, Table 1 and Table 3, as document 01 amends
 -- them. The laws in proofs/ say that what executes (`Clauses`, `Reduction`, `Services`) agrees with them.
-use Prim.Native.Nat.{ℕ, zero, suc, _+_}
+use Prim.Native.Nat.{ℕ, _+_}
 use mathlib.Core.Path.{_≡_}
 use mathlib.Core.Logic.{_⊎_}
-use mathlib.Core.Bool.{Bool, true, false, cond}
-use mathlib.Core.Option.{Option, none, some}
+use mathlib.Core.Bool.{true}
+use mathlib.Core.Option.{none, some}
 use mathlib.Core.List.{List, [], _∷_, _++_, List·Memᴰ}
-use lib.Dec.{eqb}
 use lib.ListN.{getElem?, length}
 use Rattle.model.specs.Limits.{variables}
 use Rattle.model.specs.Trees.{Ty, tunit, tsum, tprod, Tag, left, right, Pat, punit, pvar, pinj, ppair, Val, vunit, vinj, vpair, Let, Clause, Iso, part, vars}
 use Rattle.model.specs.Slots.{Slots, put, empty, allEmpty}
 use Rattle.model.specs.Reduction.{bind, build, runLets, reduce}
-use Rattle.model.specs.Clauses.{Deed, binds, uses, events, history, Sigs, sigsOf, lefts, rights}
+use Rattle.model.specs.Clauses.{binds, uses, events, history, Sigs, sigsOf, lefts, rights}
 
 -- "A closed value …: U for the unit type; L or R before a closed value of the left or right type for a sum; P before one of each
 -- part for a product."

@@ -2,8 +2,8 @@
 use Prim.Native.Nat.{ℕ}
 use mathlib.Core.Path.{_≡_, refl}
 use mathlib.Core.Option.{none}
-use mathlib.Core.List.{List, [], _∷_, _++_}
-use Rattle.model.specs.Trees.{tunit, punit, pvar, vunit, Clause, Iso}
+use mathlib.Core.List.{[], _∷_, _++_}
+use Rattle.model.specs.Trees.{tunit, pvar, vunit, Clause}
 use Rattle.model.specs.Reduction.{reduce}
 use Rattle.model.specs.Services.{turned}
 use Rattle.model.specs.Desk.{desk}

@@ -1,6 +1,6 @@
 -- "The reduction, given an iso and a closed value": what executes. `Paper` has the rules of Table 3, and a law says that they agree.
 use Prim.Native.Nat.{ℕ, zero, suc, _+_}
-use mathlib.Core.Bool.{Bool, true, false}
+use mathlib.Core.Bool.{Bool}
 use mathlib.Core.Option.{Option, none, some}
 use mathlib.Core.List.{List, [], _∷_}
 use lib.ListN.{getElem?, length}

@@ -1,11 +1,11 @@
 -- "The three services": what Check, Turn and Run answer, and what every lent area then holds, for any bytes and any areas.
-use Prim.Native.Nat.{ℕ, _-_, _*_}
-use mathlib.Core.Bool.{Bool, true, false, cond, not, _||_}
+use Prim.Native.Nat.{ℕ, _-_}
+use mathlib.Core.Bool.{Bool, cond, not, _||_}
 use mathlib.Core.Option.{Option, none, some}
-use mathlib.Core.List.{List, [], _∷_, _++_, map}
+use mathlib.Core.List.{List, [], _++_, map}
 use lib.Dec.{leb, ltb}
 use lib.ListN.{length, drop, replicate, getElem?}
-use Rattle.model.specs.Limits.{maxBytes, maxLines, rowWidth, tableLength, workLength, resultLength}
+use Rattle.model.specs.Limits.{maxBytes, maxLines, tableLength, workLength, resultLength}
 use Rattle.model.specs.Tools.{_>>=_, guard, concat}
 use Rattle.model.specs.Trees.{Val, Iso}
 use Rattle.model.specs.Refusals.{Refusal, number, shortArea, tooLong, noIso, noValue, spent}

@@ -1,6 +1,5 @@
 -- Types, patterns, closed values, clauses and isos as trees: section 2.2 of the paper and the let steps of section 3.1. A line
 -- of the file unfolds to one of these trees. The two injections are one constructor with a tag.
-use mathlib.Core.Path.{_≡_}
 use mathlib.Core.Bool.{Bool, true, false, _&&_}
 use mathlib.Core.List.{List, [], _∷_, _++_, map, reverse}
 use Prim.Native.Nat.{ℕ, _+_}

@@ -1,5 +1,5 @@
 -- The rows of a file as isos over trees, and the turned rows.
-use Prim.Native.Nat.{ℕ, zero, suc}
+use Prim.Native.Nat.{ℕ, suc}
 use mathlib.Core.List.{List, [], _∷_, _++_}
 use lib.ListN.{getD}
 use Rattle.model.specs.Trees.{Ty, tunit, Pat, punit, Let, Clause, Iso}

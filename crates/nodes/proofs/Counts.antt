@@ -2,7 +2,7 @@
 -- line names stands before it.
 use Prim.Native.Nat.{ℕ, zero, suc, _+_, _<_, _≤_, min}
 use native.Mathlib.Omega.{arith}
-use mathlib.Core.Path.{_≡_, refl, sym, ap, ap₂, _∙_, subst}
+use mathlib.Core.Path.{_≡_, refl, sym, ap, _∙_, subst}
 use mathlib.Core.List.{List}
 use Rattle.model.specs.Trees.{Ty, typeNodes, Pat, nodes, tags}
 use Rattle.model.specs.Judge.{typeNode, patternNode}

@@ -32,10 +32,10 @@ no-pending : (sigs : Sigs) (o : Option (Ty × Ty)) → none ≡ pendingFault sig
 no-pending sigs none = refl
 no-pending sigs (some s) = refl
 
-no-lets : (t : List ℕ) (base n : ℕ) → letsIn t base n (n - n) ≡ []
+pub no-lets : (t : List ℕ) (base n : ℕ) → letsIn t base n (n - n) ≡ []
 no-lets t base n = ap (letsIn t base n) (sub-self n)
 
-one-let-more : (t : List ℕ) (base n below : ℕ) → suc n ≤ below → letsIn t base n (below - n) ≡ letAt t base n ∷ letsIn t base (suc n) (below - suc n)
+pub one-let-more : (t : List ℕ) (base n below : ℕ) → suc n ≤ below → letsIn t base n (below - n) ≡ letAt t base n ∷ letsIn t base (suc n) (below - suc n)
 one-let-more t base n below h = ap (letsIn t base n) more
   where
     more : below - n ≡ suc (below - suc n)
@@ -62,7 +62,7 @@ module _ {t : List ℕ} {types patterns lines : ℕ} {rs : List Row} (f : FileIn
   pub whole-file : take lines rs ≡ rs
   whole-file = ap (λ n. take n rs) (f .count) ∙ take-length rs
 
-  file-parted : Parted (types + patterns) rs
+  pub file-parted : Parted (types + patterns) rs
   file-parted = subst (λ m. Parted m rs) (omega (arith, f .typeCount, f .patternCount)) (parted (f .passes))
 
   pub head-few : types + patterns ≤ lines
@@ -151,16 +151,16 @@ module _ {t : List ℕ} {types patterns lines : ℕ} {rs : List Row} (f : FileIn
     names-of : {k : Kind} → r .kind ≡ k → Names (length typeList) (length patternList) k r
     names-of k = subst (λ q. Names (length typeList) (length patternList) q r) k (row-names (f .passes) n e)
 
-    iso-types : r .kind ≡ isoLine → IsoTypes t typeList n r
+    pub iso-types : r .kind ≡ isoLine → IsoTypes t typeList n r
     iso-types k = let h = names-of k in (named-type (r .x) (cellOf t n 1) (h .0) (f .xs n r e), named-type (r .y) (cellOf t n 2) (h .1) (f .ys n r e))
 
-    clause-left : r .kind ≡ clauseLine → getD patternList (r .x) punit ≡ patternOf t types (cellOf t n 1)
+    pub clause-left : r .kind ≡ clauseLine → getD patternList (r .x) punit ≡ patternOf t types (cellOf t n 1)
     clause-left k = named-pattern (r .x) (cellOf t n 1) (names-of k .0) (f .xs n r e)
 
-    clause-right : r .kind ≡ clauseLine → getD patternList (r .y) punit ≡ patternOf t types (cellOf t n 2)
+    pub clause-right : r .kind ≡ clauseLine → getD patternList (r .y) punit ≡ patternOf t types (cellOf t n 2)
     clause-right k = named-pattern (r .y) (cellOf t n 2) (names-of k .1) (f .ys n r e)
 
-    let-here : r .kind ≡ letLine → record { p = getD patternList (r .x) punit; iso = r .y; q = getD patternList (r .z) punit } ≡ letAt t types n
+    pub let-here : r .kind ≡ letLine → record { p = getD patternList (r .x) punit; iso = r .y; q = getD patternList (r .z) punit } ≡ letAt t types n
     let-here k = λ i. record { p = p i; iso = sym (f .ys n r e) i; q = q i }
       where
         p : getD patternList (r .x) punit ≡ patternOf t types (cellOf t n 1)
@@ -170,7 +170,7 @@ module _ {t : List ℕ} {types patterns lines : ℕ} {rs : List Row} (f : FileIn
         q = named-pattern (r .z) (cellOf t n 3) (names-of k .1) (f .zs n r e)
 
     -- what a row of a known kind adds
-    tail-kind : {k : Kind} → r .kind ≡ k → tailAt rs n ≡ place typeList patternList k (suc n) r (tailAt rs (suc n))
+    pub tail-kind : {k : Kind} → r .kind ≡ k → tailAt rs n ≡ place typeList patternList k (suc n) r (tailAt rs (suc n))
     tail-kind k = tail-row rs n e ∙ ap (λ q. place typeList patternList q (suc n) r (tailAt rs (suc n))) k
 
   -- the types of the isos are those that the I lines name
@@ -180,7 +180,7 @@ module _ {t : List ℕ} {types patterns lines : ℕ} {rs : List Row} (f : FileIn
 
   -- ---- the walk
 
-  tail-end : tailAt rs lines ≡ record { lets = []; clauses = []; isos = [] }
+  pub tail-end : tailAt rs lines ≡ record { lets = []; clauses = []; isos = [] }
   tail-end = ap (tailFrom typeList patternList (suc lines)) (ap (λ n. drop n rs) (f .count) ∙ drop-length rs)
 
   pub walk-start : WalkAt t types rs lines [] lines (length (isoRows 0 rs)) none none

@@ -1,15 +1,15 @@
 -- A file's rows in the table, and what a walk over them from the last row to the first has come to at some row.
-use Prim.Native.Nat.{ℕ, zero, suc, _+_, _-_, _≤_, _<_}
+use Prim.Native.Nat.{ℕ, zero, suc, _-_, _≤_, _<_}
 use mathlib.Core.Path.{_≡_}
 use mathlib.Core.Option.{Option, none, some}
 use mathlib.Core.List.{List, [], _∷_, map}
 use lib.ListN.{length, getD, getElem?, take, drop}
 use Rattle.model.specs.Limits.{maxLines, maxClauses}
 use Rattle.model.specs.Tools.{firstOf}
-use Rattle.model.specs.Trees.{Ty, tunit, punit, Clause, Iso}
+use Rattle.model.specs.Trees.{Ty, tunit, punit, Clause}
 use Rattle.model.specs.Refusals.{Kind, typeLine, patternLine, isoLine, clauseLine, letLine, Refusal}
 use Rattle.model.specs.Lines.{Row, letter}
-use Rattle.model.specs.Judge.{Seen, start, afterAll}
+use Rattle.model.specs.Judge.{start, afterAll}
 use Rattle.model.specs.Unfold.{Tail, tailFrom}
 use Rattle.model.specs.Clauses.{Sigs, at, clauseFault, isoFault}
 use Rattle.model.proofs.Passing.{Passes}

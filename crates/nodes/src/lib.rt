@@ -2,6 +2,7 @@
 // count, by recursion over lines whose numbers fall. P lines are numbered from `base`, the row of the
 // first one.
 
+use areas::wide;
 use areas::word_at;
 ghost use mathlib.Core.Path.{_≡_};
 ghost use Prim.Native.Nat.{_+_, _<_, min};
@@ -10,12 +11,6 @@ ghost use Rattle.nodes.specs.Unfolding.{cellOf, smallerOf, typeOf, patte
 
 // The rows of the table, and the line that unfolds to a unit for want of a row.
 pub const ROWS: usize = 4096;
-
-fn wide(n: u16) -> usize
-    ensures { λ r. ⌜ (r ≡ n) × (r < 65536) ⌝ }
-{
-    n as usize
-}
 
 // Number k of a row: 0 the letter, then the fields; 0 where there is no such row.
 pub fn cell(t: &[u16], row: usize, k: usize) -> usize

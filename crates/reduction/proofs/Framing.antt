@@ -1,16 +1,16 @@
 -- The reduction in the work area, function by function: what each assumes, what it finds, what it leaves.
 use Prim.Native.Nat.{ℕ, zero, suc, _+_, _-_, _*_, _≤_, _<_}
-use native.Mathlib.Nat.{zero-add, add-zero, add-suc, suc-add, not-suc-le-zero}
+use native.Mathlib.Nat.{zero-add}
 use native.Mathlib.Omega.{arith}
 use mathlib.Core.Path.{_≡_, refl, sym, ap, ap₂, _∙_, subst}
 use mathlib.Core.Bool.{Bool, true, false, cond, true≢false}
-use mathlib.Core.Option.{Option, none, some}
+use mathlib.Core.Option.{some}
 use mathlib.Core.Logic.{_⊎_, inl, inr}
 use mathlib.Core.List.{List, [], _∷_, _++_, append-assoc}
-use lib.Dec.{ltb, lit≤}
+use lib.Dec.{ltb}
 use lib.ListN.{length, getD, getElem?, take, drop, replicate, length-append, drop-of-length-le, take-append-drop}
-use lib.Seq.{sets, slice, sets-eq, length-sets, length-take-le, take-at, drop-at, take-take}
-use Rattle.model.specs.Limits.{variables, maxNodes, maxLets}
+use lib.Seq.{sets, slice, sets-eq, length-take-le, take-at, drop-at, take-take}
+use Rattle.model.specs.Limits.{variables, maxLets}
 use Rattle.model.specs.Trees.{Pat, Val, Let, Clause, Iso}
 use Rattle.model.specs.Slots.{Slots, empty}
 use Rattle.model.specs.Letters.{letters}
@@ -25,7 +25,7 @@ use Rattle.values.specs.declared.Upto as U
 use Rattle.values.specs.declared.Upto.the-variants as upto
 use Rattle.values.specs.Texts.{At, alike, matched, Below, ranges, built}
 use Rattle.values.specs.Agrees.{Agrees}
-use Rattle.values.specs.Traces.{Small, LetsTrace, done, step, ClauseTrace, Runs}
+use Rattle.values.specs.Traces.{Small, LetsTrace, done, step, Runs}
 use Rattle.values.proofs.Matching.{place-alike, nothing-alike}
 use Rattle.values.proofs.Agreeing.{at-within, at-take, at-sets, take-sets, bind-alike, length-ranges, below-ranges, below-more, agrees-empty, agrees-more, agrees-bind, built-build, at-slice}
 use Rattle.reduction.specs.declared.Reduced as R

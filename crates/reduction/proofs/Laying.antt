@@ -4,16 +4,16 @@ use native.Mathlib.Nat.{zero-add, add-zero, add-suc, suc-add, le-of-suc-le-suc, 
 use native.Mathlib.Omega.{arith}
 use mathlib.Core.Path.{_≡_, refl, sym, ap, ap₂, _∙_, subst}
 use mathlib.Core.Bool.{Bool, true, false, cond}
-use mathlib.Core.Option.{Option, none, some}
+use mathlib.Core.Option.{none, some}
 use mathlib.Core.Logic.{_⊎_, inl, inr}
 use mathlib.Core.List.{List, [], _∷_, _++_, map, reverse, reverse-cons}
 use lib.Dec.{ltb}
 use lib.ListN.{length, getD, getElem?, drop, length-map, length-reverse, List·getD-map, List·getD-append, List·getD-eq-default}
 use lib.Seq.{drop-cons, getD-append-seam}
-use Rattle.model.specs.Trees.{Pat, Let, Clause, Iso, invertLet, invertClause, invert}
+use Rattle.model.specs.Trees.{Let, Clause, Iso, invertLet, invertClause, invert}
 use Rattle.model.specs.Lines.{Row}
 use Rattle.model.specs.Judge.{start}
-use Rattle.model.specs.Unfold.{isosOf, turnRows}
+use Rattle.model.specs.Unfold.{isosOf}
 use Rattle.model.specs.Services.{toward}
 use Rattle.model.proofs.Basic.{none≢some, some-inj, index-of-map, bool-cases, ltb-lt, ltb-false}
 use Rattle.model.proofs.Passing.{Passes}
@@ -21,7 +21,7 @@ use Rattle.model.proofs.Turning.{isos-turn}
 use Rattle.nodes.specs.Unfolding.{cellOf, typeOf, patternOf}
 use Rattle.nodes.specs.InTable.{letAt, letsIn, clauseIn}
 use Rattle.index.specs.Index.{placeAt, clausesAt, isoAt, isosAt}
-use Rattle.reduction.specs.Frames.{sided, sidedClause, sidedLet, sidedLets, sideAt, Laid}
+use Rattle.reduction.specs.Frames.{sided, sidedClause, sidedLet, sidedLets, Laid}
 
 -- an element within a list
 pub inside : {A : Type 0} (xs : List A) (i : ℕ) → i < length xs → (x : A) × (getElem? xs i ≡ some x)

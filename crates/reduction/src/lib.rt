@@ -18,7 +18,6 @@ ghost use Rattle.model.specs.Trees.{Val, Let, Iso};
 ghost use Rattle.model.specs.Slots.{Slots};
 ghost use Rattle.model.specs.Letters.{letters};
 ghost use Rattle.model.specs.Reduction.{bind, build};
-ghost use Rattle.nodes.specs.Unfolding.{cellOf, patternOf};
 ghost use Rattle.nodes.specs.InTable.{letAt};
 ghost use Rattle.index.specs.Index.{placeAt};
 ghost use Rattle.values.specs.Texts.{At, alike, Below};

@@ -4,7 +4,7 @@ use native.Mathlib.Omega.{arith}
 use native.Mathlib.Nat.{sub-zero}
 use mathlib.Core.Path.{_≡_, refl, sym, ap, ap₂, _∙_, subst}
 use mathlib.Core.Bool.{Bool, true, false, _||_, or-true, or-false, true≢false}
-use mathlib.Core.Option.{Option, none, some}
+use mathlib.Core.Option.{none, some}
 use mathlib.Core.List.{List, [], _++_}
 use lib.Dec.{ltb}
 use lib.ListN.{length, drop, take, replicate, length-drop, length-append, length-replicate}
@@ -13,9 +13,9 @@ use borrow.Author.Tests.{lt-ltb, le-ltb}
 use borrow.Rule.Slice.PartMut.{midOf, postOf}
 use Rattle.model.specs.Limits.{resultLength, workLength, tableLength}
 use Rattle.model.specs.Tools.{isSome}
-use Rattle.model.specs.Refusals.{Refusal, number, shortArea}
+use Rattle.model.specs.Refusals.{number, shortArea}
 use Rattle.model.specs.Lines.{Row}
-use Rattle.model.specs.Services.{Verdict, accepted, refused, verdict, filled, written, tableAfter, workAfter, short, unless, answerOf, check, RunAnswer, answerOfRun, runOf, runService}
+use Rattle.model.specs.Services.{Verdict, accepted, refused, verdict, filled, written, tableAfter, workAfter, short, unless, answerOf, check, answerOfRun, runOf, runService}
 use Rattle.model.specs.Code.{refusalView, numberOf, numbered}
 use Rattle.model.specs.declared.Answer as A
 use Rattle.model.proofs.Basic.{isSome-true, ltb-false}

@@ -1,45 +1,42 @@
 -- A run on a checked table, case by case, against the model's run of the file's rows.
-use Prim.Native.Nat.{ℕ, zero, suc, _+_, _-_, _*_, _≤_, _<_}
+use Prim.Native.Nat.{ℕ, zero, suc, _+_, _-_, _≤_, _<_}
 use native.Mathlib.Nat.{zero-add}
 use native.Mathlib.Omega.{arith}
-use mathlib.Core.Path.{_≡_, refl, sym, ap, ap₂, _∙_, subst}
-use mathlib.Core.Bool.{Bool, true, false, cond, not, true≢false}
-use mathlib.Core.Option.{Option, none, some}
+use mathlib.Core.Path.{_≡_, refl, sym, ap, ap₂, _∙_}
+use mathlib.Core.Bool.{Bool, true, false, cond}
+use mathlib.Core.Option.{none, some}
 use mathlib.Core.Logic.{_⊎_, inl, inr}
-use mathlib.Core.List.{List, [], _∷_, _++_, map}
-use lib.Dec.{leb}
+use mathlib.Core.List.{List, [], _∷_, _++_}
 use lib.ListN.{length, getElem?, take, drop, length-map}
-use lib.Seq.{paste, length-take-le}
+use lib.Seq.{paste}
 use Rattle.model.specs.Limits.{maxIsos}
 use Rattle.model.specs.Trees.{Val, Iso, invert}
 use Rattle.model.specs.Refusals.{Refusal, noIso, noValue, spent}
 use Rattle.model.specs.Lines.{Row}
-use Rattle.model.specs.Judge.{start, afterAll}
-use Rattle.model.specs.Unfold.{isosOf, turnRows}
+use Rattle.model.specs.Judge.{start}
+use Rattle.model.specs.Unfold.{isosOf}
 use Rattle.model.specs.Letters.{letters}
-use Rattle.model.specs.Reduction.{reduce}
 use Rattle.model.specs.Services.{Ran, gives, failed, within, argument, from, onIso, runRows, toward, RunAnswer, answerOfRun, written}
-use Rattle.model.specs.Code.{refusalView, numberOf, numbered}
-use Rattle.model.proofs.Basic.{bool-cases, leb-le, leb-false, le-leb, not-leb}
+use Rattle.model.specs.Code.{refusalView, numbered}
+use Rattle.model.proofs.Basic.{le-leb, not-leb}
 use Rattle.model.proofs.Passing.{Passes}
 use Rattle.model.proofs.Turning.{isos-turn}
-use Rattle.model.proofs.Runs.{GoodRows, good-toward, accepted-good}
+use Rattle.model.proofs.Runs.{good-toward, accepted-good}
 use Rattle.nodes.specs.Unfolding.{cellOf, typeOf}
-use Rattle.nodes.specs.Walk.{isoRows}
 use Rattle.nodes.proofs.Tails.{isos-few}
 use Rattle.nodes.proofs.Rows.{isos-told}
-use Rattle.index.specs.Index.{placeAt, isoAt, isosAt}
+use Rattle.index.specs.Index.{placeAt, isosAt}
 use Rattle.isos.proofs.Collecting.{head-small}
 use Rattle.checker.specs.CheckSays.{Accepted}
 use Rattle.checker.specs.declared.Checked as C
 use Rattle.checker.proofs.Checks.{isos-counted}
-use Rattle.values.specs.Texts.{At, behind}
+use Rattle.values.specs.Texts.{behind}
 use Rattle.values.specs.Traces.{Small, Runs}
-use Rattle.values.proofs.Agreeing.{argument-some, argument-none, at-within}
+use Rattle.values.proofs.Agreeing.{argument-some, argument-none}
 use Rattle.values.proofs.Tracing.{traced}
 use Rattle.reduction.specs.declared.Reduced as D
 use Rattle.reduction.specs.declared.Reduced.the-variants as reduced
-use Rattle.reduction.specs.Frames.{sided, frame, Laid, Applied}
+use Rattle.reduction.specs.Frames.{Laid, Applied}
 use Rattle.reduction.proofs.Laying.{inside, laid, from-at}
 use Rattle.reduction.proofs.Framing.{ApplySays, either, done-place, done-left, done≢spent}
 use Rattle.runner.specs.declared.run.Ran as R

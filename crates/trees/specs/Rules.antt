@@ -1,6 +1,6 @@
 -- The variables rule, let shapes and typing of a clause, as the code tests them: by the state of each variable and by the types that
 -- variables have taken so far. Laws say that these are the model's tests.
-use Prim.Native.Nat.{ℕ, _<_}
+use Prim.Native.Nat.{_<_}
 use mathlib.Core.Bool.{Bool, _&&_}
 use mathlib.Core.Option.{Option, none, some}
 use mathlib.Core.List.{List, [], _∷_, List·Memᴰ}

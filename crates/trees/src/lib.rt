@@ -2,6 +2,7 @@
 // that a pattern binds or uses, and the fit of a pattern to a type. Each recurses over T and P lines
 // whose numbers fall.
 
+use areas::wide;
 use nodes::cell;
 use nodes::pattern_cell;
 use nodes::smaller;
@@ -221,12 +222,6 @@ fn entry_of(a: usize) -> u16
         return (a + 1) as u16;
     }
     4097
-}
-
-fn wide(n: u16) -> usize
-    ensures { λ r. ⌜ r ≡ n ⌝ }
-{
-    n as usize
 }
 
 // Variable n has the type of T line a: the first one met, or the same.

@@ -4,14 +4,14 @@ use native.Mathlib.Nat.{zero-add}
 use native.Mathlib.Omega.{arith}
 use mathlib.Core.Path.{_≡_, refl, sym, ap, _∙_, subst}
 use mathlib.Core.Bool.{Bool, true, false, _||_, or-true, or-false}
-use mathlib.Core.Option.{Option, none, some}
+use mathlib.Core.Option.{none, some}
 use mathlib.Core.List.{List, [], _++_}
 use lib.Dec.{ltb}
 use lib.ListN.{length, drop}
 use lib.Seq.{sets-eq}
 use borrow.Author.Tests.{lt-ltb, le-ltb}
 use Rattle.model.specs.Tools.{isSome}
-use Rattle.model.specs.Refusals.{Refusal, number, shortArea}
+use Rattle.model.specs.Refusals.{number, shortArea}
 use Rattle.model.specs.Lines.{Row, printRows}
 use Rattle.model.specs.Unfold.{turnRows}
 use Rattle.model.specs.Services.{Verdict, accepted, refused, verdict, written, tableAfter, workAfter, short, unless, answerOf, check, turnedOf, turned, turn}

@@ -1,12 +1,12 @@
 -- The letters of a pattern with its variables' letters put in, written behind all of those.
 use Prim.Native.Nat.{ℕ, suc, _+_, _≤_}
 use native.Mathlib.Omega.{arith}
-use mathlib.Core.Path.{_≡_, refl, sym, ap, ap₂, _∙_, subst}
+use mathlib.Core.Path.{_≡_, sym, ap, ap₂, _∙_, subst}
 use mathlib.Core.Bool.{cond}
-use mathlib.Core.List.{List, [], _∷_, _++_}
+use mathlib.Core.List.{List, _∷_, _++_}
 use lib.Dec.{ltb}
 use lib.ListN.{length, getD, set, take, drop, length-append}
-use lib.Seq.{sets, slice, take-take, take-set-le}
+use lib.Seq.{slice, take-take, take-set-le}
 use Rattle.model.specs.Trees.{Tag, left, right, Pat, punit, pvar, pinj, ppair}
 use Rattle.model.specs.Letters.{letterOf}
 use Rattle.areas.specs.Areas.{Writes}

@@ -7,11 +7,11 @@ use mathlib.Core.Path.{_≡_, refl, sym, ap, _∙_, subst}
 use mathlib.Core.Bool.{true, false, false≢true}
 use mathlib.Core.Option.{some}
 use mathlib.Core.List.{List, [], _∷_, _++_, map, List·Memᴰ, List·Memᴰ·head, List·Memᴰ·tail, Memᴰ·map}
-use lib.ListN.{length, getD, getElem?, length-append}
+use lib.ListN.{length, getD, getElem?}
 use Rattle.model.specs.Limits.{maxLets, maxNodes, variables}
 use Rattle.model.specs.Tools.{select}
-use Rattle.model.specs.Trees.{Ty, tunit, tsum, Tag, left, right, Pat, punit, pvar, pinj, ppair, Val, vunit, vinj, vpair}
-use Rattle.model.specs.Trees.{Let, Clause, Iso, sameTag, part, typeNodes}
+use Rattle.model.specs.Trees.{Ty, tunit, left, right, Pat, punit, pvar, pinj, ppair, Val, vunit, vinj, vpair}
+use Rattle.model.specs.Trees.{Let, Clause, Iso, sameTag, typeNodes}
 use Rattle.model.specs.Slots.{Slots, empty}
 use Rattle.model.specs.Letters.{letters}
 use Rattle.model.specs.Refusals.{Kind, typeLine, patternLine, isoLine, clauseLine, letLine}

@@ -11,7 +11,7 @@ use Rattle.areas.proofs.clear_words.Reads as clear-words-reads
 use Rattle.checker.proofs.is_refused.Reads as is-refused-reads
 use Rattle.checker.proofs.judged.Reads as judged-reads
 use Rattle.checker.proofs.refused.Reads as refused-reads
-use Rattle.lines.proofs.split.count_lines.Reads as count-lines-reads
+use Rattle.split.proofs.count_lines.Reads as count-lines-reads
 
 -- src/lib.rt:97:9
 refused-requires : tie.Need-refused-requires

@@ -65,7 +65,7 @@ returns-5 c rs patterns lines f e h k s =
     e
     k
     (w .before .before .before .before .word-at .ensures)
-    (w .before .before .before .wide .ensures)
+    (w .before .before .before .wide .ensures .0)
     (w .before .before .cell .ensures .0)
     (w .before .cell2 .ensures .0)
     (w .clause-fault .result)

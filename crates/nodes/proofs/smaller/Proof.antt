@@ -1,7 +1,6 @@
 -- `nodes::smaller` meets its contract: the test is the one that `smallerOf` makes.
 use mathlib.Core.Path.{sym}
 use Rattle.nodes.proofs.Unfolding.{smaller-less, smaller-not}
-use borrow.Author.Needs.{needs}
 use Rattle.nodes.proofs.smaller.Statement.{statement}
 use Rattle.nodes.proofs.smaller.Tie as tie
 

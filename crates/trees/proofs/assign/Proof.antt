@@ -34,7 +34,7 @@ element-write-r c = search needs
 returns-2 : tie.Need-returns-2
 returns-2 c =
     let s = c .before .before .before .before .before .before in
-    assign-first (s .args .t .now) (s .args .n) (s .args .a) (s .args .t4) (s .pre) _ _ (c .before .before .before .before .if1 .left) (c .before .before .wide .ensures) (c .before .if2 .taken) (c .entry-of .ensures) (s .pre) refl
+    assign-first (s .args .t .now) (s .args .n) (s .args .a) (s .args .t4) (s .pre) _ _ (c .before .before .before .before .if1 .left) (c .before .before .wide .ensures .0) (c .before .if2 .taken) (c .entry-of .ensures) (s .pre) refl
 
 sub-same-type : tie.Need-sub-same-type
 sub-same-type c = search needs
@@ -45,7 +45,7 @@ same-type-requires c κs = search needs
 returns-3 : tie.Need-returns-3
 returns-3 c =
     let s = c .before .before .before .before .before .before .before in
-    assign-same (s .args .t .now) (s .args .n) (s .args .a) (s .args .t4) (s .pre) (c .before .before .before .before .before .if1 .left) (c .before .before .before .wide .ensures) (c .before .before .if2 .left) (c .before .same-type .ensures) (c .if3 .taken)
+    assign-same (s .args .t .now) (s .args .n) (s .args .a) (s .args .t4) (s .pre) (c .before .before .before .before .before .if1 .left) (c .before .before .before .wide .ensures .0) (c .before .before .if2 .left) (c .before .same-type .ensures) (c .if3 .taken)
 
 failed-requires-2 : tie.Need-failed-requires-2
 failed-requires-2 c κs = search needs
@@ -53,7 +53,7 @@ failed-requires-2 c κs = search needs
 returns-4 : tie.Need-returns-4
 returns-4 c =
     let s = c .before .before .before .before .before .before .before .before in
-    assign-other (s .args .t .now) (s .args .n) (s .args .a) (s .args .t4) (s .pre) (c .failed2 .result) (c .before .before .before .before .before .before .if1 .left) (c .before .before .before .before .wide .ensures) (c .before .before .before .if2 .left) (c .before .before .same-type .ensures) (c .before .if3 .left) (c .failed2 .ensures)
+    assign-other (s .args .t .now) (s .args .n) (s .args .a) (s .args .t4) (s .pre) (c .failed2 .result) (c .before .before .before .before .before .before .if1 .left) (c .before .before .before .before .wide .ensures .0) (c .before .before .before .if2 .left) (c .before .before .same-type .ensures) (c .before .if3 .left) (c .failed2 .ensures)
 
 pub assign-spec : {M : Type 1} → statement M
 assign-spec =

@@ -47,7 +47,7 @@ returns c =
     (envView (s .args .t .now) (s .args .e))
     (w .before .before .before .cell .ensures .0)
     (w .before .before .if1 .taken)
-    (w .wide .ensures)
+    (w .wide .ensures .0)
     (c .before .before .before .before .before .cell2 .ensures .0)
     (c .before .before .before .before .cell3 .ensures .0)
     (c .before .before .before .fit .ensures)

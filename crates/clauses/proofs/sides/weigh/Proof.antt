@@ -36,13 +36,13 @@ weight-requires : tie.Need-weight-requires Inv-loop μ-loop
 weight-requires c κs = search needs
 
 add-sum : tie.Need-add-sum Inv-loop μ-loop
-add-sum c = record { fits = weighed-fits _ _ _ _ _ _ (c .before .before .before .before .before .before .loop .inv) (c .before .before .before .before .before .loop-test .taken) (c .before .before .before .wide .ensures) (c .before .before .cell .ensures .0) (c .before .pattern-tags .ensures) (c .weight .ensures) (c .before .before .before .before .before .before .before .before .before .pre) }
+add-sum c = record { fits = weighed-fits _ _ _ _ _ _ (c .before .before .before .before .before .before .loop .inv) (c .before .before .before .before .before .loop-test .taken) (c .before .before .before .wide .ensures .0) (c .before .before .cell .ensures .0) (c .before .pattern-tags .ensures) (c .weight .ensures) (c .before .before .before .before .before .before .before .before .before .pre) }
 
 loop-less : tie.Need-loop-less Inv-loop μ-loop
 loop-less c = search needs
 
 loop-again : tie.Need-loop-again Inv-loop μ-loop
-loop-again c = weighed-step _ _ _ _ _ _ (c .before .before .before .before .before .before .loop .inv) (c .before .before .before .before .before .loop-test .taken) (c .before .before .before .wide .ensures) (c .before .before .cell .ensures .0) (c .before .pattern-tags .ensures) (c .weight .ensures)
+loop-again c = weighed-step _ _ _ _ _ _ (c .before .before .before .before .before .before .loop .inv) (c .before .before .before .before .before .loop-test .taken) (c .before .before .before .wide .ensures .0) (c .before .before .cell .ensures .0) (c .before .pattern-tags .ensures) (c .weight .ensures)
 
 returns : tie.Need-returns Inv-loop μ-loop
 returns c = weighed-all _ _ _ _ _ _ (c .before .loop .inv) (c .loop-test .left)

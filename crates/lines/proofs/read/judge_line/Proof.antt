@@ -1,6 +1,6 @@
 -- `lines::read::judge_line` meets its contract: a line of no form is refused, a row is judged.
 use borrow.Author.Needs.{needs}
-use Rattle.lines.proofs.Judging.{form-judged, bad-judged}
+use Rattle.lines.proofs.Forms.{form-judged, bad-judged}
 use Rattle.lines.proofs.read.judge_line.Statement.{statement}
 use Rattle.lines.proofs.read.judge_line.Tie as tie
 

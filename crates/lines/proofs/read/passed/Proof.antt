@@ -5,7 +5,7 @@ use Rattle.model.specs.Code.{rowView, refusalView}
 use mathlib.Core.Path.{refl, sym, ap}
 use borrow.Author.Needs.{needs}
 use Rattle.lines.specs.Reads.{judgedRow}
-use Rattle.lines.proofs.Judging.{refused-row}
+use Rattle.lines.proofs.Forms.{refused-row}
 use Rattle.lines.proofs.read.passed.Statement.{statement}
 use Rattle.lines.proofs.read.passed.Tie as tie
 

@@ -1,0 +1,90 @@
+//! Instructions, counted by callgrind: the difference between two runs of a program with different numbers
+//! of calls or queries, so that all the rest drops out.
+
+use crate::call::{Apart, Implementation, Proved};
+use crate::desk::Desk;
+use crate::measure::Both;
+use crate::point::{Point, Series};
+use std::collections::HashMap;
+use std::env;
+use std::process::{Command, Stdio};
+use std::sync::atomic::{AtomicUsize, Ordering};
+use std::sync::Mutex;
+use std::thread;
+
+/// The C library's memset may store by one repeated instruction, which callgrind counts once a byte.
+const NO_REPEATS: &str =
+    "glibc.cpu.x86_rep_stosb_threshold=1000000000:glibc.cpu.x86_rep_movsb_threshold=1000000000";
+
+pub type Counts = HashMap<Point, Both>;
+
+/// The instructions of each point, with a thread for each core.
+pub fn count_all(points: &[Point], desk: &Desk) -> Counts {
+    let next = AtomicUsize::new(0);
+    let counts = Mutex::new(Counts::new());
+    let work = || {
+        while let Some(point) = points.get(next.fetch_add(1, Ordering::Relaxed)) {
+            let both = count(*point, desk);
+            counts.lock().expect("a lock").insert(*point, both);
+        }
+    };
+    let cores = thread::available_parallelism().map_or(1, |cores| cores.get());
+    thread::scope(|scope| {
+        for _ in 0..cores {
+            scope.spawn(work);
+        }
+    });
+    counts.into_inner().expect("a lock")
+}
+
+fn count(point: Point, desk: &Desk) -> Both {
+    let [proved, apart] = [Proved, Apart].map(|by| match point.series {
+        Series::Desk => of_desk(point.size, desk, by),
+        // a call that takes long is made once
+        Series::Worst => of_calls(point, by, 0, 1),
+        _ => of_calls(point, by, 1, 3),
+    });
+    Both { proved, apart }
+}
+
+/// Instructions a call, by two numbers of calls.
+fn of_calls(point: Point, by: Implementation, few: u32, many: u32) -> f64 {
+    let program = env::current_exe().expect("the program knows its path");
+    let total = |calls: u32| {
+        let mut run = callgrind();
+        run.arg(&program).args(["--once", point.series.name()]);
+        run.args([&point.size.to_string(), by.name(), &calls.to_string()]);
+        collected(run)
+    };
+    (total(many) - total(few)) / f64::from(many - few)
+}
+
+/// Instructions for so many queries.
+fn of_desk(queries: usize, desk: &Desk, by: Implementation) -> f64 {
+    let total = |queries: usize| {
+        let mut run = callgrind();
+        run.arg(desk.program(by)).stdin(desk.input(queries));
+        collected(run)
+    };
+    total(queries) - total(0)
+}
+
+fn callgrind() -> Command {
+    let mut command = Command::new("valgrind");
+    command.args(["--tool=callgrind", "--callgrind-out-file=/dev/null"]);
+    command.env("GLIBC_TUNABLES", NO_REPEATS);
+    command
+}
+
+/// The number of instructions that callgrind reports.
+fn collected(mut run: Command) -> f64 {
+    let run = run.stdout(Stdio::null()).stderr(Stdio::piped());
+    let output = run.output().expect("valgrind is there");
+    let report = String::from_utf8_lossy(&output.stderr);
+    assert!(output.status.success(), "{report}");
+    let number = report.split("Collected :").nth(1).map(str::trim_start);
+    let digits = number.and_then(|rest| rest.split_whitespace().next());
+    digits
+        .and_then(|text| text.parse().ok())
+        .expect("a count in the report")
+}

@@ -1,0 +1,150 @@
+//! What is measured: points, each of a series of calls that grow.
+
+use crate::call::Call;
+use crate::desk::{Desk, Queries};
+use crate::inputs;
+use crate::measure::{Lent, Timed};
+use crate::worst::CANDIDATES;
+
+#[derive(Clone, Copy, PartialEq, Eq, Hash, Debug)]
+pub enum Series {
+    S,
+    Lines,
+    Clauses,
+    Isos,
+    Nodes,
+    Worst,
+    Turn,
+    Applications,
+    Swap,
+    Swaps,
+    Desk,
+}
+
+use Series::{Applications, Clauses, Isos, Lines, Nodes, Swap, Swaps, Turn, Worst, S};
+
+const NAMES: [(Series, &str); 11] = [
+    (S, "s"),
+    (Lines, "lines"),
+    (Clauses, "clauses"),
+    (Isos, "isos"),
+    (Nodes, "nodes"),
+    (Worst, "worst"),
+    (Turn, "turn"),
+    (Applications, "applications"),
+    (Swap, "swap"),
+    (Swaps, "swaps"),
+    (Series::Desk, "desk"),
+];
+
+impl Series {
+    pub fn name(self) -> &'static str {
+        NAMES[self as usize].1
+    }
+
+    pub fn named(name: &str) -> Option<Series> {
+        let entry = NAMES.iter().find(|entry| entry.1 == name)?;
+        Some(entry.0)
+    }
+}
+
+/// A series, and a size in it: lines, clauses, isos, nodes or queries; the place of a candidate; or a power
+/// of two, one above the number of applications.
+#[derive(Clone, Copy, PartialEq, Eq, Hash, Debug)]
+pub struct Point {
+    pub series: Series,
+    pub size: usize,
+}
+
+impl Point {
+    pub fn new(series: Series, size: usize) -> Self {
+        Point { series, size }
+    }
+
+    /// The call of a point, which the desk program has not.
+    pub fn call(self) -> Call {
+        let Point { series, size } = self;
+        let level = size.ilog2();
+        match series {
+            S => Call::check(inputs::s()),
+            Lines => Call::check(inputs::long(size)),
+            Clauses => Call::check(inputs::wide(32, level as usize)),
+            Isos => Call::check(inputs::wide(size, 5)),
+            Nodes => Call::check(inputs::nodes(size)),
+            Worst => (CANDIDATES[size - 1].call)(),
+            Turn => Call::turn(inputs::long(size)),
+            Applications => {
+                let value = b"LU".to_vec();
+                Call::run(
+                    inputs::tower(),
+                    level as u16 - 1,
+                    value.clone(),
+                    self.amount(),
+                    value,
+                )
+            }
+            Swap => {
+                let [value, given] = [false, true].map(inputs::swap_value);
+                Call::run(inputs::swap(1), 0, value, 1, given)
+            }
+            Swaps => {
+                let value = inputs::swap_value(false);
+                Call::run(
+                    inputs::swap(32),
+                    level as u16,
+                    value.clone(),
+                    self.amount(),
+                    value,
+                )
+            }
+            Series::Desk => unreachable!("the desk program is no call"),
+        }
+    }
+
+    /// What is timed.
+    pub fn timed(self, desk: &Desk) -> Box<dyn Timed + '_> {
+        match self.series {
+            Series::Desk => Box::new(Queries {
+                desk,
+                count: self.size,
+            }),
+            _ => Box::new(Lent::new(self.call())),
+        }
+    }
+
+    /// What the size stands for: as many lines, applications, queries and so on.
+    pub fn amount(self) -> u32 {
+        match self.series {
+            Applications | Swaps => self.size as u32 - 1,
+            _ => self.size as u32,
+        }
+    }
+
+    /// The applications or queries among which a cost is parted; 1 where it is a call's.
+    pub fn parts(self) -> u32 {
+        match self.series {
+            Applications | Swaps | Series::Desk => self.amount(),
+            _ => 1,
+        }
+    }
+}
+
+#[cfg(test)]
+mod tests {
+    use super::*;
+
+    #[test]
+    fn every_series_has_its_name() {
+        for (series, name) in NAMES {
+            assert_eq!(series.name(), name);
+            assert_eq!(Series::named(name), Some(series));
+        }
+    }
+
+    #[test]
+    fn runs_give_the_expected_answers() {
+        for point in [(Applications, 1 << 10), (Swap, 127), (Swaps, 1 << 4)] {
+            Point::new(point.0, point.1).call().agree();
+        }
+    }
+}

@@ -1,0 +1,118 @@
+//! The exported functions, as `include/rulefile.h` declares them. This module has all `unsafe` of the crate.
+
+use crate::{Direction, Query};
+
+#[repr(C)]
+pub struct CheckAnswer {
+    pub number: u32,
+    pub line: usize,
+}
+
+#[repr(C)]
+pub struct TurnAnswer {
+    pub number: u32,
+    pub line: usize,
+    pub length: usize,
+}
+
+#[repr(C)]
+pub struct RunAnswer {
+    pub number: u32,
+    pub count: u32,
+    pub length: usize,
+}
+
+extern "C" {
+    fn rulefile_check(
+        file: *const u8,
+        file_length: usize,
+        table: *mut u16,
+        table_length: usize,
+        work: *mut u8,
+        work_length: usize,
+    ) -> CheckAnswer;
+
+    fn rulefile_turn(
+        file: *const u8,
+        file_length: usize,
+        table: *mut u16,
+        table_length: usize,
+        work: *mut u8,
+        work_length: usize,
+        output: *mut u8,
+        output_length: usize,
+    ) -> TurnAnswer;
+
+    fn rulefile_run(
+        file: *const u8,
+        file_length: usize,
+        table: *mut u16,
+        table_length: usize,
+        work: *mut u8,
+        work_length: usize,
+        iso: u32,
+        back: bool,
+        budget: u32,
+        value: *const u8,
+        value_length: usize,
+        result: *mut u8,
+        result_length: usize,
+    ) -> RunAnswer;
+}
+
+pub fn check(file: &[u8], table: &mut [u16], work: &mut [u8]) -> CheckAnswer {
+    // SAFETY: each pointer and length are those of a slice; the borrows keep the areas apart and live.
+    unsafe {
+        rulefile_check(
+            file.as_ptr(),
+            file.len(),
+            table.as_mut_ptr(),
+            table.len(),
+            work.as_mut_ptr(),
+            work.len(),
+        )
+    }
+}
+
+pub fn turn(file: &[u8], table: &mut [u16], work: &mut [u8], output: &mut [u8]) -> TurnAnswer {
+    // SAFETY: as for `check`.
+    unsafe {
+        rulefile_turn(
+            file.as_ptr(),
+            file.len(),
+            table.as_mut_ptr(),
+            table.len(),
+            work.as_mut_ptr(),
+            work.len(),
+            output.as_mut_ptr(),
+            output.len(),
+        )
+    }
+}
+
+pub fn run(
+    file: &[u8],
+    table: &mut [u16],
+    work: &mut [u8],
+    query: Query,
+    result: &mut [u8],
+) -> RunAnswer {
+    // SAFETY: as for `check`.
+    unsafe {
+        rulefile_run(
+            file.as_ptr(),
+            file.len(),
+            table.as_mut_ptr(),
+            table.len(),
+            work.as_mut_ptr(),
+            work.len(),
+            query.iso,
+            query.direction == Direction::Back,
+            query.budget,
+            query.letters.as_ptr(),
+            query.letters.len(),
+            result.as_mut_ptr(),
+            result.len(),
+        )
+    }
+}

@@ -1,0 +1,137 @@
+//! Check, Turn and Run for rule files, over the proved static library.
+//!
+//! Callers who keep their own areas lend them to [`check`], [`turn`] and [`run`]; areas of any length are
+//! safe, and what each then holds is said in `include/rulefile.h`. Callers who do not want to make one
+//! [`Desk`], which owns the areas:
+//!
+//! ```
+//! let mut desk = rulefile::Desk::new();
+//! let file = b"T,0,0,0\nT,1,0,0\nP,0,0,0\nP,2,0,0\nP,3,0,0\nI,1,1\nC,1,2\nC,2,1\n";
+//! desk.check(file)?;
+//! let there = desk.run(file, 0, rulefile::Direction::Forward, 9, b"LU")?;
+//! assert_eq!((there.letters.as_slice(), there.count), (b"RU".as_slice(), 1));
+//! # Ok::<(), rulefile::Refused>(())
+//! ```
+
+mod foreign;
+mod refusal;
+
+pub use refusal::{Refusal, Refused};
+
+/// The least length of a table area, in numbers of 16 bits.
+pub const TABLE_LENGTH: usize = 16_384;
+/// The least length of a work area, in bytes.
+pub const WORK_LENGTH: usize = 65_536;
+/// The least length of a result area, in bytes.
+pub const RESULT_LENGTH: usize = 127;
+
+/// Which way an iso is run.
+#[derive(Clone, Copy, Debug, PartialEq, Eq)]
+pub enum Direction {
+    Forward,
+    Back,
+}
+
+/// A run that was not refused: the applications made, and the letters written to the result area.
+#[derive(Clone, Copy, Debug, PartialEq, Eq)]
+pub struct Ran {
+    pub count: u32,
+    pub length: usize,
+}
+
+/// A run that was not refused, with its letters.
+#[derive(Clone, Debug, PartialEq, Eq)]
+pub struct Value {
+    pub count: u32,
+    pub letters: Vec<u8>,
+}
+
+/// Checks a file.
+pub fn check(file: &[u8], table: &mut [u16], work: &mut [u8]) -> Result<(), Refused> {
+    let answer = foreign::check(file, table, work);
+    Refused::unless_0(answer.number, answer.line)
+}
+
+/// Checks a file and writes it turned; gives the number of bytes written.
+pub fn turn(
+    file: &[u8],
+    table: &mut [u16],
+    work: &mut [u8],
+    output: &mut [u8],
+) -> Result<usize, Refused> {
+    let answer = foreign::turn(file, table, work, output);
+    Refused::unless_0(answer.number, answer.line).map(|()| answer.length)
+}
+
+/// What a run is asked: the iso's number, the direction, the budget and the value's letters.
+#[derive(Clone, Copy, Debug, PartialEq, Eq)]
+pub struct Query<'a> {
+    pub iso: u32,
+    pub direction: Direction,
+    pub budget: u32,
+    pub letters: &'a [u8],
+}
+
+/// Checks a file and runs one of its isos.
+pub fn run(
+    file: &[u8],
+    table: &mut [u16],
+    work: &mut [u8],
+    query: Query,
+    result: &mut [u8],
+) -> Result<Ran, Refused> {
+    let answer = foreign::run(file, table, work, query, result);
+    Refused::unless_0(answer.number, 0).map(|()| Ran { count: answer.count, length: answer.length })
+}
+
+/// The areas of the services, for callers who do not keep their own.
+#[derive(Clone, Debug)]
+pub struct Desk {
+    table: Vec<u16>,
+    work: Vec<u8>,
+}
+
+impl Default for Desk {
+    fn default() -> Self {
+        Desk::new()
+    }
+}
+
+impl Desk {
+    pub fn new() -> Self {
+        Desk { table: vec![0; TABLE_LENGTH], work: vec![0; WORK_LENGTH] }
+    }
+
+    /// Checks a file.
+    pub fn check(&mut self, file: &[u8]) -> Result<(), Refused> {
+        check(file, &mut self.table, &mut self.work)
+    }
+
+    /// The file turned.
+    pub fn turn(&mut self, file: &[u8]) -> Result<Vec<u8>, Refused> {
+        let mut output = vec![0; file.len()];
+        let length = turn(file, &mut self.table, &mut self.work, &mut output)?;
+        output.truncate(length);
+        Ok(output)
+    }
+
+    /// What iso number `iso` of the file makes of a value.
+    pub fn run(
+        &mut self,
+        file: &[u8],
+        iso: u32,
+        direction: Direction,
+        budget: u32,
+        letters: &[u8],
+    ) -> Result<Value, Refused> {
+        let mut result = [0; RESULT_LENGTH];
+        let query = Query { iso, direction, budget, letters };
+        let ran = run(file, &mut self.table, &mut self.work, query, &mut result)?;
+        Ok(Value { count: ran.count, letters: result[..ran.length].to_vec() })
+    }
+
+    /// The table as the last call left it: four numbers a line of the file that was accepted.
+    pub fn table(&self) -> &[u16] {
+        &self.table
+    }
+}

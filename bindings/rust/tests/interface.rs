@@ -1,0 +1,497 @@
+//! The wrapper over the library: document 01's examples, every refusal by name, lent areas of every
+//! length, the stored examples, and the header.
+
+use rulefile::{
+    check, run, turn, Desk, Direction, Query, Ran, Refusal, Refused, Value, RESULT_LENGTH,
+    TABLE_LENGTH, WORK_LENGTH,
+};
+use std::error::Error;
+use std::fs;
+use std::path::{Path, PathBuf};
+use Direction::{Back, Forward};
+
+/// Document 01's file S, its lines parted by blanks.
+const S: &str = "T,0,0,0 T,1,0,0 T,2,1,1 P,0,0,0 P,2,0,0 P,3,0,0 P,1,0,0 P,1,1,0 P,4,1,3 P,4,1,4 \
+    P,4,2,3 I,1,1 C,1,2 C,2,1 I,2,2 C,5,6 L,4,0,3 C,7,7";
+const S_TURNED: &str = "T,0,0,0 T,1,0,0 T,2,1,1 P,0,0,0 P,2,0,0 P,3,0,0 P,1,0,0 P,1,1,0 P,4,1,3 \
+    P,4,1,4 P,4,2,3 I,1,1 C,2,1 C,1,2 I,2,2 C,6,5 L,3,0,4 C,7,7";
+
+/// Document 01's words, the first one for number 1.
+const WORDS: [&str; 17] = [
+    "short area",
+    "too long",
+    "bad line",
+    "misplaced",
+    "bad field",
+    "bad name",
+    "ceiling",
+    "variable",
+    "let shape",
+    "type",
+    "overlap left",
+    "overlap right",
+    "gap left",
+    "gap right",
+    "no iso",
+    "no value",
+    "spent",
+];
+
+/// A file from its lines.
+fn file(lines: &str) -> Vec<u8> {
+    lines.split_whitespace().flat_map(|line| [line.as_bytes(), b"\n"].concat()).collect()
+}
+
+/// The lines of S without number `line`.
+fn s_without(line: usize) -> String {
+    let lines: Vec<&str> = S.split_whitespace().collect();
+    [&lines[..line - 1], &lines[line..]].concat().join(" ")
+}
+
+/// S with line 17 as stated.
+fn s_with_17(line: &str) -> String {
+    S.replace("L,4,0,3", line)
+}
+
+fn refused(refusal: Refusal, line: usize) -> Refused {
+    Refused { refusal, line }
+}
+
+fn value(count: u32, letters: &str) -> Result<Value, Refused> {
+    Ok(Value { count, letters: letters.as_bytes().to_vec() })
+}
+
+/// A file that is refused, by all three services.
+fn expect_refused(file: &[u8], refusal: Refusal, line: usize) {
+    let mut desk = Desk::new();
+    assert_eq!(desk.check(file), Err(refused(refusal, line)));
+    assert_eq!(desk.turn(file), Err(refused(refusal, line)));
+    assert_eq!(desk.run(file, 0, Forward, 9, b"U"), Err(refused(refusal, 0)));
+}
+
+#[test]
+fn files_of_document_01() {
+    let mut desk = Desk::new();
+    assert_eq!(desk.check(b""), Ok(()));
+    assert_eq!(desk.check(&file(S)), Ok(()));
+    expect_refused(&file(&s_without(18)), Refusal::GapLeft, 15);
+    expect_refused(&file(&format!("{S} C,7,7")), Refusal::OverlapLeft, 15);
+    expect_refused(&file(&s_with_17("L,4,1,3")), Refusal::BadName, 17);
+    expect_refused(&file(&s_without(17)), Refusal::Variable, 16);
+    expect_refused(&file(&s_with_17("L,4,0,1")), Refusal::Variable, 16);
+    let gap = "T,0,0,0 T,1,0,0 P,0,0,0 P,2,0,0 I,0,1 C,0,1";
+    expect_refused(&file(gap), Refusal::GapRight, 5);
+}
+
+#[test]
+fn types_of_127_and_255_nodes() {
+    let seven = "T,0,0,0 T,2,0,0 T,2,1,1 T,2,2,2 T,2,3,3 T,2,4,4 T,2,5,5";
+    assert_eq!(Desk::new().check(&file(seven)), Ok(()));
+    expect_refused(&file(&format!("{seven} T,2,6,6")), Refusal::Ceiling, 8);
+}
+
+#[test]
+fn queries_of_document_01() {
+    let mut desk = Desk::new();
+    let s = file(S);
+    assert_eq!(desk.run(&s, 1, Forward, 9, b"PLURU"), value(2, "PLULU"));
+    assert_eq!(desk.run(&s, 1, Back, 9, b"PLULU"), value(2, "PLURU"));
+    assert_eq!(desk.run(&s, 1, Forward, 2, b"PRULU"), value(1, "PRULU"));
+    assert_eq!(desk.run(&s, 1, Forward, 2, b"PLURU"), value(2, "PLULU"));
+    assert_eq!(desk.run(&s, 1, Forward, 1, b"PLURU"), Err(refused(Refusal::Spent, 0)));
+    assert_eq!(desk.run(&s, 2, Forward, 9, b"U"), Err(refused(Refusal::NoIso, 0)));
+    assert_eq!(desk.run(&s, 1, Forward, 9, b"PLU"), Err(refused(Refusal::NoValue, 0)));
+}
+
+#[test]
+fn turned_and_there_and_back() {
+    let mut desk = Desk::new();
+    let s = file(S);
+    let turned = desk.turn(&s).unwrap();
+    assert_eq!(turned, file(S_TURNED));
+    assert_eq!(desk.check(&turned), Ok(()));
+    assert_eq!(desk.turn(&turned), Ok(s.clone()));
+    assert_eq!(desk.turn(b""), Ok(vec![]));
+    for letters in [b"PLULU", b"PLURU", b"PRULU", b"PRURU"] {
+        let there = desk.run(&s, 1, Forward, 9, letters).unwrap();
+        let back = desk.run(&turned, 1, Forward, 9, &there.letters).unwrap();
+        assert_eq!(back.letters, letters);
+        assert_eq!(back.count, there.count);
+        assert_eq!(desk.run(&s, 1, Back, 9, &there.letters), Ok(back));
+    }
+}
+
+#[test]
+fn a_file_for_each_refusal() {
+    let bit = "T,0,0,0 T,1,0,0 P,0,0,0 P,2,0,0 P,3,0,0";
+    let cases = [
+        (Refusal::BadLine, "T,0,0,0 T,01,0,0".to_string(), 2),
+        (Refusal::Misplaced, "T,0,0,0 P,0,0,0 T,0,0,0".to_string(), 3),
+        (Refusal::BadField, "T,0,0,0 P,0,0,0 P,1,32,0".to_string(), 3),
+        (Refusal::BadName, "T,0,0,0 T,1,0,1".to_string(), 2),
+        (Refusal::Ceiling, "T,0,0,0 ".repeat(257), 257),
+        (Refusal::Variable, format!("{bit} P,1,0,0 I,1,1 C,3,1"), 8),
+        (
+            Refusal::LetShape,
+            format!("{bit} P,1,0,0 P,1,1,0 P,2,4,0 I,1,1 C,1,2 C,2,1 I,1,1 C,3,4 L,5,0,3"),
+            13,
+        ),
+        (Refusal::Type, "T,0,0,0 T,1,0,0 P,0,0,0 I,0,1 C,0,0".to_string(), 5),
+        (Refusal::OverlapLeft, format!("{bit} I,1,1 C,1,1 C,1,2"), 6),
+        (Refusal::OverlapRight, format!("{bit} I,1,1 C,1,1 C,2,1"), 6),
+        (Refusal::GapLeft, format!("{bit} I,1,0 C,1,0"), 6),
+        (Refusal::GapRight, format!("{bit} I,0,1 C,0,1"), 6),
+    ];
+    for (place, (refusal, lines, line)) in cases.iter().enumerate() {
+        assert_eq!(refusal.number() as usize, place + 3);
+        expect_refused(&file(lines), *refusal, *line);
+    }
+}
+
+#[test]
+fn the_limits_of_a_file() {
+    expect_refused(&[b'T'; 65_537], Refusal::TooLong, 0);
+    expect_refused(&[b'T'; 65_536], Refusal::BadLine, 1);
+    expect_refused(&[b'\n'; 4_097], Refusal::TooLong, 0);
+    expect_refused(&[b'\n'; 4_096], Refusal::BadLine, 1);
+    expect_refused(&[0], Refusal::BadLine, 1);
+    expect_refused(&[255, 10], Refusal::BadLine, 1);
+}
+
+#[test]
+fn the_limits_of_a_query() {
+    let mut desk = Desk::new();
+    let s = file(S);
+    for iso in [2, 256, 65_535, 65_536, 65_537, u32::MAX] {
+        assert_eq!(desk.run(&s, iso, Forward, 9, b"LU"), Err(refused(Refusal::NoIso, 0)));
+    }
+    for budget in [1, 65_536, u32::MAX] {
+        assert_eq!(desk.run(&s, 0, Forward, budget, b"LU"), value(1, "RU"));
+    }
+    assert_eq!(desk.run(&s, 0, Back, 1, b"LU"), value(1, "RU"));
+    assert_eq!(desk.run(&s, 0, Forward, 0, b"LU"), Err(refused(Refusal::Spent, 0)));
+    for letters in [b"".as_slice(), b"U", b"LU\0", b"L\xff", &[b'L'; 128], &vec![b'U'; 1_000_000]] {
+        assert_eq!(desk.run(&s, 0, Forward, 9, letters), Err(refused(Refusal::NoValue, 0)));
+    }
+}
+
+#[test]
+fn a_value_of_127_letters() {
+    let lines = "T,0,0,0 T,2,0,0 T,2,1,1 T,2,2,2 T,2,3,3 T,2,4,4 T,2,5,5 P,1,0,0 I,6,6 C,0,0";
+    let mut letters = "U".to_string();
+    for _ in 0..6 {
+        letters = format!("P{letters}{letters}");
+    }
+    assert_eq!(letters.len(), RESULT_LENGTH);
+    let mut desk = Desk::new();
+    let lines = file(lines);
+    assert_eq!(desk.run(&lines, 0, Forward, 1, letters.as_bytes()), value(1, &letters));
+    for wrong in [&letters[..126], &format!("{letters}U")] {
+        let answer = desk.run(&lines, 0, Forward, 1, wrong.as_bytes());
+        assert_eq!(answer, Err(refused(Refusal::NoValue, 0)));
+    }
+}
+
+#[test]
+fn refusals_by_number_and_word() {
+    for (place, word) in WORDS.iter().enumerate() {
+        let number = place as u32 + 1;
+        let refusal = Refusal::of(number).unwrap();
+        assert_eq!((refusal.number(), refusal.word()), (number, *word));
+        let name = format!("{refusal:?}").to_lowercase();
+        assert_eq!(name, word.replace(' ', ""));
+    }
+    for number in [0, 18, 19, 256, 257, 65_537, u32::MAX] {
+        assert_eq!(Refusal::of(number), None);
+    }
+}
+
+#[test]
+fn refusals_as_text() {
+    let text = |refusal, line| refused(refusal, line).to_string();
+    assert_eq!(text(Refusal::ShortArea, 0), "refused with 1, short area");
+    assert_eq!(text(Refusal::TooLong, 0), "refused with 2, too long");
+    assert_eq!(text(Refusal::BadLine, 1), "refused with 3, bad line, at line 1");
+    assert_eq!(text(Refusal::Type, 4096), "refused with 10, type, at line 4096");
+    assert_eq!(text(Refusal::Spent, 0), "refused with 17, spent");
+    for (place, word) in WORDS.iter().enumerate() {
+        let refusal = Refusal::of(place as u32 + 1).unwrap();
+        assert_eq!(text(refusal, 7), format!("refused with {}, {word}, at line 7", place + 1));
+    }
+    let error: Box<dyn Error> = Box::new(refused(Refusal::GapLeft, 15));
+    assert_eq!(error.to_string(), "refused with 13, gap left, at line 15");
+}
+
+/// A pattern without a zero.
+fn pattern(length: usize) -> Vec<u8> {
+    (0..length).map(|place| (place % 251 + 1) as u8).collect()
+}
+
+fn wide_pattern(length: usize) -> Vec<u16> {
+    (0..length).map(|place| (place % 65_521 + 1) as u16).collect()
+}
+
+/// What an accepted file leaves in the table.
+fn rows(lines: &str) -> Vec<u16> {
+    let mut table = vec![0; TABLE_LENGTH];
+    for (line, row) in lines.split_whitespace().zip(table.chunks_mut(4)) {
+        row[0] = u16::from(line.as_bytes()[0]);
+        for (field, number) in line.split(',').skip(1).zip(&mut row[1..]) {
+            *number = field.parse().unwrap();
+        }
+    }
+    table
+}
+
+/// Areas that are lent, and how they are to be found afterwards.
+struct Lent {
+    table: Vec<u16>,
+    work: Vec<u8>,
+    out: Vec<u8>,
+}
+
+impl Lent {
+    fn new(table: usize, work: usize, out: usize) -> Self {
+        Lent { table: wide_pattern(table), work: pattern(work), out: pattern(out) }
+    }
+
+    fn check(&mut self, file: &[u8]) -> Result<(), Refused> {
+        check(file, &mut self.table, &mut self.work)
+    }
+
+    fn turn(&mut self, file: &[u8]) -> Result<usize, Refused> {
+        turn(file, &mut self.table, &mut self.work, &mut self.out)
+    }
+
+    fn run(&mut self, file: &[u8], query: Query) -> Result<Ran, Refused> {
+        run(file, &mut self.table, &mut self.work, query, &mut self.out)
+    }
+
+    /// The table begins as stated, the work area with zeros, the output with the text; all else is kept.
+    fn expect(&self, table: &[u16], text: &[u8]) {
+        assert_eq!(self.table[..TABLE_LENGTH], *table);
+        assert_eq!(self.table[TABLE_LENGTH..], wide_pattern(self.table.len())[TABLE_LENGTH..]);
+        assert!(self.work[..WORK_LENGTH].iter().all(|&byte| byte == 0));
+        assert_eq!(self.work[WORK_LENGTH..], pattern(self.work.len())[WORK_LENGTH..]);
+        assert_eq!(self.out[..text.len()], *text);
+        assert_eq!(self.out[text.len()..], pattern(self.out.len())[text.len()..]);
+    }
+
+    fn expect_unchanged(&self) {
+        assert_eq!(self.table, wide_pattern(self.table.len()));
+        assert_eq!(self.work, pattern(self.work.len()));
+        assert_eq!(self.out, pattern(self.out.len()));
+    }
+}
+
+const QUERY: Query = Query { iso: 1, direction: Forward, budget: 2, letters: b"PLURU" };
+
+#[test]
+fn exact_and_longer_areas() {
+    let s = file(S);
+    for extra in [0, 1, 1000] {
+        let lent = |out| Lent::new(TABLE_LENGTH + extra, WORK_LENGTH + extra, out + extra);
+        let mut areas = lent(0);
+        assert_eq!(areas.check(&s), Ok(()));
+        areas.expect(&rows(S), b"");
+        let mut areas = lent(s.len());
+        assert_eq!(areas.turn(&s), Ok(s.len()));
+        areas.expect(&rows(S), &file(S_TURNED));
+        let mut areas = lent(RESULT_LENGTH);
+        assert_eq!(areas.run(&s, QUERY), Ok(Ran { count: 2, length: 5 }));
+        areas.expect(&rows(S), b"PLULU");
+    }
+}
+
+#[test]
+fn areas_after_refusals() {
+    let s = file(S);
+    let wrong = file(&format!("{S} C,7,7"));
+    for extra in [0, 1, 1000] {
+        let lent = |out| Lent::new(TABLE_LENGTH + extra, WORK_LENGTH + extra, out + extra);
+        let mut areas = lent(0);
+        assert_eq!(areas.check(&wrong), Err(refused(Refusal::OverlapLeft, 15)));
+        areas.expect(&rows(""), b"");
+        let mut areas = lent(wrong.len());
+        assert_eq!(areas.turn(&wrong), Err(refused(Refusal::OverlapLeft, 15)));
+        areas.expect(&rows(""), b"");
+        let mut areas = lent(RESULT_LENGTH);
+        assert_eq!(areas.run(&wrong, QUERY), Err(refused(Refusal::OverlapLeft, 0)));
+        areas.expect(&rows(""), b"");
+        for (query, refusal) in [
+            (Query { iso: 2, ..QUERY }, Refusal::NoIso),
+            (Query { letters: b"PLU", ..QUERY }, Refusal::NoValue),
+            (Query { budget: 1, ..QUERY }, Refusal::Spent),
+        ] {
+            let mut areas = lent(RESULT_LENGTH);
+            assert_eq!(areas.run(&s, query), Err(refused(refusal, 0)));
+            areas.expect(&rows(S), b"");
+        }
+    }
+}
+
+#[test]
+fn short_and_empty_areas() {
+    let s = file(S);
+    let short = refused(Refusal::ShortArea, 0);
+    let full = [TABLE_LENGTH, WORK_LENGTH];
+    for (table, work) in
+        [(full[0] - 1, full[1]), (full[0], full[1] - 1), (0, full[1]), (full[0], 0), (0, 0)]
+    {
+        let mut areas = Lent::new(table, work, s.len());
+        assert_eq!(areas.check(&s), Err(short));
+        assert_eq!(areas.turn(&s), Err(short));
+        assert_eq!(areas.run(&s, QUERY), Err(short));
+        areas.expect_unchanged();
+    }
+    for (turn_length, run_length) in [(s.len() - 1, RESULT_LENGTH - 1), (0, 0)] {
+        let mut areas = Lent::new(full[0], full[1], turn_length);
+        assert_eq!(areas.turn(&s), Err(short));
+        areas.expect_unchanged();
+        let mut areas = Lent::new(full[0], full[1], run_length);
+        assert_eq!(areas.run(&s, QUERY), Err(short));
+        areas.expect_unchanged();
+    }
+}
+
+#[test]
+fn too_long_changes_nothing() {
+    let long = vec![b'T'; 65_537];
+    let mut areas = Lent::new(TABLE_LENGTH, WORK_LENGTH, long.len());
+    assert_eq!(areas.check(&long), Err(refused(Refusal::TooLong, 0)));
+    assert_eq!(areas.turn(&long), Err(refused(Refusal::TooLong, 0)));
+    assert_eq!(areas.run(&long, QUERY), Err(refused(Refusal::TooLong, 0)));
+    areas.expect_unchanged();
+    let mut areas = Lent::new(TABLE_LENGTH, WORK_LENGTH, long.len() - 1);
+    assert_eq!(areas.turn(&long), Err(refused(Refusal::ShortArea, 0)));
+    areas.expect_unchanged();
+}
+
+#[test]
+fn a_desk_is_used_again() {
+    let mut desk = Desk::default();
+    let s = file(S);
+    assert_eq!(desk.table(), rows(""));
+    for _ in 0..3 {
+        assert_eq!(desk.check(&s), Ok(()));
+        assert_eq!(desk.table(), rows(S));
+        assert_eq!(desk.clone().run(&s, 1, Forward, 9, b"PLURU"), value(2, "PLULU"));
+        assert_eq!(desk.check(b"T"), Err(refused(Refusal::BadLine, 1)));
+        assert_eq!(desk.table(), rows(""));
+        assert_eq!(desk.turn(&s), Ok(file(S_TURNED)));
+        assert_eq!(desk.check(&[b'T'; 65_537]), Err(refused(Refusal::TooLong, 0)));
+        assert_eq!(desk.table(), rows(S));
+    }
+}
+
+#[test]
+fn desks_in_threads() {
+    let through = |_| {
+        std::thread::spawn(|| {
+            let mut desk = Desk::new();
+            (0..200).all(|_| desk.run(&file(S), 1, Forward, 2, b"PLURU") == value(2, "PLULU"))
+        })
+    };
+    let threads: Vec<_> = (0..4).map(through).collect();
+    assert_eq!(threads.len(), 4);
+    for thread in threads {
+        assert!(thread.join().unwrap());
+    }
+}
+
+/// The fields of a query `Q,iso,direction,budget,letters`.
+fn query_of(line: &str) -> Query<'_> {
+    let fields: Vec<&str> = line.trim_end_matches('\n').splitn(5, ',').collect();
+    Query {
+        iso: fields[1].parse().unwrap(),
+        direction: if fields[2] == "0" { Forward } else { Back },
+        budget: fields[3].parse().unwrap(),
+        letters: fields[4].as_bytes(),
+    }
+}
+
+fn ask(desk: &mut Desk, file: &[u8], query: Query) -> Result<Value, Refused> {
+    desk.run(file, query.iso, query.direction, query.budget, query.letters)
+}
+
+/// What the desk program prints for a query. A run of the file is a run of the turned file the other way.
+fn answer(desk: &mut Desk, file: &[u8], turned: &[u8], query: Query) -> String {
+    let answer = ask(desk, file, query);
+    let direction = if query.direction == Forward { Back } else { Forward };
+    assert_eq!(ask(desk, turned, Query { direction, ..query }), answer);
+    match answer {
+        Ok(value) => format!("0,{},{}\n", value.count, String::from_utf8(value.letters).unwrap()),
+        Err(refused) => format!("{},0,\n", refused.refusal.number()),
+    }
+}
+
+/// What the desk program prints for its input. A file turned twice is the file.
+fn answers(input: &str) -> String {
+    let mut desk = Desk::new();
+    let queries = input.split_inclusive('\n').skip_while(|line| !line.starts_with('Q'));
+    let length = input.len() - queries.clone().map(str::len).sum::<usize>();
+    let file = &input.as_bytes()[..length];
+    if let Err(refused) = desk.check(file) {
+        return format!("{},{}\n", refused.refusal.number(), refused.line);
+    }
+    let turned = desk.turn(file).unwrap();
+    assert_eq!(desk.turn(&turned).unwrap(), file);
+    queries.fold("0,0\n".to_string(), |text, line| {
+        text + &answer(&mut desk, file, &turned, query_of(line))
+    })
+}
+
+/// The inputs below a folder.
+fn inputs(folder: &Path) -> Vec<PathBuf> {
+    let paths = fs::read_dir(folder).unwrap().map(|entry| entry.unwrap().path());
+    let (folders, files): (Vec<_>, Vec<_>) = paths.partition(|path| path.is_dir());
+    let here = files.into_iter().filter(|path| path.extension().is_some_and(|end| end == "in"));
+    here.chain(folders.iter().flat_map(|folder| inputs(folder))).collect()
+}
+
+#[test]
+fn stored_examples() {
+    let inputs = inputs(&Path::new(env!("CARGO_MANIFEST_DIR")).join("../../examples"));
+    assert!(inputs.len() > 20, "{} examples", inputs.len());
+    for input in inputs {
+        let expected = fs::read_to_string(input.with_extension("out")).unwrap();
+        assert_eq!(answers(&fs::read_to_string(&input).unwrap()), expected, "{}", input.display());
+    }
+}
+
+/// The numbers that the header gives: `#define NAME n` and `NAME = n`, without the prefix.
+fn header_numbers() -> Vec<(String, u32)> {
+    let header = include_str!("../../../include/rulefile.h");
+    let mut numbers = Vec::new();
+    for line in header.lines() {
+        let words: Vec<&str> = line
+            .split(|c: char| c.is_whitespace() || c == ',')
+            .filter(|word| !word.is_empty())
+            .collect();
+        let (name, number) = match words[..] {
+            ["#define", name, number, ..] | [name, "=", number, ..] => (name, number),
+            _ => continue,
+        };
+        numbers
+            .push((name.strip_prefix("RULEFILE_").unwrap().to_string(), number.parse().unwrap()));
+    }
+    numbers
+}
+
+#[test]
+fn header_and_wrapper_agree() {
+    let mut expected = vec![
+        ("TABLE_LENGTH".to_string(), TABLE_LENGTH as u32),
+        ("WORK_LENGTH".to_string(), WORK_LENGTH as u32),
+        ("RESULT_LENGTH".to_string(), RESULT_LENGTH as u32),
+        ("MAX_FILE_LENGTH".to_string(), 65_536),
+        ("MAX_LINES".to_string(), 4_096),
+        ("ACCEPTED".to_string(), 0),
+    ];
+    let refusals = (0..=100).filter_map(Refusal::of);
+    expected.extend(
+        refusals.map(|refusal| (refusal.word().to_uppercase().replace(' ', "_"), refusal.number())),
+    );
+    assert_eq!(expected.len(), 6 + WORDS.len());
+    assert_eq!(header_numbers(), expected);
+}

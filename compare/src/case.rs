@@ -1,0 +1,99 @@
+//! Which files are made.
+
+use apart::generate::ceiling::{self, Ceiling, CEILINGS};
+use apart::generate::random::Random;
+use apart::generate::{accepted, any_file, miss, pair, query, tower};
+use apart::{check, Rules};
+
+#[derive(Debug, Clone, Copy, PartialEq, Eq)]
+pub enum Case {
+    /// Refused with the number.
+    Aimed(u8),
+    /// At the ceiling, or one over it.
+    Ceiling(usize, bool),
+    /// As many bytes as a file may have, or one more.
+    Bytes(bool),
+    /// A pair of faults by its place in `pair::all`: both, the first alone,
+    /// the second alone.
+    Pair(usize, usize),
+    /// Counts around 65,535 and of a million.
+    Long,
+    /// Thirty-two isos open at once on the longest values.
+    Stack,
+    /// The longest value.
+    Longest,
+    Accepted,
+    Any,
+}
+
+/// The cases that every run has, whatever its seed.
+pub fn always() -> Vec<Case> {
+    let mut cases = vec![Case::Long; 3];
+    for over in [false, true].repeat(5) {
+        cases.extend([Case::Stack, Case::Longest, Case::Bytes(over)]);
+        cases.extend((0..CEILINGS.len()).map(|ceiling| Case::Ceiling(ceiling, over)));
+        cases.extend((2..15).map(Case::Aimed));
+    }
+    for pair in 0..pair::all().len() {
+        cases.extend((0..3).map(|file| Case::Pair(pair, file)));
+    }
+    cases
+}
+
+/// A file and, where the case says it beforehand, the number and line that
+/// Check has to give.
+pub fn file(random: &mut Random, case: Case) -> (Vec<u8>, Option<(u8, usize)>) {
+    match case {
+        Case::Aimed(number) => (miss::aimed(random, number), None),
+        Case::Ceiling(place, over) => (at_ceiling(random, CEILINGS[place], over), None),
+        Case::Bytes(over) => (ceiling::many_bytes(random, over), None),
+        Case::Pair(place, which) => {
+            let made = pair::make(random, pair::all()[place]);
+            (made.files[which].clone(), Some(made.answers[which]))
+        }
+        Case::Long => (tower::long(random), Some((0, 0))),
+        Case::Stack => (tower::stack(random), Some((0, 0))),
+        Case::Longest => (tower::longest_value(random), Some((0, 0))),
+        Case::Accepted => (accepted(random), Some((0, 0))),
+        Case::Any => (any_file(random), None),
+    }
+}
+
+/// The number that a file at the ceiling, or one over it, is given.
+pub fn ceiling_number(ceiling: Ceiling, over: bool) -> u8 {
+    match (over, ceiling) {
+        (false, _) => 0,
+        (true, Ceiling::Lines) => 2,
+        (true, _) => 7,
+    }
+}
+
+/// A file that passes another ceiling is thrown away.
+fn at_ceiling(random: &mut Random, ceiling: Ceiling, over: bool) -> Vec<u8> {
+    loop {
+        let file = ceiling::at(random, ceiling, over);
+        let number = check(&file).err().map_or(0, |refusal| refusal.number);
+        if number == ceiling_number(ceiling, over) {
+            return file;
+        }
+    }
+}
+
+/// The isos to send a value through, there and back, and the highest count.
+pub fn routes(random: &mut Random, case: Case, rules: &Rules) -> Vec<(u16, u32)> {
+    if case == Case::Long {
+        return tower::LONG_ISOS.map(|iso| (iso, 2_000_000)).to_vec();
+    }
+    if rules.isos.is_empty() {
+        return Vec::new();
+    }
+    if case == Case::Stack {
+        return vec![(rules.isos.len() as u16 - 1, 3_000)];
+    }
+    let count = 1 + usize::from(random.chance(30));
+    let route = |_| {
+        let iso = random.below(rules.isos.len()) as u16;
+        (iso, query::longest(random))
+    };
+    (0..count).map(route).collect()
+}

@@ -1,0 +1,18 @@
+//! Holds the desk program `rules` and the linked library to the checker
+//! written apart, over files and queries made from a seed.
+
+pub mod areas;
+pub mod arguments;
+pub mod block;
+pub mod calls;
+pub mod case;
+pub mod ceilings;
+pub mod desk;
+pub mod foreign;
+pub mod grid;
+pub mod input;
+pub mod library;
+pub mod service;
+pub mod tally;
+pub mod trip;
+pub mod work;

@@ -1,0 +1,233 @@
+//! What was compared, what was hit, and what differed.
+
+use crate::grid::Grid;
+use apart::generate::ceiling::CEILINGS;
+use apart::generate::pair;
+
+/// How many mismatches are shown.
+const SHOWN: usize = 5;
+
+/// Columns of the table of numbers. The last one counts the calls with a short
+/// area that would have given the number otherwise.
+pub const FILE: usize = 0;
+pub const QUERY: usize = 1;
+pub const CHECK: usize = 2;
+pub const TURN: usize = 3;
+pub const RUN: usize = 4;
+pub const SHORT: usize = 5;
+
+/// Columns of the table of laws; rows below.
+pub const RULES: usize = 0;
+pub const LIBRARY: usize = 1;
+
+pub const TURNED_ACCEPTED: usize = 0;
+pub const TURNED_TWICE: usize = 1;
+pub const THERE_AND_BACK: usize = 2;
+pub const COUNT_ABOVE_3000: usize = 3;
+pub const COUNT_ABOVE_65535: usize = 4;
+pub const ISO_ABOVE_65535: usize = 5;
+
+/// Rows of the table of ceilings behind those of `CEILINGS`.
+pub const BYTES: usize = CEILINGS.len();
+pub const LETTERS: usize = BYTES + 1;
+
+/// One mismatch: what differs, and the input in the form of the desk program.
+#[derive(Debug, Clone)]
+pub struct Report {
+    pub text: String,
+    pub input: Vec<u8>,
+}
+
+pub struct Tally {
+    /// The case that is compared, by its number.
+    pub case: usize,
+    pub files: usize,
+    pub turned: usize,
+    pub queries: usize,
+    pub calls: usize,
+    pub mismatches: usize,
+    pub reports: Vec<Report>,
+    pub numbers: Grid,
+    pub areas: Grid,
+    pub budgets: Grid,
+    pub laws: Grid,
+    pub ceilings: Grid,
+    /// How often each pair of faults was hit.
+    pub pairs: Vec<usize>,
+}
+
+fn names(names: &[&str]) -> Vec<String> {
+    names.iter().map(|name| name.to_string()).collect()
+}
+
+/// Refusal 1 is given through the library alone; 15 to 17 to queries and runs;
+/// a query of another form is refused with 3.
+fn number_needed(number: usize, column: usize) -> bool {
+    match column {
+        FILE => number != 1 && number < 15,
+        QUERY => matches!(number, 0 | 3 | 15..=17),
+        CHECK | TURN => number < 15,
+        RUN => true,
+        _ => number != 1,
+    }
+}
+
+/// Turning is not to be had from `rules`, nor is an iso of more than 16 bits.
+fn law_needed(law: usize, column: usize) -> bool {
+    column == LIBRARY || !matches!(law, TURNED_TWICE | ISO_ABOVE_65535)
+}
+
+/// A value of more than 127 letters is of no type.
+fn ceiling_needed(ceiling: usize, column: usize) -> bool {
+    ceiling != LETTERS || column == 0
+}
+
+fn numbers() -> Grid {
+    let rows = (0..18).map(|number| number.to_string()).collect();
+    let columns = &["files", "queries", "check", "turn", "run", "if short"];
+    Grid::new("number", rows, columns, number_needed)
+}
+
+fn areas() -> Grid {
+    let rows = names(&["table", "work", "output", "result"]);
+    let columns = &["exact", "longer", "one short", "empty"];
+    Grid::new("area", rows, columns, |_, _| true)
+}
+
+fn budgets() -> Grid {
+    let rows = names(&[
+        "forward",
+        "back",
+        "forward, turned file",
+        "back, turned file",
+    ]);
+    let columns = &["below", "at", "above", "below lib", "at lib", "above lib"];
+    Grid::new("budget against count", rows, columns, |_, _| true)
+}
+
+fn laws() -> Grid {
+    let rows = names(&[
+        "turned file accepted",
+        "turned twice",
+        "there and back",
+        "count above 3,000",
+        "count above 65,535",
+        "iso above 65,535",
+    ]);
+    Grid::new("law or range", rows, &["rules", "library"], law_needed)
+}
+
+fn ceilings() -> Grid {
+    let mut rows: Vec<String> = CEILINGS.iter().map(|name| format!("{name:?}")).collect();
+    rows.extend(names(&["Bytes", "Letters"]));
+    Grid::new("ceiling", rows, &["at", "over"], ceiling_needed)
+}
+
+impl Default for Tally {
+    fn default() -> Tally {
+        Tally {
+            case: 0,
+            files: 0,
+            turned: 0,
+            queries: 0,
+            calls: 0,
+            mismatches: 0,
+            reports: Vec::new(),
+            numbers: numbers(),
+            areas: areas(),
+            budgets: budgets(),
+            laws: laws(),
+            ceilings: ceilings(),
+            pairs: vec![0; pair::all().len()],
+        }
+    }
+}
+
+impl Tally {
+    /// Adds what was compared after all that is counted here.
+    pub fn add(&mut self, other: Tally) {
+        self.files += other.files;
+        self.turned += other.turned;
+        self.queries += other.queries;
+        self.calls += other.calls;
+        self.mismatches += other.mismatches;
+        self.reports.extend(other.reports);
+        self.reports.truncate(SHOWN);
+        self.numbers.add(&other.numbers);
+        self.areas.add(&other.areas);
+        self.budgets.add(&other.budgets);
+        self.laws.add(&other.laws);
+        self.ceilings.add(&other.ceilings);
+        for (pair, other) in self.pairs.iter_mut().zip(other.pairs) {
+            *pair += other;
+        }
+    }
+
+    pub fn mismatch(&mut self, text: String, input: Vec<u8>) {
+        self.mismatches += 1;
+        if self.reports.len() < SHOWN {
+            let text = format!("case {}: {text}", self.case);
+            self.reports.push(Report { text, input });
+        }
+    }
+
+    /// Counts the range in which the count of an answer lies.
+    pub fn count(&mut self, count: u64, column: usize) {
+        if count > 3_000 {
+            self.laws.hit(COUNT_ABOVE_3000, column);
+        }
+        if count > 65_535 {
+            self.laws.hit(COUNT_ABOVE_65535, column);
+        }
+    }
+
+    fn grids(&self) -> [&Grid; 5] {
+        [
+            &self.numbers,
+            &self.areas,
+            &self.budgets,
+            &self.laws,
+            &self.ceilings,
+        ]
+    }
+
+    /// All that has to be hit and was not.
+    pub fn missing(&self) -> Vec<String> {
+        let mut missing: Vec<String> = self
+            .grids()
+            .iter()
+            .flat_map(|grid| grid.missing())
+            .collect();
+        for (pair, count) in pair::all().iter().zip(&self.pairs) {
+            if *count == 0 {
+                missing.push(format!("{pair:?}"));
+            }
+        }
+        missing
+    }
+
+    /// The cases that agreed, and those that did not or were never hit.
+    pub fn verdict(&self) -> (usize, usize) {
+        let cases = self.files + self.turned + self.queries + self.calls;
+        let passed = cases.saturating_sub(self.mismatches);
+        (passed, self.mismatches + self.missing().len())
+    }
+
+    pub fn print(&self) {
+        for report in &self.reports {
+            println!("mismatch: {}", report.text);
+        }
+        for grid in self.grids() {
+            println!("{}", grid.text());
+        }
+        let hit = self.pairs.iter().filter(|count| **count > 0).count();
+        println!("pairs          {hit} of {}", self.pairs.len());
+        println!("files          {} and {} turned", self.files, self.turned);
+        println!("queries        {}", self.queries);
+        println!("library calls  {}", self.calls);
+        println!("mismatches     {}", self.mismatches);
+        for what in self.missing() {
+            println!("never hit: {what}");
+        }
+    }
+}

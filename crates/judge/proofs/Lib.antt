@@ -1,0 +1,4 @@
+-- The tests of a row; its ceilings; its refusal.
+pub mod Testing
+pub mod Ceilings
+pub mod Judging

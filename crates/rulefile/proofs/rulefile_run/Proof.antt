@@ -1,0 +1,40 @@
+-- `rulefile::rulefile_run` meets its contract: Run's, with document 01's number in the refusal's place. Assumes nothing.
+use mathlib.Core.Path.{refl}
+use Rattle.rulefile.proofs.Giving.{run-given}
+use borrow.Author.Needs.{needs}
+use Rattle.rulefile.proofs.rulefile_run.Statement.{statement}
+use Rattle.rulefile.proofs.rulefile_run.Tie as tie
+
+run-requires : tie.Need-run-requires
+run-requires c κs = search needs
+
+number-of-requires : tie.Need-number-of-requires
+number-of-requires c κs = search needs
+
+cast-t19 : tie.Need-cast-t19
+cast-t19 c = search needs
+
+same-length : tie.Need-same-length
+same-length c = search needs
+
+same-length-2 : tie.Need-same-length-2
+same-length-2 c = search needs
+
+same-length-3 : tie.Need-same-length-3
+same-length-3 c = search needs
+
+returns : tie.Need-returns
+returns c =
+    run-given _ _ _ _ _ _ _ _ _ _ _ _ _ (c .before .before .before .before .before .before .before .run .ensures) (c .number-of .ensures) refl refl
+
+pub rulefile-run-spec : {M : Type 1} → statement M
+rulefile-run-spec =
+    tie.close
+    (tie.spec
+    run-requires
+    number-of-requires
+    cast-t19
+    same-length
+    same-length-2
+    same-length-3
+    returns)

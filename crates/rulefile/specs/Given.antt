@@ -1,0 +1,35 @@
+-- What the exported functions give: document 01's numbers, and every lent area, as the model's services say. Of the areas, t, w and o are those at
+-- entry, t′, w′ and o′ those at exit.
+use Prim.Native.Nat.{ℕ}
+use mathlib.Core.Path.{_≡_}
+use mathlib.Core.Bool.{Bool}
+use mathlib.Core.List.{List}
+use Rattle.model.specs.Services.{check, turn, runService}
+use Rattle.rulefile.specs.declared.CheckAnswer as C
+use Rattle.rulefile.specs.declared.TurnAnswer as T
+use Rattle.rulefile.specs.declared.RunAnswer as R
+
+-- "Check gives a number and a line"
+pub record CheckGiven (file t w t′ w′ : List ℕ) (r : C.CheckAnswer) : Type 0 where
+  pub number : r .number ≡ check file t w .answer .number
+  pub line : r .line ≡ check file t w .answer .line
+  pub table : t′ ≡ check file t w .table
+  pub work : w′ ≡ check file t w .work
+
+-- "Turn also writes the turned file and gives its length"
+pub record TurnGiven (file t w o t′ w′ o′ : List ℕ) (r : T.TurnAnswer) : Type 0 where
+  pub number : r .number ≡ turn file t w o .answer .number
+  pub line : r .line ≡ turn file t w o .answer .line
+  pub bytes : r .length ≡ turn file t w o .length
+  pub table : t′ ≡ turn file t w o .table
+  pub work : w′ ≡ turn file t w o .work
+  pub output : o′ ≡ turn file t w o .output
+
+-- Run "gives a number, a count and the result's length"
+pub record RunGiven (file t w : List ℕ) (i : ℕ) (back : Bool) (budget : ℕ) (value o t′ w′ o′ : List ℕ) (r : R.RunAnswer) : Type 0 where
+  pub number : r .number ≡ runService file t w i back budget value o .number
+  pub count : r .count ≡ runService file t w i back budget value o .count
+  pub bytes : r .length ≡ runService file t w i back budget value o .length
+  pub table : t′ ≡ runService file t w i back budget value o .table
+  pub work : w′ ≡ runService file t w i back budget value o .work
+  pub result : o′ ≡ runService file t w i back budget value o .result

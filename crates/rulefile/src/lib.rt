@@ -1,0 +1,87 @@
+// The interface for callers in C and in Rust: Check, Turn and Run under document 01's numbers. Each
+// slice passes as a pointer and a length, each answer as a struct; `include/rulefile.h` declares them.
+
+use checker::check;
+use model::number_of;
+use runner::run::run;
+use turner::turn;
+ghost use Rattle.rulefile.specs.Given.{CheckGiven, TurnGiven, RunGiven};
+
+// Check's number and line.
+#[repr(C)]
+pub struct CheckAnswer {
+    pub number: u32,
+    pub line: usize,
+}
+
+// Turn's number and line, and the number of bytes written.
+#[repr(C)]
+pub struct TurnAnswer {
+    pub number: u32,
+    pub line: usize,
+    pub length: usize,
+}
+
+// Run's number, the number of applications, and the number of letters written.
+#[repr(C)]
+pub struct RunAnswer {
+    pub number: u32,
+    pub count: u32,
+    pub length: usize,
+}
+
+// Checks a file.
+#[no_mangle]
+pub extern "C" fn rulefile_check(file: &[u8], table: &mut [u16], work: &mut [u8]) -> CheckAnswer
+    ensures { λ r. ⌜ CheckGiven (now (file .entry)) (now (table .entry)) (now (work .entry)) (now (table .exit)) (now (work .exit)) r ⌝ }
+{
+    let a = check(file, table, work);
+    let refusal = a.refusal;
+    CheckAnswer {
+        number: number_of(refusal) as u32,
+        line: a.place,
+    }
+}
+
+// Checks a file and writes it turned.
+#[no_mangle]
+pub extern "C" fn rulefile_turn(
+    file: &[u8],
+    table: &mut [u16],
+    work: &mut [u8],
+    output: &mut [u8],
+) -> TurnAnswer
+    ensures { λ r. ⌜ TurnGiven (now (file .entry)) (now (table .entry)) (now (work .entry)) (now (output .entry)) (now (table .exit)) (now (work .exit)) (now (output .exit)) r ⌝ }
+{
+    let turned = turn(file, table, work, output);
+    let answer = turned.answer;
+    let f = answer.refusal;
+    TurnAnswer {
+        number: number_of(f) as u32,
+        line: answer.place,
+        length: turned.length,
+    }
+}
+
+// Checks a file and runs its iso number `iso` on a value, forward or back, under a budget.
+#[no_mangle]
+pub extern "C" fn rulefile_run(
+    file: &[u8],
+    table: &mut [u16],
+    work: &mut [u8],
+    iso: u32,
+    back: bool,
+    budget: u32,
+    value: &[u8],
+    result: &mut [u8],
+) -> RunAnswer
+    ensures { λ r. ⌜ RunGiven (now (file .entry)) (now (table .entry)) (now (work .entry)) iso back budget (now (value .entry)) (now (result .entry)) (now (table .exit)) (now (work .exit)) (now (result .exit)) r ⌝ }
+{
+    let ran = run(file, table, work, iso as usize, back, budget, value, result);
+    let f = ran.refusal;
+    RunAnswer {
+        number: number_of(f) as u32,
+        count: ran.count,
+        length: ran.length,
+    }
+}

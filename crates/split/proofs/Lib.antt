@@ -1,0 +1,2 @@
+-- The lines of some bytes.
+pub mod Splitting

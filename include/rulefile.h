@@ -1,0 +1,121 @@
+/*
+ * rulefile.h - Check, Turn and Run for rule files.
+ *
+ * Link with librulefile.a (`rt staticlib rulefile` writes target/staticlib/librulefile.a). The library
+ * needs memset of the C library and nothing else; it allocates nothing, keeps nothing between calls and
+ * may be called from several threads at once, each with areas of its own.
+ *
+ * Every function takes any bytes, any numbers and areas of any length, and always returns: with number
+ * 0, or with the number of a refusal. What the caller owes:
+ *   - each pointer leads to as many elements as the length behind it says, readable, and writable where
+ *     it is not const; with length 0 any pointer will do, NULL too;
+ *   - the table is aligned to 2 bytes;
+ *   - a writable area overlaps no other area of the call;
+ *   - nothing else writes to the areas before the call returns.
+ *
+ * The areas need not be cleared. After a call
+ *   - the first RULEFILE_TABLE_LENGTH numbers of the table hold, if the file was accepted, four numbers a
+ *     line: the letter's ASCII code and the fields, padded with 0, and zeros behind the last line; on
+ *     refusals 3 to 14 they are all 0;
+ *   - the first RULEFILE_WORK_LENGTH bytes of the work area are 0;
+ *   - refusals 1 and 2 leave every area as it was;
+ *   - any refusal leaves output and result as they were;
+ *   - whatever lies behind these lengths, and behind what was written, keeps its contents.
+ *
+ * docs/REFUSALS.md says what each refusal means and what to ask the supplier.
+ */
+#ifndef RULEFILE_H
+#define RULEFILE_H
+
+#include <stdbool.h>
+#include <stddef.h>
+#include <stdint.h>
+
+#ifdef __cplusplus
+extern "C" {
+#endif
+
+/* Lengths of the areas: at least so many elements, otherwise refusal 1. */
+#define RULEFILE_TABLE_LENGTH 16384 /* numbers of 16 bits */
+#define RULEFILE_WORK_LENGTH 65536  /* bytes */
+#define RULEFILE_RESULT_LENGTH 127  /* bytes: no value has more letters */
+
+/* A longer file is refused with 2. An output area of this length is long enough for every file. */
+#define RULEFILE_MAX_FILE_LENGTH 65536
+#define RULEFILE_MAX_LINES 4096
+
+/* The numbers of an answer. The line is counted over the whole file from 1. */
+enum rulefile_number {
+    RULEFILE_ACCEPTED = 0,       /* no refusal; line 0 */
+    RULEFILE_SHORT_AREA = 1,     /* a lent area is shorter than stated; line 0 */
+    RULEFILE_TOO_LONG = 2,       /* over 65,536 bytes or 4,096 lines; line 0 */
+    RULEFILE_BAD_LINE = 3,       /* not one of the five line forms, or no line feed at the end */
+    RULEFILE_MISPLACED = 4,      /* a line against the stated order */
+    RULEFILE_BAD_FIELD = 5,      /* kind not listed, idle field not 0, variable above 31 */
+    RULEFILE_BAD_NAME = 6,       /* a named line does not stand earlier, or an L line names its own iso */
+    RULEFILE_CEILING = 7,        /* any other ceiling passed */
+    RULEFILE_VARIABLE = 8,       /* a variable is not bound once and then used once; line of the C */
+    RULEFILE_LET_SHAPE = 9,      /* left or right in a let pattern; line of the C */
+    RULEFILE_TYPE = 10,          /* no assignment of types fits; line of the C */
+    RULEFILE_OVERLAP_LEFT = 11,  /* two left patterns match one value; line of the I */
+    RULEFILE_OVERLAP_RIGHT = 12, /* the same, right patterns; line of the I */
+    RULEFILE_GAP_LEFT = 13,      /* the left patterns leave a value out; line of the I */
+    RULEFILE_GAP_RIGHT = 14,     /* the same, right patterns; line of the I */
+    RULEFILE_NO_ISO = 15,        /* Run: iso number not in the file */
+    RULEFILE_NO_VALUE = 16,      /* Run: not exactly one closed value of the starting type */
+    RULEFILE_SPENT = 17          /* Run: the full count would pass the budget */
+};
+
+/* What Check gives. */
+struct rulefile_check_answer {
+    uint32_t number; /* enum rulefile_number */
+    size_t line;     /* the line refused, 0 where none is named */
+};
+
+/* What Turn gives. */
+struct rulefile_turn_answer {
+    uint32_t number; /* enum rulefile_number */
+    size_t line;     /* the line refused, 0 where none is named */
+    size_t length;   /* bytes written to output, 0 on refusal */
+};
+
+/* What Run gives. */
+struct rulefile_run_answer {
+    uint32_t number; /* enum rulefile_number */
+    uint32_t count;  /* iso applications made, 0 on refusal */
+    size_t length;   /* letters written to result, 0 on refusal */
+};
+
+/* Checks a file. */
+struct rulefile_check_answer rulefile_check(
+    const uint8_t *file, size_t file_length,
+    uint16_t *table, size_t table_length,
+    uint8_t *work, size_t work_length);
+
+/*
+ * Checks a file and writes it turned: a file whose run forward is the run back of the first. The output
+ * needs the file's length, and an accepted file turned is exactly as long as it was.
+ */
+struct rulefile_turn_answer rulefile_turn(
+    const uint8_t *file, size_t file_length,
+    uint16_t *table, size_t table_length,
+    uint8_t *work, size_t work_length,
+    uint8_t *output, size_t output_length);
+
+/*
+ * Checks a file and runs its iso number `iso` (the I lines are numbered from 0) on a value, written in
+ * prefix order with the letters U, L, R and P, forward or back, with at most `budget` applications.
+ */
+struct rulefile_run_answer rulefile_run(
+    const uint8_t *file, size_t file_length,
+    uint16_t *table, size_t table_length,
+    uint8_t *work, size_t work_length,
+    uint32_t iso, bool back, uint32_t budget,
+    const uint8_t *value, size_t value_length,
+    uint8_t *result, size_t result_length);
+
+#ifdef __cplusplus
+}
+#endif
+
+#endif
