@@ -1,5 +1,5 @@
 /*
- * rulefile.h - Check, Turn and Run for rule files.
+ * rulefile.h - Check, Turn, Run and whole sheets of queries for rule files.
  *
  * Link with librulefile.a (`rt staticlib rulefile` writes target/staticlib/librulefile.a). The library
  * needs memset of the C library and nothing else; it allocates nothing, keeps nothing between calls and
@@ -9,7 +9,7 @@
  * 0, or with the number of a refusal. What the caller owes:
  *   - each pointer leads to as many elements as the length behind it says, readable, and writable where
  *     it is not const; with length 0 any pointer will do, NULL too;
- *   - the table is aligned to 2 bytes;
+ *   - the table is aligned to 2 bytes, the numbers of a sheet to 4;
  *   - a writable area overlaps no other area of the call;
  *   - nothing else writes to the areas before the call returns.
  *
@@ -19,7 +19,7 @@
  *     refusals 3 to 14 they are all 0;
  *   - the first RULEFILE_WORK_LENGTH bytes of the work area are 0;
  *   - refusals 1 and 2 leave every area as it was;
- *   - any refusal leaves output and result as they were;
+ *   - any refusal of the call leaves output, result, and the numbers and letters of a sheet as they were;
  *   - whatever lies behind these lengths, and behind what was written, keeps its contents.
  *
  * docs/REFUSALS.md says what each refusal means and what to ask the supplier.
@@ -39,6 +39,12 @@ extern "C" {
 #define RULEFILE_TABLE_LENGTH 16384 /* numbers of 16 bits */
 #define RULEFILE_WORK_LENGTH 65536  /* bytes */
 #define RULEFILE_RESULT_LENGTH 127  /* bytes: no value has more letters */
+
+/* For each query of a sheet: so many numbers of 32 bits, and RULEFILE_RESULT_LENGTH bytes of letters. */
+#define RULEFILE_NUMBERS_A_QUERY 3
+
+/* A sheet of more queries is refused with 2. */
+#define RULEFILE_MAX_QUERIES 600
 
 /* A longer file is refused with 2. An output area of this length is long enough for every file. */
 #define RULEFILE_MAX_FILE_LENGTH 65536
@@ -86,6 +92,13 @@ struct rulefile_run_answer {
     size_t length;   /* letters written to result, 0 on refusal */
 };
 
+/* What a sheet gives. */
+struct rulefile_sheet_answer {
+    uint32_t number; /* enum rulefile_number */
+    size_t line;     /* the file's line refused, 0 where none is named */
+    size_t queries;  /* queries answered, 0 on refusal */
+};
+
 /* Checks a file. */
 struct rulefile_check_answer rulefile_check(
     const uint8_t *file, size_t file_length,
@@ -113,6 +126,24 @@ struct rulefile_run_answer rulefile_run(
     uint32_t iso, bool back, uint32_t budget,
     const uint8_t *value, size_t value_length,
     uint8_t *result, size_t result_length);
+
+/*
+ * Checks a file once and answers a list of query lines, each `Q,iso,direction,budget,letters` and a line
+ * feed, as the desk program reads them; bytes behind the last line feed are a line too. Query k, counted
+ * from 0, has numbers[3 * k] its number, numbers[3 * k + 1] its count and numbers[3 * k + 2] its length,
+ * equal to those of a run on its own, and its letters stand from letters[127 * k] on. A line of another
+ * form, or over 200 bytes with its line feed, has number 3. A refused query leaves its 127 bytes as they
+ * were, and so does every query those behind its own letters. An area too short for the queries is
+ * refused with 1, more than RULEFILE_MAX_QUERIES queries with 2, both before the file is looked at; a
+ * refused file refuses the call.
+ */
+struct rulefile_sheet_answer rulefile_sheet(
+    const uint8_t *file, size_t file_length,
+    uint16_t *table, size_t table_length,
+    uint8_t *work, size_t work_length,
+    const uint8_t *queries, size_t queries_length,
+    uint32_t *numbers, size_t numbers_length,
+    uint8_t *letters, size_t letters_length);
 
 #ifdef __cplusplus
 }

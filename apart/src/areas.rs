@@ -55,7 +55,12 @@ impl<'a> Known<'a> {
 
     /// Refusal 1, "a lent area is shorter than stated", line 0; then what the
     /// check of the file gives, with the two areas left as document 01 says.
-    fn enter(&self, short: bool, table: &mut [u16], work: &mut [u8]) -> Result<&Rules, Refusal> {
+    pub fn enter(
+        &self,
+        short: bool,
+        table: &mut [u16],
+        work: &mut [u8],
+    ) -> Result<&Rules, Refusal> {
         if short || table.len() < TABLE || work.len() < WORK {
             return Err(Refusal { number: 1, line: 0 });
         }

@@ -8,6 +8,7 @@ pub mod desk;
 pub mod generate;
 pub mod lines;
 pub mod reduce;
+pub mod sheet;
 pub mod tree;
 
 use crate::lines::{Iso, Row};

@@ -1,7 +1,7 @@
 //! One call of a service, made by either implementation, and the answer it has to give.
 
-use apart::areas::{check_areas, run_areas, turn_areas};
-use rulefile::{Direction, Refused};
+use apart::areas::{check_areas, run_areas, turn_areas, Known};
+use rulefile::{Direction, Refused, MAX_QUERIES, NUMBERS_A_QUERY, RESULT_LENGTH};
 
 #[derive(Clone, Copy, PartialEq, Eq, Debug)]
 pub enum Implementation {
@@ -24,28 +24,35 @@ impl Implementation {
     }
 }
 
-/// The lent areas.
+const SOIL: u8 = 0xA5;
+
+/// The lent areas. The output is as long as the letters of the largest sheet, longer than any file.
 #[derive(PartialEq, Eq)]
 pub struct Areas {
     table: Vec<u16>,
     work: Vec<u8>,
     output: Vec<u8>,
+    numbers: Vec<u32>,
 }
 
 impl Areas {
     pub fn new() -> Self {
-        Areas {
-            table: vec![0xA5A5; rulefile::TABLE_LENGTH],
-            work: vec![0xA5; rulefile::WORK_LENGTH],
-            output: vec![0xA5; rulefile::WORK_LENGTH],
-        }
+        let mut areas = Areas {
+            table: vec![0; rulefile::TABLE_LENGTH],
+            work: vec![0; rulefile::WORK_LENGTH],
+            output: vec![0; MAX_QUERIES * RESULT_LENGTH],
+            numbers: vec![0; MAX_QUERIES * NUMBERS_A_QUERY],
+        };
+        areas.soil();
+        areas
     }
 
     /// Fills the areas with what no call leaves there.
     pub fn soil(&mut self) {
-        self.table.fill(0xA5A5);
-        self.work.fill(0xA5);
-        self.output.fill(0xA5);
+        self.table.fill(u16::from_ne_bytes([SOIL; 2]));
+        self.work.fill(SOIL);
+        self.output.fill(SOIL);
+        self.numbers.fill(u32::from_ne_bytes([SOIL; 4]));
     }
 }
 
@@ -56,6 +63,7 @@ pub struct Answer {
     pub line: usize,
     pub count: u64,
     pub length: usize,
+    pub queries: usize,
 }
 
 impl Answer {
@@ -68,22 +76,39 @@ impl Answer {
     }
 }
 
+/// What a run forward is asked.
+#[derive(Clone)]
+pub struct Asked {
+    pub iso: u16,
+    pub value: Vec<u8>,
+    pub budget: u32,
+}
+
+impl Asked {
+    /// The line of a list of queries.
+    pub fn line(&self) -> Vec<u8> {
+        let head = format!("Q,{},0,{},", self.iso, self.budget).into_bytes();
+        [head, self.value.clone(), b"\n".to_vec()].concat()
+    }
+}
+
 pub enum Service {
     Check,
     Turn,
-    Run {
-        iso: u16,
-        value: Vec<u8>,
-        budget: u32,
-    },
+    Run(Asked),
+    /// A list of query lines in one call.
+    Sheet(Vec<u8>),
+    /// The same queries, each by a run of its own.
+    Runs(Vec<Asked>),
 }
 
-/// A call, its answer, and the bytes it writes to its output area.
+/// A call, its answer, and what it writes to its output area and to its numbers.
 pub struct Call {
     file: Vec<u8>,
     service: Service,
     answer: Answer,
     written: Vec<u8>,
+    numbers: Vec<u32>,
 }
 
 impl Call {
@@ -103,6 +128,7 @@ impl Call {
                 ..Answer::default()
             },
             written: Vec::new(),
+            numbers: Vec::new(),
         }
     }
 
@@ -118,6 +144,7 @@ impl Call {
                 ..Answer::default()
             },
             written,
+            numbers: Vec::new(),
         }
     }
 
@@ -126,21 +153,57 @@ impl Call {
         let (count, length) = (u64::from(budget), written.len());
         Call {
             file,
-            service: Service::Run { iso, value, budget },
+            service: Service::Run(Asked { iso, value, budget }),
             answer: Answer {
                 count,
                 length,
                 ..Answer::default()
             },
             written,
+            numbers: Vec::new(),
+        }
+    }
+
+    /// Queries of an accepted file, none of them refused, in one sheet.
+    pub fn sheet(file: Vec<u8>, asked: Vec<Asked>) -> Self {
+        let lines: Vec<Vec<u8>> = asked.iter().map(Asked::line).collect();
+        Call {
+            service: Service::Sheet(lines.concat()),
+            ..Call::runs(file, asked)
+        }
+    }
+
+    /// The same queries, each in a call of its own; they leave the same in every area.
+    pub fn runs(file: Vec<u8>, asked: Vec<Asked>) -> Self {
+        let rules = apart::check(&file).expect("the file is accepted");
+        let (mut written, mut numbers) = (Vec::new(), Vec::new());
+        for Asked { iso, value, budget } in &asked {
+            let ran = apart::run_rules(&rules, *iso, false, *budget, value);
+            let (count, mut letters) = ran.expect("the query is not refused");
+            numbers.extend([0, count as u32, letters.len() as u32]);
+            letters.resize(RESULT_LENGTH, SOIL);
+            written.extend(letters);
+        }
+        Call {
+            file,
+            answer: Answer {
+                queries: asked.len(),
+                ..Answer::default()
+            },
+            service: Service::Runs(asked),
+            written,
+            numbers,
         }
     }
 
     /// Makes the call and holds its answer to the expected one.
     pub fn make(&self, implementation: Implementation, areas: &mut Areas) {
-        let answer = match implementation {
-            Proved => self.by_proved(areas),
-            Apart => self.by_apart(areas),
+        let answer = match &self.service {
+            Service::Runs(asked) => self.one_by_one(asked, implementation, areas),
+            _ => match implementation {
+                Proved => self.by_proved(areas),
+                Apart => self.by_apart(areas),
+            },
         };
         assert_eq!(answer, self.answer, "{implementation:?}");
         let written = &areas.output[..self.written.len()];
@@ -148,6 +211,29 @@ impl Call {
             written == self.written,
             "{implementation:?} writes other bytes"
         );
+        let numbers = &areas.numbers[..self.numbers.len()];
+        assert!(
+            numbers == self.numbers,
+            "{implementation:?} writes other numbers"
+        );
+    }
+
+    /// Each query by a run of its own, its three numbers and its letters where a sheet has them.
+    fn one_by_one(&self, asked: &[Asked], by: Implementation, areas: &mut Areas) -> Answer {
+        let (table, work) = (&mut areas.table, &mut areas.work);
+        let places = areas.output.chunks_mut(RESULT_LENGTH);
+        let threes = areas.numbers.chunks_mut(NUMBERS_A_QUERY);
+        for ((asked, place), three) in asked.iter().zip(places).zip(threes) {
+            let ran = match by {
+                Proved => run_by_proved(&self.file, asked, table, work, place),
+                Apart => run_by_apart(&self.file, asked, table, work, place),
+            };
+            three.copy_from_slice(&[ran.number, ran.count as u32, ran.length as u32]);
+        }
+        Answer {
+            queries: asked.len(),
+            ..Answer::default()
+        }
     }
 
     fn by_proved(&self, areas: &mut Areas) -> Answer {
@@ -155,6 +241,7 @@ impl Call {
             table,
             work,
             output,
+            numbers,
         } = areas;
         let given = match &self.service {
             Service::Check => rulefile::check(&self.file, table, work).map(|()| Answer::default()),
@@ -162,19 +249,15 @@ impl Call {
                 length,
                 ..Answer::default()
             }),
-            Service::Run { iso, value, budget } => {
-                let query = rulefile::Query {
-                    iso: u32::from(*iso),
-                    direction: Direction::Forward,
-                    budget: *budget,
-                    letters: value,
-                };
-                rulefile::run(&self.file, table, work, query, output).map(|ran| Answer {
-                    count: u64::from(ran.count),
-                    length: ran.length,
+            Service::Run(asked) => Ok(run_by_proved(&self.file, asked, table, work, output)),
+            Service::Sheet(queries) => {
+                let answered = rulefile::sheet(&self.file, table, work, queries, numbers, output);
+                answered.map(|queries| Answer {
+                    queries,
                     ..Answer::default()
                 })
             }
+            Service::Runs(_) => unreachable!("made one by one"),
         };
         given.unwrap_or_else(Answer::refused)
     }
@@ -184,6 +267,7 @@ impl Call {
             table,
             work,
             output,
+            ..
         } = areas;
         match &self.service {
             Service::Check => {
@@ -199,25 +283,13 @@ impl Call {
                 Answer {
                     number: turned.number.into(),
                     line: turned.line,
-                    count: 0,
                     length: turned.length,
+                    ..Answer::default()
                 }
             }
-            Service::Run { iso, value, budget } => {
-                let query = apart::areas::Query {
-                    iso: *iso,
-                    back: false,
-                    budget: *budget,
-                    value,
-                };
-                let ran = run_areas(&self.file, table, work, query, output);
-                Answer {
-                    number: ran.number.into(),
-                    line: 0,
-                    count: ran.count,
-                    length: ran.length,
-                }
-            }
+            Service::Run(asked) => run_by_apart(&self.file, asked, table, work, output),
+            Service::Sheet(queries) => sheet_by_apart(&self.file, queries, areas),
+            Service::Runs(_) => unreachable!("made one by one"),
         }
     }
 
@@ -239,6 +311,65 @@ impl Call {
         self.make(Proved, &mut one);
         self.make(Apart, &mut two);
         assert!(one == two, "the areas differ");
+    }
+}
+
+fn run_by_proved(
+    file: &[u8],
+    asked: &Asked,
+    table: &mut [u16],
+    work: &mut [u8],
+    result: &mut [u8],
+) -> Answer {
+    let query = rulefile::Query {
+        iso: u32::from(asked.iso),
+        direction: Direction::Forward,
+        budget: asked.budget,
+        letters: &asked.value,
+    };
+    let ran = rulefile::run(file, table, work, query, result);
+    ran.map_or_else(Answer::refused, |ran| Answer {
+        count: u64::from(ran.count),
+        length: ran.length,
+        ..Answer::default()
+    })
+}
+
+fn run_by_apart(
+    file: &[u8],
+    asked: &Asked,
+    table: &mut [u16],
+    work: &mut [u8],
+    result: &mut [u8],
+) -> Answer {
+    let query = apart::areas::Query {
+        iso: asked.iso,
+        back: false,
+        budget: asked.budget,
+        value: &asked.value,
+    };
+    let ran = run_areas(file, table, work, query, result);
+    Answer {
+        number: ran.number.into(),
+        count: ran.count,
+        length: ran.length,
+        ..Answer::default()
+    }
+}
+
+fn sheet_by_apart(file: &[u8], queries: &[u8], areas: &mut Areas) -> Answer {
+    let lent = apart::sheet::Lent {
+        table: &mut areas.table,
+        work: &mut areas.work,
+        numbers: &mut areas.numbers,
+        letters: &mut areas.output,
+    };
+    let sheet = apart::sheet::sheet(&Known::of(file), queries, lent);
+    Answer {
+        number: sheet.number.into(),
+        line: sheet.line,
+        queries: sheet.queries,
+        ..Answer::default()
     }
 }
 
@@ -264,5 +395,41 @@ mod tests {
     fn wrong_bytes_are_noticed() {
         let value = b"PLURU".to_vec();
         Call::run(inputs::s(), 1, value.clone(), 2, value).make(Proved, &mut Areas::new());
+    }
+
+    /// Queries whose second has another number than is expected.
+    fn other_number(call: fn(Vec<u8>, Vec<Asked>) -> Call, by: Implementation) {
+        let mut call = call(inputs::s(), vec![inputs::asked_of_s(); 3]);
+        call.numbers[4] += 1;
+        call.make(by, &mut Areas::new());
+    }
+
+    #[test]
+    #[should_panic(expected = "Proved writes other numbers")]
+    fn a_wrong_number_in_a_sheet_of_the_proved_library_is_noticed() {
+        other_number(Call::sheet, Proved);
+    }
+
+    #[test]
+    #[should_panic(expected = "Apart writes other numbers")]
+    fn a_wrong_number_in_a_sheet_of_the_checker_apart_is_noticed() {
+        other_number(Call::sheet, Apart);
+    }
+
+    #[test]
+    #[should_panic(expected = "Proved writes other numbers")]
+    fn a_wrong_number_of_a_run_is_noticed() {
+        other_number(Call::runs, Proved);
+    }
+
+    #[test]
+    fn a_sheet_and_runs_of_their_own_leave_the_same() {
+        let asked = vec![inputs::asked_of_s(), inputs::asked_of_s()];
+        for by in [Proved, Apart] {
+            let (mut one, mut two) = (Areas::new(), Areas::new());
+            Call::sheet(inputs::s(), asked.clone()).make(by, &mut one);
+            Call::runs(inputs::s(), asked.clone()).make(by, &mut two);
+            assert!(one == two, "{by:?}");
+        }
     }
 }

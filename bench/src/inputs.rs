@@ -1,5 +1,6 @@
 //! The measured files, but for the worst cases.
 
+use crate::call::Asked;
 use crate::draft::{Draft, LEFT, PAIR, PRODUCT, RIGHT, SUM, VARIABLE};
 
 /// File S of document 01.
@@ -179,11 +180,27 @@ pub fn swap_value(exchanged: bool) -> Vec<u8> {
     format!("P{}{}", parts[0], parts[1]).into_bytes()
 }
 
+/// A query of file S, of two applications.
+pub fn asked_of_s() -> Asked {
+    Asked {
+        iso: 1,
+        value: b"PLURU".to_vec(),
+        budget: 9,
+    }
+}
+
+/// A query of the long file of 4,096 lines: its last iso on four bits and a unit.
+pub fn asked_of_long() -> Asked {
+    Asked {
+        iso: 31,
+        value: b"PPPPLULULULUU".to_vec(),
+        budget: 9,
+    }
+}
+
 /// File S and `queries` queries of two applications each.
 pub fn desk(queries: usize) -> Vec<u8> {
-    let mut input = s();
-    input.extend_from_slice("Q,1,0,9,PLURU\n".repeat(queries).as_bytes());
-    input
+    [s(), asked_of_s().line().repeat(queries)].concat()
 }
 
 /// What the desk program prints for them.

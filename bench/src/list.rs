@@ -6,6 +6,8 @@ use crate::point::{Point, Series};
 use crate::worst::CANDIDATES;
 
 const QUERIES: usize = 100_000;
+/// The most queries of a sheet.
+const SHEET: usize = rulefile::MAX_QUERIES;
 /// Instructions of longer runs are not counted.
 const COUNTED: usize = 1 << 16;
 
@@ -16,6 +18,17 @@ pub struct Row {
     pub part: &'static str,
     pub point: Point,
     pub counted: Point,
+}
+
+impl Row {
+    fn new(label: &str, part: &'static str, series: Series, size: usize, counted: usize) -> Row {
+        Row {
+            label: label.to_string(),
+            part,
+            point: Point::new(series, size),
+            counted: Point::new(series, counted),
+        }
+    }
 }
 
 /// A series of growing points, and what their sizes are.
@@ -64,48 +77,55 @@ pub fn costliest(calls: usize) -> Point {
 
 /// The rows of the first table.
 pub fn rows(worst: Point, quick: bool) -> Vec<Row> {
-    let row = |label: &str, part, series, size, counted| Row {
-        label: label.to_string(),
-        part,
-        point: Point::new(series, size),
-        counted: Point::new(series, counted),
+    let call = |label: &str, series, size| Row::new(label, "a call", series, size, size);
+    let runs = |label, series, size, counted| {
+        let each = "an application";
+        Row::new(label, each, series, size, counted)
     };
-    let call = |label, series, size| row(label, "a call", series, size, size);
-    let each = "an application";
     let (tower, swaps) = if quick {
         (1 << 16, 1 << 12)
     } else {
         (1 << 23, 1 << 18)
     };
     let label = format!("Check, worst case: {}", CANDIDATES[worst.size - 1].label);
-    vec![
+    let mut rows = vec![
         call("Check, file S", Series::S, 18),
         call("Check, 4,096 lines", Series::Lines, 4_096),
         call("Check, 32 isos of 32 closed clauses", Series::Isos, 32),
         call(&label, Series::Worst, worst.size),
         call("Turn, 4,096 lines", Series::Turn, 4_096),
-        row(
+        runs(
             "Run, tower of isos on one bit",
-            each,
             Series::Applications,
             tower,
             1 << 14,
         ),
         call("Run, one swap of a value of 127 letters", Series::Swap, 127),
-        row(
+        runs(
             "Run, tower of isos on 127 letters",
-            each,
             Series::Swaps,
             swaps,
-            1 << 14,
+            1 << 10,
         ),
-        row(
-            "`rules`, 100,000 queries",
-            "a query",
-            Series::Desk,
-            QUERIES,
-            QUERIES,
+    ];
+    rows.extend(rows_of_queries());
+    rows
+}
+
+/// The rows for many queries of one file. The instructions of runs on a long file are counted at a few.
+fn rows_of_queries() -> [Row; 5] {
+    let row = |label, series, size, counted| Row::new(label, "a query", series, size, counted);
+    let sheet = |label, series, counted| row(label, series, SHEET, counted);
+    [
+        sheet("600 queries in one sheet, file S", Series::Sheet, SHEET),
+        sheet("600 runs of their own, file S", Series::Runs, SHEET),
+        sheet(
+            "600 queries in one sheet, 4,096 lines",
+            Series::LongSheet,
+            SHEET,
         ),
+        sheet("600 runs of their own, 4,096 lines", Series::LongRuns, 4),
+        row("`rules`, 100,000 queries", Series::Desk, QUERIES, QUERIES),
     ]
 }
 
@@ -147,6 +167,12 @@ pub fn growths(quick: bool) -> Vec<Growth> {
             nodes,
         ),
         growth("Turn by lines", "lines", Series::Turn, lines),
+        growth(
+            "A sheet by queries",
+            "queries",
+            Series::Sheet,
+            doubling(SHEET / 8, SHEET),
+        ),
         growth(
             "`rules` by queries",
             "queries",

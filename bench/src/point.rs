@@ -18,12 +18,17 @@ pub enum Series {
     Applications,
     Swap,
     Swaps,
+    Sheet,
+    Runs,
+    LongSheet,
+    LongRuns,
     Desk,
 }
 
 use Series::{Applications, Clauses, Isos, Lines, Nodes, Swap, Swaps, Turn, Worst, S};
+use Series::{LongRuns, LongSheet, Runs, Sheet};
 
-const NAMES: [(Series, &str); 11] = [
+const NAMES: [(Series, &str); 15] = [
     (S, "s"),
     (Lines, "lines"),
     (Clauses, "clauses"),
@@ -34,6 +39,10 @@ const NAMES: [(Series, &str); 11] = [
     (Applications, "applications"),
     (Swap, "swap"),
     (Swaps, "swaps"),
+    (Sheet, "sheet"),
+    (Runs, "runs"),
+    (LongSheet, "long-sheet"),
+    (LongRuns, "long-runs"),
     (Series::Desk, "desk"),
 ];
 
@@ -97,6 +106,10 @@ impl Point {
                     value,
                 )
             }
+            Sheet => Call::sheet(inputs::s(), vec![inputs::asked_of_s(); size]),
+            Runs => Call::runs(inputs::s(), vec![inputs::asked_of_s(); size]),
+            LongSheet => Call::sheet(inputs::long(4_096), vec![inputs::asked_of_long(); size]),
+            LongRuns => Call::runs(inputs::long(4_096), vec![inputs::asked_of_long(); size]),
             Series::Desk => unreachable!("the desk program is no call"),
         }
     }
@@ -124,6 +137,7 @@ impl Point {
     pub fn parts(self) -> u32 {
         match self.series {
             Applications | Swaps | Series::Desk => self.amount(),
+            Sheet | Runs | LongSheet | LongRuns => self.amount(),
             _ => 1,
         }
     }
@@ -146,5 +160,11 @@ mod tests {
         for point in [(Applications, 1 << 10), (Swap, 127), (Swaps, 1 << 4)] {
             Point::new(point.0, point.1).call().agree();
         }
+        for series in [Sheet, Runs, LongSheet, LongRuns] {
+            for size in [1, 3] {
+                Point::new(series, size).call().agree();
+            }
+        }
+        Point::new(Sheet, 600).call().agree();
     }
 }

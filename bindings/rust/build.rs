@@ -9,7 +9,10 @@ fn main() {
         None => PathBuf::from(env!("CARGO_MANIFEST_DIR")).join("../../target/staticlib"),
     };
     println!("cargo:rerun-if-env-changed=RULEFILE_LIB");
-    println!("cargo:rerun-if-changed={}", folder.join("librulefile.a").display());
+    println!(
+        "cargo:rerun-if-changed={}",
+        folder.join("librulefile.a").display()
+    );
     println!("cargo:rustc-link-search=native={}", folder.display());
     println!("cargo:rustc-link-lib=static=rulefile");
 }

@@ -36,14 +36,16 @@ const NOISE: usize = 100_000;
 /// Random cells to fill the buffers with.
 pub struct Noise {
     bytes: Vec<u8>,
-    numbers: Vec<u16>,
+    narrow: Vec<u16>,
+    wide: Vec<u32>,
 }
 
 impl Noise {
     pub fn new(random: &mut Random) -> Noise {
         Noise {
             bytes: (0..NOISE).map(|_| random.number() as u8).collect(),
-            numbers: (0..NOISE).map(|_| random.number() as u16).collect(),
+            narrow: (0..NOISE).map(|_| random.number() as u16).collect(),
+            wide: (0..NOISE).map(|_| random.number() as u32).collect(),
         }
     }
 }
@@ -132,6 +134,7 @@ pub struct Areas {
     pub table: Buffer<u16>,
     pub work: Buffer<u8>,
     pub out: Buffer<u8>,
+    pub numbers: Buffer<u32>,
 }
 
 impl Default for Areas {
@@ -140,16 +143,18 @@ impl Default for Areas {
             table: Buffer::new(),
             work: Buffer::new(),
             out: Buffer::new(),
+            numbers: Buffer::new(),
         }
     }
 }
 
 impl Areas {
     /// Makes areas of the shapes; those made from equal shapes are equal.
-    pub fn fill(&mut self, shapes: &[Shape; 3], noise: &Noise) {
-        self.table.fill(shapes[0], &noise.numbers);
+    pub fn fill(&mut self, shapes: &[Shape; 4], noise: &Noise) {
+        self.table.fill(shapes[0], &noise.narrow);
         self.work.fill(shapes[1], &noise.bytes);
         self.out.fill(shapes[2], &noise.bytes);
+        self.numbers.fill(shapes[3], &noise.wide);
     }
 
     pub fn lend(&mut self) -> Lent<'_> {
@@ -157,6 +162,7 @@ impl Areas {
             table: self.table.lent(),
             work: self.work.lent(),
             out: self.out.lent(),
+            numbers: self.numbers.lent(),
         }
     }
 
@@ -164,6 +170,7 @@ impl Areas {
     pub fn difference(&self, other: &Areas) -> Option<String> {
         let table = self.table.difference(&other.table, "table");
         let work = table.or_else(|| self.work.difference(&other.work, "work"));
-        work.or_else(|| self.out.difference(&other.out, "out"))
+        let out = work.or_else(|| self.out.difference(&other.out, "out"));
+        out.or_else(|| self.numbers.difference(&other.numbers, "numbers"))
     }
 }

@@ -6,6 +6,7 @@ use crate::case::{self, Case};
 use crate::ceilings;
 use crate::desk::{difference, numbers, Program};
 use crate::input::{self, Input};
+use crate::list;
 use crate::service::{Ask, Call, Services};
 use crate::tally::{
     Tally, FILE, LIBRARY, QUERY, RULES, THERE_AND_BACK, TURNED_ACCEPTED, TURNED_TWICE,
@@ -47,6 +48,8 @@ impl<P: Program, S: Services> Block<P, S> {
         let answered = self.desk(&input)?;
         self.tally.files += 1;
         self.services(random, &known, &trips);
+        let list = list::make(random, case, &known, &input.bytes[file.len()..]);
+        self.calls.sheet(random, &mut self.tally, &known, &list);
         if let Ok(rules) = &known.checked {
             for ask in input.asks() {
                 self.run(random, &known, ask);

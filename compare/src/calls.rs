@@ -3,11 +3,14 @@
 
 use crate::areas::{Areas, Kind, Noise, Shape};
 use crate::service::{expected, query, Answer, Ask, Call, Services};
-use crate::tally::{Tally, CHECK, ISO_ABOVE_65535, LETTERS, LIBRARY, RUN, SHORT, TURN};
+use crate::sheets::{self, Given};
+use crate::tally::{Tally, BY_SHEET, CHECK, ISO_ABOVE_65535, LETTERS, LIBRARY, RUN, SHORT, TURN};
 use apart::areas::{Known, RESULT};
 use apart::generate::query::line;
 use apart::generate::random::Random;
+use apart::lines::split;
 use apart::run_rules;
+use apart::sheet::{NUMBERS, QUERIES};
 
 pub struct Calls<S> {
     services: S,
@@ -17,13 +20,12 @@ pub struct Calls<S> {
 }
 
 /// Kinds of areas that are long enough.
-pub fn fit(random: &mut Random) -> [Kind; 3] {
-    [0; 3].map(|_| *random.pick(&[Kind::Exact, Kind::Longer]))
+pub fn fit(random: &mut Random) -> [Kind; 4] {
+    [0; 4].map(|_| *random.pick(&[Kind::Exact, Kind::Longer]))
 }
 
 /// Kinds of areas of which one is short, now and then more than one.
-pub fn short(random: &mut Random, call: Call) -> [Kind; 3] {
-    let areas = if call == Call::Check { 2 } else { 3 };
+pub fn short(random: &mut Random, call: Call) -> [Kind; 4] {
     let mut kinds = fit(random);
     let more = usize::from(random.chance(10));
     for _ in 0..1 + more {
@@ -32,7 +34,7 @@ pub fn short(random: &mut Random, call: Call) -> [Kind; 3] {
         } else {
             Kind::Empty
         };
-        kinds[random.below(areas)] = kind;
+        kinds[random.below(call.areas())] = kind;
     }
     kinds
 }
@@ -54,16 +56,20 @@ impl<S: Services> Calls<S> {
         tally: &mut Tally,
         known: &Known,
         call: Call,
-        kinds: [Kind; 3],
+        kinds: [Kind; 4],
     ) -> Answer {
         let least = call.least(known.file);
-        let shapes = [0, 1, 2].map(|area| Shape::new(random, least[area], kinds[area]));
+        let shapes = [0, 1, 2, 3].map(|area| Shape::new(random, least[area], kinds[area]));
         self.ours.fill(&shapes, &self.noise);
         self.theirs.fill(&shapes, &self.noise);
         let ours = expected(known, call, self.ours.lend());
         let theirs = self.services.call(known.file, call, self.theirs.lend());
         let lengths = shapes.map(|shape| shape.length);
         count(tally, known, call, lengths, &ours);
+        if let Call::Sheet(list) = call {
+            let numbers = &self.ours.numbers.lent()[..ours.queries * NUMBERS];
+            sheets::count(tally, list, ours.number, numbers);
+        }
         if let Some(what) = difference(&ours, &theirs, &self.ours, &self.theirs) {
             let text = format!("{}, areas of {lengths:?}: {what}", name(call));
             tally.mismatch(text, input(known.file, call));
@@ -75,6 +81,14 @@ impl<S: Services> Calls<S> {
     pub fn written(&mut self, length: usize) -> &[u8] {
         let out = self.theirs.out.lent();
         &out[..length.min(out.len())]
+    }
+
+    /// What the services have left in the numbers and letters of the last call.
+    pub fn given(&mut self) -> Given {
+        Given {
+            numbers: self.theirs.numbers.lent().to_vec(),
+            letters: self.theirs.out.lent().to_vec(),
+        }
     }
 }
 
@@ -93,25 +107,29 @@ fn name(call: Call) -> String {
         Call::Run(Ask {
             iso, back, budget, ..
         }) => format!("Run of iso {iso}, back {back}, budget {budget}"),
+        Call::Sheet(list) => format!("Sheet, the last {} bytes its queries", list.len()),
     }
 }
 
-/// The file and the query of a call in the form of the desk program.
+/// The file and the queries of a call in the form of the desk program.
 fn input(file: &[u8], call: Call) -> Vec<u8> {
     let mut input = file.to_vec();
-    if let Call::Run(ask) = call {
-        input.extend(line(ask.iso as usize, ask.back, ask.budget, ask.letters));
+    match call {
+        Call::Check | Call::Turn => {}
+        Call::Run(ask) => input.extend(line(ask.iso as usize, ask.back, ask.budget, ask.letters)),
+        Call::Sheet(list) => input.extend(list),
     }
     input
 }
 
 /// Counts the number given and the kinds of the areas.
-fn count(tally: &mut Tally, known: &Known, call: Call, lengths: [usize; 3], ours: &Answer) {
+fn count(tally: &mut Tally, known: &Known, call: Call, lengths: [usize; 4], ours: &Answer) {
     tally.calls += 1;
-    let (column, out) = match call {
-        Call::Check => (CHECK, None),
-        Call::Turn => (TURN, Some(2)),
-        Call::Run(_) => (RUN, Some(3)),
+    let (column, rows) = match call {
+        Call::Check => (CHECK, &[0, 1][..]),
+        Call::Turn => (TURN, &[0, 1, 2][..]),
+        Call::Run(_) => (RUN, &[0, 1, 3][..]),
+        Call::Sheet(_) => (BY_SHEET, &[4, 5, 6, 7][..]),
     };
     tally.numbers.hit(ours.number as usize, column);
     if ours.number == 1 {
@@ -126,19 +144,21 @@ fn count(tally: &mut Tally, known: &Known, call: Call, lengths: [usize; 3], ours
     tally.count(ours.count, LIBRARY);
     let least = call.least(known.file);
     let lacks = |area: &usize| lengths[*area] < least[*area];
-    let lacking: Vec<usize> = (0..3).filter(lacks).collect();
-    for (area, row) in [(0, Some(0)), (1, Some(1)), (2, out)] {
+    let lacking: Vec<usize> = (0..least.len()).filter(lacks).collect();
+    for (area, row) in rows.iter().enumerate() {
         // An area counts as short where it is the only one.
-        let counts = lacking.is_empty() || lacking == [area];
-        if let Some(row) = row.filter(|_| counts) {
+        if lacking.is_empty() || lacking == [area] {
             let kind = Kind::of(lengths[area], least[area]);
-            tally.areas.hit(row, kind as usize);
+            tally.areas.hit(*row, kind as usize);
         }
     }
 }
 
 /// The number that the call would be given if its areas were long enough.
 fn otherwise(known: &Known, call: Call) -> usize {
+    if matches!(call, Call::Sheet(list) if split(list).len() > QUERIES) {
+        return 2;
+    }
     let rules = match &known.checked {
         Ok(rules) => rules,
         Err(refusal) => return refusal.number.into(),

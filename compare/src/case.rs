@@ -22,6 +22,8 @@ pub enum Case {
     Stack,
     /// The longest value.
     Longest,
+    /// An accepted file with as many queries as a sheet may have, or one more.
+    Full(bool),
     Accepted,
     Any,
 }
@@ -31,6 +33,7 @@ pub fn always() -> Vec<Case> {
     let mut cases = vec![Case::Long; 3];
     for over in [false, true].repeat(5) {
         cases.extend([Case::Stack, Case::Longest, Case::Bytes(over)]);
+        cases.push(Case::Full(over));
         cases.extend((0..CEILINGS.len()).map(|ceiling| Case::Ceiling(ceiling, over)));
         cases.extend((2..15).map(Case::Aimed));
     }
@@ -54,7 +57,7 @@ pub fn file(random: &mut Random, case: Case) -> (Vec<u8>, Option<(u8, usize)>) {
         Case::Long => (tower::long(random), Some((0, 0))),
         Case::Stack => (tower::stack(random), Some((0, 0))),
         Case::Longest => (tower::longest_value(random), Some((0, 0))),
-        Case::Accepted => (accepted(random), Some((0, 0))),
+        Case::Accepted | Case::Full(_) => (accepted(random), Some((0, 0))),
         Case::Any => (any_file(random), None),
     }
 }

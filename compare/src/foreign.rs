@@ -1,8 +1,8 @@
 //! The exported functions of the library, as `include/rulefile.h` declares
-//! them: unlike the Rust wrapper they give count and length on refusal too.
-//! This module has all `unsafe` of the package.
+//! them: unlike the Rust wrapper they give count, length and queries on refusal
+//! too. This module has all `unsafe` of the package.
 
-use crate::service::{Answer, Call, Lent};
+use crate::service::{Answer, Ask, Call, Lent};
 use std::ptr::{null, null_mut};
 
 #[repr(C)]
@@ -23,6 +23,13 @@ struct RunAnswer {
     number: u32,
     count: u32,
     length: usize,
+}
+
+#[repr(C)]
+struct SheetAnswer {
+    number: u32,
+    line: usize,
+    queries: usize,
 }
 
 extern "C" {
@@ -61,6 +68,21 @@ extern "C" {
         result: *mut u8,
         result_length: usize,
     ) -> RunAnswer;
+
+    fn rulefile_sheet(
+        file: *const u8,
+        file_length: usize,
+        table: *mut u16,
+        table_length: usize,
+        work: *mut u8,
+        work_length: usize,
+        queries: *const u8,
+        queries_length: usize,
+        numbers: *mut u32,
+        numbers_length: usize,
+        letters: *mut u8,
+        letters_length: usize,
+    ) -> SheetAnswer;
 }
 
 /// Where bytes that are only read begin; null where there are none.
@@ -82,39 +104,28 @@ fn start<T>(area: &mut [T]) -> *mut T {
 }
 
 pub fn call(file: &[u8], call: Call, lent: Lent) -> Answer {
-    let Lent { table, work, out } = lent;
-    let (bytes, count) = (begin(file), file.len());
-    let (t, t_length) = (start(table), table.len());
-    let (w, w_length) = (start(work), work.len());
-    let (o, o_length) = (start(out), out.len());
-    // SAFETY: each pointer and length are those of a slice, or null and 0,
-    // which the header allows; the borrows keep the areas apart and live.
-    unsafe {
-        match call {
-            Call::Check => checked(rulefile_check(bytes, count, t, t_length, w, w_length)),
-            Call::Turn => turned(rulefile_turn(
-                bytes, count, t, t_length, w, w_length, o, o_length,
-            )),
-            Call::Run(ask) => ran(rulefile_run(
-                bytes,
-                count,
-                t,
-                t_length,
-                w,
-                w_length,
-                ask.iso,
-                ask.back,
-                ask.budget,
-                begin(ask.letters),
-                ask.letters.len(),
-                o,
-                o_length,
-            )),
-        }
+    match call {
+        Call::Check => check(file, lent),
+        Call::Turn => turn(file, lent),
+        Call::Run(ask) => run(file, ask, lent),
+        Call::Sheet(list) => sheet(file, list, lent),
     }
 }
 
-fn checked(given: CheckAnswer) -> Answer {
+fn check(file: &[u8], lent: Lent) -> Answer {
+    let Lent { table, work, .. } = lent;
+    // SAFETY: each pointer and length are those of a slice, or null and 0,
+    // which the header allows; the borrows keep the areas apart and live.
+    let given = unsafe {
+        rulefile_check(
+            begin(file),
+            file.len(),
+            start(table),
+            table.len(),
+            start(work),
+            work.len(),
+        )
+    };
     Answer {
         number: given.number,
         line: given.line,
@@ -122,7 +133,23 @@ fn checked(given: CheckAnswer) -> Answer {
     }
 }
 
-fn turned(given: TurnAnswer) -> Answer {
+fn turn(file: &[u8], lent: Lent) -> Answer {
+    let Lent {
+        table, work, out, ..
+    } = lent;
+    // SAFETY: as for `check`.
+    let given = unsafe {
+        rulefile_turn(
+            begin(file),
+            file.len(),
+            start(table),
+            table.len(),
+            start(work),
+            work.len(),
+            start(out),
+            out.len(),
+        )
+    };
     Answer {
         number: given.number,
         line: given.line,
@@ -131,11 +158,64 @@ fn turned(given: TurnAnswer) -> Answer {
     }
 }
 
-fn ran(given: RunAnswer) -> Answer {
+fn run(file: &[u8], ask: Ask, lent: Lent) -> Answer {
+    let Lent {
+        table, work, out, ..
+    } = lent;
+    // SAFETY: as for `check`.
+    let given = unsafe {
+        rulefile_run(
+            begin(file),
+            file.len(),
+            start(table),
+            table.len(),
+            start(work),
+            work.len(),
+            ask.iso,
+            ask.back,
+            ask.budget,
+            begin(ask.letters),
+            ask.letters.len(),
+            start(out),
+            out.len(),
+        )
+    };
     Answer {
         number: given.number,
         count: given.count.into(),
         length: given.length,
+        ..Answer::default()
+    }
+}
+
+fn sheet(file: &[u8], list: &[u8], lent: Lent) -> Answer {
+    let Lent {
+        table,
+        work,
+        out,
+        numbers,
+    } = lent;
+    // SAFETY: as for `check`.
+    let given = unsafe {
+        rulefile_sheet(
+            begin(file),
+            file.len(),
+            start(table),
+            table.len(),
+            start(work),
+            work.len(),
+            begin(list),
+            list.len(),
+            start(numbers),
+            numbers.len(),
+            start(out),
+            out.len(),
+        )
+    };
+    Answer {
+        number: given.number,
+        line: given.line,
+        queries: given.queries,
         ..Answer::default()
     }
 }

@@ -1,6 +1,6 @@
 //! What the desk program is given, and runs that it cannot be asked for.
 
-use crate::service::Ask;
+use crate::service::{ask, Ask};
 use crate::trip::Trip;
 use apart::areas::Known;
 use apart::check;
@@ -96,13 +96,7 @@ impl Input {
     /// The well formed queries that no law speaks of.
     pub fn asks(&self) -> Vec<Ask<'_>> {
         let lines = split(&self.bytes[self.others..]).into_iter();
-        let asks = lines.filter_map(parsed).map(|query| Ask {
-            iso: query.iso.into(),
-            back: query.back,
-            budget: query.budget,
-            letters: query.value,
-        });
-        asks.collect()
+        lines.filter_map(parsed).map(ask).collect()
     }
 }
 

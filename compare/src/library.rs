@@ -28,21 +28,31 @@ impl Services for Library {
     }
 }
 
-/// Through the wrapper, which gives no count and no length on refusal.
+/// Through the wrapper, which gives number and line alone on refusal.
 fn wrapped(file: &[u8], call: Call, lent: Lent) -> Answer {
-    let Lent { table, work, out } = lent;
+    let Lent {
+        table,
+        work,
+        out,
+        numbers,
+    } = lent;
     let given = match call {
-        Call::Check => rulefile::check(file, table, work).map(|()| (0, 0)),
-        Call::Turn => rulefile::turn(file, table, work, out).map(|length| (0, length)),
+        Call::Check => rulefile::check(file, table, work).map(|()| (0, 0, 0)),
+        Call::Turn => rulefile::turn(file, table, work, out).map(|length| (0, length, 0)),
         Call::Run(ask) => {
             let ran = rulefile::run(file, table, work, query(ask), out);
-            ran.map(|ran| (ran.count.into(), ran.length))
+            ran.map(|ran| (ran.count.into(), ran.length, 0))
+        }
+        Call::Sheet(list) => {
+            let answered = rulefile::sheet(file, table, work, list, numbers, out);
+            answered.map(|queries| (0, 0, queries))
         }
     };
     match given {
-        Ok((count, length)) => Answer {
+        Ok((count, length, queries)) => Answer {
             count,
             length,
+            queries,
             ..Answer::default()
         },
         Err(Refused { refusal, line }) => Answer {

@@ -1,7 +1,9 @@
-//! The three services with lent areas, as the library and the checker written
-//! apart both offer them.
+//! The services with lent areas, as the library and the checker written apart
+//! both offer them.
 
 use apart::areas::{Known, Query, RESULT, TABLE, WORK};
+use apart::lines::split;
+use apart::sheet::{self, NUMBERS};
 
 /// What Run is asked. The library takes an iso of 32 bits.
 #[derive(Debug, Clone, Copy, PartialEq, Eq)]
@@ -17,6 +19,8 @@ pub enum Call<'a> {
     Check,
     Turn,
     Run(Ask<'a>),
+    /// With the list of query lines.
+    Sheet(&'a [u8]),
 }
 
 /// All that an answer holds; what the service does not give is 0.
@@ -26,14 +30,17 @@ pub struct Answer {
     pub line: usize,
     pub count: u64,
     pub length: usize,
+    /// The queries that a sheet has answered.
+    pub queries: usize,
 }
 
-/// The lent areas; `out` is Turn's output or Run's result, and of no use to
-/// Check.
+/// The lent areas; `out` is Turn's output, Run's result or a sheet's letters,
+/// and of no use to Check. `numbers` are of use to a sheet alone.
 pub struct Lent<'a> {
     pub table: &'a mut [u16],
     pub work: &'a mut [u8],
     pub out: &'a mut [u8],
+    pub numbers: &'a mut [u32],
 }
 
 pub trait Services {
@@ -41,14 +48,27 @@ pub trait Services {
 }
 
 impl Call<'_> {
-    /// The least lengths of table, work and out.
-    pub fn least(&self, file: &[u8]) -> [usize; 3] {
-        let out = match self {
-            Call::Check => 0,
-            Call::Turn => file.len(),
-            Call::Run(_) => RESULT,
+    /// How many areas it is lent, in the order of `least`.
+    pub fn areas(&self) -> usize {
+        match self {
+            Call::Check => 2,
+            Call::Turn | Call::Run(_) => 3,
+            Call::Sheet(_) => 4,
+        }
+    }
+
+    /// The least lengths of table, work, out and numbers.
+    pub fn least(&self, file: &[u8]) -> [usize; 4] {
+        let (out, numbers) = match self {
+            Call::Check => (0, 0),
+            Call::Turn => (file.len(), 0),
+            Call::Run(_) => (RESULT, 0),
+            Call::Sheet(list) => {
+                let queries = split(list).len();
+                (queries * RESULT, queries * NUMBERS)
+            }
         };
-        [TABLE, WORK, out]
+        [TABLE, WORK, out, numbers]
     }
 }
 
@@ -81,6 +101,23 @@ pub fn expected(known: &Known, call: Call, lent: Lent) -> Answer {
                 ..Answer::default()
             }
         }
+        Call::Sheet(list) => sheet(known, list, lent),
+    }
+}
+
+fn sheet(known: &Known, list: &[u8], lent: Lent) -> Answer {
+    let lent = sheet::Lent {
+        table: lent.table,
+        work: lent.work,
+        numbers: lent.numbers,
+        letters: lent.out,
+    };
+    let given = sheet::sheet(known, list, lent);
+    Answer {
+        number: given.number.into(),
+        line: given.line,
+        queries: given.queries,
+        ..Answer::default()
     }
 }
 
@@ -91,5 +128,15 @@ pub fn query(ask: Ask) -> Query {
         back: ask.back,
         budget: ask.budget,
         value: ask.letters,
+    }
+}
+
+/// The run that a well formed query line asks for.
+pub fn ask(query: Query) -> Ask {
+    Ask {
+        iso: query.iso.into(),
+        back: query.back,
+        budget: query.budget,
+        letters: query.value,
     }
 }

@@ -1,24 +1,29 @@
 //! What was compared, what was hit, and what differed.
 
 use crate::grid::Grid;
+use crate::sheets;
 use apart::generate::ceiling::CEILINGS;
 use apart::generate::pair;
 
 /// How many mismatches are shown.
 const SHOWN: usize = 5;
 
-/// Columns of the table of numbers. The last one counts the calls with a short
-/// area that would have given the number otherwise.
+/// Columns of the table of numbers: `BY_SHEET` counts the answers of sheets,
+/// `IN_SHEET` those of their queries, the last one the calls with a short area
+/// that would have given the number otherwise.
 pub const FILE: usize = 0;
 pub const QUERY: usize = 1;
 pub const CHECK: usize = 2;
 pub const TURN: usize = 3;
 pub const RUN: usize = 4;
-pub const SHORT: usize = 5;
+pub const BY_SHEET: usize = 5;
+pub const IN_SHEET: usize = 6;
+pub const SHORT: usize = 7;
 
 /// Columns of the table of laws; rows below.
 pub const RULES: usize = 0;
 pub const LIBRARY: usize = 1;
+pub const SHEET: usize = 2;
 
 pub const TURNED_ACCEPTED: usize = 0;
 pub const TURNED_TWICE: usize = 1;
@@ -45,6 +50,8 @@ pub struct Tally {
     pub turned: usize,
     pub queries: usize,
     pub calls: usize,
+    /// Queries answered in sheets.
+    pub in_sheets: usize,
     pub mismatches: usize,
     pub reports: Vec<Report>,
     pub numbers: Grid,
@@ -52,29 +59,35 @@ pub struct Tally {
     pub budgets: Grid,
     pub laws: Grid,
     pub ceilings: Grid,
+    pub sheets: Grid,
     /// How often each pair of faults was hit.
     pub pairs: Vec<usize>,
 }
 
-fn names(names: &[&str]) -> Vec<String> {
+pub fn names(names: &[&str]) -> Vec<String> {
     names.iter().map(|name| name.to_string()).collect()
 }
 
 /// Refusal 1 is given through the library alone; 15 to 17 to queries and runs;
-/// a query of another form is refused with 3.
+/// a query of another form is refused with 3, in a sheet too.
 fn number_needed(number: usize, column: usize) -> bool {
     match column {
         FILE => number != 1 && number < 15,
-        QUERY => matches!(number, 0 | 3 | 15..=17),
-        CHECK | TURN => number < 15,
+        QUERY | IN_SHEET => matches!(number, 0 | 3 | 15..=17),
+        CHECK | TURN | BY_SHEET => number < 15,
         RUN => true,
         _ => number != 1,
     }
 }
 
 /// Turning is not to be had from `rules`, nor is an iso of more than 16 bits.
+/// No law is tried with sheets.
 fn law_needed(law: usize, column: usize) -> bool {
-    column == LIBRARY || !matches!(law, TURNED_TWICE | ISO_ABOVE_65535)
+    match column {
+        RULES => !matches!(law, TURNED_TWICE | ISO_ABOVE_65535),
+        SHEET => matches!(law, COUNT_ABOVE_3000 | COUNT_ABOVE_65535),
+        _ => true,
+    }
 }
 
 /// A value of more than 127 letters is of no type.
@@ -84,12 +97,23 @@ fn ceiling_needed(ceiling: usize, column: usize) -> bool {
 
 fn numbers() -> Grid {
     let rows = (0..18).map(|number| number.to_string()).collect();
-    let columns = &["files", "queries", "check", "turn", "run", "if short"];
+    let columns = &[
+        "files", "queries", "check", "turn", "run", "sheet", "in sheet", "if short",
+    ];
     Grid::new("number", rows, columns, number_needed)
 }
 
 fn areas() -> Grid {
-    let rows = names(&["table", "work", "output", "result"]);
+    let rows = names(&[
+        "table",
+        "work",
+        "output",
+        "result",
+        "table of a sheet",
+        "work of a sheet",
+        "letters",
+        "numbers",
+    ]);
     let columns = &["exact", "longer", "one short", "empty"];
     Grid::new("area", rows, columns, |_, _| true)
 }
@@ -114,7 +138,8 @@ fn laws() -> Grid {
         "count above 65,535",
         "iso above 65,535",
     ]);
-    Grid::new("law or range", rows, &["rules", "library"], law_needed)
+    let columns = &["rules", "library", "in sheet"];
+    Grid::new("law or range", rows, columns, law_needed)
 }
 
 fn ceilings() -> Grid {
@@ -131,6 +156,7 @@ impl Default for Tally {
             turned: 0,
             queries: 0,
             calls: 0,
+            in_sheets: 0,
             mismatches: 0,
             reports: Vec::new(),
             numbers: numbers(),
@@ -138,6 +164,7 @@ impl Default for Tally {
             budgets: budgets(),
             laws: laws(),
             ceilings: ceilings(),
+            sheets: sheets::grid(),
             pairs: vec![0; pair::all().len()],
         }
     }
@@ -150,6 +177,7 @@ impl Tally {
         self.turned += other.turned;
         self.queries += other.queries;
         self.calls += other.calls;
+        self.in_sheets += other.in_sheets;
         self.mismatches += other.mismatches;
         self.reports.extend(other.reports);
         self.reports.truncate(SHOWN);
@@ -158,6 +186,7 @@ impl Tally {
         self.budgets.add(&other.budgets);
         self.laws.add(&other.laws);
         self.ceilings.add(&other.ceilings);
+        self.sheets.add(&other.sheets);
         for (pair, other) in self.pairs.iter_mut().zip(other.pairs) {
             *pair += other;
         }
@@ -181,13 +210,14 @@ impl Tally {
         }
     }
 
-    fn grids(&self) -> [&Grid; 5] {
+    fn grids(&self) -> [&Grid; 6] {
         [
             &self.numbers,
             &self.areas,
             &self.budgets,
             &self.laws,
             &self.ceilings,
+            &self.sheets,
         ]
     }
 
@@ -208,7 +238,7 @@ impl Tally {
 
     /// The cases that agreed, and those that did not or were never hit.
     pub fn verdict(&self) -> (usize, usize) {
-        let cases = self.files + self.turned + self.queries + self.calls;
+        let cases = self.files + self.turned + self.queries + self.calls + self.in_sheets;
         let passed = cases.saturating_sub(self.mismatches);
         (passed, self.mismatches + self.missing().len())
     }
@@ -225,6 +255,7 @@ impl Tally {
         println!("files          {} and {} turned", self.files, self.turned);
         println!("queries        {}", self.queries);
         println!("library calls  {}", self.calls);
+        println!("in sheets      {}", self.in_sheets);
         println!("mismatches     {}", self.mismatches);
         for what in self.missing() {
             println!("never hit: {what}");

@@ -1,39 +1,20 @@
 //! Each kind of wrong answer is reported as a mismatch, and nothing else is.
 
+mod common;
+
 use apart::areas::{Known, TABLE, WORK};
 use apart::desk::desk;
 use apart::generate::random::Random;
+use common::{unspoiled, Spoil, Spoiled, S};
 use compare::areas::{Areas, Kind, Noise, Shape};
 use compare::block::Block;
 use compare::calls::Calls;
 use compare::case::Case;
 use compare::desk::{difference, Process, Program};
-use compare::service::{expected, Answer, Ask, Call, Lent, Services};
+use compare::service::{Answer, Ask, Call, Lent};
 use compare::tally::{Tally, CHECK};
 use compare::trip::Trip;
 use std::io;
-
-/// File S of document 01.
-const S: &[u8] = b"T,0,0,0\nT,1,0,0\nT,2,1,1\nP,0,0,0\nP,2,0,0\nP,3,0,0\nP,1,0,0\nP,1,1,0\n\
-P,4,1,3\nP,4,1,4\nP,4,2,3\nI,1,1\nC,1,2\nC,2,1\nI,2,2\nC,5,6\nL,4,0,3\nC,7,7\n";
-
-type Spoil = fn(&mut Answer, &mut Lent);
-
-/// The services of the checker written apart, each answer spoiled.
-struct Spoiled(Spoil);
-
-impl Services for Spoiled {
-    fn call(&mut self, file: &[u8], call: Call, mut lent: Lent) -> Answer {
-        let own = Lent {
-            table: &mut *lent.table,
-            work: &mut *lent.work,
-            out: &mut *lent.out,
-        };
-        let mut answer = expected(&Known::of(file), call, own);
-        (self.0)(&mut answer, &mut lent);
-        answer
-    }
-}
 
 /// The desk program of the checker written apart, what it prints spoiled.
 struct Desk(fn(&mut Vec<u8>));
@@ -45,8 +26,6 @@ impl Program for Desk {
         Ok(printed)
     }
 }
-
-fn unspoiled(_: &mut Answer, _: &mut Lent) {}
 
 /// A run that gives five letters with count 2.
 const RUN: Call = Call::Run(Ask {
@@ -63,7 +42,7 @@ fn mismatches(spoil: Spoil, kind: Kind) -> [usize; 3] {
     let known = Known::of(S);
     [Call::Check, Call::Turn, RUN].map(|call| {
         let mut tally = Tally::default();
-        calls.call(&mut random, &mut tally, &known, call, [kind; 3]);
+        calls.call(&mut random, &mut tally, &known, call, [kind; 4]);
         assert_eq!(tally.calls, 1);
         assert_eq!(tally.reports.len(), tally.mismatches);
         tally.mismatches
@@ -161,7 +140,7 @@ fn changes_by_refusals_1_and_2_are_reported() {
         let mut random = Random::new(2);
         let mut calls = Calls::new(Spoiled(spoil), &mut random);
         let mut tally = Tally::default();
-        let kinds = [Kind::Exact; 3];
+        let kinds = [Kind::Exact; 4];
         calls.call(&mut random, &mut tally, &known, Call::Turn, kinds);
         assert_eq!((tally.mismatches, tally.numbers.count(2, 3)), (1, 1));
     }
@@ -172,7 +151,7 @@ fn changes_by_refusals_1_and_2_are_reported() {
 fn each_element_of_the_buffers_is_compared() {
     let mut random = Random::new(3);
     let noise = Noise::new(&mut random);
-    let shapes = [40, 50, 60].map(|least| Shape::new(&mut random, least, Kind::Exact));
+    let shapes = [40, 50, 60, 70].map(|least| Shape::new(&mut random, least, Kind::Exact));
     let mut right = Areas::default();
     right.fill(&shapes, &noise);
     assert_eq!(right.difference(&right.clone()), None);
@@ -180,6 +159,7 @@ fn each_element_of_the_buffers_is_compared() {
         &right.table.cells.len(),
         &right.work.cells.len(),
         &right.out.cells.len(),
+        &right.numbers.cells.len(),
     ];
     for (area, cells) in cells.map(|cells| *cells).into_iter().enumerate() {
         assert!(cells > shapes[area].length);
@@ -188,10 +168,12 @@ fn each_element_of_the_buffers_is_compared() {
             match area {
                 0 => wrong.table.cells[cell] ^= 256,
                 1 => wrong.work.cells[cell] ^= 1,
-                _ => wrong.out.cells[cell] ^= 1,
+                2 => wrong.out.cells[cell] ^= 1,
+                _ => wrong.numbers.cells[cell] ^= 1 << 31,
             }
             let what = right.difference(&wrong).expect("reported");
-            assert!(what.starts_with(["table", "work", "out"][area]), "{what}");
+            let name = ["table", "work", "out", "numbers"][area];
+            assert!(what.starts_with(name), "{what}");
         }
     }
 }
@@ -238,7 +220,7 @@ fn a_wrong_step_of_a_trip_is_reported() {
             number: if step.given.is_some() { 0 } else { 17 },
             count: if step.given.is_some() { 1 } else { 0 },
             length: given.len(),
-            line: 0,
+            ..Answer::default()
         };
         assert_eq!(step.difference(&right, given), None);
         let mut wrong = [right; 4];
@@ -279,6 +261,9 @@ fn whole_cases_are_compared() {
     assert!(compared(|printed| printed.push(b'\n'), unspoiled) >= 4);
     assert!(compared(fine, |answer, _| answer.length += 1) > 20);
     assert!(compared(fine, |_, lent| lent.work.fill(7)) > 20);
+    // Two of the files are accepted, each with one answered sheet.
+    let sheets: Spoil = |answer, _| answer.queries += usize::from(answer.queries > 0);
+    assert_eq!(compared(fine, sheets), 2);
 }
 
 /// A file of a pair whose check does not give what the pair promises.

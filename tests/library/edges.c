@@ -4,11 +4,13 @@
  * Every call is compared whole: its answer, and every byte of every area against what document 01 says
  * it holds afterwards. Areas lie in allocated memory of exactly their length, at odd addresses, and
  * against pages that may not be touched. Prints each failure with the line of its case, and the counts
- * last. With `quick` the longest loops take fewer rounds.
+ * last. With `quick` the longest loops take fewer rounds. Reads the stored examples, so it is run in the
+ * folder that holds `examples`.
  */
 #define _DEFAULT_SOURCE /* MAP_ANONYMOUS, barriers */
 #include "rulefile.h"
 
+#include <glob.h>
 #include <pthread.h>
 #include <stdio.h>
 #include <stdlib.h>
@@ -57,7 +59,7 @@ static void require(bool done)
 
 enum place {
     HEAP,         /* allocated, exactly as long as stated */
-    ODD,          /* the same, bytes at an odd address, the table at one that only 2 divides */
+    ODD,          /* the same, bytes at an odd address, wider numbers at one that only their width divides */
     BEFORE_GUARD, /* the last byte stands before a page that may not be touched */
     AFTER_GUARD,  /* the first byte stands behind such a page */
     NULL_IF_EMPTY /* as HEAP, but NULL where the length is 0 */
@@ -156,10 +158,25 @@ static bool as_foreseen(const struct area *area)
 
 /* Calls */
 
-enum service { SERVICE_CHECK, SERVICE_TURN, SERVICE_RUN };
+enum service { SERVICE_CHECK, SERVICE_TURN, SERVICE_RUN, SERVICE_SHEET };
 
-static const char *const service_names[] = {"Check", "Turn", "Run"};
+static const char *const service_names[] = {"Check", "Turn", "Run", "Sheet"};
 
+/* What a query of a sheet is to give. */
+struct reply {
+    uint32_t number;
+    uint32_t count;
+    struct bytes letters;
+};
+
+/* A list of query lines, and what each is to give. */
+struct sheet {
+    struct bytes list;
+    size_t queries;
+    const struct reply *replies;
+};
+
+/* Only a call of Sheet has queries. */
 struct call {
     enum service service;
     struct bytes file;
@@ -167,6 +184,7 @@ struct call {
     bool back;
     uint32_t budget;
     struct bytes value;
+    struct sheet sheet;
 };
 
 struct answer {
@@ -174,28 +192,42 @@ struct answer {
     size_t line;
     uint32_t count;
     size_t length;
+    size_t queries;
 };
 
-/* The areas that a call writes: the table, the work area, and Turn's output or Run's result. */
+/*
+ * The areas that a call writes: the table and the work area; Turn's output, Run's result or the letters of
+ * a sheet; the numbers of a sheet.
+ */
 struct lent {
     struct area table;
     struct area work;
     struct area out;
+    struct area numbers;
 };
 
-/* Table in numbers, the others in bytes. */
+/* Table and numbers in numbers, the others in bytes. */
 struct lengths {
     size_t table;
     size_t work;
     size_t out;
+    size_t numbers;
 };
 
 static const struct bytes nothing = {NULL, 0};
-static bool hit[3][RULEFILE_SPENT + 1];
+static bool hit[4][RULEFILE_SPENT + 1];
+static bool hit_by_query[RULEFILE_SPENT + 1];
+
+/* For a sheet of so many queries. */
+static struct lengths sheet_lengths(size_t queries)
+{
+    return (struct lengths){RULEFILE_TABLE_LENGTH, RULEFILE_WORK_LENGTH, RULEFILE_RESULT_LENGTH * queries,
+                            RULEFILE_NUMBERS_A_QUERY * queries};
+}
 
 static struct lengths exact_lengths(const struct call *call)
 {
-    struct lengths lengths = {RULEFILE_TABLE_LENGTH, RULEFILE_WORK_LENGTH, 0};
+    struct lengths lengths = sheet_lengths(call->sheet.queries);
     if (call->service == SERVICE_TURN)
         lengths.out = call->file.length;
     if (call->service == SERVICE_RUN)
@@ -209,6 +241,7 @@ static struct lent lend(enum place place, struct lengths lengths)
         make_area(place, 2 * lengths.table, 2, pattern),
         make_area(place, lengths.work, 1, pattern),
         make_area(place, lengths.out, 1, pattern),
+        make_area(place, 4 * lengths.numbers, 4, pattern),
     };
     return lent;
 }
@@ -218,34 +251,53 @@ static void give_back(struct lent *lent)
     free_area(&lent->table);
     free_area(&lent->work);
     free_area(&lent->out);
+    free_area(&lent->numbers);
 }
 
-static uint16_t *numbers_of(uint8_t *bytes)
+static uint16_t *rows_of(uint8_t *bytes)
 {
     return (uint16_t *)(void *)bytes;
 }
 
-static struct answer make_call(const struct call *call, const struct area *file, const struct area *value,
+static uint32_t *numbers_of(uint8_t *bytes)
+{
+    return (uint32_t *)(void *)bytes;
+}
+
+/* Run's value, or the list of a sheet. */
+static struct bytes input_of(const struct call *call)
+{
+    return call->service == SERVICE_SHEET ? call->sheet.list : call->value;
+}
+
+static struct answer make_call(const struct call *call, const struct area *file, const struct area *input,
                                const struct lent *lent)
 {
-    uint16_t *table = numbers_of(lent->table.start);
+    uint16_t *table = rows_of(lent->table.start);
     size_t table_length = lent->table.length / 2;
     if (call->service == SERVICE_CHECK) {
         struct rulefile_check_answer a =
             rulefile_check(file->start, file->length, table, table_length, lent->work.start, lent->work.length);
-        return (struct answer){a.number, a.line, 0, 0};
+        return (struct answer){.number = a.number, .line = a.line};
     }
     if (call->service == SERVICE_TURN) {
         struct rulefile_turn_answer a =
             rulefile_turn(file->start, file->length, table, table_length, lent->work.start, lent->work.length,
                           lent->out.start, lent->out.length);
-        return (struct answer){a.number, a.line, 0, a.length};
+        return (struct answer){.number = a.number, .line = a.line, .length = a.length};
+    }
+    if (call->service == SERVICE_SHEET) {
+        struct rulefile_sheet_answer a =
+            rulefile_sheet(file->start, file->length, table, table_length, lent->work.start, lent->work.length,
+                           input->start, input->length, numbers_of(lent->numbers.start),
+                           lent->numbers.length / 4, lent->out.start, lent->out.length);
+        return (struct answer){.number = a.number, .line = a.line, .queries = a.queries};
     }
     struct rulefile_run_answer a =
         rulefile_run(file->start, file->length, table, table_length, lent->work.start, lent->work.length,
-                     call->iso, call->back, call->budget, value->start, value->length,
+                     call->iso, call->back, call->budget, input->start, input->length,
                      lent->out.start, lent->out.length);
-    return (struct answer){a.number, 0, a.count, a.length};
+    return (struct answer){.number = a.number, .count = a.count, .length = a.length};
 }
 
 /* The table of an accepted file: four numbers a line. */
@@ -267,15 +319,32 @@ static void put_rows(struct bytes file, uint16_t *row)
     }
 }
 
+/* The numbers and letters of a sheet: three numbers a query, and its letters at the front of its 127 bytes. */
+static void put_replies(const struct sheet *sheet, uint32_t *three, uint8_t *place)
+{
+    for (size_t i = 0; i < sheet->queries; i++) {
+        struct bytes letters = sheet->replies[i].letters;
+        three[0] = sheet->replies[i].number;
+        three[1] = sheet->replies[i].count;
+        three[2] = (uint32_t)letters.length;
+        if (letters.length > 0)
+            memcpy(place, letters.start, letters.length);
+        three += RULEFILE_NUMBERS_A_QUERY;
+        place += RULEFILE_RESULT_LENGTH;
+    }
+}
+
 /* Makes the mirrors what the areas are to hold after a call. */
-static void foresee(struct bytes file, struct lent *lent, uint32_t number, struct bytes text)
+static void foresee(const struct call *call, struct lent *lent, uint32_t number, struct bytes text)
 {
     if (number == RULEFILE_SHORT_AREA || number == RULEFILE_TOO_LONG)
         return;
     memset(lent->table.mirror, 0, 2 * RULEFILE_TABLE_LENGTH);
     memset(lent->work.mirror, 0, RULEFILE_WORK_LENGTH);
     if (number == RULEFILE_ACCEPTED || number >= RULEFILE_NO_ISO)
-        put_rows(file, numbers_of(lent->table.mirror));
+        put_rows(call->file, rows_of(lent->table.mirror));
+    if (number == RULEFILE_ACCEPTED)
+        put_replies(&call->sheet, numbers_of(lent->numbers.mirror), lent->out.mirror);
     if (text.length > 0)
         memcpy(lent->out.mirror, text.start, text.length);
 }
@@ -286,6 +355,7 @@ struct outcome {
     bool table;
     bool work;
     bool out;
+    bool numbers;
     bool inputs;
 };
 
@@ -293,30 +363,38 @@ static struct outcome perform(enum place place, struct lent *lent, const struct 
                               struct bytes text)
 {
     struct area file = make_input(place, call->file);
-    struct area value = make_input(place, call->value);
-    struct outcome outcome = {.answer = make_call(call, &file, &value, lent)};
-    foresee(call->file, lent, number, text);
+    struct area input = make_input(place, input_of(call));
+    struct outcome outcome = {.answer = make_call(call, &file, &input, lent)};
+    foresee(call, lent, number, text);
     outcome.table = as_foreseen(&lent->table);
     outcome.work = as_foreseen(&lent->work);
     outcome.out = as_foreseen(&lent->out);
-    outcome.inputs = as_foreseen(&file) && as_foreseen(&value);
+    outcome.numbers = as_foreseen(&lent->numbers);
+    outcome.inputs = as_foreseen(&file) && as_foreseen(&input);
     free_area(&file);
-    free_area(&value);
+    free_area(&input);
     return outcome;
 }
 
 static bool same_answer(struct answer a, struct answer b)
 {
-    return a.number == b.number && a.line == b.line && a.count == b.count && a.length == b.length;
+    return a.number == b.number && a.line == b.line && a.count == b.count && a.length == b.length &&
+           a.queries == b.queries;
 }
 
 static void print_answer(const char *label, struct answer a)
 {
-    printf("    %s: number %lu, line %zu, count %lu, length %zu\n", label, (unsigned long)a.number, a.line,
-           (unsigned long)a.count, a.length);
+    printf("    %s: number %lu, line %zu, count %lu, length %zu, queries %zu\n", label, (unsigned long)a.number,
+           a.line, (unsigned long)a.count, a.length, a.queries);
 }
 
-/* Records an outcome: five checks. */
+static void mark(bool *numbers, uint32_t number)
+{
+    if (number <= RULEFILE_SPENT)
+        numbers[number] = true;
+}
+
+/* Records an outcome: six checks. */
 static void judge(int at, const struct call *call, struct outcome outcome, struct answer expected)
 {
     struct answer found = outcome.answer;
@@ -325,14 +403,16 @@ static void judge(int at, const struct call *call, struct outcome outcome, struc
     CHECK_AT(at, outcome.table);
     CHECK_AT(at, outcome.work);
     CHECK_AT(at, outcome.out);
+    CHECK_AT(at, outcome.numbers);
     CHECK_AT(at, outcome.inputs);
     if (failed > before) {
         printf("  in %s:\n", service_names[call->service]);
         print_answer("expected", expected);
         print_answer("found", found);
     }
-    if (found.number <= RULEFILE_SPENT)
-        hit[call->service][found.number] = true;
+    mark(hit[call->service], found.number);
+    for (size_t i = 0; failed == before && i < found.queries; i++)
+        mark(hit_by_query, call->sheet.replies[i].number);
 }
 
 /* What a case is tried with: fresh areas, longer than exact by `extra`, or areas that are kept. */
@@ -342,7 +422,15 @@ struct setting {
     struct lent *kept;
 };
 
-/* One call; the length in an answer is that of the text which is to be written. */
+/* What an answer says of what was written: the text's length, and the queries of a sheet not refused. */
+static struct answer with_lengths(struct answer answer, const struct call *call, struct bytes text)
+{
+    answer.length = text.length;
+    answer.queries = answer.number == RULEFILE_ACCEPTED ? call->sheet.queries : 0;
+    return answer;
+}
+
+/* One call, whose answer is given without lengths. */
 static void try_call(int at, const struct setting *setting, const struct call *call, struct answer expected,
                      struct bytes text)
 {
@@ -352,11 +440,12 @@ static void try_call(int at, const struct setting *setting, const struct call *c
     lengths.table += setting->extra;
     lengths.work += setting->extra;
     lengths.out += setting->extra;
+    lengths.numbers += setting->extra;
     if (lent == NULL) {
         fresh = lend(setting->place, lengths);
         lent = &fresh;
     }
-    expected.length = text.length;
+    expected = with_lengths(expected, call, text);
     judge(at, call, perform(setting->place, lent, call, expected.number, text), expected);
     if (lent == &fresh)
         give_back(&fresh);
@@ -388,6 +477,10 @@ static void try_call(int at, const struct setting *setting, const struct call *c
 #define WIDER_TREES "T,0,0,0\nT,1,0,0\nT,2,1,0\nP,0,0,0\nP,2,0,0\nP,3,0,0\nP,4,1,0\nP,4,2,0\n"
 #define WIDER WIDER_TREES "I,1,2\nC,1,4\nC,2,3\n"
 #define WIDER_TURNED WIDER_TREES "I,2,1\nC,4,1\nC,3,2\n"
+
+#define S_QUERIES                                                                                            \
+    "Q,1,0,9,PLURU\nQ,1,1,9,PLULU\nQ,1,0,2,PRULU\nQ,1,0,2,PLURU\n"                                           \
+    "Q,1,0,1,PLURU\nQ,2,0,9,U\nQ,1,0,9,PLU\n"
 
 struct file_case {
     int at;
@@ -528,14 +621,79 @@ static const struct query_case query_cases[] = {
     {__LINE__, TEXT(S "\n"), 1, false, 9, TEXT("PLURU"), 3, 0, TEXT("")},
 };
 
-/* A file through Check, Turn and Run; a run of an accepted file asks for an iso that is not there. */
+#define GIVES(count, letters) {0, (count), TEXT(letters)}
+#define REFUSED(number) {(number), 0, TEXT("")}
+
+enum { SHEET_CASE_QUERIES = 8 };
+
+struct sheet_case {
+    int at;
+    struct bytes file; /* accepted */
+    struct bytes list;
+    size_t queries;
+    struct reply replies[SHEET_CASE_QUERIES];
+};
+
+static const struct sheet_case sheet_cases[] = {
+    /* document 01 */
+    {__LINE__, TEXT(S), TEXT(S_QUERIES), 7,
+     {GIVES(2, "PLULU"), GIVES(2, "PLURU"), GIVES(1, "PRULU"), GIVES(2, "PLULU"), REFUSED(17), REFUSED(15),
+      REFUSED(16)}},
+    /* each refusal of a query, beside others that are not refused */
+    {__LINE__, TEXT(S),
+     TEXT("Q,0,0,1,LU\nQ,2,0,1,LU\nQ,0,1,1,RU\nQ,0,0,1,U\nQ,1,0,9,PRURU\nQ,0,0,0,LU\nQ,1,0,9,PLULU\nQ,0,0,1;LU\n"),
+     8,
+     {GIVES(1, "RU"), REFUSED(15), GIVES(1, "LU"), REFUSED(16), GIVES(1, "PRURU"), REFUSED(17), GIVES(2, "PLURU"),
+      REFUSED(3)}},
+    {__LINE__, TEXT(S), TEXT("Q,2,0,1,LU\nQ,0,0,1,U\nQ,0,0,0,LU\nQ\n"), 4,
+     {REFUSED(15), REFUSED(16), REFUSED(17), REFUSED(3)}},
+    /* no query, empty lines */
+    {__LINE__, TEXT(S), TEXT(""), 0, {{0}}},
+    {__LINE__, TEXT(""), TEXT(""), 0, {{0}}},
+    {__LINE__, TEXT(S), TEXT("\n"), 1, {REFUSED(3)}},
+    {__LINE__, TEXT(S), TEXT("\nQ,0,0,1,LU\n\n"), 3, {REFUSED(3), GIVES(1, "RU"), REFUSED(3)}},
+    /* a last line without its line feed */
+    {__LINE__, TEXT(S), TEXT("Q,0,0,1,LU"), 1, {REFUSED(3)}},
+    {__LINE__, TEXT(S), TEXT("Q,0,0,1,LU\nQ,0,0,1,LU"), 2, {GIVES(1, "RU"), REFUSED(3)}},
+    {__LINE__, TEXT(S), TEXT("Q,0,0,1,LU\nQ"), 2, {GIVES(1, "RU"), REFUSED(3)}},
+    {__LINE__, TEXT(S), TEXT("\0"), 1, {REFUSED(3)}},
+    /* directions, let steps whose order matters, types that differ */
+    {__LINE__, TEXT(S_TURNED), TEXT("Q,1,1,9,PLURU\nQ,1,0,9,PLULU\n"), 2, {GIVES(2, "PLULU"), GIVES(2, "PLURU")}},
+    {__LINE__, TEXT(STEPS),
+     TEXT("Q,0,0,1,LU\nQ,0,1,1,LU\nQ,2,0,3,LU\nQ,2,1,3,RLU\nQ,3,0,3,LU\nQ,3,1,3,LU\nQ,3,1,2,LU\n"), 7,
+     {GIVES(1, "RLU"), GIVES(1, "RRU"), GIVES(3, "LU"), GIVES(3, "RRU"), GIVES(3, "RRU"), GIVES(3, "RLU"),
+      REFUSED(17)}},
+    {__LINE__, TEXT(WIDER), TEXT("Q,0,0,1,LU\nQ,0,1,1,PRUU\nQ,0,0,1,PRUU\nQ,0,1,1,LU\n"), 4,
+     {GIVES(1, "PRUU"), GIVES(1, "LU"), REFUSED(16), REFUSED(16)}},
+    /* files without isos */
+    {__LINE__, TEXT(""), TEXT("Q,0,0,9,U\nQ,0,1,0,\n"), 2, {REFUSED(15), REFUSED(15)}},
+    {__LINE__, TEXT(SEVEN_TYPES), TEXT("Q,0,0,9,U\n"), 1, {REFUSED(15)}},
+};
+
+/* Two queries that no file answers. */
+static const struct reply unanswered[] = {REFUSED(15), REFUSED(3)};
+static const struct sheet unanswered_sheet = {TEXT("Q,65535,0,9,U\nQ\n"), COUNT_OF(unanswered), unanswered};
+
+static struct call run_call(const struct query_case *c)
+{
+    return (struct call){SERVICE_RUN, c->file, c->iso, c->back, c->budget, c->value, {nothing, 0, NULL}};
+}
+
+static struct call sheet_call(const struct sheet_case *c)
+{
+    return (struct call){.service = SERVICE_SHEET, .file = c->file, .sheet = {c->list, c->queries, c->replies}};
+}
+
+/* A file through every service; a run of an accepted file asks for an iso that is not there. */
 static void try_file(const struct setting *setting, const struct file_case *c)
 {
     struct call call = {.service = SERVICE_CHECK, .file = c->file, .iso = UINT32_MAX};
-    struct answer answer = {c->number, c->line, 0, 0};
+    struct answer answer = {.number = c->number, .line = c->line};
     try_call(c->at, setting, &call, answer, nothing);
     call.service = SERVICE_TURN;
     try_call(c->at, setting, &call, answer, c->number == RULEFILE_ACCEPTED ? c->turned : nothing);
+    struct call sheet = {.service = SERVICE_SHEET, .file = c->file, .sheet = unanswered_sheet};
+    try_call(c->at, setting, &sheet, answer, nothing);
     call.service = SERVICE_RUN;
     answer.line = 0;
     if (answer.number == RULEFILE_ACCEPTED)
@@ -545,9 +703,15 @@ static void try_file(const struct setting *setting, const struct file_case *c)
 
 static void try_query(const struct setting *setting, const struct query_case *c)
 {
-    struct call call = {SERVICE_RUN, c->file, c->iso, c->back, c->budget, c->value};
-    struct answer answer = {c->number, 0, c->count, 0};
+    struct call call = run_call(c);
+    struct answer answer = {.number = c->number, .count = c->count};
     try_call(c->at, setting, &call, answer, c->result);
+}
+
+static void try_sheet(const struct setting *setting, const struct sheet_case *c)
+{
+    struct call call = sheet_call(c);
+    try_call(c->at, setting, &call, (struct answer){0}, nothing);
 }
 
 static void try_cases(const struct setting *setting)
@@ -556,6 +720,8 @@ static void try_cases(const struct setting *setting)
         try_file(setting, &file_cases[i]);
     for (size_t i = 0; i < COUNT_OF(query_cases); i++)
         try_query(setting, &query_cases[i]);
+    for (size_t i = 0; i < COUNT_OF(sheet_cases); i++)
+        try_sheet(setting, &sheet_cases[i]);
 }
 
 /* Groups */
@@ -575,6 +741,8 @@ static void header_numbers(void)
     CHECK(RULEFILE_TABLE_LENGTH == 16384);
     CHECK(RULEFILE_WORK_LENGTH == 65536);
     CHECK(RULEFILE_RESULT_LENGTH == 127);
+    CHECK(RULEFILE_NUMBERS_A_QUERY == 3);
+    CHECK(RULEFILE_MAX_QUERIES == 600);
     CHECK(RULEFILE_MAX_FILE_LENGTH == 65536);
     CHECK(RULEFILE_MAX_LINES == 4096);
 }
@@ -603,7 +771,8 @@ static void longer_areas(void)
 /* The same areas through every case twice, never cleared. */
 static void reused_areas(void)
 {
-    struct lengths lengths = {RULEFILE_TABLE_LENGTH + 50, RULEFILE_WORK_LENGTH + 50, RULEFILE_MAX_FILE_LENGTH + 50};
+    struct lengths lengths = {RULEFILE_TABLE_LENGTH + 50, RULEFILE_WORK_LENGTH + 50, RULEFILE_MAX_FILE_LENGTH + 50,
+                              RULEFILE_NUMBERS_A_QUERY * SHEET_CASE_QUERIES + 50};
     struct lent kept = lend(HEAP, lengths);
     struct setting setting = {HEAP, 0, &kept};
     try_cases(&setting);
@@ -623,16 +792,18 @@ static size_t chosen_length(size_t exact, size_t choice)
 static void try_lengths(int at, enum place place, const struct call *call, struct answer usual, struct bytes text)
 {
     static const struct answer short_area = {.number = RULEFILE_SHORT_AREA};
+    static const size_t choices[] = {16, 64, 64, 256};
     struct lengths exact = exact_lengths(call);
-    size_t choices = call->service == SERVICE_CHECK ? 16 : 64;
-    usual.length = text.length;
-    for (size_t choice = 0; choice < choices; choice++) {
+    usual = with_lengths(usual, call, text);
+    for (size_t choice = 0; choice < choices[call->service]; choice++) {
         struct lengths lengths = {
             chosen_length(exact.table, choice % 4),
             chosen_length(exact.work, choice / 4 % 4),
-            chosen_length(exact.out, choice / 16),
+            chosen_length(exact.out, choice / 16 % 4),
+            chosen_length(exact.numbers, choice / 64),
         };
-        bool is_short = lengths.table < exact.table || lengths.work < exact.work || lengths.out < exact.out;
+        bool is_short = lengths.table < exact.table || lengths.work < exact.work || lengths.out < exact.out ||
+                        lengths.numbers < exact.numbers;
         struct answer expected = is_short ? short_area : usual;
         struct lent lent = lend(place, lengths);
         judge(at, call, perform(place, &lent, call, expected.number, is_short ? nothing : text), expected);
@@ -654,10 +825,12 @@ static void short_areas(void)
         const struct file_case *c = &cases[i / COUNT_OF(places)];
         enum place place = places[i % COUNT_OF(places)];
         struct call call = {.service = SERVICE_CHECK, .file = c->file, .iso = 2};
-        struct answer answer = {c->number, c->line, 0, 0};
+        struct answer answer = {.number = c->number, .line = c->line};
         try_lengths(c->at, place, &call, answer, nothing);
         call.service = SERVICE_TURN;
         try_lengths(c->at, place, &call, answer, c->turned);
+        struct call sheet = {.service = SERVICE_SHEET, .file = c->file, .sheet = unanswered_sheet};
+        try_lengths(c->at, place, &sheet, answer, nothing);
         call.service = SERVICE_RUN;
         answer.line = 0;
         answer.number = c->number == RULEFILE_ACCEPTED ? RULEFILE_NO_ISO : c->number;
@@ -671,10 +844,33 @@ static void short_areas_of_runs(void)
     static const struct bytes file = TEXT(S);
     static const struct bytes value = TEXT("PLURU");
     static const struct bytes result = TEXT("PLULU");
-    struct call call = {SERVICE_RUN, file, 1, false, 2, value};
-    struct answer answer = {0, 0, 2, 0};
+    struct call call = {.service = SERVICE_RUN, .file = file, .iso = 1, .budget = 2, .value = value};
+    struct answer answer = {.count = 2};
     try_lengths(__LINE__, NULL_IF_EMPTY, &call, answer, result);
     try_lengths(__LINE__, BEFORE_GUARD, &call, answer, result);
+}
+
+/* Sheets that are answered, one of them without a query, with every choice of lengths. */
+static void short_areas_of_sheets(void)
+{
+    for (size_t i = 0; i < 4; i++) {
+        struct call call = sheet_call(&sheet_cases[i]);
+        try_lengths(sheet_cases[i].at, NULL_IF_EMPTY, &call, (struct answer){0}, nothing);
+        try_lengths(sheet_cases[i].at, BEFORE_GUARD, &call, (struct answer){0}, nothing);
+    }
+}
+
+/* The pointer NULL for every area that may be empty, then for all six. */
+static void null_areas(void)
+{
+    struct lent lent = lend(HEAP, sheet_lengths(0));
+    struct rulefile_sheet_answer a =
+        rulefile_sheet(NULL, 0, rows_of(lent.table.start), RULEFILE_TABLE_LENGTH, lent.work.start,
+                       RULEFILE_WORK_LENGTH, NULL, 0, NULL, 0, NULL, 0);
+    CHECK(a.number == RULEFILE_ACCEPTED && a.line == 0 && a.queries == 0);
+    a = rulefile_sheet(NULL, 0, NULL, 0, NULL, 0, NULL, 0, NULL, 0, NULL, 0);
+    CHECK(a.number == RULEFILE_SHORT_AREA && a.line == 0 && a.queries == 0);
+    give_back(&lent);
 }
 
 /* Files that are built */
@@ -740,7 +936,7 @@ static void try_built_run(int at, uint32_t iso, bool back, uint32_t budget, stru
                           struct answer answer, struct bytes result)
 {
     static const struct setting settings[] = {{HEAP, 0, NULL}, {BEFORE_GUARD, 0, NULL}};
-    struct call call = {SERVICE_RUN, built_file(), iso, back, budget, value};
+    struct call call = {SERVICE_RUN, built_file(), iso, back, budget, value, {nothing, 0, NULL}};
     for (size_t i = 0; i < COUNT_OF(settings); i++)
         try_call(at, &settings[i], &call, answer, result);
 }
@@ -979,6 +1175,472 @@ static void counts_and_budgets(void)
     try_built_run(__LINE__, 31, true, 65536, right, spent, nothing);
 }
 
+/* Lists of queries that are built */
+
+struct line_case {
+    int at;
+    struct bytes line;
+    struct reply reply;
+};
+
+static struct {
+    uint8_t bytes[2 * RULEFILE_MAX_FILE_LENGTH];
+    size_t length;
+    struct reply replies[RULEFILE_MAX_QUERIES + 1];
+    size_t queries;
+} asked;
+
+static const struct line_case answered_line = {__LINE__, TEXT("Q,1,0,9,PLURU\n"), GIVES(2, "PLULU")};
+static const struct line_case refused_line = {__LINE__, TEXT("Q,1,0,1,PLURU\n"), REFUSED(17)};
+static const struct bytes file_s = TEXT(S);
+
+static void begin_list(void)
+{
+    asked.length = 0;
+    asked.queries = 0;
+}
+
+/* Adds a line and what it is to give. */
+static void ask(struct bytes line, struct reply reply)
+{
+    require(line.length <= sizeof asked.bytes - asked.length && asked.queries < COUNT_OF(asked.replies));
+    memcpy(asked.bytes + asked.length, line.start, line.length);
+    asked.length += line.length;
+    asked.replies[asked.queries++] = reply;
+}
+
+static void ask_case(const struct line_case *c)
+{
+    ask(c->line, c->reply);
+}
+
+/* A list of so many lines, one and the other by turns. */
+static void ask_by_turns(size_t queries, const struct line_case *one, const struct line_case *other)
+{
+    begin_list();
+    for (size_t i = 0; i < queries; i++)
+        ask_case(i % 2 == 0 ? one : other);
+}
+
+/* A line between two that are answered. */
+static void ask_between(const struct line_case *c)
+{
+    begin_list();
+    ask_case(&answered_line);
+    ask_case(c);
+    ask_case(&answered_line);
+}
+
+static struct call asked_call(struct bytes file)
+{
+    struct sheet sheet = {{asked.bytes, asked.length}, asked.queries, asked.replies};
+    return (struct call){.service = SERVICE_SHEET, .file = file, .sheet = sheet};
+}
+
+/* The built list as a sheet of a file. */
+static void try_asked(int at, struct bytes file, struct answer answer)
+{
+    static const struct setting settings[] = {{HEAP, 0, NULL}, {BEFORE_GUARD, 0, NULL}, {ODD, 5, NULL}};
+    struct call call = asked_call(file);
+    for (size_t i = 0; i < COUNT_OF(settings); i++)
+        try_call(at, &settings[i], &call, answer, nothing);
+}
+
+/* For file S. */
+static const struct line_case line_cases[] = {
+    /* too few fields, other letters, other marks */
+    {__LINE__, TEXT("Q\n"), REFUSED(3)},
+    {__LINE__, TEXT("Q,\n"), REFUSED(3)},
+    {__LINE__, TEXT("Q,1\n"), REFUSED(3)},
+    {__LINE__, TEXT("Q,1,0\n"), REFUSED(3)},
+    {__LINE__, TEXT("Q,1,0,9\n"), REFUSED(3)},
+    {__LINE__, TEXT(",1,0,9,PLURU\n"), REFUSED(3)},
+    {__LINE__, TEXT("q,1,0,9,PLURU\n"), REFUSED(3)},
+    {__LINE__, TEXT("QQ,1,0,9,PLURU\n"), REFUSED(3)},
+    {__LINE__, TEXT(" Q,1,0,9,PLURU\n"), REFUSED(3)},
+    {__LINE__, TEXT("R,1,0,9,PLURU\n"), REFUSED(3)},
+    {__LINE__, TEXT("T,0,0,0\n"), REFUSED(3)},
+    {__LINE__, TEXT("Q 1,0,9,PLURU\n"), REFUSED(3)},
+    {__LINE__, TEXT("Q,1,0,9.PLURU\n"), REFUSED(3)},
+    {__LINE__, TEXT("Q,1,0,9\r\n"), REFUSED(3)},
+    {__LINE__, TEXT("\n"), REFUSED(3)},
+    {__LINE__, TEXT("\r\n"), REFUSED(3)},
+    {__LINE__, TEXT("\0\n"), REFUSED(3)},
+    {__LINE__, TEXT("\377\n"), REFUSED(3)},
+    /* numbers */
+    {__LINE__, TEXT("Q,,0,9,PLURU\n"), REFUSED(3)},
+    {__LINE__, TEXT("Q,1,,9,PLURU\n"), REFUSED(3)},
+    {__LINE__, TEXT("Q,1,0,,PLURU\n"), REFUSED(3)},
+    {__LINE__, TEXT("Q,01,0,9,PLURU\n"), REFUSED(3)},
+    {__LINE__, TEXT("Q,1,00,9,PLURU\n"), REFUSED(3)},
+    {__LINE__, TEXT("Q,1,0,09,PLURU\n"), REFUSED(3)},
+    {__LINE__, TEXT("Q,+1,0,9,PLURU\n"), REFUSED(3)},
+    {__LINE__, TEXT("Q,1,-0,9,PLURU\n"), REFUSED(3)},
+    {__LINE__, TEXT("Q,1,0, 9,PLURU\n"), REFUSED(3)},
+    {__LINE__, TEXT("Q,1,2,9,PLURU\n"), REFUSED(3)},
+    {__LINE__, TEXT("Q,65535,1,0,\n"), REFUSED(15)},
+    {__LINE__, TEXT("Q,65536,0,9,LU\n"), REFUSED(3)},
+    {__LINE__, TEXT("Q,65537,0,9,PLURU\n"), REFUSED(3)},
+    {__LINE__, TEXT("Q,4294967297,0,9,PLURU\n"), REFUSED(3)},
+    {__LINE__, TEXT("Q,18446744073709551617,0,9,PLURU\n"), REFUSED(3)},
+    {__LINE__, TEXT("Q,1,0,4294967295,PLURU\n"), GIVES(2, "PLULU")},
+    {__LINE__, TEXT("Q,1,1,4294967295,PRURU\n"), GIVES(1, "PRURU")},
+    {__LINE__, TEXT("Q,1,0,4294967296,PLURU\n"), REFUSED(3)},
+    {__LINE__, TEXT("Q,1,0,4294967298,PLURU\n"), REFUSED(3)},
+    {__LINE__, TEXT("Q,1,0,18446744073709551618,PLURU\n"), REFUSED(3)},
+    /* all behind the fourth comma is the letters field; 15 before 16 before 17 */
+    {__LINE__, TEXT("Q,1,0,9,\n"), REFUSED(16)},
+    {__LINE__, TEXT("Q,1,0,0,PLU\n"), REFUSED(16)},
+    {__LINE__, TEXT("Q,1,0,0,PLURU\n"), REFUSED(17)},
+    {__LINE__, TEXT("Q,2,0,0,\n"), REFUSED(15)},
+    {__LINE__, TEXT("Q,1,0,9,PLURUU\n"), REFUSED(16)},
+    {__LINE__, TEXT("Q,1,0,9, PLURU\n"), REFUSED(16)},
+    {__LINE__, TEXT("Q,1,0,9,PLURU\r\n"), REFUSED(16)},
+    {__LINE__, TEXT("Q,1,0,9,PLURU,\n"), REFUSED(16)},
+    {__LINE__, TEXT("Q,1,0,9,,PLURU\n"), REFUSED(16)},
+    {__LINE__, TEXT("Q,1,0,9,pluru\n"), REFUSED(16)},
+    {__LINE__, TEXT("Q,1,0,9,PLURU\0\n"), REFUSED(16)},
+    {__LINE__, TEXT("Q,1,0,9,PLU\0U\n"), REFUSED(16)},
+    {__LINE__, TEXT("Q,1,0,9,PLUR\377\n"), REFUSED(16)},
+};
+
+/* Each line between others, each without its line feed as the last, and all of them in one list. */
+static void query_lines(void)
+{
+    static const struct answer answer = {0};
+    static const struct reply bad_line = REFUSED(3);
+    for (size_t i = 0; i < COUNT_OF(line_cases); i++) {
+        struct bytes line = line_cases[i].line;
+        ask_between(&line_cases[i]);
+        try_asked(line_cases[i].at, file_s, answer);
+        line.length--;
+        ask_by_turns(1, &answered_line, NULL);
+        if (line.length > 0)
+            ask(line, bad_line);
+        try_asked(line_cases[i].at, file_s, answer);
+    }
+    begin_list();
+    for (size_t i = 0; i < COUNT_OF(line_cases); i++) {
+        ask_case(&line_cases[i]);
+        ask_case(&answered_line);
+    }
+    try_asked(__LINE__, file_s, answer);
+}
+
+/* A query with one byte replaced: 16 where it was a letter; a line feed replaced makes one line of two. */
+static void damaged_queries(void)
+{
+    static const uint8_t replaced[] = {0, 255, ' ', ','};
+    static const struct reply replies[] = {REFUSED(3), REFUSED(16)};
+    size_t length = answered_line.line.length;
+    size_t head = strlen("Q,1,0,9,");
+    for (size_t i = 0; i < COUNT_OF(replaced) * length; i++) {
+        size_t place = i / COUNT_OF(replaced);
+        struct line_case c = {__LINE__, answered_line.line, replies[place >= head]};
+        ask_between(&c);
+        asked.bytes[length + place] = replaced[i % COUNT_OF(replaced)];
+        if (asked.bytes[length + place] == c.line.start[place])
+            continue;
+        asked.queries -= place == length - 1;
+        try_asked(__LINE__, file_s, (struct answer){0});
+    }
+}
+
+/* A line may have 200 bytes with its line feed. */
+static void query_lengths(void)
+{
+    static const size_t lengths[] = {127, 128, 199, 200, 201, 202, 255, 256, 257, 65536};
+    static const struct reply no_value = REFUSED(16);
+    static const struct reply bad_line = REFUSED(3);
+    static uint8_t bytes[65536];
+    for (size_t i = 0; i < COUNT_OF(lengths); i++) {
+        struct line_case c = {__LINE__, {bytes, lengths[i]}, lengths[i] <= 200 ? no_value : bad_line};
+        memset(bytes, 'U', sizeof bytes);
+        memcpy(bytes, "Q,1,0,9,PLURU", strlen("Q,1,0,9,PLURU"));
+        bytes[lengths[i] - 1] = '\n';
+        ask_between(&c);
+        try_asked(__LINE__, file_s, (struct answer){0});
+        bytes[0] = 'T';
+        c.reply = bad_line;
+        ask_between(&c);
+        try_asked(__LINE__, file_s, (struct answer){0});
+    }
+}
+
+/* 600 queries are answered, one more is too long, whatever the file is. */
+static void query_counts(void)
+{
+    static const struct answer too_long = {.number = RULEFILE_TOO_LONG};
+    static const struct bytes refused_file = TEXT(S "C,7,7\n");
+    static const struct bytes one_more = TEXT("x");
+    static const struct line_case empty = {__LINE__, TEXT("\n"), REFUSED(3)};
+    ask_by_turns(RULEFILE_MAX_QUERIES, &answered_line, &refused_line);
+    try_asked(__LINE__, file_s, (struct answer){0});
+    try_asked(__LINE__, refused_file, (struct answer){.number = RULEFILE_OVERLAP_LEFT, .line = 15});
+    ask(one_more, empty.reply);
+    try_asked(__LINE__, file_s, too_long);
+    try_asked(__LINE__, refused_file, too_long);
+    ask_by_turns(RULEFILE_MAX_QUERIES, &refused_line, &answered_line);
+    asked.length--; /* line 600 without its line feed */
+    asked.replies[RULEFILE_MAX_QUERIES - 1] = empty.reply;
+    try_asked(__LINE__, file_s, (struct answer){0});
+    ask_by_turns(RULEFILE_MAX_QUERIES, &empty, &empty);
+    try_asked(__LINE__, file_s, (struct answer){0});
+    ask_case(&empty);
+    try_asked(__LINE__, file_s, too_long);
+    ask_by_turns(RULEFILE_MAX_QUERIES + 1, &answered_line, &answered_line);
+    try_asked(__LINE__, file_s, too_long);
+}
+
+/* 1 comes before 2, both before the refusal of the file, and that before any query. */
+static void order_of_refusals(void)
+{
+    static const struct answer too_long = {.number = RULEFILE_TOO_LONG};
+    static const struct answer overlap = {.number = RULEFILE_OVERLAP_LEFT, .line = 15};
+    static const struct bytes refused_file = TEXT(S "C,7,7\n");
+    static const struct bytes long_file = {pattern, RULEFILE_MAX_FILE_LENGTH + 1};
+    for (size_t queries = 1; queries <= RULEFILE_MAX_QUERIES + 1; queries += RULEFILE_MAX_QUERIES / 2) {
+        ask_by_turns(queries, &refused_line, &answered_line);
+        struct call call = asked_call(refused_file);
+        try_lengths(__LINE__, HEAP, &call, queries <= RULEFILE_MAX_QUERIES ? overlap : too_long, nothing);
+        call = asked_call(long_file);
+        try_lengths(__LINE__, HEAP, &call, too_long, nothing);
+    }
+}
+
+/* Memory that may be read but not written. */
+static void *read_only(size_t length)
+{
+    return required(mmap(NULL, length, PROT_READ, MAP_PRIVATE | MAP_ANONYMOUS, -1, 0));
+}
+
+/* A megabyte of line feeds: 2 with areas for so many queries, 1 where one of them is one element short. */
+static void megabyte_of_lines(void)
+{
+    size_t queries = 1 << 20;
+    struct lengths exact = sheet_lengths(queries);
+    uint8_t *list = allocate(queries);
+    uint32_t *numbers = read_only(4 * exact.numbers);
+    uint8_t *letters = read_only(exact.out);
+    struct lent lent = lend(HEAP, sheet_lengths(0));
+    memset(list, '\n', queries);
+    for (size_t i = 0; i < 4; i++) {
+        struct rulefile_sheet_answer a =
+            rulefile_sheet(file_s.start, file_s.length, rows_of(lent.table.start), exact.table, lent.work.start,
+                           exact.work, list, queries, numbers, exact.numbers - i % 2, letters, exact.out - i / 2);
+        CHECK(a.number == (i == 0 ? RULEFILE_TOO_LONG : RULEFILE_SHORT_AREA));
+        CHECK(a.line == 0 && a.queries == 0);
+        CHECK(as_foreseen(&lent.table) && as_foreseen(&lent.work));
+    }
+    give_back(&lent);
+    require(munmap(numbers, 4 * exact.numbers) == 0);
+    require(munmap(letters, exact.out) == 0);
+    free(list);
+}
+
+/* A megabyte of line feeds with areas for 600 queries and for none; one line of a megabyte. */
+static void megabyte_lists(void)
+{
+    static const struct reply bad_line = REFUSED(3);
+    static const struct setting setting = {BEFORE_GUARD, 0, NULL};
+    static uint8_t bytes[1 << 20];
+    struct call call = {.service = SERVICE_SHEET, .file = file_s, .sheet = {{bytes, sizeof bytes}, 0, &bad_line}};
+    struct lent short_areas[] = {lend(BEFORE_GUARD, sheet_lengths(RULEFILE_MAX_QUERIES)),
+                                 lend(NULL_IF_EMPTY, sheet_lengths(0))};
+    memset(bytes, '\n', sizeof bytes);
+    for (size_t i = 0; i < COUNT_OF(short_areas); i++) {
+        struct answer answer = {.number = RULEFILE_SHORT_AREA};
+        judge(__LINE__, &call, perform(BEFORE_GUARD, &short_areas[i], &call, answer.number, nothing), answer);
+        give_back(&short_areas[i]);
+    }
+    memset(bytes, 'Q', sizeof bytes);
+    call.sheet.queries = 1;
+    try_call(__LINE__, &setting, &call, (struct answer){0}, nothing);
+    bytes[sizeof bytes - 1] = '\n';
+    try_call(__LINE__, &setting, &call, (struct answer){0}, nothing);
+}
+
+/* 600 queries of 127 letters, the same refused, and both by turns: the letters of a refused one stay. */
+static void largest_sheet(void)
+{
+    static const struct bytes file = TEXT(SEVEN_TYPES "P,1,0,0\nI,6,6\nC,0,0\n");
+    static const struct line_case refused = {__LINE__, TEXT("Q,0,0,1,U\n"), REFUSED(16)};
+    uint8_t line[8 + RULEFILE_RESULT_LENGTH + 1] = "Q,0,1,1,";
+    size_t length = put_largest_value(line + 8);
+    struct line_case largest = {__LINE__, {line, sizeof line}, {0, 1, {line + 8, length}}};
+    const struct line_case *turns[][2] = {{&refused, &refused}, {&refused, &largest}, {&largest, &refused},
+                                          {&largest, &largest}, {&refused, &refused}};
+    CHECK(length == RULEFILE_RESULT_LENGTH);
+    line[sizeof line - 1] = '\n';
+    ask_by_turns(RULEFILE_MAX_QUERIES, &largest, &refused);
+    struct call call = asked_call(file);
+    struct lent kept = lend(BEFORE_GUARD, exact_lengths(&call));
+    struct setting setting = {BEFORE_GUARD, 0, &kept};
+    for (size_t i = 0; i < COUNT_OF(turns); i++) {
+        ask_by_turns(RULEFILE_MAX_QUERIES, turns[i][0], turns[i][1]);
+        call = asked_call(file);
+        try_call(__LINE__, &setting, &call, (struct answer){0}, nothing);
+        try_asked(__LINE__, file, (struct answer){0});
+    }
+    give_back(&kept);
+}
+
+/* Sheets against runs of their own */
+
+static struct rulefile_check_answer lone_check(struct bytes file)
+{
+    static uint16_t table[RULEFILE_TABLE_LENGTH];
+    static uint8_t work[RULEFILE_WORK_LENGTH];
+    return rulefile_check(file.start, file.length, table, COUNT_OF(table), work, sizeof work);
+}
+
+/* Adds a line that asks for a run, with what the run gives on its own. */
+static void ask_run(struct bytes line, const struct call *run)
+{
+    static uint16_t table[RULEFILE_TABLE_LENGTH];
+    static uint8_t work[RULEFILE_WORK_LENGTH];
+    static uint8_t letters[RULEFILE_MAX_QUERIES][RULEFILE_RESULT_LENGTH];
+    require(asked.queries < RULEFILE_MAX_QUERIES);
+    uint8_t *result = letters[asked.queries];
+    struct rulefile_run_answer a =
+        rulefile_run(run->file.start, run->file.length, table, COUNT_OF(table), work, sizeof work,
+                     run->iso, run->back, run->budget, run->value.start, run->value.length,
+                     result, RULEFILE_RESULT_LENGTH);
+    ask(line, (struct reply){a.number, a.count, {result, a.length}});
+}
+
+/* The built list as a sheet of a file: refused as Check refuses the file, or each line answered as it is to be. */
+static void try_as_checked(int at, struct bytes file)
+{
+    struct rulefile_check_answer checked = lone_check(file);
+    try_asked(at, file, (struct answer){.number = checked.number, .line = checked.line});
+}
+
+/* Adds a run as a line, where a line can ask for it. */
+static void ask_as_line(const struct call *run)
+{
+    char line[200];
+    int head = snprintf(line, sizeof line, "Q,%lu,%d,%lu,", (unsigned long)run->iso, run->back ? 1 : 0,
+                        (unsigned long)run->budget);
+    struct bytes value = run->value;
+    size_t length = (size_t)head + value.length + 1;
+    if (run->iso > UINT16_MAX || (value.length > 0 && memchr(value.start, '\n', value.length) != NULL))
+        return;
+    require(length <= sizeof line);
+    memcpy(line + head, value.start, value.length);
+    line[length - 1] = '\n';
+    ask_run((struct bytes){(const uint8_t *)line, length}, run);
+}
+
+static bool same_bytes(struct bytes a, struct bytes b)
+{
+    return a.length == b.length && memcmp(a.start, b.start, a.length) == 0;
+}
+
+/* All queries of the cases in one sheet, for each of their files. */
+static void sheets_as_runs(void)
+{
+    for (size_t i = 0; i < COUNT_OF(query_cases); i++) {
+        struct bytes file = query_cases[i].file;
+        if (i > 0 && same_bytes(query_cases[i - 1].file, file))
+            continue;
+        begin_list();
+        for (size_t j = 0; j < COUNT_OF(query_cases); j++) {
+            struct call run = run_call(&query_cases[j]);
+            run.file = file;
+            ask_as_line(&run);
+        }
+        CHECK(asked.queries > COUNT_OF(query_cases) / 2);
+        try_as_checked(query_cases[i].at, file);
+    }
+}
+
+/* Isos of the tower, forward and back, each with the budget that it needs and with one less. */
+static void sheet_of_counts(void)
+{
+    static const struct bytes left = TEXT("LU");
+    uint32_t isos = quick ? 9 : 13;
+    build_tower();
+    begin_list();
+    for (uint32_t i = 0; i < 4 * isos; i++) {
+        uint32_t count = (UINT32_C(2) << i / 4) - 1;
+        uint32_t budget = i % 4 < 2 ? count : count - 1;
+        struct call run = {SERVICE_RUN, built_file(), i / 4, i % 2 == 1, budget, left, {nothing, 0, NULL}};
+        ask_as_line(&run);
+    }
+    try_as_checked(__LINE__, built_file());
+}
+
+/* A file's bytes and a zero behind them. */
+static struct bytes read_file(const char *path)
+{
+    FILE *stream = required(fopen(path, "rb"));
+    require(fseek(stream, 0, SEEK_END) == 0);
+    size_t length = (size_t)ftell(stream);
+    uint8_t *start = allocate(length + 1);
+    rewind(stream);
+    require(fread(start, 1, length, stream) == length);
+    require(fclose(stream) == 0);
+    start[length] = 0;
+    return (struct bytes){start, length};
+}
+
+/* The line that begins at a place, with its line feed. */
+static struct bytes line_at(struct bytes text, size_t at)
+{
+    const uint8_t *start = text.start + at;
+    const uint8_t *end = memchr(start, '\n', text.length - at);
+    return (struct bytes){start, end == NULL ? text.length - at : (size_t)(end - start) + 1};
+}
+
+/* The run that a stored query asks for. */
+static struct call stored_run(struct bytes file, struct bytes line)
+{
+    unsigned long iso, back, budget;
+    int head = 0;
+    require(sscanf((const char *)line.start, "Q,%lu,%lu,%lu,%n", &iso, &back, &budget, &head) == 3 && head > 0);
+    require(line.length > (size_t)head && line.start[line.length - 1] == '\n');
+    struct bytes value = {line.start + head, line.length - (size_t)head - 1};
+    return (struct call){SERVICE_RUN, file, (uint32_t)iso, back == 1, (uint32_t)budget, value, {nothing, 0, NULL}};
+}
+
+/* A stored input, its queries in one sheet. */
+static void try_stored(const char *path)
+{
+    struct bytes input = read_file(path);
+    size_t at = 0;
+    while (at < input.length && input.start[at] != 'Q')
+        at += line_at(input, at).length;
+    struct bytes file = {input.start, at};
+    begin_list();
+    while (at < input.length) {
+        struct bytes line = line_at(input, at);
+        struct call run = stored_run(file, line);
+        ask_run(line, &run);
+        at += line.length;
+    }
+    size_t before = failed;
+    try_as_checked(__LINE__, file);
+    if (failed > before)
+        printf("  of %s\n", path);
+    free((void *)input.start);
+}
+
+static void stored_examples(void)
+{
+    glob_t paths;
+    size_t queries = 0;
+    require(glob("examples/*.in", 0, NULL, &paths) == 0);
+    require(glob("examples/*/*.in", GLOB_APPEND, NULL, &paths) == 0);
+    for (size_t i = 0; i < paths.gl_pathc; i++) {
+        try_stored(paths.gl_pathv[i]);
+        queries += asked.queries;
+    }
+    CHECK(paths.gl_pathc > 20);
+    CHECK(queries > 20);
+    globfree(&paths);
+}
+
 /* The area anew, as malloc gives it. */
 static void renew(struct area *area)
 {
@@ -987,50 +1649,65 @@ static void renew(struct area *area)
     area->start = area->base;
 }
 
+static bool starts_with(const uint8_t *start, struct bytes text)
+{
+    return text.length == 0 || memcmp(start, text.start, text.length) == 0;
+}
+
 /* A call on areas that hold nothing yet: under valgrind this shows that nothing depends on what they held. */
 static void try_uninitialized(int at, const struct call *call, struct answer expected, struct bytes text)
 {
     struct area file = make_input(HEAP, call->file);
-    struct area value = make_input(HEAP, call->value);
+    struct area input = make_input(HEAP, input_of(call));
     struct lent lent = lend(HEAP, exact_lengths(call));
     renew(&lent.table);
     renew(&lent.work);
     renew(&lent.out);
-    struct answer found = make_call(call, &file, &value, &lent);
-    foresee(call->file, &lent, expected.number, text);
+    renew(&lent.numbers);
+    struct answer found = make_call(call, &file, &input, &lent);
+    expected = with_lengths(expected, call, text);
+    foresee(call, &lent, expected.number, text);
     CHECK_AT(at, same_answer(found, expected));
     CHECK_AT(at, as_foreseen(&lent.table));
     CHECK_AT(at, as_foreseen(&lent.work));
-    CHECK_AT(at, text.length == 0 || memcmp(lent.out.start, text.start, text.length) == 0);
+    CHECK_AT(at, as_foreseen(&lent.numbers));
+    CHECK_AT(at, starts_with(lent.out.start, text));
+    for (size_t i = 0; i < expected.queries; i++)
+        CHECK_AT(at, starts_with(lent.out.start + RULEFILE_RESULT_LENGTH * i, call->sheet.replies[i].letters));
     give_back(&lent);
     free_area(&file);
-    free_area(&value);
+    free_area(&input);
 }
 
 static void uninitialized_areas(void)
 {
     static const struct bytes turned = TEXT(S_TURNED);
     static const struct bytes result = TEXT("PLULU");
-    struct call call = {SERVICE_CHECK, TEXT(S), 1, false, 2, TEXT("PLURU")};
+    struct call call = {.service = SERVICE_CHECK, .file = TEXT(S), .iso = 1, .budget = 2, .value = TEXT("PLURU")};
     try_uninitialized(__LINE__, &call, (struct answer){0}, nothing);
     call.service = SERVICE_TURN;
-    try_uninitialized(__LINE__, &call, (struct answer){.length = turned.length}, turned);
+    try_uninitialized(__LINE__, &call, (struct answer){0}, turned);
     call.service = SERVICE_RUN;
-    try_uninitialized(__LINE__, &call, (struct answer){.count = 2, .length = result.length}, result);
+    try_uninitialized(__LINE__, &call, (struct answer){.count = 2}, result);
     call.budget = 1;
     try_uninitialized(__LINE__, &call, (struct answer){.number = RULEFILE_SPENT}, nothing);
     call = (struct call){.service = SERVICE_TURN, .file = TEXT(S "C,7,7\n")};
     try_uninitialized(__LINE__, &call, (struct answer){.number = RULEFILE_OVERLAP_LEFT, .line = 15}, nothing);
+    for (size_t i = 0; i < COUNT_OF(sheet_cases); i++) {
+        call = sheet_call(&sheet_cases[i]);
+        try_uninitialized(sheet_cases[i].at, &call, (struct answer){0}, nothing);
+    }
 }
 
 /* Threads */
 
 enum { THREADS = 4, THREAD_STACK = 128 * 1024 };
 
-/* Each thread has areas of its own, and a run whose letters no other thread gives. */
+/* Each thread has areas of its own, a run whose letters no other thread gives, and another sheet to begin with. */
 struct worker {
     pthread_barrier_t *start;
     const struct query_case *query;
+    size_t first_sheet;
     struct lent lent;
     size_t rounds;
     size_t calls;
@@ -1040,9 +1717,9 @@ struct worker {
 /* One call, counted in the worker. */
 static void try_quietly(struct worker *worker, const struct call *call, struct answer expected, struct bytes text)
 {
-    expected.length = text.length;
+    expected = with_lengths(expected, call, text);
     struct outcome o = perform(HEAP, &worker->lent, call, expected.number, text);
-    bool areas = o.table && o.work && o.out && o.inputs;
+    bool areas = o.table && o.work && o.out && o.numbers && o.inputs;
     worker->wrong += !areas || !same_answer(o.answer, expected);
     worker->calls++;
 }
@@ -1051,17 +1728,19 @@ static void *work_through(void *argument)
 {
     struct worker *worker = argument;
     const struct query_case *q = worker->query;
-    struct call run = {SERVICE_RUN, q->file, q->iso, q->back, q->budget, q->value};
+    struct call run = run_call(q);
     pthread_barrier_wait(worker->start);
     for (size_t i = 0; i < worker->rounds; i++) {
         const struct file_case *f = &file_cases[i % COUNT_OF(file_cases)];
         struct call check = {.service = SERVICE_CHECK, .file = f->file};
         struct call turn = {.service = SERVICE_TURN, .file = f->file};
-        struct answer answer = {f->number, f->line, 0, 0};
+        struct call sheet = sheet_call(&sheet_cases[(worker->first_sheet + i) % COUNT_OF(sheet_cases)]);
+        struct answer answer = {.number = f->number, .line = f->line};
         try_quietly(worker, &run, (struct answer){.count = q->count}, q->result);
         try_quietly(worker, &check, answer, nothing);
         try_quietly(worker, &run, (struct answer){.count = q->count}, q->result);
         try_quietly(worker, &turn, answer, f->number == RULEFILE_ACCEPTED ? f->turned : nothing);
+        try_quietly(worker, &sheet, (struct answer){0}, nothing);
     }
     return NULL;
 }
@@ -1074,7 +1753,7 @@ static void threads_at_once(void)
         {__LINE__, TEXT(STEPS), 3, false, 9, TEXT("LU"), 0, 3, TEXT("RRU")},
         {__LINE__, TEXT(WIDER), 0, false, 9, TEXT("RU"), 0, 1, TEXT("PLUU")},
     };
-    struct lengths lengths = {RULEFILE_TABLE_LENGTH, RULEFILE_WORK_LENGTH, 1000};
+    struct lengths lengths = sheet_lengths(SHEET_CASE_QUERIES);
     struct worker workers[THREADS];
     pthread_t threads[THREADS];
     pthread_barrier_t start;
@@ -1083,12 +1762,12 @@ static void threads_at_once(void)
     require(pthread_attr_init(&attributes) == 0);
     require(pthread_attr_setstacksize(&attributes, THREAD_STACK) == 0);
     for (size_t i = 0; i < THREADS; i++) {
-        workers[i] = (struct worker){&start, &queries[i], lend(HEAP, lengths), quick ? 50 : 2000, 0, 0};
+        workers[i] = (struct worker){&start, &queries[i], 5 * i, lend(HEAP, lengths), quick ? 50 : 2000, 0, 0};
         require(pthread_create(&threads[i], &attributes, work_through, &workers[i]) == 0);
     }
     for (size_t i = 0; i < THREADS; i++) {
         require(pthread_join(threads[i], NULL) == 0);
-        CHECK_AT(queries[i].at, workers[i].calls == 4 * workers[i].rounds);
+        CHECK_AT(queries[i].at, workers[i].calls == 5 * workers[i].rounds);
         CHECK_AT(queries[i].at, workers[i].wrong == 0);
         give_back(&workers[i].lent);
     }
@@ -1096,10 +1775,15 @@ static void threads_at_once(void)
     require(pthread_barrier_destroy(&start) == 0);
 }
 
-/* Every number was given by every service that can give it, and by no other. */
+/* Every number was given by every service that can give it, and by no other; the same for the queries of sheets. */
 static void every_number(void)
 {
-    for (size_t service = SERVICE_CHECK; service <= SERVICE_RUN; service++) {
+    for (size_t number = 0; number <= RULEFILE_SPENT; number++) {
+        bool of_queries = number == RULEFILE_ACCEPTED || number == RULEFILE_BAD_LINE || number >= RULEFILE_NO_ISO;
+        if (!CHECK(hit_by_query[number] == of_queries))
+            printf("    number %zu of a query\n", number);
+    }
+    for (size_t service = SERVICE_CHECK; service <= SERVICE_SHEET; service++) {
         size_t last = service == SERVICE_RUN ? RULEFILE_SPENT : RULEFILE_GAP_RIGHT;
         for (size_t number = 0; number <= RULEFILE_SPENT; number++) {
             if (!CHECK(hit[service][number] == (number <= last)))
@@ -1121,6 +1805,8 @@ static const struct group groups[] = {
     {"reused_areas", reused_areas},
     {"short_areas", short_areas},
     {"short_areas_of_runs", short_areas_of_runs},
+    {"short_areas_of_sheets", short_areas_of_sheets},
+    {"null_areas", null_areas},
     {"file_lengths", file_lengths},
     {"longest_file", longest_file},
     {"ceilings", ceilings},
@@ -1128,6 +1814,17 @@ static const struct group groups[] = {
     {"damaged_files", damaged_files},
     {"single_bytes", single_bytes},
     {"counts_and_budgets", counts_and_budgets},
+    {"query_lines", query_lines},
+    {"damaged_queries", damaged_queries},
+    {"query_lengths", query_lengths},
+    {"query_counts", query_counts},
+    {"order_of_refusals", order_of_refusals},
+    {"megabyte_of_lines", megabyte_of_lines},
+    {"megabyte_lists", megabyte_lists},
+    {"largest_sheet", largest_sheet},
+    {"sheets_as_runs", sheets_as_runs},
+    {"sheet_of_counts", sheet_of_counts},
+    {"stored_examples", stored_examples},
     {"uninitialized_areas", uninitialized_areas},
     {"threads_at_once", threads_at_once},
     {"every_number", every_number},

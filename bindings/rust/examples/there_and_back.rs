@@ -49,7 +49,10 @@ fn read_text(path: &OsStr) -> io::Result<Vec<u8>> {
 /// What stands before the first line that begins with Q.
 fn rules_of(text: &[u8]) -> &[u8] {
     let lines = text.split_inclusive(|&byte| byte == b'\n');
-    let length = lines.take_while(|line| line[0] != b'Q').map(<[u8]>::len).sum();
+    let length = lines
+        .take_while(|line| line[0] != b'Q')
+        .map(<[u8]>::len)
+        .sum();
     &text[..length]
 }
 
@@ -70,7 +73,13 @@ fn run(
     letters: &[u8],
 ) -> Result<Value, Refused> {
     let value = desk
-        .run(rules, request.iso, Direction::Forward, request.budget, letters)
+        .run(
+            rules,
+            request.iso,
+            Direction::Forward,
+            request.budget,
+            letters,
+        )
         .map_err(refused(step))?;
     let from = String::from_utf8_lossy(letters);
     let to = String::from_utf8_lossy(&value.letters);
@@ -83,13 +92,33 @@ fn there_and_back(rules: &[u8], request: &Request) -> Result<bool, Refused> {
     desk.check(rules).map_err(refused("Check"))?;
     println!("Check: accepted, number 0, line 0");
     let turned = desk.turn(rules).map_err(refused("Turn"))?;
-    println!("Turn: {} bytes written, the file has {}", turned.len(), rules.len());
-    let there = run(&mut desk, "Run of the file", rules, request, &request.letters)?;
-    let back = run(&mut desk, "Run of the turned file", &turned, request, &there.letters)?;
+    println!(
+        "Turn: {} bytes written, the file has {}",
+        turned.len(),
+        rules.len()
+    );
+    let there = run(
+        &mut desk,
+        "Run of the file",
+        rules,
+        request,
+        &request.letters,
+    )?;
+    let back = run(
+        &mut desk,
+        "Run of the turned file",
+        &turned,
+        request,
+        &there.letters,
+    )?;
     let same = |holds| if holds { "the same" } else { "another" };
     let same_setting = back.letters == request.letters;
     let same_count = back.count == there.count;
-    println!("Came back: {} setting, {} count", same(same_setting), same(same_count));
+    println!(
+        "Came back: {} setting, {} count",
+        same(same_setting),
+        same(same_count)
+    );
     Ok(same_setting && same_count)
 }
 
@@ -99,7 +128,10 @@ fn main() -> ExitCode {
         return ExitCode::from(2);
     };
     let Ok(text) = read_text(&request.path) else {
-        eprintln!("there_and_back: cannot read {}", request.path.to_string_lossy());
+        eprintln!(
+            "there_and_back: cannot read {}",
+            request.path.to_string_lossy()
+        );
         return ExitCode::from(2);
     };
     match there_and_back(rules_of(&text), &request) {

@@ -22,6 +22,13 @@ pub struct RunAnswer {
     pub length: usize,
 }
 
+#[repr(C)]
+pub struct SheetAnswer {
+    pub number: u32,
+    pub line: usize,
+    pub queries: usize,
+}
+
 extern "C" {
     fn rulefile_check(
         file: *const u8,
@@ -58,6 +65,21 @@ extern "C" {
         result: *mut u8,
         result_length: usize,
     ) -> RunAnswer;
+
+    fn rulefile_sheet(
+        file: *const u8,
+        file_length: usize,
+        table: *mut u16,
+        table_length: usize,
+        work: *mut u8,
+        work_length: usize,
+        queries: *const u8,
+        queries_length: usize,
+        numbers: *mut u32,
+        numbers_length: usize,
+        letters: *mut u8,
+        letters_length: usize,
+    ) -> SheetAnswer;
 }
 
 pub fn check(file: &[u8], table: &mut [u16], work: &mut [u8]) -> CheckAnswer {
@@ -113,6 +135,33 @@ pub fn run(
             query.letters.len(),
             result.as_mut_ptr(),
             result.len(),
+        )
+    }
+}
+
+pub fn sheet(
+    file: &[u8],
+    table: &mut [u16],
+    work: &mut [u8],
+    queries: &[u8],
+    numbers: &mut [u32],
+    letters: &mut [u8],
+) -> SheetAnswer {
+    // SAFETY: as for `check`.
+    unsafe {
+        rulefile_sheet(
+            file.as_ptr(),
+            file.len(),
+            table.as_mut_ptr(),
+            table.len(),
+            work.as_mut_ptr(),
+            work.len(),
+            queries.as_ptr(),
+            queries.len(),
+            numbers.as_mut_ptr(),
+            numbers.len(),
+            letters.as_mut_ptr(),
+            letters.len(),
         )
     }
 }

@@ -1,6 +1,6 @@
-//! Check, Turn and Run for rule files, over the proved static library.
+//! Check, Turn, Run and whole sheets of queries for rule files, over the proved static library.
 //!
-//! Callers who keep their own areas lend them to [`check`], [`turn`] and [`run`]; areas of any length are
+//! Callers who keep their own areas lend them to [`check`], [`turn`], [`run`] and [`sheet`]; areas of any length are
 //! safe, and what each then holds is said in `include/rulefile.h`. Callers who do not want to make one
 //! [`Desk`], which owns the areas:
 //!
@@ -24,6 +24,11 @@ pub const TABLE_LENGTH: usize = 16_384;
 pub const WORK_LENGTH: usize = 65_536;
 /// The least length of a result area, in bytes.
 pub const RESULT_LENGTH: usize = 127;
+
+/// The numbers that a sheet needs for each of its queries: number, count and length.
+pub const NUMBERS_A_QUERY: usize = 3;
+/// The most queries of a sheet.
+pub const MAX_QUERIES: usize = 600;
 
 /// Which way an iso is run.
 #[derive(Clone, Copy, Debug, PartialEq, Eq)]
@@ -81,7 +86,24 @@ pub fn run(
     result: &mut [u8],
 ) -> Result<Ran, Refused> {
     let answer = foreign::run(file, table, work, query, result);
-    Refused::unless_0(answer.number, 0).map(|()| Ran { count: answer.count, length: answer.length })
+    Refused::unless_0(answer.number, 0).map(|()| Ran {
+        count: answer.count,
+        length: answer.length,
+    })
+}
+
+/// Checks a file once and answers a list of query lines; gives how many there are. Query k has its number,
+/// count and length from `numbers[3 * k]` on and its letters from `letters[127 * k]` on.
+pub fn sheet(
+    file: &[u8],
+    table: &mut [u16],
+    work: &mut [u8],
+    queries: &[u8],
+    numbers: &mut [u32],
+    letters: &mut [u8],
+) -> Result<usize, Refused> {
+    let answer = foreign::sheet(file, table, work, queries, numbers, letters);
+    Refused::unless_0(answer.number, answer.line).map(|()| answer.queries)
 }
 
 /// The areas of the services, for callers who do not keep their own.
@@ -99,7 +121,10 @@ impl Default for Desk {
 
 impl Desk {
     pub fn new() -> Self {
-        Desk { table: vec![0; TABLE_LENGTH], work: vec![0; WORK_LENGTH] }
+        Desk {
+            table: vec![0; TABLE_LENGTH],
+            work: vec![0; WORK_LENGTH],
+        }
     }
 
     /// Checks a file.
@@ -125,13 +150,48 @@ impl Desk {
         letters: &[u8],
     ) -> Result<Value, Refused> {
         let mut result = [0; RESULT_LENGTH];
-        let query = Query { iso, direction, budget, letters };
+        let query = Query {
+            iso,
+            direction,
+            budget,
+            letters,
+        };
         let ran = run(file, &mut self.table, &mut self.work, query, &mut result)?;
-        Ok(Value { count: ran.count, letters: result[..ran.length].to_vec() })
+        Ok(Value {
+            count: ran.count,
+            letters: result[..ran.length].to_vec(),
+        })
+    }
+
+    /// What each line of a list of queries is answered.
+    pub fn sheet(
+        &mut self,
+        file: &[u8],
+        queries: &[u8],
+    ) -> Result<Vec<Result<Value, Refusal>>, Refused> {
+        let most = queries.split_inclusive(|byte| *byte == b'\n').count();
+        let mut numbers = vec![0; most * NUMBERS_A_QUERY];
+        let mut letters = vec![0; most * RESULT_LENGTH];
+        let (table, work) = (&mut self.table, &mut self.work);
+        let answered = sheet(file, table, work, queries, &mut numbers, &mut letters)?;
+        let threes = numbers
+            .chunks(NUMBERS_A_QUERY)
+            .zip(letters.chunks(RESULT_LENGTH));
+        Ok(threes.take(answered).map(answer_of).collect())
     }
 
     /// The table as the last call left it: four numbers a line of the file that was accepted.
     pub fn table(&self) -> &[u16] {
         &self.table
     }
+}
+
+/// A query's answer, from its three numbers and its 127 bytes.
+fn answer_of((numbers, letters): (&[u32], &[u8])) -> Result<Value, Refusal> {
+    let refused = |refused: Refused| refused.refusal;
+    Refused::unless_0(numbers[0], 0).map_err(refused)?;
+    Ok(Value {
+        count: numbers[1],
+        letters: letters[..numbers[2] as usize].to_vec(),
+    })
 }

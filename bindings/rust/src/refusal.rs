@@ -86,7 +86,12 @@ impl Refused {
 
 impl fmt::Display for Refused {
     fn fmt(&self, f: &mut fmt::Formatter) -> fmt::Result {
-        write!(f, "refused with {}, {}", self.refusal.number(), self.refusal.word())?;
+        write!(
+            f,
+            "refused with {}, {}",
+            self.refusal.number(),
+            self.refusal.word()
+        )?;
         match self.line {
             0 => Ok(()),
             line => write!(f, ", at line {line}"),

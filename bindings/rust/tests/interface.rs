@@ -2,8 +2,8 @@
 //! length, the stored examples, and the header.
 
 use rulefile::{
-    check, run, turn, Desk, Direction, Query, Ran, Refusal, Refused, Value, RESULT_LENGTH,
-    TABLE_LENGTH, WORK_LENGTH,
+    check, run, sheet, turn, Desk, Direction, Query, Ran, Refusal, Refused, Value, MAX_QUERIES,
+    NUMBERS_A_QUERY, RESULT_LENGTH, TABLE_LENGTH, WORK_LENGTH,
 };
 use std::error::Error;
 use std::fs;
@@ -15,6 +15,10 @@ const S: &str = "T,0,0,0 T,1,0,0 T,2,1,1 P,0,0,0 P,2,0,0 P,3,0,0 P,1,0,0 P,1,1,0
     P,4,2,3 I,1,1 C,1,2 C,2,1 I,2,2 C,5,6 L,4,0,3 C,7,7";
 const S_TURNED: &str = "T,0,0,0 T,1,0,0 T,2,1,1 P,0,0,0 P,2,0,0 P,3,0,0 P,1,0,0 P,1,1,0 P,4,1,3 \
     P,4,1,4 P,4,2,3 I,1,1 C,2,1 C,1,2 I,2,2 C,6,5 L,3,0,4 C,7,7";
+
+/// Document 01's queries after S.
+const QUERIES: &str = "Q,1,0,9,PLURU\nQ,1,1,9,PLULU\nQ,1,0,2,PRULU\nQ,1,0,2,PLURU\nQ,1,0,1,PLURU\n\
+    Q,2,0,9,U\nQ,1,0,9,PLU\n";
 
 /// Document 01's words, the first one for number 1.
 const WORDS: [&str; 17] = [
@@ -39,7 +43,10 @@ const WORDS: [&str; 17] = [
 
 /// A file from its lines.
 fn file(lines: &str) -> Vec<u8> {
-    lines.split_whitespace().flat_map(|line| [line.as_bytes(), b"\n"].concat()).collect()
+    lines
+        .split_whitespace()
+        .flat_map(|line| [line.as_bytes(), b"\n"].concat())
+        .collect()
 }
 
 /// The lines of S without number `line`.
@@ -58,15 +65,25 @@ fn refused(refusal: Refusal, line: usize) -> Refused {
 }
 
 fn value(count: u32, letters: &str) -> Result<Value, Refused> {
-    Ok(Value { count, letters: letters.as_bytes().to_vec() })
+    Ok(Value {
+        count,
+        letters: letters.as_bytes().to_vec(),
+    })
 }
 
-/// A file that is refused, by all three services.
+/// A file that is refused, by all four services.
 fn expect_refused(file: &[u8], refusal: Refusal, line: usize) {
     let mut desk = Desk::new();
     assert_eq!(desk.check(file), Err(refused(refusal, line)));
     assert_eq!(desk.turn(file), Err(refused(refusal, line)));
-    assert_eq!(desk.run(file, 0, Forward, 9, b"U"), Err(refused(refusal, 0)));
+    for queries in ["", "Q,0,0,9,U\n", "Q"] {
+        let answer = desk.sheet(file, queries.as_bytes());
+        assert_eq!(answer, Err(refused(refusal, line)));
+    }
+    assert_eq!(
+        desk.run(file, 0, Forward, 9, b"U"),
+        Err(refused(refusal, 0))
+    );
 }
 
 #[test]
@@ -98,9 +115,87 @@ fn queries_of_document_01() {
     assert_eq!(desk.run(&s, 1, Back, 9, b"PLULU"), value(2, "PLURU"));
     assert_eq!(desk.run(&s, 1, Forward, 2, b"PRULU"), value(1, "PRULU"));
     assert_eq!(desk.run(&s, 1, Forward, 2, b"PLURU"), value(2, "PLULU"));
-    assert_eq!(desk.run(&s, 1, Forward, 1, b"PLURU"), Err(refused(Refusal::Spent, 0)));
-    assert_eq!(desk.run(&s, 2, Forward, 9, b"U"), Err(refused(Refusal::NoIso, 0)));
-    assert_eq!(desk.run(&s, 1, Forward, 9, b"PLU"), Err(refused(Refusal::NoValue, 0)));
+    assert_eq!(
+        desk.run(&s, 1, Forward, 1, b"PLURU"),
+        Err(refused(Refusal::Spent, 0))
+    );
+    assert_eq!(
+        desk.run(&s, 2, Forward, 9, b"U"),
+        Err(refused(Refusal::NoIso, 0))
+    );
+    assert_eq!(
+        desk.run(&s, 1, Forward, 9, b"PLU"),
+        Err(refused(Refusal::NoValue, 0))
+    );
+}
+
+/// What a query of a sheet is answered: a count and letters, or a refusal.
+fn reply(count: u32, letters: &str) -> Result<Value, Refusal> {
+    value(count, letters).map_err(|refused| refused.refusal)
+}
+
+#[test]
+fn queries_of_document_01_in_one_sheet() {
+    let replies = vec![
+        reply(2, "PLULU"),
+        reply(2, "PLURU"),
+        reply(1, "PRULU"),
+        reply(2, "PLULU"),
+        Err(Refusal::Spent),
+        Err(Refusal::NoIso),
+        Err(Refusal::NoValue),
+    ];
+    let mut desk = Desk::new();
+    assert_eq!(desk.sheet(&file(S), QUERIES.as_bytes()), Ok(replies));
+    assert_eq!(desk.table(), rows(S));
+}
+
+#[test]
+fn the_limits_of_a_sheet() {
+    let mut desk = Desk::new();
+    let s = file(S);
+    let line = b"Q,0,0,1,LU\n";
+    assert_eq!(desk.sheet(&s, b""), Ok(vec![]));
+    assert_eq!(desk.sheet(b"", b""), Ok(vec![]));
+    for queries in [1, 599, MAX_QUERIES] {
+        let replies = vec![reply(1, "RU"); queries];
+        assert_eq!(desk.sheet(&s, &line.repeat(queries)), Ok(replies));
+    }
+    let too_long = Err(refused(Refusal::TooLong, 0));
+    let mut list = line.repeat(MAX_QUERIES);
+    list.push(b'Q');
+    assert_eq!(desk.sheet(&s, &list), too_long);
+    assert_eq!(desk.sheet(b"T", &list), too_long);
+    assert_eq!(desk.sheet(&s, &line.repeat(MAX_QUERIES + 1)), too_long);
+    assert_eq!(desk.sheet(&s, &[b'\n'; MAX_QUERIES + 1]), too_long);
+    let empty = vec![Err(Refusal::BadLine); MAX_QUERIES];
+    assert_eq!(desk.sheet(&s, &[b'\n'; MAX_QUERIES]), Ok(empty));
+}
+
+#[test]
+fn the_lines_of_a_sheet() {
+    let line = |bytes: usize| format!("{:U<1$}\n", "Q,0,0,1,LU", bytes - 1);
+    let cases = [
+        ("Q,0,0,1,LU\n".to_string(), reply(1, "RU")),
+        ("Q,0,1,4294967295,LU\n".to_string(), reply(1, "RU")),
+        ("Q,0,0,4294967296,LU\n".to_string(), Err(Refusal::BadLine)),
+        ("Q,65535,0,1,LU\n".to_string(), Err(Refusal::NoIso)),
+        ("Q,65536,0,1,LU\n".to_string(), Err(Refusal::BadLine)),
+        ("Q,0,2,1,LU\n".to_string(), Err(Refusal::BadLine)),
+        ("Q,0,0,01,LU\n".to_string(), Err(Refusal::BadLine)),
+        ("Q,0,0,0,LU\n".to_string(), Err(Refusal::Spent)),
+        ("Q,0,0,0,\n".to_string(), Err(Refusal::NoValue)),
+        ("Q,0,0,1\n".to_string(), Err(Refusal::BadLine)),
+        ("Q,0,0,1,LU\r\n".to_string(), Err(Refusal::NoValue)),
+        ("T,0,0,0\n".to_string(), Err(Refusal::BadLine)),
+        ("\n".to_string(), Err(Refusal::BadLine)),
+        (line(200), Err(Refusal::NoValue)),
+        (line(201), Err(Refusal::BadLine)),
+        ("Q,0,0,1,LU".to_string(), Err(Refusal::BadLine)),
+    ];
+    let (lines, replies): (Vec<String>, Vec<_>) = cases.into_iter().unzip();
+    let answers = Desk::new().sheet(&file(S), lines.concat().as_bytes());
+    assert_eq!(answers, Ok(replies));
 }
 
 #[test]
@@ -136,7 +231,11 @@ fn a_file_for_each_refusal() {
             format!("{bit} P,1,0,0 P,1,1,0 P,2,4,0 I,1,1 C,1,2 C,2,1 I,1,1 C,3,4 L,5,0,3"),
             13,
         ),
-        (Refusal::Type, "T,0,0,0 T,1,0,0 P,0,0,0 I,0,1 C,0,0".to_string(), 5),
+        (
+            Refusal::Type,
+            "T,0,0,0 T,1,0,0 P,0,0,0 I,0,1 C,0,0".to_string(),
+            5,
+        ),
         (Refusal::OverlapLeft, format!("{bit} I,1,1 C,1,1 C,1,2"), 6),
         (Refusal::OverlapRight, format!("{bit} I,1,1 C,1,1 C,2,1"), 6),
         (Refusal::GapLeft, format!("{bit} I,1,0 C,1,0"), 6),
@@ -163,15 +262,31 @@ fn the_limits_of_a_query() {
     let mut desk = Desk::new();
     let s = file(S);
     for iso in [2, 256, 65_535, 65_536, 65_537, u32::MAX] {
-        assert_eq!(desk.run(&s, iso, Forward, 9, b"LU"), Err(refused(Refusal::NoIso, 0)));
+        assert_eq!(
+            desk.run(&s, iso, Forward, 9, b"LU"),
+            Err(refused(Refusal::NoIso, 0))
+        );
     }
     for budget in [1, 65_536, u32::MAX] {
         assert_eq!(desk.run(&s, 0, Forward, budget, b"LU"), value(1, "RU"));
     }
     assert_eq!(desk.run(&s, 0, Back, 1, b"LU"), value(1, "RU"));
-    assert_eq!(desk.run(&s, 0, Forward, 0, b"LU"), Err(refused(Refusal::Spent, 0)));
-    for letters in [b"".as_slice(), b"U", b"LU\0", b"L\xff", &[b'L'; 128], &vec![b'U'; 1_000_000]] {
-        assert_eq!(desk.run(&s, 0, Forward, 9, letters), Err(refused(Refusal::NoValue, 0)));
+    assert_eq!(
+        desk.run(&s, 0, Forward, 0, b"LU"),
+        Err(refused(Refusal::Spent, 0))
+    );
+    for letters in [
+        b"".as_slice(),
+        b"U",
+        b"LU\0",
+        b"L\xff",
+        &[b'L'; 128],
+        &vec![b'U'; 1_000_000],
+    ] {
+        assert_eq!(
+            desk.run(&s, 0, Forward, 9, letters),
+            Err(refused(Refusal::NoValue, 0))
+        );
     }
 }
 
@@ -185,7 +300,10 @@ fn a_value_of_127_letters() {
     assert_eq!(letters.len(), RESULT_LENGTH);
     let mut desk = Desk::new();
     let lines = file(lines);
-    assert_eq!(desk.run(&lines, 0, Forward, 1, letters.as_bytes()), value(1, &letters));
+    assert_eq!(
+        desk.run(&lines, 0, Forward, 1, letters.as_bytes()),
+        value(1, &letters)
+    );
     for wrong in [&letters[..126], &format!("{letters}U")] {
         let answer = desk.run(&lines, 0, Forward, 1, wrong.as_bytes());
         assert_eq!(answer, Err(refused(Refusal::NoValue, 0)));
@@ -211,12 +329,21 @@ fn refusals_as_text() {
     let text = |refusal, line| refused(refusal, line).to_string();
     assert_eq!(text(Refusal::ShortArea, 0), "refused with 1, short area");
     assert_eq!(text(Refusal::TooLong, 0), "refused with 2, too long");
-    assert_eq!(text(Refusal::BadLine, 1), "refused with 3, bad line, at line 1");
-    assert_eq!(text(Refusal::Type, 4096), "refused with 10, type, at line 4096");
+    assert_eq!(
+        text(Refusal::BadLine, 1),
+        "refused with 3, bad line, at line 1"
+    );
+    assert_eq!(
+        text(Refusal::Type, 4096),
+        "refused with 10, type, at line 4096"
+    );
     assert_eq!(text(Refusal::Spent, 0), "refused with 17, spent");
     for (place, word) in WORDS.iter().enumerate() {
         let refusal = Refusal::of(place as u32 + 1).unwrap();
-        assert_eq!(text(refusal, 7), format!("refused with {}, {word}, at line 7", place + 1));
+        assert_eq!(
+            text(refusal, 7),
+            format!("refused with {}, {word}, at line 7", place + 1)
+        );
     }
     let error: Box<dyn Error> = Box::new(refused(Refusal::GapLeft, 15));
     assert_eq!(error.to_string(), "refused with 13, gap left, at line 15");
@@ -228,7 +355,14 @@ fn pattern(length: usize) -> Vec<u8> {
 }
 
 fn wide_pattern(length: usize) -> Vec<u16> {
-    (0..length).map(|place| (place % 65_521 + 1) as u16).collect()
+    (0..length)
+        .map(|place| (place % 65_521 + 1) as u16)
+        .collect()
+}
+
+fn number_pattern(length: usize) -> Vec<u32> {
+    let wide = |place: usize| 0xA5A5_0001 + place as u32;
+    (0..length).map(wide).collect()
 }
 
 /// What an accepted file leaves in the table.
@@ -243,16 +377,27 @@ fn rows(lines: &str) -> Vec<u16> {
     table
 }
 
-/// Areas that are lent, and how they are to be found afterwards.
+/// Areas that are lent, and how they are to be found afterwards. A sheet's letters are its output.
 struct Lent {
     table: Vec<u16>,
     work: Vec<u8>,
     out: Vec<u8>,
+    numbers: Vec<u32>,
 }
 
 impl Lent {
     fn new(table: usize, work: usize, out: usize) -> Self {
-        Lent { table: wide_pattern(table), work: pattern(work), out: pattern(out) }
+        Lent {
+            table: wide_pattern(table),
+            work: pattern(work),
+            out: pattern(out),
+            numbers: vec![],
+        }
+    }
+
+    fn with_numbers(self, numbers: usize) -> Self {
+        let numbers = number_pattern(numbers);
+        Lent { numbers, ..self }
     }
 
     fn check(&mut self, file: &[u8]) -> Result<(), Refused> {
@@ -267,24 +412,54 @@ impl Lent {
         run(file, &mut self.table, &mut self.work, query, &mut self.out)
     }
 
+    fn sheet(&mut self, file: &[u8], queries: &[u8]) -> Result<usize, Refused> {
+        let (table, work) = (&mut self.table, &mut self.work);
+        sheet(file, table, work, queries, &mut self.numbers, &mut self.out)
+    }
+
     /// The table begins as stated, the work area with zeros, the output with the text; all else is kept.
     fn expect(&self, table: &[u16], text: &[u8]) {
+        self.expect_sheet(table, &[], text);
+    }
+
+    /// The same, and the numbers begin as stated.
+    fn expect_sheet(&self, table: &[u16], numbers: &[u32], text: &[u8]) {
         assert_eq!(self.table[..TABLE_LENGTH], *table);
-        assert_eq!(self.table[TABLE_LENGTH..], wide_pattern(self.table.len())[TABLE_LENGTH..]);
+        assert_eq!(
+            self.table[TABLE_LENGTH..],
+            wide_pattern(self.table.len())[TABLE_LENGTH..]
+        );
         assert!(self.work[..WORK_LENGTH].iter().all(|&byte| byte == 0));
-        assert_eq!(self.work[WORK_LENGTH..], pattern(self.work.len())[WORK_LENGTH..]);
+        assert_eq!(
+            self.work[WORK_LENGTH..],
+            pattern(self.work.len())[WORK_LENGTH..]
+        );
         assert_eq!(self.out[..text.len()], *text);
-        assert_eq!(self.out[text.len()..], pattern(self.out.len())[text.len()..]);
+        assert_eq!(
+            self.out[text.len()..],
+            pattern(self.out.len())[text.len()..]
+        );
+        assert_eq!(self.numbers[..numbers.len()], *numbers);
+        assert_eq!(
+            self.numbers[numbers.len()..],
+            number_pattern(self.numbers.len())[numbers.len()..]
+        );
     }
 
     fn expect_unchanged(&self) {
         assert_eq!(self.table, wide_pattern(self.table.len()));
         assert_eq!(self.work, pattern(self.work.len()));
         assert_eq!(self.out, pattern(self.out.len()));
+        assert_eq!(self.numbers, number_pattern(self.numbers.len()));
     }
 }
 
-const QUERY: Query = Query { iso: 1, direction: Forward, budget: 2, letters: b"PLURU" };
+const QUERY: Query = Query {
+    iso: 1,
+    direction: Forward,
+    budget: 2,
+    letters: b"PLURU",
+};
 
 #[test]
 fn exact_and_longer_areas() {
@@ -298,7 +473,13 @@ fn exact_and_longer_areas() {
         assert_eq!(areas.turn(&s), Ok(s.len()));
         areas.expect(&rows(S), &file(S_TURNED));
         let mut areas = lent(RESULT_LENGTH);
-        assert_eq!(areas.run(&s, QUERY), Ok(Ran { count: 2, length: 5 }));
+        assert_eq!(
+            areas.run(&s, QUERY),
+            Ok(Ran {
+                count: 2,
+                length: 5
+            })
+        );
         areas.expect(&rows(S), b"PLULU");
     }
 }
@@ -316,11 +497,20 @@ fn areas_after_refusals() {
         assert_eq!(areas.turn(&wrong), Err(refused(Refusal::OverlapLeft, 15)));
         areas.expect(&rows(""), b"");
         let mut areas = lent(RESULT_LENGTH);
-        assert_eq!(areas.run(&wrong, QUERY), Err(refused(Refusal::OverlapLeft, 0)));
+        assert_eq!(
+            areas.run(&wrong, QUERY),
+            Err(refused(Refusal::OverlapLeft, 0))
+        );
         areas.expect(&rows(""), b"");
         for (query, refusal) in [
             (Query { iso: 2, ..QUERY }, Refusal::NoIso),
-            (Query { letters: b"PLU", ..QUERY }, Refusal::NoValue),
+            (
+                Query {
+                    letters: b"PLU",
+                    ..QUERY
+                },
+                Refusal::NoValue,
+            ),
             (Query { budget: 1, ..QUERY }, Refusal::Spent),
         ] {
             let mut areas = lent(RESULT_LENGTH);
@@ -335,9 +525,13 @@ fn short_and_empty_areas() {
     let s = file(S);
     let short = refused(Refusal::ShortArea, 0);
     let full = [TABLE_LENGTH, WORK_LENGTH];
-    for (table, work) in
-        [(full[0] - 1, full[1]), (full[0], full[1] - 1), (0, full[1]), (full[0], 0), (0, 0)]
-    {
+    for (table, work) in [
+        (full[0] - 1, full[1]),
+        (full[0], full[1] - 1),
+        (0, full[1]),
+        (full[0], 0),
+        (0, 0),
+    ] {
         let mut areas = Lent::new(table, work, s.len());
         assert_eq!(areas.check(&s), Err(short));
         assert_eq!(areas.turn(&s), Err(short));
@@ -354,6 +548,78 @@ fn short_and_empty_areas() {
     }
 }
 
+/// A list of the queries of document 01 and a line of another form, and what they leave in the numbers and
+/// in the letters.
+fn list_and_areas() -> (Vec<u8>, Vec<u32>, Vec<u8>) {
+    let list = format!("{QUERIES}Q\n").into_bytes();
+    let threes = [
+        [0, 2, 5],
+        [0, 2, 5],
+        [0, 1, 5],
+        [0, 2, 5],
+        [17, 0, 0],
+        [15, 0, 0],
+        [16, 0, 0],
+        [3, 0, 0],
+    ];
+    let mut letters = pattern(threes.len() * RESULT_LENGTH);
+    let written = ["PLULU", "PLURU", "PRULU", "PLULU"];
+    for (own, text) in letters.chunks_mut(RESULT_LENGTH).zip(written) {
+        own[..text.len()].copy_from_slice(text.as_bytes());
+    }
+    (list, threes.concat(), letters)
+}
+
+#[test]
+fn areas_of_a_sheet() {
+    let (list, numbers, letters) = list_and_areas();
+    let wrong = file(&format!("{S} C,7,7"));
+    for extra in [0, 1, 1000] {
+        let lent = || {
+            Lent::new(
+                TABLE_LENGTH + extra,
+                WORK_LENGTH + extra,
+                letters.len() + extra,
+            )
+            .with_numbers(numbers.len() + extra)
+        };
+        let mut areas = lent();
+        assert_eq!(areas.sheet(&file(S), &list), Ok(8));
+        areas.expect_sheet(&rows(S), &numbers, &letters);
+        let mut areas = lent();
+        let overlap = Err(refused(Refusal::OverlapLeft, 15));
+        assert_eq!(areas.sheet(&wrong, &list), overlap);
+        areas.expect(&rows(""), b"");
+        let mut areas = lent();
+        assert_eq!(areas.sheet(&file(S), b""), Ok(0));
+        areas.expect(&rows(S), b"");
+    }
+}
+
+#[test]
+fn short_and_empty_areas_of_a_sheet() {
+    let (list, numbers, letters) = list_and_areas();
+    let full = [TABLE_LENGTH, WORK_LENGTH, letters.len(), numbers.len()];
+    let one_short = (0..4).map(|place| (place, full[place] - 1));
+    let empty = (0..4).map(|place| (place, 0));
+    for (place, length) in one_short.chain(empty) {
+        let mut lengths = full;
+        lengths[place] = length;
+        let [table, work, out, numbers] = lengths;
+        let mut areas = Lent::new(table, work, out).with_numbers(numbers);
+        for bytes in [file(S), file("T"), vec![b'T'; 65_537]] {
+            let answer = areas.sheet(&bytes, &list);
+            assert_eq!(answer, Err(refused(Refusal::ShortArea, 0)));
+        }
+        areas.expect_unchanged();
+    }
+    let mut areas = Lent::new(TABLE_LENGTH, WORK_LENGTH, 0);
+    assert_eq!(areas.sheet(b"", b""), Ok(0));
+    areas.expect(&rows(""), b"");
+    let mut areas = Lent::new(0, 0, 0);
+    assert_eq!(areas.sheet(b"", b""), Err(refused(Refusal::ShortArea, 0)));
+}
+
 #[test]
 fn too_long_changes_nothing() {
     let long = vec![b'T'; 65_537];
@@ -365,6 +631,16 @@ fn too_long_changes_nothing() {
     let mut areas = Lent::new(TABLE_LENGTH, WORK_LENGTH, long.len() - 1);
     assert_eq!(areas.turn(&long), Err(refused(Refusal::ShortArea, 0)));
     areas.expect_unchanged();
+    let list = "Q,1,0,9,PLURU\n".repeat(MAX_QUERIES + 1);
+    for (queries, number) in [(600, Refusal::ShortArea), (601, Refusal::TooLong)] {
+        let mut areas = Lent::new(TABLE_LENGTH, WORK_LENGTH, queries * RESULT_LENGTH)
+            .with_numbers(queries * NUMBERS_A_QUERY);
+        for bytes in [&file(S), &file("T"), &long] {
+            let answer = areas.sheet(bytes, list.as_bytes());
+            assert_eq!(answer, Err(refused(number, 0)));
+        }
+        areas.expect_unchanged();
+    }
 }
 
 #[test]
@@ -375,24 +651,45 @@ fn a_desk_is_used_again() {
     for _ in 0..3 {
         assert_eq!(desk.check(&s), Ok(()));
         assert_eq!(desk.table(), rows(S));
-        assert_eq!(desk.clone().run(&s, 1, Forward, 9, b"PLURU"), value(2, "PLULU"));
+        assert_eq!(
+            desk.clone().run(&s, 1, Forward, 9, b"PLURU"),
+            value(2, "PLULU")
+        );
         assert_eq!(desk.check(b"T"), Err(refused(Refusal::BadLine, 1)));
         assert_eq!(desk.table(), rows(""));
         assert_eq!(desk.turn(&s), Ok(file(S_TURNED)));
-        assert_eq!(desk.check(&[b'T'; 65_537]), Err(refused(Refusal::TooLong, 0)));
+        assert_eq!(
+            desk.check(&[b'T'; 65_537]),
+            Err(refused(Refusal::TooLong, 0))
+        );
         assert_eq!(desk.table(), rows(S));
     }
 }
 
 #[test]
 fn desks_in_threads() {
-    let through = |_| {
-        std::thread::spawn(|| {
+    let through = |(letters, count, given): (&'static str, u32, &'static str)| {
+        std::thread::spawn(move || {
             let mut desk = Desk::new();
-            (0..200).all(|_| desk.run(&file(S), 1, Forward, 2, b"PLURU") == value(2, "PLULU"))
+            let list = format!("Q,1,0,2,{letters}\nQ\nQ,1,1,2,{given}\n");
+            let replies = [
+                reply(count, given),
+                Err(Refusal::BadLine),
+                reply(count, letters),
+            ];
+            (0..200).all(|_| {
+                desk.run(&file(S), 1, Forward, 2, letters.as_bytes()) == value(count, given)
+                    && desk.sheet(&file(S), list.as_bytes()) == Ok(replies.to_vec())
+            })
         })
     };
-    let threads: Vec<_> = (0..4).map(through).collect();
+    let runs = [
+        ("PLULU", 2, "PLURU"),
+        ("PLURU", 2, "PLULU"),
+        ("PRULU", 1, "PRULU"),
+        ("PRURU", 1, "PRURU"),
+    ];
+    let threads: Vec<_> = runs.into_iter().map(through).collect();
     assert_eq!(threads.len(), 4);
     for thread in threads {
         assert!(thread.join().unwrap());
@@ -411,42 +708,72 @@ fn query_of(line: &str) -> Query<'_> {
 }
 
 fn ask(desk: &mut Desk, file: &[u8], query: Query) -> Result<Value, Refused> {
-    desk.run(file, query.iso, query.direction, query.budget, query.letters)
+    desk.run(
+        file,
+        query.iso,
+        query.direction,
+        query.budget,
+        query.letters,
+    )
 }
 
 /// What the desk program prints for a query. A run of the file is a run of the turned file the other way.
 fn answer(desk: &mut Desk, file: &[u8], turned: &[u8], query: Query) -> String {
     let answer = ask(desk, file, query);
-    let direction = if query.direction == Forward { Back } else { Forward };
+    let direction = if query.direction == Forward {
+        Back
+    } else {
+        Forward
+    };
     assert_eq!(ask(desk, turned, Query { direction, ..query }), answer);
+    printed(answer.map_err(|refused| refused.refusal))
+}
+
+/// The line that the desk program prints.
+fn printed(answer: Result<Value, Refusal>) -> String {
     match answer {
-        Ok(value) => format!("0,{},{}\n", value.count, String::from_utf8(value.letters).unwrap()),
-        Err(refused) => format!("{},0,\n", refused.refusal.number()),
+        Ok(value) => format!(
+            "0,{},{}\n",
+            value.count,
+            String::from_utf8(value.letters).unwrap()
+        ),
+        Err(refusal) => format!("{},0,\n", refusal.number()),
     }
 }
 
-/// What the desk program prints for its input. A file turned twice is the file.
+/// What the desk program prints for its input. A file turned twice is the file; all queries in one sheet are
+/// answered as each on its own.
 fn answers(input: &str) -> String {
     let mut desk = Desk::new();
-    let queries = input.split_inclusive('\n').skip_while(|line| !line.starts_with('Q'));
+    let queries = input
+        .split_inclusive('\n')
+        .skip_while(|line| !line.starts_with('Q'));
     let length = input.len() - queries.clone().map(str::len).sum::<usize>();
-    let file = &input.as_bytes()[..length];
+    let (file, list) = input.as_bytes().split_at(length);
     if let Err(refused) = desk.check(file) {
+        assert_eq!(desk.sheet(file, list), Err(refused));
         return format!("{},{}\n", refused.refusal.number(), refused.line);
     }
     let turned = desk.turn(file).unwrap();
     assert_eq!(desk.turn(&turned).unwrap(), file);
-    queries.fold("0,0\n".to_string(), |text, line| {
-        text + &answer(&mut desk, file, &turned, query_of(line))
-    })
+    let lines = queries.map(|line| answer(&mut desk, file, &turned, query_of(line)));
+    let lines: Vec<String> = lines.collect();
+    let sheet = desk.sheet(file, list).unwrap().into_iter().map(printed);
+    assert_eq!(sheet.collect::<Vec<String>>(), lines);
+    format!("0,0\n{}", lines.concat())
 }
 
 /// The inputs below a folder.
 fn inputs(folder: &Path) -> Vec<PathBuf> {
-    let paths = fs::read_dir(folder).unwrap().map(|entry| entry.unwrap().path());
+    let paths = fs::read_dir(folder)
+        .unwrap()
+        .map(|entry| entry.unwrap().path());
     let (folders, files): (Vec<_>, Vec<_>) = paths.partition(|path| path.is_dir());
-    let here = files.into_iter().filter(|path| path.extension().is_some_and(|end| end == "in"));
-    here.chain(folders.iter().flat_map(|folder| inputs(folder))).collect()
+    let here = files
+        .into_iter()
+        .filter(|path| path.extension().is_some_and(|end| end == "in"));
+    here.chain(folders.iter().flat_map(|folder| inputs(folder)))
+        .collect()
 }
 
 #[test]
@@ -455,7 +782,12 @@ fn stored_examples() {
     assert!(inputs.len() > 20, "{} examples", inputs.len());
     for input in inputs {
         let expected = fs::read_to_string(input.with_extension("out")).unwrap();
-        assert_eq!(answers(&fs::read_to_string(&input).unwrap()), expected, "{}", input.display());
+        assert_eq!(
+            answers(&fs::read_to_string(&input).unwrap()),
+            expected,
+            "{}",
+            input.display()
+        );
     }
 }
 
@@ -472,8 +804,10 @@ fn header_numbers() -> Vec<(String, u32)> {
             ["#define", name, number, ..] | [name, "=", number, ..] => (name, number),
             _ => continue,
         };
-        numbers
-            .push((name.strip_prefix("RULEFILE_").unwrap().to_string(), number.parse().unwrap()));
+        numbers.push((
+            name.strip_prefix("RULEFILE_").unwrap().to_string(),
+            number.parse().unwrap(),
+        ));
     }
     numbers
 }
@@ -484,14 +818,19 @@ fn header_and_wrapper_agree() {
         ("TABLE_LENGTH".to_string(), TABLE_LENGTH as u32),
         ("WORK_LENGTH".to_string(), WORK_LENGTH as u32),
         ("RESULT_LENGTH".to_string(), RESULT_LENGTH as u32),
+        ("NUMBERS_A_QUERY".to_string(), NUMBERS_A_QUERY as u32),
+        ("MAX_QUERIES".to_string(), MAX_QUERIES as u32),
         ("MAX_FILE_LENGTH".to_string(), 65_536),
         ("MAX_LINES".to_string(), 4_096),
         ("ACCEPTED".to_string(), 0),
     ];
     let refusals = (0..=100).filter_map(Refusal::of);
-    expected.extend(
-        refusals.map(|refusal| (refusal.word().to_uppercase().replace(' ', "_"), refusal.number())),
-    );
-    assert_eq!(expected.len(), 6 + WORDS.len());
+    expected.extend(refusals.map(|refusal| {
+        (
+            refusal.word().to_uppercase().replace(' ', "_"),
+            refusal.number(),
+        )
+    }));
+    assert_eq!(expected.len(), 8 + WORDS.len());
     assert_eq!(header_numbers(), expected);
 }

@@ -5,7 +5,7 @@ ghost use mathlib.Core.Path.{_≡_};
 ghost use mathlib.Core.Bool.{cond};
 ghost use Prim.Native.Nat.{suc, _%_, _<_};
 ghost use lib.Dec.{ltb};
-ghost use lib.ListN.{length, getD, set, replicate};
+ghost use lib.ListN.{length, getD, set, replicate, take, drop};
 ghost use Rattle.areas.specs.Areas.{cleared};
 
 pub fn byte_at(bytes: &[u8], i: usize) -> u8
@@ -34,6 +34,14 @@ pub fn store_word(words: &mut [u16], i: usize, v: u16)
     }
 }
 
+pub fn store_number(numbers: &mut [u32], i: usize, v: u32)
+    ensures { λ r. ⌜ now (numbers .exit) ≡ set (now (numbers .entry)) i v ⌝ }
+{
+    if i < numbers.len() {
+        numbers[i] = v;
+    }
+}
+
 // Stores a byte and gives the place behind it; past the end it gives the place itself.
 pub fn put_byte(bytes: &mut [u8], at: usize, b: u8) -> usize
     ensures { λ r. ⌜ now (bytes .exit) ≡ set (now (bytes .entry)) at b ⌝ }
@@ -44,6 +52,26 @@ pub fn put_byte(bytes: &mut [u8], at: usize, b: u8) -> usize
         return at + 1;
     }
     at
+}
+
+// The first n bytes, all of them where there are fewer.
+pub fn front(bytes: &[u8], n: usize) -> &[u8]
+    ensures { λ r. ⌜ now r ≡ take n (now (bytes .entry)) ⌝ }
+{
+    if n <= bytes.len() {
+        return &bytes[0..n];
+    }
+    bytes
+}
+
+// The bytes from a place on, none where there are fewer.
+pub fn tail(bytes: &[u8], from: usize) -> &[u8]
+    ensures { λ r. ⌜ now r ≡ drop from (now (bytes .entry)) ⌝ }
+{
+    if from <= bytes.len() {
+        return &bytes[from..];
+    }
+    &bytes[0..0]
 }
 
 // A number of 16 bits as a place.

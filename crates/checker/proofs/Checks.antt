@@ -12,7 +12,7 @@ use borrow.Author.Tests.{lt-ltb, le-ltb, lt-leb}
 use Rattle.model.specs.Limits.{maxBytes, maxLines, tableLength, workLength, rowWidth}
 use Rattle.model.specs.Tools.{concat, isSome, firstFailing, firstOf, orElse}
 use Rattle.model.specs.Trees.{left, right, Ty, Pat, Clause, Iso}
-use Rattle.model.specs.Refusals.{Kind, typeLine, patternLine, isoLine, clauseLine, letLine, Refusal, number, shortArea, tooLong, badLine, misplaced, badField, badName, ceiling, variable, letShape, badType, overlap, gap, noIso, noValue, spent}
+use Rattle.model.specs.Refusals.{Kind, typeLine, patternLine, isoLine, clauseLine, letLine, Refusal, number, shortArea, tooLong, misplaced, badField, badName, ceiling, variable, letShape, badType, overlap, gap}
 use Rattle.model.specs.Lines.{Row, lines, rowOf, numbers, print}
 use Rattle.model.specs.Judge.{Seen, start, afterAll, judge, inOrder, fieldsFit, named, withinCeilings, after, Reading, rows, faulty, withRow, onRow, onJudged, readFrom}
 use Rattle.model.specs.Unfold.{Tail, place, tailFrom, isosOf}
@@ -473,26 +473,6 @@ outcome-same a r o p f =
     }
 
 -- ---- for the services that go on from Check
-
--- a refusal has a number
-pub number-positive : (f : Refusal) → 0 < number f
-number-positive shortArea = omega arith
-number-positive tooLong = omega arith
-number-positive badLine = omega arith
-number-positive (misplaced k) = omega arith
-number-positive (badField k) = omega arith
-number-positive (badName k) = omega arith
-number-positive (ceiling k) = omega arith
-number-positive variable = omega arith
-number-positive letShape = omega arith
-number-positive badType = omega arith
-number-positive (overlap left) = omega arith
-number-positive (overlap right) = omega arith
-number-positive (gap left) = omega arith
-number-positive (gap right) = omega arith
-number-positive noIso = omega arith
-number-positive noValue = omega arith
-number-positive spent = omega arith
 
 -- no refusal: the areas are long enough, and the verdict is the file's
 pub unless-accepted : (b : Bool) (v : Verdict) → answerOf (unless b v) .number ≡ 0 → (b ≡ false) × (unless b v ≡ v)

@@ -7,24 +7,22 @@ use mathlib.Core.Bool.{_||_}
 use mathlib.Core.Option.{none}
 use mathlib.Core.List.{List, []}
 use lib.ListN.{length, take, drop, length-append}
-use lib.Seq.{slice, take-append-seam}
+use lib.Seq.{take-append-seam}
 use borrow.Author.Tests.{le-ltb}
 use Rattle.model.specs.Limits.{tableLength, workLength}
-use Rattle.model.specs.Refusals.{Refusal, shortArea, tooLong, badLine, misplaced, badField, badName, ceiling, variable, letShape, badType, overlap, gap, noIso, noValue, spent, number}
-use Rattle.model.specs.Trees.{left, right}
-use Rattle.model.specs.Lines.{Row}
-use Rattle.model.specs.Services.{Verdict, accepted, refused, verdict, unless, answerOf, check, RunAnswer, answerOfRun, written}
-use Rattle.model.specs.Desk.{queryOf, answerTo, queryLine, fileLine}
+use Rattle.model.specs.Refusals.{Refusal, number}
+use Rattle.model.specs.Services.{Verdict, accepted, refused, verdict, unless, answerOf, check, RunAnswer, written}
+use Rattle.model.specs.Desk.{queryLine, fileLine}
 use Rattle.model.specs.Code.{refusalView, numberOf, numbered}
+use Rattle.model.proofs.Files.{number-positive}
 use Rattle.areas.specs.Areas.{Writes}
 use Rattle.checker.specs.CheckSays.{CheckSays, Accepted}
 use Rattle.checker.specs.declared.Checked as C
-use Rattle.queries.specs.Views.{asQuery}
 use Rattle.queries.specs.Stream.{begun, stopped, answered}
 use Rattle.queries.specs.declared.Query as Q
 use Rattle.queries.specs.declared.Asked as A
 use Rattle.queries.specs.declared.Asked.the-variants as asked
-use Rattle.runner.specs.RunSays.{answerFor, RanAs}
+use Rattle.runner.specs.RunSays.{RanAs}
 use Rattle.runner.specs.declared.run.Ran as R
 use Rattle.desk.specs.DeskSays.{answerRoom, Printed, JudgedAs}
 use Rattle.desk.proofs.Placing.{verdict-line, file-line-short, query-line-short}
@@ -54,29 +52,9 @@ checked-answer : (s t w : List ℕ) → tableLength ≤ length t → workLength 
 unfolding check
 checked-answer s t w ht hw = ap (λ b. answerOf (unless b (verdict s))) (ap₂ _||_ (le-ltb (length t) tableLength ht) (le-ltb (length w) workLength hw))
 
--- no refusal has number 0
-positive : (f : Refusal) → 0 < number f
-positive shortArea = omega arith
-positive tooLong = omega arith
-positive badLine = omega arith
-positive (misplaced k) = omega arith
-positive (badField k) = omega arith
-positive (badName k) = omega arith
-positive (ceiling k) = omega arith
-positive variable = omega arith
-positive letShape = omega arith
-positive badType = omega arith
-positive (overlap left) = omega arith
-positive (overlap right) = omega arith
-positive (gap left) = omega arith
-positive (gap right) = omega arith
-positive noIso = omega arith
-positive noValue = omega arith
-positive spent = omega arith
-
 -- so a verdict with a refusal's number is one
 stops-at : (v : Verdict) (f : Refusal) → number f ≡ answerOf v .number → begun v ≡ stopped
-stops-at (accepted rs) f e = absurd (omega (arith, e, positive f))
+stops-at (accepted rs) f e = absurd (omega (arith, e, number-positive f))
 stops-at (refused g n) f e = refl
 
 -- a file checked and answered
@@ -124,21 +102,3 @@ ran-query a {o} {o′} {out} {out′} {ls} {at} {n} {end} r ran e k p q writes r
     let same : queryLine (record { number = n; count = r .count; letters = ls }) ≡ queryLine a =
     ap queryLine (answer-parts a (p ∙ ran .number) (ran .count) (q ∙ letters-there a ran)) in
     printed (subst (Writes out out′ at end) same writes) (query-line-short a (letters-fit a ran e k)) room
-
--- the letters of a query
-pub query-letters : (s : List ℕ) {f v : List ℕ} (from to : ℕ) → f ≡ take to s → v ≡ drop from f → v ≡ slice from to s
-query-letters s from to e k = k ∙ ap (drop from) e
-
--- a query is answered by its run
-pub answered-query : (rs : List Row) (l : List ℕ) {a : A.Asked} (q : Q.Query) → a ≡ asked.Of q → asQuery l a ≡ queryOf l
-    → queryLine (answerFor rs (q .iso) (q .back) (q .budget) (slice (q .from) (q .to) l)) ≡ answered rs l
-answered-query rs l q e k = ap (λ x. queryLine (answerOfRun (answerTo (accepted rs) x))) (sym (ap (asQuery l) e) ∙ k)
-
--- what is no query is refused 3
-pub answered-bad : (rs : List Row) (l : List ℕ) {a : A.Asked} → a ≡ asked.Bad → asQuery l a ≡ queryOf l
-    → queryLine (record { number = 3; count = 0; letters = [] }) ≡ answered rs l
-answered-bad rs l e k = ap (λ x. queryLine (answerOfRun (answerTo (accepted rs) x))) (sym (ap (asQuery l) e) ∙ k)
-
--- which fits too
-pub bad-short : length (queryLine (record { number = 3; count = 0; letters = [] })) ≤ answerRoom
-bad-short = query-line-short (record { number = 3; count = 0; letters = [] }) (omega arith)

@@ -1,15 +1,13 @@
 -- Bytes kept in an area up to a ceiling, and what is lost by it: nothing that is asked.
 use Prim.Native.Nat.{ℕ, suc, _+_, _-_, _≤_, _<_}
-use native.Mathlib.Nat.{sub-zero}
 use native.Mathlib.Omega.{arith}
 use mathlib.Core.Path.{_≡_, sym, ap, ap₂, _∙_}
 use mathlib.Core.Logic.{_⊎_, inl, inr}
 use mathlib.Core.Bool.{true, false, cond}
 use mathlib.Core.List.{List, [], _∷_, _++_}
 use lib.Dec.{ltb, leb}
-use lib.ListN.{length, take, drop, set, length-append, length-take, length-drop, drop-of-length-le}
+use lib.ListN.{length, take, set, length-append, length-take}
 use lib.Seq.{take-all, take-nil, take-append-le, take-suc-set}
-use borrow.Rule.Slice.PartMut.{midOf}
 use Rattle.model.specs.Limits.{letterQ}
 use Rattle.model.specs.Lines.{Row}
 use Rattle.model.specs.Services.{verdict}
@@ -20,22 +18,6 @@ use Rattle.queries.proofs.Streaming.{verdict-cap, answered-cap}
 use Rattle.desk.specs.DeskSays.{fileRoom, lineRoom, Holds}
 
 -- ---- parts of a slice
-
--- a front part
-pub front-part : (n : ℕ) (s : List ℕ) → midOf 0 (n - 0) s ≡ take n s
-front-part n s = ap (λ k. take k s) (sub-zero n)
-
--- the whole, where more is asked for
-pub front-all : (n : ℕ) (s : List ℕ) → length s < n → s ≡ take n s
-front-all n s h = sym (take-all n s (omega arith))
-
--- a part up to the end
-pub tail-part : (n : ℕ) (s : List ℕ) → midOf n (length s - n) s ≡ drop n s
-tail-part n s = take-all (length s - n) (drop n s) (omega (arith, length-drop n s))
-
--- none, where the part would begin past the end
-pub tail-none : (n : ℕ) (s : List ℕ) → length s < n → midOf 0 (0 - 0) s ≡ drop n s
-tail-none n s h = sym (drop-of-length-le s {i = n} (omega arith))
 
 -- ---- one byte more
 

@@ -1,29 +1,25 @@
 // The desk program as a function on slices: bytes of standard input go in as they come, and the
 // answers come out in an output area. The state is a value; the areas are lent at each call.
 
+use answers::answer_line;
+use areas::front;
 use areas::put_byte;
 use checker::Checked;
 use checker::check_file;
 use checker::is_refused;
 use model::number_of;
-use queries::Asked;
-use queries::Query;
 use queries::put_answer;
 use queries::put_verdict;
-use queries::query_of;
 use runner::run::prepare;
-use runner::run::run_checked;
 ghost use mathlib.Core.Path.{_≡_};
 ghost use mathlib.Core.Bool.{_&&_, false};
 ghost use mathlib.Core.List.{List, [], _∷_, _++_};
 ghost use Prim.Native.Nat.{ℕ, _+_, _≤_};
 ghost use lib.Dec.{eqb, leb};
-ghost use lib.ListN.{length, take, drop};
-ghost use lib.Seq.{slice};
+ghost use lib.ListN.{length};
 ghost use Rattle.model.specs.Limits.{letterQ, tableLength, workLength};
 ghost use Rattle.model.specs.Lines.{Row as RowOf};
-ghost use Rattle.model.specs.Desk.{queryLine};
-ghost use Rattle.runner.specs.RunSays.{Prepared, answerFor};
+ghost use Rattle.runner.specs.RunSays.{Prepared};
 ghost use Rattle.queries.specs.Stream.{State, collecting, asking, close, answered, step, finish};
 ghost use Rattle.desk.specs.declared.Phase.the-variants.{Queries};
 ghost use Rattle.desk.specs.DeskSays.{answerRoom, Roomy, Holds, DeskAt, Printed, Reaches, JudgedAs, FedAs};
@@ -95,26 +91,6 @@ pub fn opened() -> Desk
     ensures { λ r. ⌜ ((file line table index : List ℕ) → DeskAt r file line table index (collecting [])) ⌝ }
 {
     state(Phase::File, true, 0)
-}
-
-// The first n bytes, all of them where there are fewer.
-fn front(s: &[u8], n: usize) -> &[u8]
-    ensures { λ r. ⌜ now r ≡ take n (now (s .entry)) ⌝ }
-{
-    if n <= s.len() {
-        return &s[0..n];
-    }
-    s
-}
-
-// The bytes from place n on, none where there are fewer.
-fn tail(s: &[u8], n: usize) -> &[u8]
-    ensures { λ r. ⌜ now r ≡ drop n (now (s .entry)) ⌝ }
-{
-    if n <= s.len() {
-        return &s[n..];
-    }
-    &s[0..0]
 }
 
 // Whether an output area has room for an answer behind place `at`.
@@ -217,43 +193,8 @@ fn file_byte(
     }
 }
 
-// Runs a query and prints its answer. The run wants a work area of 65,536 bytes; where it is shorter,
+// Prints the answer to a query's line. The run wants a work area of 65,536 bytes; where it is shorter,
 // nothing is done.
-fn run_query(
-    d: Desk,
-    q: Query,
-    line: &[u8],
-    table: &[u16],
-    index: &[u16],
-    work: &mut [u8],
-    out: &mut [u8],
-    at: usize,
-) -> usize
-    ensures { λ r. ⌜ ((rs : List RowOf) → Prepared (now (table .entry)) (d .types) (now (index .entry)) (d .isos) rs → workLength ≤ length (now (work .entry)) → at + answerRoom ≤ length (now (out .entry)) → Printed (now (out .entry)) (now (out .exit)) at r (queryLine (answerFor rs (q .iso) (q .back) (q .budget) (slice (q .from) (q .to) (now (line .entry)))))) ⌝ }
-{
-    if work.len() < 65536 {
-        return at;
-    }
-    let mut result = [0u8; 127];
-    let value = tail(front(line, q.to), q.from);
-    let r = run_checked(
-        table,
-        d.types,
-        index,
-        d.isos,
-        q.iso,
-        q.back,
-        q.budget,
-        value,
-        &mut work[0..65536],
-        &mut result,
-    );
-    let f = r.refusal;
-    let n = number_of(f);
-    put_answer(out, at, n, r.count, front(&result, r.length))
-}
-
-// Prints the answer to a query's line.
 fn answer(
     d: Desk,
     line: &[u8],
@@ -265,10 +206,22 @@ fn answer(
 ) -> usize
     ensures { λ r. ⌜ ((rs : List RowOf) → Prepared (now (table .entry)) (d .types) (now (index .entry)) (d .isos) rs → workLength ≤ length (now (work .entry)) → at + answerRoom ≤ length (now (out .entry)) → Printed (now (out .entry)) (now (out .exit)) at r (answered rs (now (line .entry)))) ⌝ }
 {
-    match query_of(line) {
-        Asked::Of(q) => run_query(d, q, line, table, index, work, out, at),
-        Asked::Bad => put_answer(out, at, 3, 0, &line[0..0]),
+    if work.len() < 65536 {
+        return at;
     }
+    let mut result = [0u8; 127];
+    let r = answer_line(
+        table,
+        d.types,
+        index,
+        d.isos,
+        line,
+        &mut work[0..65536],
+        &mut result,
+    );
+    let f = r.refusal;
+    let n = number_of(f);
+    put_answer(out, at, n, r.count, front(&result, r.length))
 }
 
 // A byte behind bytes of a query's line.

@@ -94,7 +94,7 @@ refused-iff bs rs h f n =
     )
 
 -- no refusal has the number 0, so that `0,0` is the answer of accepted files alone
-number-positive : (f : Refusal) → 0 < number f
+pub number-positive : (f : Refusal) → 0 < number f
 number-positive shortArea = omega arith
 number-positive tooLong = omega arith
 number-positive badLine = omega arith
@@ -113,7 +113,8 @@ number-positive noIso = omega arith
 number-positive noValue = omega arith
 number-positive spent = omega arith
 
-answer-zero : (v : Verdict) → answerOf v .number ≡ 0 → (rs : List Row) × (v ≡ accepted rs)
+-- an answer whose number is 0 is of an accepted file
+pub answer-zero : (v : Verdict) → answerOf v .number ≡ 0 → (rs : List Row) × (v ≡ accepted rs)
 answer-zero (accepted rs) e = (rs, refl)
 answer-zero (refused f n) e = absurd (ne-of-gt (number-positive f) e)
 

@@ -33,3 +33,6 @@ pub mod Totality
 -- files and runs as bytes
 pub mod Files
 pub mod Runs
+pub mod Sizes
+-- requests
+pub mod Sheets

@@ -11,6 +11,7 @@ pub mod Reduction
 pub mod Letters
 pub mod Services
 pub mod Desk
+pub mod Sheet
 pub mod Cases
 pub mod Readings
 pub mod Code

@@ -58,6 +58,10 @@ resultLength = 127
 abbrev pub queryLength : ℕ
 queryLength = 200
 
+-- request 01: "over 600 queries is 2"
+abbrev pub maxQueries : ℕ
+maxQueries = 600
+
 abbrev pub lineFeed : ℕ
 lineFeed = 10
 

@@ -10,10 +10,13 @@ use Rattle.turner.specs.TurnSays.{TurnSays}
 use Rattle.turner.specs.declared.Turned as Turned
 use Rattle.runner.specs.RunSays.{RunSays}
 use Rattle.runner.specs.declared.run.Ran as Ran
-use Rattle.rulefile.specs.Given.{CheckGiven, TurnGiven, RunGiven}
+use Rattle.sheets.specs.SheetSays.{SheetSays}
+use Rattle.sheets.specs.declared.Answered as Answered
+use Rattle.rulefile.specs.Given.{CheckGiven, TurnGiven, RunGiven, SheetGiven}
 use Rattle.rulefile.specs.declared.CheckAnswer as C
 use Rattle.rulefile.specs.declared.TurnAnswer as T
 use Rattle.rulefile.specs.declared.RunAnswer as R
+use Rattle.rulefile.specs.declared.SheetAnswer as S
 
 pub check-given : (file t w t′ w′ : List ℕ) (a : A.Answer) (r : C.CheckAnswer)
     → CheckSays file t w t′ w′ a → r .number ≡ numberOf (a .refusal) → r .line ≡ a .place → CheckGiven file t w t′ w′ r
@@ -30,3 +33,17 @@ pub run-given : (file t w : List ℕ) (i : ℕ) (back : Bool) (budget : ℕ) (va
     → RunGiven file t w i back budget value o t′ w′ o′ r
 run-given file t w i back budget value o t′ w′ o′ a r s n k l =
     record { number = n ∙ s .number; count = k ∙ s .count; bytes = l ∙ s .bytes; table = s .table; work = s .work; result = s .result }
+
+pub sheet-given : (file t w queries n o t′ w′ n′ o′ : List ℕ) (a : Answered.Answered) (r : S.SheetAnswer)
+    → SheetSays file t w queries n o t′ w′ n′ o′ a → r .number ≡ numberOf (a .answer .refusal) → r .line ≡ a .answer .place → r .queries ≡ a .queries
+    → SheetGiven file t w queries n o t′ w′ n′ o′ r
+sheet-given file t w queries n o t′ w′ n′ o′ a r s k l q =
+    record {
+      number = k ∙ s .number;
+      line = l ∙ s .line;
+      answered = q ∙ s .answered;
+      table = s .table;
+      work = s .work;
+      numbers = s .numbers;
+      letters = s .letters;
+    }

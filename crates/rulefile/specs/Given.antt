@@ -5,9 +5,11 @@ use mathlib.Core.Path.{_≡_}
 use mathlib.Core.Bool.{Bool}
 use mathlib.Core.List.{List}
 use Rattle.model.specs.Services.{check, turn, runService}
+use Rattle.model.specs.Sheet.{sheet}
 use Rattle.rulefile.specs.declared.CheckAnswer as C
 use Rattle.rulefile.specs.declared.TurnAnswer as T
 use Rattle.rulefile.specs.declared.RunAnswer as R
+use Rattle.rulefile.specs.declared.SheetAnswer as S
 
 -- "Check gives a number and a line"
 pub record CheckGiven (file t w t′ w′ : List ℕ) (r : C.CheckAnswer) : Type 0 where
@@ -33,3 +35,13 @@ pub record RunGiven (file t w : List ℕ) (i : ℕ) (back : Bool) (budget : ℕ)
   pub table : t′ ≡ runService file t w i back budget value o .table
   pub work : w′ ≡ runService file t w i back budget value o .work
   pub result : o′ ≡ runService file t w i back budget value o .result
+
+-- request 01; n and o are the areas of the numbers and of the letters
+pub record SheetGiven (file t w queries n o t′ w′ n′ o′ : List ℕ) (r : S.SheetAnswer) : Type 0 where
+  pub number : r .number ≡ sheet file t w queries n o .answer .number
+  pub line : r .line ≡ sheet file t w queries n o .answer .line
+  pub answered : r .queries ≡ sheet file t w queries n o .queries
+  pub table : t′ ≡ sheet file t w queries n o .table
+  pub work : w′ ≡ sheet file t w queries n o .work
+  pub numbers : n′ ≡ sheet file t w queries n o .numbers
+  pub letters : o′ ≡ sheet file t w queries n o .letters

@@ -1,11 +1,13 @@
-// The interface for callers in C and in Rust: Check, Turn and Run under document 01's numbers. Each
+// The interface for callers in C and in Rust: Check, Turn, Run and a whole sheet under document 01's
+// numbers. Each
 // slice passes as a pointer and a length, each answer as a struct; `include/rulefile.h` declares them.
 
 use checker::check;
 use model::number_of;
 use runner::run::run;
+use sheets::sheet;
 use turner::turn;
-ghost use Rattle.rulefile.specs.Given.{CheckGiven, TurnGiven, RunGiven};
+ghost use Rattle.rulefile.specs.Given.{CheckGiven, TurnGiven, RunGiven, SheetGiven};
 
 // Check's number and line.
 #[repr(C)]
@@ -28,6 +30,14 @@ pub struct RunAnswer {
     pub number: u32,
     pub count: u32,
     pub length: usize,
+}
+
+// A sheet's number and line, and the number of queries answered.
+#[repr(C)]
+pub struct SheetAnswer {
+    pub number: u32,
+    pub line: usize,
+    pub queries: usize,
 }
 
 // Checks a file.
@@ -83,5 +93,27 @@ pub extern "C" fn rulefile_run(
         number: number_of(f) as u32,
         count: ran.count,
         length: ran.length,
+    }
+}
+
+// Checks a file once and answers a list of query lines.
+#[no_mangle]
+pub extern "C" fn rulefile_sheet(
+    file: &[u8],
+    table: &mut [u16],
+    work: &mut [u8],
+    queries: &[u8],
+    numbers: &mut [u32],
+    letters: &mut [u8],
+) -> SheetAnswer
+    ensures { λ r. ⌜ SheetGiven (now (file .entry)) (now (table .entry)) (now (work .entry)) (now (queries .entry)) (now (numbers .entry)) (now (letters .entry)) (now (table .exit)) (now (work .exit)) (now (numbers .exit)) (now (letters .exit)) r ⌝ }
+{
+    let done = sheet(file, table, work, queries, numbers, letters);
+    let verdict = done.answer;
+    let f = verdict.refusal;
+    SheetAnswer {
+        number: number_of(f) as u32,
+        line: verdict.place,
+        queries: done.queries,
     }
 }

@@ -22,7 +22,8 @@ use Rattle.model.proofs.Basic.{isSome-true, ltb-false}
 use Rattle.areas.specs.Areas.{cleared}
 use Rattle.checker.specs.CheckSays.{CheckSays, Accepted}
 use Rattle.checker.specs.declared.Checked as C
-use Rattle.checker.proofs.Checks.{cleared-filled, number-positive, unless-accepted, flag-none}
+use Rattle.model.proofs.Files.{number-positive}
+use Rattle.checker.proofs.Checks.{cleared-filled, unless-accepted, flag-none}
 use Rattle.runner.specs.declared.run.Ran as R
 use Rattle.runner.specs.RunSays.{Prepared, answerFor, RanAs, RunSays}
 
@@ -113,7 +114,8 @@ whole s t w t′ w′ c b says acc e y =
       table-is = says .table ∙ ap (λ x. tableAfter x t) v;
     }
 
-filled-drop : (w : List ℕ) → drop workLength (filled workLength [] w) ≡ drop workLength w
+-- what lies behind a cleared work area
+pub filled-drop : (w : List ℕ) → drop workLength (filled workLength [] w) ≡ drop workLength w
 filled-drop w = drop-at (replicate (workLength - 0) 0) (drop workLength w) workLength (length-replicate {A = ℕ} (workLength - 0) 0 ∙ sub-zero workLength)
 
 -- the work area has the room that a run needs
@@ -123,7 +125,7 @@ work-room s t w t′ w′ c b wide says acc e y =
     let g = whole s t w t′ w′ c b says acc e y in let h = g .work-long in omega (arith, wide, h)
 
 -- a front part of the work area after the run, cleared again
-cleared-work : (w w₁ w₂ ys w′ : List ℕ) → workLength ≤ length w → length w₁ ≡ length w → drop workLength w₁ ≡ drop workLength w → length ys ≡ workLength
+pub cleared-work : (w w₁ w₂ ys w′ : List ℕ) → workLength ≤ length w → length w₁ ≡ length w → drop workLength w₁ ≡ drop workLength w → length ys ≡ workLength
     → w₂ ≡ ys ++ drop workLength w₁ → w′ ≡ cleared workLength w₂ → w′ ≡ filled workLength [] w
 cleared-work w w₁ w₂ ys w′ long wide same n e f =
     let d = length-drop workLength w₁ in

@@ -17,10 +17,10 @@ use Rattle.model.specs.Unfold.{turnRows}
 use Rattle.model.specs.Services.{Verdict, accepted, refused, verdict, written, tableAfter, workAfter, short, unless, answerOf, check, turnedOf, turned, turn}
 use Rattle.model.specs.Code.{refusalView, numberOf, numbered}
 use Rattle.model.proofs.Basic.{isSome-true}
-use Rattle.model.proofs.Files.{turned-length}
+use Rattle.model.proofs.Files.{number-positive, turned-length}
 use Rattle.areas.specs.Areas.{Writes}
 use Rattle.checker.specs.CheckSays.{CheckSays, Accepted}
-use Rattle.checker.proofs.Checks.{number-positive, unless-accepted, flag-none}
+use Rattle.checker.proofs.Checks.{unless-accepted, flag-none}
 use Rattle.checker.specs.declared.Checked as C
 use Rattle.turner.specs.Written.{FileWritten}
 use Rattle.turner.specs.TurnSays.{TurnSays}

@@ -14,7 +14,7 @@ use lib.ListN.{length, getD, set, take, drop, length-append, length-drop, length
 use lib.Seq.{take-nil, take-append-seam, take-append-add, drop-append-seam, getD-set-same, getD-set-other, take-set-le, take-take, drop-drop, drop-at, length-take-le, sets, sets-eq, slice}
 use Rattle.model.specs.Tools.{_>>=_, guard}
 use Rattle.model.specs.Limits.{variables}
-use Rattle.model.specs.Trees.{Ty, tunit, tsum, tprod, Tag, left, right, Pat, punit, pvar, pinj, ppair, Val, vunit, vinj, vpair, Iso, sameTag, typeNodes}
+use Rattle.model.specs.Trees.{Ty, tunit, tsum, tprod, Tag, left, right, Pat, punit, pvar, pinj, ppair, Val, vunit, vinj, vpair, Iso, sameTag}
 use Rattle.model.specs.Slots.{Slots, put, empty}
 use Rattle.model.specs.Letters.{letters, letterU, letterP, letterOf, valueOf, inhabits}
 use Rattle.model.specs.Reduction.{bind, build}
@@ -29,14 +29,7 @@ use Rattle.values.specs.Agrees.{Agrees}
 
 -- ---- letters of a value
 
--- a value of a type has at most as many letters as the type has nodes
-pub of-small : {v : Val} {a : Ty} → Of v a → length (letters v) ≤ typeNodes a
-of-small Of.unit = omega arith
-of-small (Of.inj {t = left} h) = let k = of-small h in omega arith
-of-small (Of.inj {t = right} h) = let k = of-small h in omega arith
-of-small (Of.pair {v} {w} h k) = let i = of-small h in let j = of-small k in omega (arith, length-append (letters v) (letters w))
-
--- and at least one
+-- a value has a letter
 pub letters-some : (v : Val) → 0 < length (letters v)
 letters-some vunit = omega arith
 letters-some (vinj t v) = omega arith

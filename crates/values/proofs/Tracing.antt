@@ -6,23 +6,23 @@ use native.Mathlib.Omega.{arith}
 use mathlib.Core.Path.{_≡_, refl, sym, ap, _∙_, subst}
 use mathlib.Core.Bool.{true, false, false≢true}
 use mathlib.Core.Option.{some}
-use mathlib.Core.List.{List, [], _∷_, _++_, map, List·Memᴰ, List·Memᴰ·head, List·Memᴰ·tail, Memᴰ·map}
-use lib.ListN.{length, getD, getElem?}
-use Rattle.model.specs.Limits.{maxLets, maxNodes, variables}
+use mathlib.Core.List.{List, [], _∷_, map, List·Memᴰ, List·Memᴰ·head, List·Memᴰ·tail, Memᴰ·map}
+use lib.ListN.{length, getElem?}
+use Rattle.model.specs.Limits.{maxLets, variables}
 use Rattle.model.specs.Tools.{select}
-use Rattle.model.specs.Trees.{Ty, tunit, left, right, Pat, punit, pvar, pinj, ppair, Val, vunit, vinj, vpair}
-use Rattle.model.specs.Trees.{Let, Clause, Iso, sameTag, typeNodes}
+use Rattle.model.specs.Trees.{Ty, left, right, Pat, punit, pvar, pinj, ppair, Val, vunit, vinj, vpair}
+use Rattle.model.specs.Trees.{Let, Clause, Iso, sameTag}
 use Rattle.model.specs.Slots.{Slots, empty}
 use Rattle.model.specs.Letters.{letters}
 use Rattle.model.specs.Refusals.{Kind, typeLine, patternLine, isoLine, clauseLine, letLine}
 use Rattle.model.specs.Lines.{Row}
-use Rattle.model.specs.Judge.{Seen, start, typeTree, afterKind, afterAll}
+use Rattle.model.specs.Judge.{Seen, start, afterKind, afterAll}
 use Rattle.model.specs.Unfold.{Tail, place, tailFrom, isosOf}
 use Rattle.model.specs.Reduction.{bind, build, Call, runLets, runClause, hits, only, apply, reduceTo, reduce}
 use Rattle.model.specs.Clauses.{sigsOf}
 use Rattle.model.specs.Paper.{Of, Fits, Chain, Product, Orth, Apart}
 use Rattle.model.proofs.Basic.{bind-some, some-bind, none≢some, some-inj, is-false, and-true, sameTag-eq, each-nil, each-cons, mem-index, index-mem, index-of-map}
-use Rattle.model.proofs.Passing.{Passes, done, next, Fit, judge-fit, type-fit, let-fit}
+use Rattle.model.proofs.Passing.{Passes, done, next, Fit, judge-fit, let-fit}
 use Rattle.model.proofs.Orthogonal.{Alike, matched-alike, orth-alike, apart-head, apart-tail}
 use Rattle.model.proofs.Matching.{bind-matched}
 use Rattle.model.proofs.Linear.{linear-of, formed-numbered}
@@ -31,8 +31,8 @@ use Rattle.model.proofs.Inverse.{reduce-unfold}
 use Rattle.model.proofs.Joins.{EnvOf, build-total, build-all, bind-total, lhs-total}
 use Rattle.model.proofs.Totality.{Sound}
 use Rattle.model.proofs.Runs.{Good, GoodRows, good, results}
+use Rattle.model.proofs.Sizes.{of-small, SmallTypes, small-types}
 use Rattle.values.specs.Texts.{alike}
-use Rattle.values.proofs.Agreeing.{of-small}
 use Rattle.values.specs.Traces.{Small, LetsTrace, ClauseTrace, Runs}
 
 -- ---- a value has no more letters than its type has nodes
@@ -68,10 +68,6 @@ not-alike-above cs a v n f m k c l e =
     is-false (alike (c .lhs) v) (λ h. orth-alike (apart-at cs a k n l e f) (alike-of (c .lhs) v h) m)
 
 -- ---- ceilings
-
--- the types of every iso have few nodes
-abbrev pub SmallTypes : List Iso → Type 0
-SmallTypes os = (o : Iso) → List·Memᴰ o os → (typeNodes (o .from) ≤ maxNodes) × (typeNodes (o .to) ≤ maxNodes)
 
 -- a clause has few let steps, and so has every clause of an iso
 abbrev pub FewLets : Clause → Type 0
@@ -210,52 +206,6 @@ runs-traced {os} S small few (suc d) i o e v w m t h =
     ((o, e, r .0), r .1)
 
 -- ---- the isos of an accepted file
-
--- every type that a number names has few nodes; one that names nothing is the unit type
-abbrev pub AllSmall : List Ty → Type 0
-AllSmall ts = (i : ℕ) → typeNodes (getD ts i tunit) ≤ maxNodes
-
--- a type more
-snoc-small : (ts : List Ty) (a : Ty) → AllSmall ts → typeNodes a ≤ maxNodes → AllSmall (ts ++ (a ∷ []))
-snoc-small [] a h f zero = f
-snoc-small [] a h f (suc i) = omega arith
-snoc-small (b ∷ ts) a h f zero = h zero
-snoc-small (b ∷ ts) a h f (suc i) = snoc-small ts a (λ j. h (suc j)) f i
-
--- a row more
-after-small : (s : Seen) (k : Kind) (r : Row) → Fit s k r → AllSmall (s .types) → AllSmall (afterKind k s r .types)
-after-small s typeLine r f h = snoc-small (s .types) (typeTree (s .types) r) h (type-fit s r f .1)
-after-small s patternLine r f h = h
-after-small s isoLine r f h = h
-after-small s clauseLine r f h = h
-after-small s letLine r f h = h
-
--- all rows from some place on
-types-small-from : {s : Seen} {rs : List Row} → Passes s rs → AllSmall (s .types) → AllSmall (afterAll s rs .types)
-types-small-from done h = h
-types-small-from (next {s = s} {r = r} j ps) h = types-small-from ps (after-small s (r .kind) r (judge-fit s r j) h)
-
--- the T lines of a file have few nodes
-pub types-small : {rs : List Row} → Passes start rs → AllSmall (afterAll start rs .types)
-unfolding start
-types-small d = types-small-from d (λ i. omega arith)
-
--- the types of the isos that some rows unfold to
-isos-small : (ts : List Ty) (ps : List Pat) → AllSmall ts → (n : ℕ) (rs : List Row) → SmallTypes (tailFrom ts ps n rs .isos)
-isos-small ts ps h n [] = each-nil (λ o. (typeNodes (o .from) ≤ maxNodes) × (typeNodes (o .to) ≤ maxNodes))
-isos-small ts ps h n (r ∷ rs) = step (r .kind) (isos-small ts ps h (suc n) rs)
-  where
-    step : (k : Kind) → SmallTypes (tailFrom ts ps (suc n) rs .isos) → SmallTypes (place ts ps k n r (tailFrom ts ps (suc n) rs) .isos)
-    step typeLine g = g
-    step patternLine g = g
-    step isoLine g = each-cons (λ o. (typeNodes (o .from) ≤ maxNodes) × (typeNodes (o .to) ≤ maxNodes)) (h (r .x), h (r .y)) g
-    step clauseLine g = g
-    step letLine g = g
-
--- so have the types of its isos
-pub small-types : {rs : List Row} → Passes start rs → SmallTypes (isosOf rs)
-unfolding isosOf
-small-types {rs} d = isos-small (afterAll start rs .types) (afterAll start rs .patterns) (types-small d) 1 rs
 
 -- What rows below some let steps of a clause hold: its other let steps, clauses and isos, all with few let steps.
 record FewTail (n : ℕ) (o : Tail) : Type 0 where

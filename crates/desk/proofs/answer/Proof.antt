@@ -1,29 +1,38 @@
--- `desk::answer` meets its contract: a query is run, anything else is refused 3.
-use Rattle.desk.proofs.Answering.{printed, printed-as, answered-query, answered-bad, bad-short}
+-- `desk::answer` meets its contract: what answers the line, printed.
+use mathlib.Core.Path.{refl}
+use lib.ListN.{length-take}
+use native.Mathlib.Omega.{arith}
+use Rattle.desk.proofs.Answering.{ran-query}
 use borrow.Author.Needs.{needs}
 use Rattle.desk.proofs.answer.Statement.{statement}
 use Rattle.desk.proofs.answer.Tie as tie
 
-query-of-requires : tie.Need-query-of-requires
-query-of-requires c κs = search needs
+returns : tie.Need-returns
+returns c = λ rs p h room. absurd (omega (arith, h, c .if1 .taken))
 
-enum-known-q : tie.Need-enum-known-q
-enum-known-q c = search needs
+sub-answer-line : tie.Need-sub-answer-line
+sub-answer-line c = search needs
 
-run-query-requires : tie.Need-run-query-requires
-run-query-requires c κs = search needs
+part-answer-line-start : tie.Need-part-answer-line-start
+part-answer-line-start c = search needs
 
-enum-told : tie.Need-enum-told
-enum-told c = search needs
+part-answer-line-end : tie.Need-part-answer-line-end
+part-answer-line-end c = search needs
 
-sub-put-answer : tie.Need-sub-put-answer
-sub-put-answer c = search needs
+slice-aggregate-answer-line : tie.Need-slice-aggregate-answer-line
+slice-aggregate-answer-line c = search needs
 
-part-put-answer-start : tie.Need-part-put-answer-start
-part-put-answer-start c = search needs
+answer-line-requires : tie.Need-answer-line-requires
+answer-line-requires c κs = search needs
 
-part-put-answer-end : tie.Need-part-put-answer-end
-part-put-answer-end c = search needs
+number-of-requires : tie.Need-number-of-requires
+number-of-requires c κs = search needs
+
+slice-aggregate-front : tie.Need-slice-aggregate-front
+slice-aggregate-front c = search needs
+
+front-requires : tie.Need-front-requires
+front-requires c κs = search needs
 
 put-answer-requires : tie.Need-put-answer-requires
 put-answer-requires c κs = search needs
@@ -34,38 +43,32 @@ same-length c = search needs
 same-length-2 : tie.Need-same-length-2
 same-length-2 c = search needs
 
-returns : tie.Need-returns
-returns c =
-    let k = c .before .before .before .before in
-    let q = k .before .before .before .before in
-    let a = q .before .before in
-    let l = a .before .before .before .before .before .before .args .line .now in
-    λ rs p h room. printed-as (answered-query rs l _ (q .q .given .1) (a .query-of .ensures)) (k .run-query .ensures rs p h room)
-
-same-length-3 : tie.Need-same-length-3
-same-length-3 c = search needs
-
 returns-2 : tie.Need-returns-2
 returns-2 c =
-    let k = c .before .before in
-    let e = k .before .before .before in
-    let l = e .before .before .before .before .before .before .before .before .args .line .now in
-    λ rs p h room. printed-as (answered-bad rs l (e .enum-told .given .1) (e .before .before .query-of .ensures)) (printed (k .put-answer .ensures) bad-short room)
+    let w = c .before .before in
+    let f = w .before in
+    let n = f .before .before .before in
+    let k = n .before .before .before .before in
+    let a = k .before .before .before .before .before .before .before .before .before .args in
+    let h = length-take 65536 (a .work .now) in
+    λ rs p room-work room.
+    ran-query _ (k .answer-line .result) (k .answer-line .ensures rs p (omega (arith, room-work, h)) (omega (arith, room-work, h)) (omega arith))
+    refl (k .answer-line .kept .1 .1 .1 .1 .1 .1 .0) (n .number-of .ensures) (f .front .ensures) (w .put-answer .ensures) room
 
 pub answer-spec : {M : Type 1} → statement M
 answer-spec =
     tie.close
     (tie.spec
-    query-of-requires
-    enum-known-q
-    run-query-requires
-    enum-told
-    sub-put-answer
-    part-put-answer-start
-    part-put-answer-end
+    returns
+    sub-answer-line
+    part-answer-line-start
+    part-answer-line-end
+    slice-aggregate-answer-line
+    answer-line-requires
+    number-of-requires
+    slice-aggregate-front
+    front-requires
     put-answer-requires
     same-length
     same-length-2
-    returns
-    same-length-3
     returns-2)

@@ -1,8 +1,8 @@
--- `desk::tail` meets its contract.
-use Rattle.desk.proofs.Holding.{tail-part, tail-none}
+-- `areas::tail` meets its contract.
+use Rattle.areas.proofs.Parts.{tail-part, tail-none}
 use borrow.Author.Needs.{needs}
-use Rattle.desk.proofs.tail.Statement.{statement}
-use Rattle.desk.proofs.tail.Tie as tie
+use Rattle.areas.proofs.tail.Statement.{statement}
+use Rattle.areas.proofs.tail.Tie as tie
 
 sub-result : tie.Need-sub-result
 sub-result c = search needs
@@ -14,7 +14,7 @@ part-result-end : tie.Need-part-result-end
 part-result-end c = search needs
 
 returns : tie.Need-returns
-returns c = let a = c .before .before .args in tail-part (a .n) (a .s .now)
+returns c = let a = c .before .before .args in tail-part (a .from) (a .bytes .now)
 
 sub-result-2 : tie.Need-sub-result-2
 sub-result-2 c = search needs
@@ -26,7 +26,7 @@ part-result-end-2 : tie.Need-part-result-end-2
 part-result-end-2 c = search needs
 
 returns-2 : tie.Need-returns-2
-returns-2 c = let a = c .before .before .args in tail-none (a .n) (a .s .now) (c .before .if1 .left)
+returns-2 c = let a = c .before .before .args in tail-none (a .from) (a .bytes .now) (c .before .if1 .left)
 
 pub tail-spec : {M : Type 1} → statement M
 tail-spec =

@@ -1,0 +1,2 @@
+-- Parts of a line, and what answers it.
+pub mod Answering

@@ -1,0 +1,2 @@
+pub mod SheetSays
+pub mod Answering

@@ -1,0 +1,192 @@
+// A whole sheet in one call: a file is checked once, and each line of a list of queries answered.
+
+use answers::answer_line;
+use areas::clear_bytes;
+use areas::store_number;
+use checker::check_file;
+use checker::is_refused;
+use model::Answer;
+use model::Refusal;
+use model::number_of;
+use runner::run::Ran;
+use runner::run::prepare;
+use split::count_lines;
+use split::line_end;
+ghost use mathlib.Core.Path.{_≡_};
+ghost use mathlib.Core.Bool.{_||_};
+ghost use mathlib.Core.List.{List, [], _∷_};
+ghost use Prim.Native.Nat.{_+_, _*_, _%_, _≤_};
+ghost use lib.ListN.{length};
+ghost use lib.Seq.{sets};
+ghost use Rattle.model.specs.Lines.{Row as RowOf, lines};
+ghost use Rattle.model.specs.Services.{short, accepted, answerOfRun};
+ghost use Rattle.model.specs.Desk.{queryOf, answerTo};
+ghost use Rattle.model.specs.Sheet.{narrowSheet};
+ghost use Rattle.model.specs.Code.{numberOf};
+ghost use Rattle.runner.specs.RunSays.{Prepared};
+ghost use Rattle.sheets.specs.Answering.{OneAnswered, AllAnswered};
+ghost use Rattle.sheets.specs.SheetSays.{SheetSays};
+
+// The answer to the file, and how many queries were answered.
+pub struct Answered {
+    pub answer: Answer,
+    pub queries: usize,
+}
+
+// A refusal of the whole call, at no line.
+fn refused(f: Refusal) -> Answered
+    ensures { λ r. ⌜ (r .answer .refusal ≡ f) × (r .answer .place ≡ 0) × (r .queries ≡ 0) ⌝ }
+{
+    Answered {
+        answer: Answer {
+            place: 0,
+            refusal: f,
+        },
+        queries: 0,
+    }
+}
+
+// Whether a lent area is too short for a file or for n queries.
+fn is_short(table: &[u16], work: &[u8], numbers: &[u32], letters: &[u8], n: usize) -> bool
+    ensures { λ r. ⌜ r ≡ (short (now (table .entry)) (now (work .entry)) || narrowSheet n (now (numbers .entry)) (now (letters .entry))) ⌝ }
+{
+    if table.len() < 16384 {
+        return true;
+    }
+    if work.len() < 65536 {
+        return true;
+    }
+    if numbers.len() / 3 < n {
+        return true;
+    }
+    letters.len() / 127 < n
+}
+
+// A number of 8 bits in 32.
+fn widen(n: u8) -> u32
+    ensures { λ r. ⌜ r ≡ n ⌝ }
+{
+    n as u32
+}
+
+// The 32 low bits of a number.
+fn narrow(n: usize) -> u32
+    ensures { λ r. ⌜ r ≡ n % 4294967296 ⌝ }
+{
+    (n % 4294967296) as u32
+}
+
+// Stores a run's number, count and length from place `at` on.
+fn put_three(numbers: &mut [u32], at: usize, r: Ran)
+    requires { ⌜ at + 3 ≤ length (now numbers) ⌝ }
+    ensures { λ z. ⌜ now (numbers .exit) ≡ sets (now (numbers .entry)) at (numberOf (r .refusal) ∷ (r .count ∷ (r .length % 4294967296 ∷ []))) ⌝ }
+{
+    let f = r.refusal;
+    let n = number_of(f);
+    store_number(numbers, at, widen(n));
+    store_number(numbers, at + 1, r.count);
+    store_number(numbers, at + 2, narrow(r.length));
+}
+
+// Answers query k, whose line is given, into its three numbers and its 127 bytes.
+fn answer_one(
+    t: &[u16],
+    base: usize,
+    index: &[u16],
+    isos: usize,
+    line: &[u8],
+    k: usize,
+    work: &mut [u8],
+    numbers: &mut [u32],
+    letters: &mut [u8],
+)
+    requires { ⌜ (k * 3 + 3 ≤ length (now numbers)) × (k * 127 + 127 ≤ length (now letters)) ⌝ }
+    ensures { λ z. ⌜ ((rs : List RowOf) → Prepared (now (t .entry)) base (now (index .entry)) isos rs → 40960 ≤ length (now (work .entry)) → length (now (work .entry)) ≤ 65536 → OneAnswered (answerOfRun (answerTo (accepted rs) (queryOf (now (line .entry))))) k (now (numbers .entry)) (now (letters .entry)) (now (numbers .exit)) (now (letters .exit))) ⌝ }
+{
+    let from = k * 127;
+    let end = from + 127;
+    let r = answer_line(t, base, index, isos, line, work, &mut letters[from..end]);
+    put_three(numbers, k * 3, r);
+}
+
+// Answers the queries on a checked table, one line after the other.
+fn answer_lines(
+    t: &[u16],
+    base: usize,
+    index: &[u16],
+    isos: usize,
+    queries: &[u8],
+    work: &mut [u8],
+    numbers: &mut [u32],
+    letters: &mut [u8],
+)
+    requires { ⌜ (length (lines (now queries)) * 3 ≤ length (now numbers)) × (length (lines (now queries)) * 127 ≤ length (now letters)) ⌝ }
+    ensures { λ z. ⌜ ((rs : List RowOf) → Prepared (now (t .entry)) base (now (index .entry)) isos rs → 40960 ≤ length (now (work .entry)) → length (now (work .entry)) ≤ 65536 → AllAnswered rs (now (queries .entry)) (now (numbers .entry)) (now (letters .entry)) (now (numbers .exit)) (now (letters .exit))) ⌝ }
+{
+    let mut at: usize = 0;
+    let mut k: usize = 0;
+    while at < queries.len() {
+        let end = line_end(queries, at);
+        answer_one(
+            t,
+            base,
+            index,
+            isos,
+            &queries[at..end],
+            k,
+            work,
+            numbers,
+            letters,
+        );
+        k += 1;
+        at = end;
+    }
+}
+
+// Checks a file and answers up to 600 queries, one a line. The table needs 16,384 numbers, the work area
+// 65,536 bytes, the numbers three elements for each query and the letters 127 bytes; a refusal of the
+// call leaves numbers and letters untouched.
+pub fn sheet(
+    file: &[u8],
+    table: &mut [u16],
+    work: &mut [u8],
+    queries: &[u8],
+    numbers: &mut [u32],
+    letters: &mut [u8],
+) -> Answered
+    ensures { λ r. ⌜ SheetSays (now (file .entry)) (now (table .entry)) (now (work .entry)) (now (queries .entry)) (now (numbers .entry)) (now (letters .entry)) (now (table .exit)) (now (work .exit)) (now (numbers .exit)) (now (letters .exit)) r ⌝ }
+{
+    let n = count_lines(queries);
+    if is_short(table, work, numbers, letters, n) {
+        return refused(Refusal::ShortArea);
+    }
+    if 600 < n {
+        return refused(Refusal::TooLong);
+    }
+    let c = check_file(file, table, work);
+    let a = c.answer;
+    let f = a.refusal;
+    if is_refused(f) {
+        return Answered {
+            answer: a,
+            queries: 0,
+        };
+    }
+    let mut index = [0u16; 1090];
+    prepare(table, c, &mut index);
+    answer_lines(
+        table,
+        c.types,
+        &index,
+        c.isos,
+        queries,
+        &mut work[0..65536],
+        numbers,
+        letters,
+    );
+    clear_bytes(work, 65536);
+    Answered {
+        answer: a,
+        queries: n,
+    }
+}
