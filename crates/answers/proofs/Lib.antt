@@ -1,2 +1,2 @@
--- Parts of a line, and what answers it.
+-- What answers a line.
 pub mod Answering

@@ -6,7 +6,7 @@ use mathlib.Core.Path.{_≡_, refl, sym, ap, ap₂, _∙_, subst}
 use mathlib.Core.Bool.{_||_}
 use mathlib.Core.Option.{none}
 use mathlib.Core.List.{List, []}
-use lib.ListN.{length, take, drop, length-append}
+use lib.ListN.{length, take, drop}
 use lib.Seq.{take-append-seam}
 use borrow.Author.Tests.{le-ltb}
 use Rattle.model.specs.Limits.{tableLength, workLength}
@@ -15,6 +15,7 @@ use Rattle.model.specs.Services.{Verdict, accepted, refused, verdict, unless, a
 use Rattle.model.specs.Desk.{queryLine, fileLine}
 use Rattle.model.specs.Code.{refusalView, numberOf, numbered}
 use Rattle.model.proofs.Files.{number-positive}
+use Rattle.model.proofs.Sheets.{written-fits}
 use Rattle.areas.specs.Areas.{Writes}
 use Rattle.checker.specs.CheckSays.{CheckSays, Accepted}
 use Rattle.checker.specs.declared.Checked as C
@@ -81,7 +82,7 @@ judged-file s t w {t′} {w′} {out} {out′} {at} {n} {end} c says accepts e w
 
 -- the letters of a run fit its result area
 letters-fit : (a : RunAnswer) {o o′ : List ℕ} {r : R.Ran} → RanAs a o o′ r → length o ≡ 127 → length o′ ≡ length o → length (a .letters) ≤ 127
-letters-fit a {o} {o′} ran e k = omega (arith, e, k, ap length (ran .result) ∙ length-append (a .letters) (drop (length (a .letters)) o))
+letters-fit a {o} {o′} ran e k = omega (arith, e, written-fits (a .letters) o (ap length (sym (ran .result)) ∙ k))
 
 -- and are its first bytes
 letters-there : (a : RunAnswer) {o o′ : List ℕ} {r : R.Ran} → RanAs a o o′ r → take (r .length) o′ ≡ a .letters

@@ -17,8 +17,6 @@ use Rattle.queries.specs.Stream.{answered}
 use Rattle.queries.proofs.Streaming.{verdict-cap, answered-cap}
 use Rattle.desk.specs.DeskSays.{fileRoom, lineRoom, Holds}
 
--- ---- parts of a slice
-
 -- ---- one byte more
 
 -- there is room: the byte is stored behind the others

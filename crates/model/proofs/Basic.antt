@@ -92,6 +92,10 @@ pub true-or-right : (a : Bool) {b : Bool} → b ≡ true → (a || b) ≡ true
 true-or-right true p = refl
 true-or-right false p = p
 
+pub neither : (a b : Bool) → (a || b) ≡ false → (a ≡ false) × (b ≡ false)
+neither true b e = absurd (true≢false e)
+neither false b e = (refl, e)
+
 pub not-true : (b : Bool) → not b ≡ true → b ≡ false
 not-true true e = absurd (false≢true e)
 not-true false e = refl

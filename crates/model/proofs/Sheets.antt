@@ -4,7 +4,7 @@ use Prim.Native.Nat.{ℕ, zero, suc, _+_, _*_, _≤_, _<_}
 use native.Mathlib.Nat.{ne-of-gt}
 use native.Mathlib.Omega.{arith}
 use mathlib.Core.Path.{_≡_, refl, sym, ap, ap₂, _∙_, subst}
-use mathlib.Core.Bool.{Bool, true, false, cond, _||_, true≢false}
+use mathlib.Core.Bool.{Bool, true, false, cond, _||_}
 use mathlib.Core.Option.{Option, none, some}
 use mathlib.Core.List.{List, [], _∷_, _++_, map, map-map, List·Memᴰ, List·Memᴰ·head, List·Memᴰ·tail}
 use lib.Dec.{ltb}
@@ -18,15 +18,19 @@ use Rattle.model.specs.Services.{Verdict, accepted, refused, verdict, an
 use Rattle.model.specs.Services.{filled, written, tableAfter, workAfter, short, unless}
 use Rattle.model.specs.Desk.{Query, queryOf, answerTo, queryLine, queryAnswers}
 use Rattle.model.specs.Sheet.{answersTo, three, numbersAfter, lettersAfter, narrowSheet, sheetVerdict, sheet}
-use Rattle.model.proofs.Basic.{none≢some, some-inj, le-leb, lt-ltb, ltb-false, not-ltb, each-nil, each-map, index-map, index-of-map, index-below}
+use Rattle.model.proofs.Basic.{neither, none≢some, some-inj, le-leb, lt-ltb, ltb-false, not-ltb, each-nil, each-map, index-map, index-of-map, index-below}
 use Rattle.model.proofs.Files.{number-positive, answer-zero}
 use Rattle.model.proofs.Sizes.{short-result}
 
 -- ---- the area of numbers
 
--- what is written into an area keeps its length
-written-length : (bs area : List ℕ) → length bs ≤ length area → length (written bs area) ≡ length area
+-- an area keeps its length where what is written fits
+pub written-length : (bs area : List ℕ) → length bs ≤ length area → length (written bs area) ≡ length area
 written-length bs area h = omega (arith, length-append bs (drop (length bs) area), length-drop (length bs) area)
+
+-- and only there
+pub written-fits : (bs area : List ℕ) → length (written bs area) ≡ length area → length bs ≤ length area
+written-fits bs area e = omega (arith, e, length-append bs (drop (length bs) area))
 
 -- three numbers an answer
 threes-length : (rs : List RunAnswer) → length (concat (map three rs)) ≡ length rs * 3
@@ -185,10 +189,6 @@ no-letters (accepted rs) ls k e h =
 
 -- ---- which calls are refused
 
-or-false : (a b : Bool) → (a || b) ≡ false → (a ≡ false) × (b ≡ false)
-or-false true b e = absurd (true≢false e)
-or-false false b e = (refl, e)
-
 false-or : {a b : Bool} → a ≡ false → b ≡ false → (a || b) ≡ false
 false-or p q = ap₂ _||_ p q
 
@@ -199,7 +199,8 @@ pub record Room (t w queries numbers letters : List ℕ) : Type 0 where
   pub ofNumbers : length (lines queries) * 3 ≤ length numbers
   pub ofLetters : length (lines queries) * resultLength ≤ length letters
 
-long-enough : (t w : List ℕ) → tableLength ≤ length t → workLength ≤ length w → short t w ≡ false
+-- the table and the work area are long enough
+pub long-enough : (t w : List ℕ) → tableLength ≤ length t → workLength ≤ length w → short t w ≡ false
 long-enough t w p q = false-or (not-ltb p) (not-ltb q)
 
 -- an accepted verdict passed both tests before it
@@ -240,9 +241,9 @@ module _ (file t w queries numbers letters : List ℕ) where
 
   narrow-room : narrow ≡ false → Room t w queries numbers letters
   narrow-room e =
-      let p = or-false (short t w) (narrowSheet count numbers letters) e in
-      let q = or-false (ltb (length t) tableLength) (ltb (length w) workLength) (p .0) in
-      let r = or-false (ltb (length numbers) (count * 3)) (ltb (length letters) (count * resultLength)) (p .1) in
+      let p = neither (short t w) (narrowSheet count numbers letters) e in
+      let q = neither (ltb (length t) tableLength) (ltb (length w) workLength) (p .0) in
+      let r = neither (ltb (length numbers) (count * 3)) (ltb (length letters) (count * resultLength)) (p .1) in
       record {
         table = ltb-false (length t) tableLength (q .0);
         work = ltb-false (length w) workLength (q .1);

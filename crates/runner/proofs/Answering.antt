@@ -3,7 +3,7 @@ use Prim.Native.Nat.{ℕ, _+_, _-_, _≤_, _<_, min}
 use native.Mathlib.Omega.{arith}
 use native.Mathlib.Nat.{sub-zero}
 use mathlib.Core.Path.{_≡_, refl, sym, ap, ap₂, _∙_, subst}
-use mathlib.Core.Bool.{Bool, true, false, _||_, or-true, or-false, true≢false}
+use mathlib.Core.Bool.{Bool, true, false, _||_, or-true, or-false}
 use mathlib.Core.Option.{none, some}
 use mathlib.Core.List.{List, [], _++_}
 use lib.Dec.{ltb}
@@ -18,7 +18,7 @@ use Rattle.model.specs.Lines.{Row}
 use Rattle.model.specs.Services.{Verdict, accepted, refused, verdict, filled, written, tableAfter, workAfter, short, unless, answerOf, check, answerOfRun, runOf, runService}
 use Rattle.model.specs.Code.{refusalView, numberOf, numbered}
 use Rattle.model.specs.declared.Answer as A
-use Rattle.model.proofs.Basic.{isSome-true, ltb-false}
+use Rattle.model.proofs.Basic.{isSome-true, ltb-false, neither}
 use Rattle.areas.specs.Areas.{cleared}
 use Rattle.checker.specs.CheckSays.{CheckSays, Accepted}
 use Rattle.checker.specs.declared.Checked as C
@@ -28,10 +28,6 @@ use Rattle.runner.specs.declared.run.Ran as R
 use Rattle.runner.specs.RunSays.{Prepared, answerFor, RanAs, RunSays}
 
 -- neither of two is so
-or-right : (a b : Bool) → (a || b) ≡ false → b ≡ false
-or-right true b e = absurd (true≢false e)
-or-right false b e = e
-
 -- ---- Run, by the verdict
 
 -- an answer and areas that agree with a verdict
@@ -109,7 +105,7 @@ whole s t w t′ w′ c b says acc e y =
     record {
       file = a;
       verdict-is = v;
-      work-long = ltb-false (length w) workLength (or-right (ltb (length t) tableLength) (ltb (length w) workLength) (u .0));
+      work-long = ltb-false (length w) workLength (neither (ltb (length t) tableLength) (ltb (length w) workLength) (u .0) .1);
       work-is = says .work ∙ ap (λ x. workAfter x w) v;
       table-is = says .table ∙ ap (λ x. tableAfter x t) v;
     }

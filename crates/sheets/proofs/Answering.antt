@@ -13,16 +13,13 @@ use Rattle.model.specs.Services.{accepted, RunAnswer, answerOfRun, written}
 use Rattle.model.specs.Desk.{queryOf, answerTo}
 use Rattle.model.specs.Sheet.{answersTo, three, numbersAfter, lettersAfter}
 use Rattle.model.specs.Code.{numberOf}
+use Rattle.model.proofs.Sheets.{written-length, written-fits}
 use Rattle.split.specs.Split.{LineEnd}
 use Rattle.runner.specs.RunSays.{Prepared, RanAs}
 use Rattle.runner.specs.declared.run.Ran as R
 use Rattle.sheets.specs.Answering.{withPart, OneAnswered, AllAnswered}
 
 -- ---- one query
-
--- bytes at the front of an area that keeps its length
-written-fits : (bs o : List ℕ) → length (written bs o) ≡ length o → length bs ≤ length o
-written-fits bs o e = omega (arith, e, length-append bs (drop (length bs) o))
 
 -- the three numbers of a run are those of its answer
 three-told : (a : RunAnswer) (r : R.Ran) {o o′ : List ℕ} → RanAs a o o′ r → length (a .letters) ≤ resultLength
@@ -87,7 +84,7 @@ letters-onward a bs k o o′ h fits e =
     let front : length (take (k * 127) o) ≡ k * 127 = length-take-le (k * 127) o (omega arith) in
     let size : length part ≡ 127 = length-take-le 127 (drop (k * 127) o) (omega (arith, length-drop (k * 127) o)) in
     let wide : length (written (a .letters) part) ≡ 127 =
-    length-append (a .letters) (drop (length (a .letters)) part) ∙ omega (arith, size, length-drop (length (a .letters)) part) in
+    written-length (a .letters) part (omega (arith, size, fits)) ∙ size in
     onward (lettersAfter bs) (take (k * 127) o) (written (a .letters) part) (drop 127 (drop (k * 127) o)) ((k + 1) * 127) e (omega (arith, front, wide))
 
 -- ---- all queries

@@ -2,8 +2,8 @@
 use Prim.Native.Nat.{ℕ, suc, _+_, _*_, _/_, _≤_, _<_}
 use native.Mathlib.Nat.{div-lt-iff-lt-mul, le-div-iff-mul-le}
 use native.Mathlib.Omega.{arith}
-use mathlib.Core.Path.{_≡_, refl, sym, ap, ap₂, _∙_}
-use mathlib.Core.Bool.{Bool, true, false, _||_, true≢false}
+use mathlib.Core.Path.{_≡_, sym, ap, ap₂, _∙_}
+use mathlib.Core.Bool.{true, false, _||_}
 use mathlib.Core.Logic.{_⊎_, inl, inr}
 use mathlib.Core.List.{List, [], _∷_}
 use lib.Dec.{ltb}
@@ -12,7 +12,8 @@ use lib.Seq.{sets}
 use Rattle.model.specs.Limits.{resultLength, workLength, tableLength}
 use Rattle.model.specs.Services.{short}
 use Rattle.model.specs.Sheet.{narrowSheet}
-use Rattle.model.proofs.Basic.{bool-cases, lt-ltb, not-ltb, ltb-lt, ltb-false}
+use Rattle.model.proofs.Sheets.{long-enough}
+use Rattle.model.proofs.Basic.{bool-cases, neither, lt-ltb, not-ltb, ltb-lt, ltb-false}
 
 -- ---- short areas
 
@@ -30,19 +31,15 @@ short-table t w n o m h = sym (ap (λ b. (b || ltb (length w) workLength) || nar
 pub short-work : (t w n o : List ℕ) (m : ℕ) → tableLength ≤ length t → length w < workLength → true ≡ (short t w || narrowSheet m n o)
 short-work t w n o m h k = sym (ap₂ (λ a b. (a || b) || narrowSheet m n o) (not-ltb h) (lt-ltb k))
 
--- the table and the work area are long enough
-not-short : (t w : List ℕ) → tableLength ≤ length t → workLength ≤ length w → short t w ≡ false
-not-short t w h k = ap₂ (λ a b. a || b) (not-ltb h) (not-ltb k)
-
 pub short-numbers : (t w n o : List ℕ) (m : ℕ) → tableLength ≤ length t → workLength ≤ length w → length n / 3 < m → true ≡ (short t w || narrowSheet m n o)
 short-numbers t w n o m h k l =
-    sym (ap₂ (λ a b. a || (b || ltb (length o) (m * resultLength))) (not-short t w h k) (sym (parts 3 (length n) m (omega arith)) ∙ lt-ltb l))
+    sym (ap₂ (λ a b. a || (b || ltb (length o) (m * resultLength))) (long-enough t w h k) (sym (parts 3 (length n) m (omega arith)) ∙ lt-ltb l))
 
 pub short-letters : (t w n o : List ℕ) (m : ℕ) → tableLength ≤ length t → workLength ≤ length w → m ≤ length n / 3
     → ltb (length o / resultLength) m ≡ (short t w || narrowSheet m n o)
 short-letters t w n o m h k l =
     parts resultLength (length o) m (omega arith)
-    ∙ sym (ap₂ (λ a b. a || (b || ltb (length o) (m * resultLength))) (not-short t w h k) (sym (parts 3 (length n) m (omega arith)) ∙ not-ltb l))
+    ∙ sym (ap₂ (λ a b. a || (b || ltb (length o) (m * resultLength))) (long-enough t w h k) (sym (parts 3 (length n) m (omega arith)) ∙ not-ltb l))
 
 -- what areas that are long enough have room for
 pub record Roomy (t w n o : List ℕ) (m : ℕ) : Type 0 where
@@ -51,15 +48,11 @@ pub record Roomy (t w n o : List ℕ) (m : ℕ) : Type 0 where
   pub numbers : m * 3 ≤ length n
   pub letters : m * resultLength ≤ length o
 
-or-false : (a b : Bool) → (a || b) ≡ false → (a ≡ false) × (b ≡ false)
-or-false true b e = absurd (true≢false e)
-or-false false b e = (refl, e)
-
 pub roomy : (t w n o : List ℕ) (m : ℕ) → (short t w || narrowSheet m n o) ≡ false → Roomy t w n o m
 roomy t w n o m e =
-    let a = or-false (short t w) (narrowSheet m n o) e in
-    let b = or-false (ltb (length n) (m * 3)) (ltb (length o) (m * resultLength)) (a .1) in
-    let c = or-false (ltb (length t) tableLength) (ltb (length w) workLength) (a .0) in
+    let a = neither (short t w) (narrowSheet m n o) e in
+    let b = neither (ltb (length n) (m * 3)) (ltb (length o) (m * resultLength)) (a .1) in
+    let c = neither (ltb (length t) tableLength) (ltb (length w) workLength) (a .0) in
     record {
       enough = a .0;
       works = ltb-false (length w) workLength (c .1);

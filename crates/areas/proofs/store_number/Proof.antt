@@ -1,3 +1,4 @@
+-- `areas::store_number` meets its contract: past the end nothing is stored. Assumes nothing.
 use lib.Seq.{set-out}
 use mathlib.Core.Path.{sym}
 use borrow.Author.Needs.{needs}
