@@ -1,8 +1,8 @@
 // A query's line, answered on a checked table.
 
-use areas::front;
-use areas::tail;
 use model::Refusal;
+use parts::front;
+use parts::tail;
 use queries::Asked;
 use queries::Query;
 use queries::query_of;

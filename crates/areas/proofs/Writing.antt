@@ -1,5 +1,5 @@
--- Bytes written into an area one after the other; numbers of 16 bits.
-use Prim.Native.Nat.{ℕ, suc, _+_, _%_, _≤_, _<_}
+-- Bytes written into an area one after the other.
+use Prim.Native.Nat.{ℕ, suc, _+_, _≤_, _<_}
 use native.Mathlib.Nat.{add-zero, add-suc, suc-add}
 use native.Mathlib.Numerals.{add-one}
 use native.Mathlib.Omega.{arith}
@@ -11,10 +11,6 @@ use lib.ListN.{length, set, length-set, length-append}
 use lib.Seq.{sets}
 use borrow.Author.Tests.{lt-ltb, le-ltb}
 use Rattle.areas.specs.Areas.{Writes}
-
--- a number of at most 16 bits is its 16 low bits
-pub narrow-same : {n r : ℕ} → r ≡ n % 65536 → n < 65536 → r ≡ n
-narrow-same e h = omega arith
 
 -- the place behind a byte, within the area and past it
 pub place-in : (l : List ℕ) (at : ℕ) → at < length l → at + 1 ≡ cond (ltb at (length l)) (suc at) at

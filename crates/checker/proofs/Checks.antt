@@ -23,7 +23,7 @@ use Rattle.model.specs.declared.Answer as A
 use Rattle.model.specs.declared.Refusal as F
 use Rattle.model.proofs.Basic.{none≢some, some-inj, isSome-true}
 use Rattle.model.proofs.Printing.{read-rows}
-use Rattle.areas.specs.Areas.{cleared}
+use Rattle.parts.specs.Cleared.{cleared}
 use lib.Seq.{drop-append-add, drop-drop, drop-at}
 use Rattle.nodes.specs.Walk.{FileIn, isoRows, whenIso}
 use Rattle.nodes.proofs.Rows.{isos-told}
@@ -32,7 +32,7 @@ use Rattle.lines.specs.Reads.{Holds, ReadSays}
 use Rattle.lines.specs.declared.read.Read as R
 use Rattle.lines.proofs.Filing.{filed, rows-few}
 use Rattle.checker.specs.declared.Checked as C
-use Rattle.checker.specs.CheckSays.{CheckSays, Outcome, Loaded, Accepted}
+use Rattle.checker.specs.CheckSays.{CheckSays, Outcome, Loaded, Accepted, Filed, Early}
 
 -- ---- the areas
 
@@ -447,30 +447,64 @@ accepted-rows s t₀ t₁ a hb hl o held b e h c types patterns isos lines′ =
       isos = isos ∙ l .isos;
     }
 
--- no rows are owed of a refused file
-pub refused-rows : (s t : List ℕ) (c : C.Checked) {f : Refusal} → refusalView (c .answer .refusal) ≡ some f → refusalView (c .answer .refusal) ≡ none → Accepted s t c
-refused-rows s t c e h = absurd (none≢some (sym h ∙ e))
-
+-- nothing is owed of a refused file
 pub refused-flag : {P : Type 0} (x y : F.Refusal) (b : Bool) → b ≡ isSome (refusalView x) → b ≡ true → y ≡ x → refusalView y ≡ none → P
 refused-flag x y b e h same n =
     let g = flag-some b (refusalView x) e h in absurd (none≢some (sym n ∙ ap refusalView same ∙ g .1))
 
--- an answer with the same place and refusal says the same
-pub says-same : {s t w t′ w′ : List ℕ} (a r : A.Answer) → CheckSays s t w t′ w′ a → r .place ≡ a .place → r .refusal ≡ a .refusal → CheckSays s t w t′ w′ r
-says-same a r c p f =
-    record { number = ap numberOf f ∙ c .number; line = p ∙ c .line; table = c .table; work = c .work }
+-- ---- the table, filled or cleared again
 
--- and an outcome too
-pub outcome-same : {s t₀ t₁ : List ℕ} (a r : A.Answer) → Outcome s t₀ t₁ a → r .place ≡ a .place → r .refusal ≡ a .refusal → Outcome s t₀ t₁ r
-outcome-same a r o p f =
-    let view : refusalView (a .refusal) ≡ refusalView (r .refusal) = ap refusalView (sym f) in
-    record {
-      accepts = λ e. o .accepts (view ∙ e);
-      refuses = λ g e. o .refuses g (view ∙ e) ∙ ap (refused g) (sym p);
-      later = λ g e. o .later g (view ∙ e);
-      wide = o .wide;
-      behind = o .behind;
-    }
+pub filed-refused : (s t t₀ t₁ t′ : List ℕ) (c : C.Checked) (b : Bool) → tableLength ≤ length t → length (lines s) ≤ maxLines → t₀ ≡ cleared tableLength t
+    → Outcome s t₀ t₁ (c .answer) → b ≡ isSome (refusalView (c .answer .refusal)) → b ≡ true → t′ ≡ cleared tableLength t₁ → Filed s t t′ c
+filed-refused s t t₀ t₁ t′ c b ht hl e₀ o e h et = record {
+  says = λ w w′ hw hb ew. says-later s t w t₀ t₁ t′ w′ (c .answer) b ht hw hb hl e₀ o e h et ew;
+  accepts = λ hb n. refused-flag (c .answer .refusal) (c .answer .refusal) b e h refl n;
+}
+
+pub filed-accepted : (s t t₀ t₁ : List ℕ) (a : C.Checked) (b : Bool) → tableLength ≤ length t → length (lines s) ≤ maxLines → t₀ ≡ cleared tableLength t
+    → Outcome s t₀ t₁ (a .answer) × (refusalView (a .answer .refusal) ≡ none → Loaded s t₁ a) → b ≡ isSome (refusalView (a .answer .refusal)) → b ≡ false
+    → (c : C.Checked)
+    → (refusalView (c .answer .refusal) ≡ none) × (c .answer .place ≡ 0) × (c .types ≡ a .types) × (c .patterns ≡ a .patterns) × (c .isos ≡ a .isos) × (c .lines ≡ a .lines)
+    → Filed s t t₁ c
+filed-accepted s t t₀ t₁ a b ht hl e₀ o e h c (passed, first, types, patterns, isos, lines′) = record {
+  says = λ w w′ hw hb ew. says-accepted s t w t₀ t₁ w′ (a .answer) (c .answer) b ht hw hb hl e₀ (o .0) e h passed first ew;
+  accepts = λ hb n. accepted-rows s t₀ t₁ a hb hl (o .0) (o .1) b e h c types patterns isos lines′;
+}
+
+-- ---- before anything is read
+
+early-refused : (s : List ℕ) (table work : ℕ) (x : F.Refusal) (f : Refusal) → refusalView x ≡ some f
+    → ((t w : List ℕ) → length t ≡ table → length w ≡ work → (r : A.Answer) → refusalView (r .refusal) ≡ some f → r .place ≡ 0 → CheckSays s t w t w r)
+    → Early s table work x
+early-refused s table work x f e says = record {
+  passes = λ n. absurd (none≢some (sym n ∙ e));
+  refuses = λ g k t w et ew r er ep. says t w et ew r (ap refusalView er ∙ e) ep;
+}
+
+module _ (s : List ℕ) (table work : ℕ) (x : F.Refusal) where
+  pub early-table : refusalView x ≡ some shortArea → table < tableLength → Early s table work x
+  early-table e h = early-refused s table work x shortArea e (λ t w et ew r n p. short-table s t w r (subst (λ m. m < tableLength) (sym et) h) n p)
+
+  pub early-work : refusalView x ≡ some shortArea → work < workLength → Early s table work x
+  early-work e h = early-refused s table work x shortArea e (λ t w et ew r n p. short-work s t w r (subst (λ m. m < workLength) (sym ew) h) n p)
+
+  pub early-long : refusalView x ≡ some tooLong → tableLength ≤ table → workLength ≤ work → verdict s ≡ refused tooLong 0 → Early s table work x
+  early-long e ht hw v =
+      early-refused s table work x tooLong e
+      (λ t w et ew r n p. too-long s t w r (subst (λ m. tableLength ≤ m) (sym et) ht) (subst (λ m. workLength ≤ m) (sym ew) hw) v n p)
+
+  pub early-none : refusalView x ≡ none → tableLength ≤ table → workLength ≤ work → length s ≤ maxBytes → length (lines s) ≤ maxLines → Early s table work x
+  early-none e ht hw hb hl = record {
+    passes = λ n. (ht, hw, hb, hl);
+    refuses = λ f k. absurd (none≢some (sym e ∙ k));
+  }
+
+  module _ (b : Bool) (h : Early s table work x) (e : b ≡ isSome (refusalView x)) where
+    pub early-says : b ≡ true → (t w : List ℕ) → length t ≡ table → length w ≡ work → (r : A.Answer) → r .refusal ≡ x → r .place ≡ 0 → CheckSays s t w t w r
+    early-says k = let g = flag-some b (refusalView x) e k in h .refuses (g .0) (g .1)
+
+    pub early-passes : b ≡ false → (tableLength ≤ table) × (workLength ≤ work) × (length s ≤ maxBytes) × (length (lines s) ≤ maxLines)
+    early-passes k = h .passes (flag-none b (refusalView x) e k)
 
 -- ---- for the services that go on from Check
 

@@ -4,7 +4,7 @@ use mathlib.Core.Path.{_≡_}
 use mathlib.Core.Option.{none, some}
 use mathlib.Core.List.{List, _++_, map}
 use lib.ListN.{length, drop}
-use Rattle.model.specs.Limits.{tableLength, rowWidth}
+use Rattle.model.specs.Limits.{maxBytes, maxLines, tableLength, workLength, rowWidth}
 use Rattle.model.specs.Tools.{concat}
 use Rattle.model.specs.Refusals.{Refusal, number}
 use Rattle.model.specs.Lines.{Row, lines, numbers}
@@ -14,6 +14,8 @@ use Rattle.model.specs.Clauses.{fault}
 use Rattle.model.specs.Services.{check, afterReading, refused, accepted, verdict}
 use Rattle.model.specs.Code.{numberOf, refusalView}
 use Rattle.model.specs.declared.Answer as A
+use Rattle.model.specs.declared.Refusal as F
+use Rattle.parts.specs.Cleared.{cleared}
 use Rattle.nodes.specs.Walk.{FileIn}
 use Rattle.checker.specs.declared.Checked as C
 
@@ -47,3 +49,15 @@ pub record Accepted (s t : List ℕ) (c : C.Checked) : Type 0 where
   pub accepts : verdict s ≡ accepted file
   pub table : FileIn t (c .types) (c .patterns) (c .lines) file
   pub isos : c .isos ≡ length (isosOf file)
+
+-- a file that is not too long, and a table, t before and t′ after: whatever work area is cleared beside it, Check says this
+pub record Filed (s t t′ : List ℕ) (c : C.Checked) : Type 0 where
+  pub says : (w w′ : List ℕ) → workLength ≤ length w → length s ≤ maxBytes → w′ ≡ cleared workLength w → CheckSays s t w t′ w′ (c .answer)
+  pub accepts : length s ≤ maxBytes → refusalView (c .answer .refusal) ≡ none → Accepted s t′ c
+
+-- what stands before any reading: with no refusal the areas are long enough and the file is short enough, and a refusal is Check's answer and
+-- leaves both areas as they are
+pub record Early (s : List ℕ) (table work : ℕ) (x : F.Refusal) : Type 0 where
+  pub passes : refusalView x ≡ none → (tableLength ≤ table) × (workLength ≤ work) × (length s ≤ maxBytes) × (length (lines s) ≤ maxLines)
+  pub refuses : (f : Refusal) → refusalView x ≡ some f → (t w : List ℕ) → length t ≡ table → length w ≡ work → (r : A.Answer) → r .refusal ≡ x
+      → r .place ≡ 0 → CheckSays s t w t w r

@@ -1,11 +1,11 @@
 // Check: the file's bytes, a table area and a work area in; a number and a line out.
 
-use areas::clear_bytes;
-use areas::clear_words;
 use isos::isos_fault;
 use lines::read::read_file;
 use model::Answer;
 use model::Refusal;
+use parts::clear_bytes;
+use parts::clear_words;
 use split::count_lines;
 ghost use mathlib.Core.Path.{_≡_};
 ghost use mathlib.Core.Option.{none};
@@ -15,7 +15,7 @@ ghost use Rattle.model.specs.Limits.{tableLength, maxLines};
 ghost use Rattle.model.specs.Lines.{lines};
 ghost use Rattle.model.specs.Tools.{isSome};
 ghost use Rattle.model.specs.Code.{refusalView};
-ghost use Rattle.checker.specs.CheckSays.{CheckSays, Outcome, Loaded, Accepted};
+ghost use Rattle.checker.specs.CheckSays.{CheckSays, Outcome, Loaded, Accepted, Filed, Early};
 
 // Whether a refusal is one.
 pub fn is_refused(f: Refusal) -> bool
@@ -23,21 +23,7 @@ pub fn is_refused(f: Refusal) -> bool
 {
     match f {
         Refusal::Nothing => false,
-        Refusal::ShortArea => true,
-        Refusal::TooLong => true,
-        Refusal::BadLine => true,
-        Refusal::Misplaced(_) => true,
-        Refusal::BadField(_) => true,
-        Refusal::BadName(_) => true,
-        Refusal::Ceiling(_) => true,
-        Refusal::Variable => true,
-        Refusal::LetShape => true,
-        Refusal::BadType => true,
-        Refusal::Overlap(_) => true,
-        Refusal::Gap(_) => true,
-        Refusal::NoIso => true,
-        Refusal::NoValue => true,
-        Refusal::Spent => true,
+        _ => true,
     }
 }
 
@@ -88,32 +74,10 @@ fn judged(file: &[u8], table: &mut [u16]) -> Checked
     }
 }
 
-// Check, for the services that go on from an accepted file: its rows are then in the table.
-pub fn check_file(file: &[u8], table: &mut [u16], work: &mut [u8]) -> Checked
-    ensures { λ r. ⌜ CheckSays (now (file .entry)) (now (table .entry)) (now (work .entry)) (now (table .exit)) (now (work .exit)) (r .answer) ⌝ }
-    ensures { λ r. ⌜ (refusalView (r .answer .refusal) ≡ none → Accepted (now (file .entry)) (now (table .exit)) r) ⌝ }
+// No refusal, and the lines as they were counted.
+fn accepted(c: Checked) -> Checked
+    ensures { λ r. ⌜ (refusalView (r .answer .refusal) ≡ none) × (r .answer .place ≡ 0) × (r .types ≡ c .types) × (r .patterns ≡ c .patterns) × (r .isos ≡ c .isos) × (r .lines ≡ c .lines) ⌝ }
 {
-    if table.len() < 16384 {
-        return refused(0, Refusal::ShortArea);
-    }
-    if work.len() < 65536 {
-        return refused(0, Refusal::ShortArea);
-    }
-    if 65536 < file.len() {
-        return refused(0, Refusal::TooLong);
-    }
-    if 4096 < count_lines(file) {
-        return refused(0, Refusal::TooLong);
-    }
-    clear_bytes(work, 65536);
-    clear_words(table, 16384);
-    let c = judged(file, table);
-    let a = c.answer;
-    let f = a.refusal;
-    if is_refused(f) {
-        clear_words(table, 16384);
-        return refused(a.place, f);
-    }
     Checked {
         answer: Answer {
             place: 0,
@@ -124,6 +88,54 @@ pub fn check_file(file: &[u8], table: &mut [u16], work: &mut [u8]) -> Checked
         isos: c.isos,
         lines: c.lines,
     }
+}
+
+// A file of at most 4,096 lines, its rows in a table that was cleared, or zeros where it is refused.
+fn filed(file: &[u8], table: &mut [u16]) -> Checked
+    requires { ⌜ (tableLength ≤ length (now table)) × (length (lines (now file)) ≤ maxLines) ⌝ }
+    ensures { λ r. ⌜ Filed (now (file .entry)) (now (table .entry)) (now (table .exit)) r ⌝ }
+{
+    clear_words(table, 16384);
+    let c = judged(file, table);
+    let a = c.answer;
+    let f = a.refusal;
+    if is_refused(f) {
+        clear_words(table, 16384);
+        return c;
+    }
+    accepted(c)
+}
+
+// Refusal 1 or 2 of a file and two areas of these lengths, or nothing.
+fn early(file: &[u8], table: usize, work: usize) -> Refusal
+    ensures { λ r. ⌜ Early (now (file .entry)) table work r ⌝ }
+{
+    if table < 16384 {
+        return Refusal::ShortArea;
+    }
+    if work < 65536 {
+        return Refusal::ShortArea;
+    }
+    if 65536 < file.len() {
+        return Refusal::TooLong;
+    }
+    if 4096 < count_lines(file) {
+        return Refusal::TooLong;
+    }
+    Refusal::Nothing
+}
+
+// Check, for the services that go on from an accepted file: its rows are then in the table.
+pub fn check_file(file: &[u8], table: &mut [u16], work: &mut [u8]) -> Checked
+    ensures { λ r. ⌜ CheckSays (now (file .entry)) (now (table .entry)) (now (work .entry)) (now (table .exit)) (now (work .exit)) (r .answer) ⌝ }
+    ensures { λ r. ⌜ (refusalView (r .answer .refusal) ≡ none → Accepted (now (file .entry)) (now (table .exit)) r) ⌝ }
+{
+    let f = early(file, table.len(), work.len());
+    if is_refused(f) {
+        return refused(0, f);
+    }
+    clear_bytes(work, 65536);
+    filed(file, table)
 }
 
 // Checks a file. The table needs 16,384 numbers, the work area 65,536 bytes; refusals 1 and 2 change

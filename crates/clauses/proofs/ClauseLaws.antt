@@ -15,11 +15,11 @@ use Rattle.model.specs.Clauses.{Deed, binds, uses, Event, deeds, letEvents, pla
 use Rattle.model.specs.Refusals.{Refusal, variable, letShape, badType}
 use Rattle.nodes.specs.Unfolding.{cellOf, typeOf, patternOf}
 use Rattle.nodes.specs.InTable.{letAt, letsIn, clauseIn, sigsIn}
-use Rattle.trees.specs.Marks.{markOne, markAll, markEvents, settledAll}
-use Rattle.trees.specs.Fitting.{Types, meetAll, entryView, viewIf, envView, freshEnv}
-use Rattle.trees.specs.declared.Env as E
-use Rattle.trees.specs.Rules.{Slotted, marked, shaped, fitLet, fittedLets, fitted}
-use Rattle.trees.proofs.Rules.{clause-fault-rule}
+use Rattle.marks.specs.Marks.{markOne, markAll, markEvents, settledAll}
+use Rattle.typing.specs.Fitting.{Types, meetAll, entryView, viewIf, envView, freshEnv}
+use Rattle.typing.specs.declared.Env as E
+use Rattle.typing.specs.Rules.{Slotted, marked, shaped, fitLet, fittedLets, fitted}
+use Rattle.typing.proofs.Rules.{clause-fault-rule}
 
 -- ---- the L lines from row n up to row `to`
 

@@ -1,6 +1,161 @@
-// The clauses of an iso, over the table: refusals 8 to 10 of a clause, 11 to 14 of an iso's sides.
+// Refusals 8 to 10 of a clause: its C row, and its L rows up to `end`. `starts` holds the rows of the I
+// lines. Of a C row past the table's 4096 rows nothing is said.
 
-// refusals 8 to 10 of a clause
-pub mod clause;
-// refusals 11 to 14 of an iso
-pub mod sides;
+use marks::Marks;
+use marks::mark;
+use marks::settled;
+use model::Refusal;
+use nodes::cell;
+use trees::is_plain;
+use typing::Env;
+use typing::fit;
+use typing::no_types;
+use words::wide;
+ghost use mathlib.Core.Path.{_≡_};
+ghost use mathlib.Core.List.{List};
+ghost use mathlib.Core.Option.{none};
+ghost use Prim.Native.Nat.{ℕ, _-_, _<_};
+ghost use lib.ListN.{getElem?, replicate};
+ghost use Rattle.model.specs.Limits.{maxLines, variables};
+ghost use Rattle.model.specs.Code.{refusalView};
+ghost use Rattle.model.specs.Clauses.{letEvents, clauseFault};
+ghost use Rattle.nodes.specs.Unfolding.{cellOf, typeOf};
+ghost use Rattle.marks.specs.Marks.{markEvents};
+ghost use Rattle.typing.specs.Fitting.{envView};
+ghost use Rattle.typing.specs.Rules.{Slotted, marked, shaped, fitLet, fittedLets, fitted};
+ghost use Rattle.nodes.specs.InTable.{letAt, letsIn, clauseIn, sigsIn};
+
+// No variable is bound yet.
+fn no_marks() -> Marks
+    ensures { λ r. ⌜ r .state ≡ replicate variables 0 ⌝ }
+{
+    Marks { state: [0u8; 32] }
+}
+
+// The marks after the L rows from `from` up to `to`: each uses the variables of q, then binds those of p.
+fn mark_lets(t: &[u16], base: usize, from: usize, to: usize, m: Marks) -> Marks
+    ensures { λ r. ⌜ r .state ≡ markEvents (letEvents (letsIn (now (t .entry)) base from (to - from))) (m .state) ⌝ }
+{
+    let mut n = from;
+    let mut now = m;
+    while n < to {
+        let used = mark(t, base, cell(t, n, 3), false, now);
+        now = mark(t, base, cell(t, n, 1), true, used);
+        n += 1;
+    }
+    now
+}
+
+// The variables rule.
+fn variables_kept(t: &[u16], base: usize, row: usize, end: usize) -> bool
+    ensures { λ r. ⌜ (row < maxLines → r ≡ marked (clauseIn (now (t .entry)) base row end)) ⌝ }
+{
+    if row < 4096 {
+        let bound = mark(t, base, cell(t, row, 1), true, no_marks());
+        let stepped = mark_lets(t, base, row + 1, end, bound);
+        return settled(mark(t, base, cell(t, row, 2), false, stepped));
+    }
+    true
+}
+
+// Whether the L rows from `from` up to `to` hold only unit, variables and pairs.
+fn shapes_kept(t: &[u16], base: usize, from: usize, to: usize) -> bool
+    ensures { λ r. ⌜ r ≡ shaped (letsIn (now (t .entry)) base from (to - from)) ⌝ }
+{
+    let mut n = from;
+    while n < to {
+        if is_plain(t, base, cell(t, n, 1)) {
+            if is_plain(t, base, cell(t, n, 3)) {
+                n += 1;
+            } else {
+                return false;
+            }
+        } else {
+            return false;
+        }
+    }
+    true
+}
+
+// No types fit any more.
+fn misfit(e: Env) -> Env
+    ensures { λ r. ⌜ ((t : List ℕ) → envView t r ≡ none) ⌝ }
+{
+    let mut r = e;
+    r.fits = false;
+    r
+}
+
+// The types after the L row n: q fits the from-type of its iso, p the to-type.
+fn fit_let(t: &[u16], base: usize, starts: &[u16], n: usize, e: Env) -> Env
+    ensures { λ r. ⌜ envView (now (t .entry)) r ≡ fitLet (getElem? (sigsIn (now (t .entry)) (now (starts .entry))) (cellOf (now (t .entry)) n 2)) (letAt (now (t .entry)) base n) (envView (now (t .entry)) e) ⌝ }
+{
+    let i = cell(t, n, 2);
+    if i < starts.len() {
+        let head = wide(starts[i]);
+        let used = fit(t, base, cell(t, n, 3), cell(t, head, 1), e);
+        return fit(t, base, cell(t, n, 1), cell(t, head, 2), used);
+    }
+    misfit(e)
+}
+
+// The types after the L rows from `from` up to `to`.
+fn fit_lets(t: &[u16], base: usize, starts: &[u16], from: usize, to: usize, e: Env) -> Env
+    ensures { λ r. ⌜ envView (now (t .entry)) r ≡ fittedLets (sigsIn (now (t .entry)) (now (starts .entry))) (letsIn (now (t .entry)) base from (to - from)) (envView (now (t .entry)) e) ⌝ }
+{
+    let mut n = from;
+    let mut env = e;
+    while n < to {
+        env = fit_let(t, base, starts, n, env);
+        n += 1;
+    }
+    env
+}
+
+// Whether some types of the variables fit the clause of an iso from T line a to T line b.
+fn types_fit(
+    t: &[u16],
+    base: usize,
+    starts: &[u16],
+    a: usize,
+    b: usize,
+    row: usize,
+    end: usize,
+) -> bool
+    ensures { λ r. ⌜ (row < maxLines → r ≡ fitted (sigsIn (now (t .entry)) (now (starts .entry))) (typeOf (now (t .entry)) a) (typeOf (now (t .entry)) b) (clauseIn (now (t .entry)) base row end)) ⌝ }
+{
+    if row < 4096 {
+        let bound = fit(t, base, cell(t, row, 1), a, no_types());
+        let stepped = fit_lets(t, base, starts, row + 1, end, bound);
+        let done = fit(t, base, cell(t, row, 2), b, stepped);
+        return done.fits;
+    }
+    false
+}
+
+// The lowest of 8 to 10, or nothing.
+pub fn clause_fault(
+    t: &[u16],
+    base: usize,
+    starts: &[u16],
+    a: usize,
+    b: usize,
+    row: usize,
+    end: usize,
+) -> Refusal
+    ensures { λ r. ⌜ (row < maxLines → Slotted (clauseIn (now (t .entry)) base row end) → refusalView r ≡ clauseFault (sigsIn (now (t .entry)) (now (starts .entry))) (typeOf (now (t .entry)) a) (typeOf (now (t .entry)) b) (clauseIn (now (t .entry)) base row end)) ⌝ }
+{
+    if 4096 <= row {
+        return Refusal::Nothing;
+    }
+    if variables_kept(t, base, row, end) {
+        if shapes_kept(t, base, row + 1, end) {
+            if types_fit(t, base, starts, a, b, row, end) {
+                return Refusal::Nothing;
+            }
+            return Refusal::BadType;
+        }
+        return Refusal::LetShape;
+    }
+    Refusal::Variable
+}

@@ -1,13 +1,13 @@
 -- The lines that answer a file and a query fit, and are those of the model.
-use Prim.Native.Nat.{ℕ, _+_, _≤_, _<_}
-use native.Mathlib.Nat.{add-zero}
+use Prim.Native.Nat.{ℕ, _+_, _-_, _≤_, _<_}
+use native.Mathlib.Nat.{add-zero, sub-zero}
 use native.Mathlib.Omega.{arith}
 use mathlib.Core.Path.{_≡_, refl, sym, ap, ap₂, _∙_, subst}
 use mathlib.Core.Bool.{_||_}
 use mathlib.Core.Option.{none}
 use mathlib.Core.List.{List, []}
 use lib.ListN.{length, take, drop}
-use lib.Seq.{take-append-seam}
+use lib.Seq.{take-append-seam, length-take-le}
 use borrow.Author.Tests.{le-ltb}
 use Rattle.model.specs.Limits.{tableLength, workLength}
 use Rattle.model.specs.Refusals.{Refusal, number}
@@ -58,27 +58,37 @@ stops-at : (v : Verdict) (f : Refusal) → number f ≡ answerOf v .number → b
 stops-at (accepted rs) f e = absurd (omega (arith, e, number-positive f))
 stops-at (refused g n) f e = refl
 
--- a file checked and answered
-pub judged-file : (s t w : List ℕ) {t′ w′ out out′ : List ℕ} {at n end : ℕ} (c : C.Checked)
-    → CheckSays s t w t′ w′ (c .answer) → (refusalView (c .answer .refusal) ≡ none → Accepted s t′ c)
-    → n ≡ numberOf (c .answer .refusal)
+-- a verdict by its number, which the code computes
+pub checked-writes : {out out′ : List ℕ} {at n end : ℕ} (c : C.Checked) → n ≡ numberOf (c .answer .refusal)
     → (c .answer .place < 10000000000 → Writes out out′ at end (fileLine (record { number = n; line = c .answer .place })))
+    → c .answer .place < 10000000000 → Writes out out′ at end (fileLine (record { number = numberOf (c .answer .refusal); line = c .answer .place }))
+checked-writes {out} {out′} {at} {end = end} c e writes h =
+    subst (Writes out out′ at end) (ap (λ k. fileLine (record { number = k; line = c .answer .place })) e) (writes h)
+
+-- a file checked and answered
+pub judged-file : (s t w : List ℕ) {t′ w′ out out′ : List ℕ} {at end : ℕ} (c : C.Checked)
+    → CheckSays s t w t′ w′ (c .answer) → (refusalView (c .answer .refusal) ≡ none → Accepted s t′ c)
+    → (c .answer .place < 10000000000 → Writes out out′ at end (fileLine (record { number = numberOf (c .answer .refusal); line = c .answer .place })))
     → tableLength ≤ length t → workLength ≤ length w → at + answerRoom ≤ length out
-    → JudgedAs s t′ out out′ at (record { checked = c; end = end })
-judged-file s t w {t′} {w′} {out} {out′} {at} {n} {end} c says accepts e writes ht hw room =
+    → JudgedAs s t′ out out′ at end c
+judged-file s t w {t′} {w′} {out} {out′} {at} {end} c says accepts writes ht hw room =
     let a = checked-answer s t w ht hw in
     let number : numberOf (c .answer .refusal) ≡ answerOf (verdict s) .number = says .number ∙ ap (λ x. x .number) a in
     let line : c .answer .place ≡ answerOf (verdict s) .line = says .line ∙ ap (λ x. x .line) a in
     let below : c .answer .place < 10000000000 = subst (λ k. k < 10000000000) (sym line) (verdict-line s) in
-    let same : fileLine (record { number = n; line = c .answer .place }) ≡ fileLine (answerOf (verdict s)) =
-    ap₂ (λ k l. fileLine (record { number = k; line = l })) (e ∙ number) line in
+    let same : fileLine (record { number = numberOf (c .answer .refusal); line = c .answer .place }) ≡ fileLine (answerOf (verdict s)) =
+    ap₂ (λ k l. fileLine (record { number = k; line = l })) number line in
     record {
-      printed = printed-as same (printed (writes below) (file-line-short (record { number = n; line = c .answer .place })) room);
+      printed = printed-as same (printed (writes below) (file-line-short (record { number = numberOf (c .answer .refusal); line = c .answer .place })) room);
       accepts = accepts;
       refuses = λ f v. stops-at (verdict s) f (sym (ap numbered v) ∙ number);
     }
 
 -- ---- a query
+
+-- the first `room` bytes of a work area are so many
+pub room-there : (room : ℕ) (work : List ℕ) → room ≤ length work → length (take (room - 0) work) ≡ room
+room-there room work h = ap (λ k. length (take k work)) (sub-zero room) ∙ length-take-le room work h
 
 -- the letters of a run fit its result area
 letters-fit : (a : RunAnswer) {o o′ : List ℕ} {r : R.Ran} → RanAs a o o′ r → length o ≡ 127 → length o′ ≡ length o → length (a .letters) ≤ 127
@@ -94,12 +104,18 @@ answer-parts : (a : RunAnswer) {n k : ℕ} {ls : List ℕ} → n ≡ a .number �
 answer-parts a {n} {k} {ls} p q e =
     ap₂ (λ x y. record { number = x; count = y; letters = ls }) p q ∙ ap (λ x. record { number = a .number; count = a .count; letters = x }) e
 
+-- a run's number and letters, from its result area
+pub ran-writes : (result : List ℕ) {out out′ ls : List ℕ} {at n end : ℕ} (r : R.Ran) → n ≡ numberOf (r .refusal) → ls ≡ take (r .length) result
+    → Writes out out′ at end (queryLine (record { number = n; count = r .count; letters = ls }))
+    → Writes out out′ at end (queryLine (record { number = numberOf (r .refusal); count = r .count; letters = take (r .length) result }))
+ran-writes result {out} {out′} {at = at} {end = end} r p q writes =
+    subst (Writes out out′ at end) (ap₂ (λ k l. queryLine (record { number = k; count = r .count; letters = l })) p q) writes
+
 -- a run, printed
-pub ran-query : (a : RunAnswer) {o o′ out out′ ls : List ℕ} {at n end : ℕ} (r : R.Ran) → RanAs a o o′ r → length o ≡ 127 → length o′ ≡ length o
-    → n ≡ numberOf (r .refusal) → ls ≡ take (r .length) o′
-    → Writes out out′ at end (queryLine (record { number = n; count = r .count; letters = ls })) → at + answerRoom ≤ length out
-    → Printed out out′ at end (queryLine a)
-ran-query a {o} {o′} {out} {out′} {ls} {at} {n} {end} r ran e k p q writes room =
-    let same : queryLine (record { number = n; count = r .count; letters = ls }) ≡ queryLine a =
-    ap queryLine (answer-parts a (p ∙ ran .number) (ran .count) (q ∙ letters-there a ran)) in
+pub ran-query : (a : RunAnswer) {o o′ out out′ : List ℕ} {at end : ℕ} (r : R.Ran) → RanAs a o o′ r → length o ≡ 127 → length o′ ≡ length o
+    → Writes out out′ at end (queryLine (record { number = numberOf (r .refusal); count = r .count; letters = take (r .length) o′ }))
+    → at + answerRoom ≤ length out → Printed out out′ at end (queryLine a)
+ran-query a {o} {o′} {out} {out′} {at} {end} r ran e k writes room =
+    let same : queryLine (record { number = numberOf (r .refusal); count = r .count; letters = take (r .length) o′ }) ≡ queryLine a =
+    ap queryLine (answer-parts a (ran .number) (ran .count) (letters-there a ran)) in
     printed (subst (Writes out out′ at end) same writes) (query-line-short a (letters-fit a ran e k)) room

@@ -7,10 +7,10 @@ use mathlib.Core.Logic.{_⊎_, inl, inr}
 use mathlib.Core.Bool.{Bool, true, false, cond, _&&_}
 use mathlib.Core.Option.{Option, none, some}
 use mathlib.Core.List.{List, [], _∷_, _++_}
-use lib.Dec.{leb, eqb}
+use lib.Dec.{ltb, leb, eqb}
 use lib.ListN.{length, take, getD, length-append}
 use lib.Seq.{sets, length-sets, take-suc}
-use borrow.Author.Tests.{eq-eqb, ne-eqb, lt-leb, le-leb, leb-true, leb-false}
+use borrow.Author.Tests.{eq-eqb, ne-eqb, lt-ltb, le-ltb, lt-leb, le-leb, ltb-true, ltb-false, leb-true, leb-false}
 use Rattle.model.specs.Limits.{lineFeed, letterQ, workLength}
 use Rattle.model.specs.Refusals.{Refusal}
 use Rattle.model.specs.Tools.{isSome}
@@ -18,33 +18,63 @@ use Rattle.model.specs.Lines.{Row}
 use Rattle.model.specs.Services.{accepted, refused, verdict, answerOf}
 use Rattle.model.specs.Desk.{fileLine}
 use Rattle.model.specs.Code.{refusalView}
-use Rattle.model.proofs.Basic.{bool-cases, isSome-true}
+use Rattle.model.proofs.Basic.{bool-cases, isSome-true, not-both}
 use Rattle.areas.proofs.Writing.{sets-append}
 use Rattle.checker.specs.CheckSays.{Accepted}
+use Rattle.checker.specs.declared.Checked as C
 use Rattle.runner.specs.RunSays.{Prepared}
 use Rattle.queries.specs.Stream.{State, collecting, asking, stopped, Step, opens, begun, close, answered, step, finish, behind, steps}
 use Rattle.queries.proofs.Streaming.{steps-more, opens-append}
 use Rattle.desk.specs.declared.Desk as D
 use Rattle.desk.specs.declared.Phase.the-variants as phases
 use Rattle.desk.specs.declared.Next as N
-use Rattle.desk.specs.declared.Judged as J
 use Rattle.desk.specs.DeskSays.{fileRoom, lineRoom, answerRoom, Roomy, Holds, DeskAt, collects, asks, stops, Printed, Reaches, JudgedAs, FedAs}
 use Rattle.desk.proofs.Holding.{holds-none, held-verdict, held-answer}
 use Rattle.desk.proofs.Answering.{printed-none, printed-as}
 
 -- ---- tests
 
--- an area of fewer than 160 bytes has no room
-pub no-room : (at n : ℕ) → n < 160 → false ≡ leb (at + answerRoom) n
-no-room at n h = sym (lt-leb (at + answerRoom) n (omega arith))
-
--- any other by what is left behind the place
-pub room : (at n : ℕ) → 160 ≤ n → leb at (n - 160) ≡ leb (at + answerRoom) n
+-- an area of n bytes, at least 160, by what is left behind the place
+room : (at n : ℕ) → 160 ≤ n → leb at (n - 160) ≡ leb (at + answerRoom) n
 room at n h = go (bool-cases (leb at (n - 160)))
   where
     go : (leb at (n - 160) ≡ true) ⊎ (leb at (n - 160) ≡ false) → leb at (n - 160) ≡ leb (at + answerRoom) n
     go (inl t) = t ∙ sym (le-leb (at + answerRoom) n (omega (arith, leb-true at (n - 160) t)))
     go (inr t) = t ∙ sym (lt-leb (at + answerRoom) n (omega (arith, leb-false at (n - 160) t)))
+
+-- a second test that fails
+and-false : (x : Bool) → (x && false) ≡ false
+and-false true = refl
+and-false false = refl
+
+module _ (taken bytes at n : ℕ) where
+  -- an area of fewer than 160 bytes has no room
+  pub goes-short : n < 160 → false ≡ (ltb taken bytes && leb (at + answerRoom) n)
+  goes-short h = sym (ap (λ x. ltb taken bytes && x) (lt-leb (at + answerRoom) n (omega arith)) ∙ and-false (ltb taken bytes))
+
+  -- a byte is left: the room decides
+  pub goes-by-room : 160 ≤ n → taken < bytes → leb at (n - 160) ≡ (ltb taken bytes && leb (at + answerRoom) n)
+  goes-by-room h k = room at n h ∙ sym (ap (λ x. x && leb (at + answerRoom) n) (lt-ltb taken bytes k))
+
+  -- no byte is left
+  pub goes-not : bytes ≤ taken → false ≡ (ltb taken bytes && leb (at + answerRoom) n)
+  goes-not h = sym (ap (λ x. x && leb (at + answerRoom) n) (le-ltb taken bytes h))
+
+  -- what the test says where it holds
+  goes-both : (ltb taken bytes && leb (at + answerRoom) n) ≡ true → (taken < bytes) × (at + answerRoom ≤ n)
+  goes-both e = go (bool-cases (ltb taken bytes))
+    where
+      go : (ltb taken bytes ≡ true) ⊎ (ltb taken bytes ≡ false) → (taken < bytes) × (at + answerRoom ≤ n)
+      go (inl t) = (ltb-true taken bytes t, leb-true (at + answerRoom) n (sym (ap (λ x. x && leb (at + answerRoom) n) t) ∙ e))
+      go (inr t) = absurd (not-both e (ap (λ x. x && leb (at + answerRoom) n) t))
+
+  -- and where it fails
+  goes-neither : (ltb taken bytes && leb (at + answerRoom) n) ≡ false → (bytes ≤ taken) ⊎ (n < at + answerRoom)
+  goes-neither e = go (bool-cases (ltb taken bytes))
+    where
+      go : (ltb taken bytes ≡ true) ⊎ (ltb taken bytes ≡ false) → (bytes ≤ taken) ⊎ (n < at + answerRoom)
+      go (inl t) = inr (leb-false (at + answerRoom) n (sym (ap (λ x. x && leb (at + answerRoom) n) t) ∙ e))
+      go (inr t) = inl (ltb-false taken bytes t)
 
 -- where a line begins, the byte decides
 pub begins-fresh : (b : ℕ) {fresh : Bool} → fresh ≡ true → eqb b 81 ≡ (fresh && eqb b letterQ)
@@ -72,29 +102,27 @@ none-refused : (x : Option Refusal) {b : Bool} → b ≡ isSome x → b ≡ fals
 none-refused none e t = refl
 none-refused (some f) e t = let z : _≡_ {A = ℕ} 0 1 = cc in absurd (omega arith)
 
--- the file is refused
-pub begin-refused : (file area line index : List ℕ) {t′ out out′ : List ℕ} {at : ℕ} (j : J.Judged) (d : D.Desk) {b : Bool}
-    → JudgedAs file t′ out out′ at j → b ≡ isSome (refusalView (j .checked .answer .refusal)) → b ≡ true → d .phase ≡ phases.Stopped
-    → Reaches (close file) area line t′ index out out′ at (record { desk = d; end = j .end })
-begin-refused file area line index {t′} j d k e t p =
-    let f = some-refused (refusalView (j .checked .answer .refusal)) e t in
-    record {
-      desk = subst (DeskAt d area line t′ index) (sym (k .refuses (f .0) (f .1))) (stops p);
-      printed = k .printed;
-    }
+module _ (file area : List ℕ) {t′ out out′ : List ℕ} {at end : ℕ} (c : C.Checked) (d : D.Desk) {b : Bool} (k : JudgedAs file t′ out out′ at end c)
+    (e : b ≡ isSome (refusalView (c .answer .refusal))) where
+  -- the file is refused
+  pub settle-refused : (line index : List ℕ) → b ≡ true → d .phase ≡ phases.Stopped → Reaches (close file) area line t′ index out out′ at (record { desk = d; end = end })
+  settle-refused line index t p =
+      let f = some-refused (refusalView (c .answer .refusal)) e t in
+      record {
+        desk = subst (DeskAt d area line t′ index) (sym (k .refuses (f .0) (f .1))) (stops p);
+        printed = k .printed;
+      }
 
--- the file is accepted
-pub begin-accepted : (file area : List ℕ) {line′ t′ index′ out out′ : List ℕ} {at : ℕ} (j : J.Judged) (d : D.Desk) {b : Bool}
-    → JudgedAs file t′ out out′ at j → b ≡ isSome (refusalView (j .checked .answer .refusal)) → b ≡ false → d .phase ≡ phases.Queries
-    → Holds lineRoom (d .held) line′ (letterQ ∷ [])
-    → ((a : Accepted file t′ (j .checked)) → Prepared t′ (d .types) index′ (d .isos) (a .file))
-    → Reaches (close file) area line′ t′ index′ out out′ at (record { desk = d; end = j .end })
-begin-accepted file area {line′} {t′} {index′} j d k e t p h prepared =
-    let a = k .accepts (none-refused (refusalView (j .checked .answer .refusal)) e t) in
-    record {
-      desk = subst (λ v. DeskAt d area line′ t′ index′ (begun v)) (sym (a .accepts)) (asks p h (prepared a));
-      printed = k .printed;
-    }
+  -- the file is accepted
+  pub settle-accepted : {line′ index′ : List ℕ} → b ≡ false → d .phase ≡ phases.Queries → Holds lineRoom (d .held) line′ (letterQ ∷ [])
+      → ((a : Accepted file t′ c) → Prepared t′ (d .types) index′ (d .isos) (a .file))
+      → Reaches (close file) area line′ t′ index′ out out′ at (record { desk = d; end = end })
+  settle-accepted {line′} {index′} t p h prepared =
+      let a = k .accepts (none-refused (refusalView (c .answer .refusal)) e t) in
+      record {
+        desk = subst (λ v. DeskAt d area line′ t′ index′ (begun v)) (sym (a .accepts)) (asks p h (prepared a));
+        printed = k .printed;
+      }
 
 -- ---- a byte of the file
 
@@ -108,28 +136,35 @@ pub reaches-state : {p : Step} {file line table index out out′ : List ℕ} {at
     → Reaches p file line table index out out′ at (record { desk = d′; end = end }) → Reaches p file line table index out out′ at (record { desk = d; end = end })
 reaches-state {p} {file} {line} {table} {index} {out} {out′} {at} {end} e h = subst (λ x. Reaches p file line table index out out′ at (record { desk = x; end = end })) (sym e) h
 
+-- the file's bytes by another name
+pub reaches-close : {part bs file line table index out out′ : List ℕ} {at : ℕ} {r : N.Next} → part ≡ bs → Reaches (close part) file line table index out out′ at r
+    → Reaches (close bs) file line table index out out′ at r
+reaches-close e k = reaches-as (ap close e) k
+
 -- the first Q line begins
-pub file-begins : (d : D.Desk) (b : ℕ) {file line table index line′ table′ index′ out out′ part : List ℕ} {at : ℕ} {r : N.Next} {t : Bool} (bs : List ℕ)
-    → DeskAt d file line table index (collecting bs) → t ≡ (d .fresh && eqb b letterQ) → t ≡ true → part ≡ take (d .held) file
-    → Reaches (close part) file line′ table′ index′ out out′ at r
+pub file-begins : (d : D.Desk) (b : ℕ) {file line table index line′ table′ index′ out out′ : List ℕ} {at : ℕ} {r : N.Next} {t : Bool} (bs : List ℕ)
+    → DeskAt d file line table index (collecting bs) → t ≡ (d .fresh && eqb b letterQ) → t ≡ true
+    → Reaches (close (take (d .held) file)) file line′ table′ index′ out out′ at r
     → Reaches (step (collecting bs) b) file line′ table′ index′ out out′ at r
-file-begins d b {file} {part = part} bs (collects p f h) e t q k =
+file-begins d b {file} bs (collects p f h) e t k =
     let test : (opens bs && eqb b letterQ) ≡ true = ap (λ x. x && eqb b letterQ) (sym f) ∙ sym e ∙ t in
-    let same : verdict part ≡ verdict bs = ap verdict q ∙ held-verdict bs h in
-    let closed : close part ≡ close bs = ap (λ v. record { next = begun v; prints = fileLine (answerOf v) }) same in
+    let closed : close (take (d .held) file) ≡ close bs = ap (λ v. record { next = begun v; prints = fileLine (answerOf v) }) (held-verdict bs h) in
     reaches-as (closed ∙ sym (ap (λ x. cond x (close bs) (record { next = collecting (bs ++ (b ∷ [])); prints = [] })) test)) k
 
 -- the byte is the file's
-pub file-more : (d : D.Desk) (b : ℕ) {file line table index file′ out : List ℕ} {at more : ℕ} {t : Bool} (bs : List ℕ)
+pub file-more : (d : D.Desk) (b : ℕ) {file line table index file′ out : List ℕ} {at : ℕ} {r : N.Next} {t : Bool} (bs : List ℕ)
     → DeskAt d file line table index (collecting bs) → t ≡ (d .fresh && eqb b letterQ) → t ≡ false
-    → (Holds fileRoom (d .held) file bs → Holds fileRoom more file′ (bs ++ (b ∷ [])))
-    → at + answerRoom ≤ length out
-    → Reaches (step (collecting bs) b) file′ line table index out out at
-    (record { desk = record { phase = phases.File; fresh = eqb b 10; held = more; types = 0; isos = 0 }; end = at })
-file-more d b bs (collects p f h) e t hold roomy =
+    → (Holds fileRoom (d .held) file bs → Reaches (record { next = collecting (bs ++ (b ∷ [])); prints = [] }) file′ line table index out out at r)
+    → Reaches (step (collecting bs) b) file′ line table index out out at r
+file-more d b bs (collects p f h) e t k =
     let test : (opens bs && eqb b letterQ) ≡ false = ap (λ x. x && eqb b letterQ) (sym f) ∙ sym e ∙ t in
-    reaches-as (sym (ap (λ x. cond x (close bs) (record { next = collecting (bs ++ (b ∷ [])); prints = [] })) test))
-    (record { desk = collects refl (sym (opens-append bs b)) (hold h); printed = printed-none roomy })
+    reaches-as (sym (ap (λ x. cond x (close bs) (record { next = collecting (bs ++ (b ∷ [])); prints = [] })) test)) (k h)
+
+-- and is kept
+pub collects-more : (b : ℕ) {file line table index out : List ℕ} {at more : ℕ} (bs : List ℕ) → Holds fileRoom more file (bs ++ (b ∷ [])) → at + answerRoom ≤ length out
+    → Reaches (record { next = collecting (bs ++ (b ∷ [])); prints = [] }) file line table index out out at
+    (record { desk = record { phase = phases.File; fresh = eqb b 10; held = more; types = 0; isos = 0 }; end = at })
+collects-more b bs h roomy = record { desk = collects refl (sym (opens-append bs b)) h; printed = printed-none roomy }
 
 -- ---- a byte of a query
 
@@ -253,19 +288,12 @@ fed-more {s} {chunk} {out₀ = out₀} {file′ = file′} {line′} {table′} 
       printed = subst (λ x. Printed out₀ out′ 0 (r .end) (x .prints)) (sym whole) (printed-both (k .printed) (n .printed));
     }
 
--- the chunk is used up
-pub fed-whole : {s : State} {chunk file line table index out₀ out : List ℕ} {d : D.Desk} {taken written : ℕ} → taken ≤ length chunk → length chunk ≤ taken
-    → FedSo s chunk file line table index out₀ out d taken written
+-- the chunk is used up, or the output area lacks room
+pub fed-so : {s : State} {chunk file line table index out₀ out : List ℕ} {d : D.Desk} {taken written : ℕ} → taken ≤ length chunk
+    → (length chunk ≤ taken) ⊎ (length out₀ < written + answerRoom) → FedSo s chunk file line table index out₀ out d taken written
     → FedAs s chunk file line table index out₀ out (record { desk = d; taken = taken; written = written })
-fed-whole h e k = record { desk = k .desk; printed = k .printed; within = h; whole = inl (omega arith) }
-
--- the output area lacks room
-pub fed-full : {s : State} {chunk file line table index out₀ out : List ℕ} {d : D.Desk} {taken written : ℕ} {b : Bool} → taken ≤ length chunk
-    → length out ≡ length out₀ → b ≡ leb (written + answerRoom) (length out) → b ≡ false
-    → FedSo s chunk file line table index out₀ out d taken written
-    → FedAs s chunk file line table index out₀ out (record { desk = d; taken = taken; written = written })
-fed-full {out = out} {written = written} h e t f k =
-    record { desk = k .desk; printed = k .printed; within = h; whole = inr (omega (arith, e, leb-false (written + answerRoom) (length out) (sym t ∙ f))) }
+fed-so h (inl e) k = record { desk = k .desk; printed = k .printed; within = h; whole = inl (omega arith) }
+fed-so h (inr e) k = record { desk = k .desk; printed = k .printed; within = h; whole = inr e }
 
 -- The loop's invariant: the areas as they were where it begins, and as they are.
 pub record Feeds (chunk file₀ line₀ table₀ work₀ index₀ out₀ : List ℕ) (d₀ : D.Desk) (file line table work index out : List ℕ) (d : D.Desk) (taken written : ℕ) : Type 0 where
@@ -284,15 +312,20 @@ feeds-start chunk file line table work index out d =
 
 module _ {chunk file₀ line₀ table₀ work₀ index₀ out₀ : List ℕ} {d₀ : D.Desk} {file line table work index out : List ℕ} {d : D.Desk} {taken written : ℕ}
     (k : Feeds chunk file₀ line₀ table₀ work₀ index₀ out₀ d₀ file line table work index out d taken written) where
+  -- a byte is left where the loop goes on
+  pub feeds-left : {b : Bool} → b ≡ (ltb taken (length chunk) && leb (written + answerRoom) (length out₀)) → b ≡ true → taken < length chunk
+  feeds-left e t = goes-both taken (length chunk) written (length out₀) (sym e ∙ t) .0
+
   -- a byte
-  pub feeds-more : {file′ line′ table′ work′ index′ out′ : List ℕ} {b : Bool} (r : N.Next) → taken < length chunk
-      → b ≡ leb (written + answerRoom) (length out) → b ≡ true
+  pub feeds-more : {file′ line′ table′ work′ index′ out′ : List ℕ} {b : Bool} (r : N.Next)
+      → b ≡ (ltb taken (length chunk) && leb (written + answerRoom) (length out₀)) → b ≡ true
       → ((s : State) → DeskAt d file line table index s → Roomy file line table work index → written + answerRoom ≤ length out
       → Reaches (step s (getD chunk taken 0)) file′ line′ table′ index′ out out′ written r)
       → Kept file line table work index out file′ line′ table′ work′ index′ out′
       → Feeds chunk file₀ line₀ table₀ work₀ index₀ out₀ d₀ file′ line′ table′ work′ index′ out′ (r .desk) (taken + 1) (r .end)
-  feeds-more r h e t byte same =
+  feeds-more r e t byte same =
       let kept = k .kept in
+      let both = goes-both taken (length chunk) written (length out₀) (sym e ∙ t) in
       record {
         kept =
             record {
@@ -303,28 +336,24 @@ module _ {chunk file₀ line₀ table₀ work₀ index₀ out₀ : List ℕ} {d�
               indices = same .indices ∙ kept .indices;
               outs = same .outs ∙ kept .outs;
             };
-        within = omega arith;
+        within = omega (arith, both .0);
         fed = λ s q roomy.
             let so = k .fed s q roomy in
-            fed-more r h so (byte (steps s (take taken chunk) .next) (so .desk) (roomy-kept kept roomy) (leb-true (written + answerRoom) (length out) (sym e ∙ t)));
+            fed-more r (both .0) so (byte (steps s (take taken chunk) .next) (so .desk) (roomy-kept kept roomy) (omega (arith, both .1, kept .outs)));
       }
 
-  -- the chunk's end
-  pub feeds-whole : length chunk ≤ taken → (s : State) → DeskAt d₀ file₀ line₀ table₀ index₀ s → Roomy file₀ line₀ table₀ work₀ index₀
+  -- the chunk's end, or no room
+  pub feeds-end : {b : Bool} → b ≡ (ltb taken (length chunk) && leb (written + answerRoom) (length out₀)) → b ≡ false
+      → (s : State) → DeskAt d₀ file₀ line₀ table₀ index₀ s → Roomy file₀ line₀ table₀ work₀ index₀
       → FedAs s chunk file line table index out₀ out (record { desk = d; taken = taken; written = written })
-  feeds-whole h s q roomy = fed-whole (k .within) h (k .fed s q roomy)
-
-  -- no room
-  pub feeds-full : {b : Bool} → b ≡ leb (written + answerRoom) (length out) → b ≡ false → (s : State) → DeskAt d₀ file₀ line₀ table₀ index₀ s
-      → Roomy file₀ line₀ table₀ work₀ index₀ → FedAs s chunk file line table index out₀ out (record { desk = d; taken = taken; written = written })
-  feeds-full e f s q roomy = fed-full (k .within) (k .kept .outs) e f (k .fed s q roomy)
+  feeds-end e f s q roomy = fed-so (k .within) (goes-neither taken (length chunk) written (length out₀) (sym e ∙ f)) (k .fed s q roomy)
 
 -- ---- the end of the input
 
 -- the file's
-pub finish-file : (d : D.Desk) {file line table work index part t′ out out′ : List ℕ} {j : J.Judged} → d .phase ≡ phases.File → part ≡ take (d .held) file
-    → (Roomy file line table work index → answerRoom ≤ length out → JudgedAs part t′ out out′ 0 j)
-    → (s : State) → DeskAt d file line table index s → Roomy file line table work index → answerRoom ≤ length out → Printed out out′ 0 (j .end) (finish s)
+pub finish-file : (d : D.Desk) {file line table work index part t′ out out′ : List ℕ} {end : ℕ} {c : C.Checked} → d .phase ≡ phases.File → part ≡ take (d .held) file
+    → (Roomy file line table work index → answerRoom ≤ length out → JudgedAs part t′ out out′ 0 end c)
+    → (s : State) → DeskAt d file line table index s → Roomy file line table work index → answerRoom ≤ length out → Printed out out′ 0 end (finish s)
 finish-file d e q k s (collects {bs} p f h) roomy room = printed-as (ap (λ v. fileLine (answerOf v)) (ap verdict q ∙ held-verdict bs h)) (k roomy room .printed)
 finish-file d e q k s (asks p h x) roomy room = absurd (file-asks d e p)
 finish-file d e q k s (stops p) roomy room = absurd (file-stops d e p)

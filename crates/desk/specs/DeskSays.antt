@@ -13,13 +13,13 @@ use Rattle.model.specs.Services.{verdict, answerOf}
 use Rattle.model.specs.Desk.{fileLine}
 use Rattle.model.specs.Code.{refusalView}
 use Rattle.checker.specs.CheckSays.{Accepted}
+use Rattle.checker.specs.declared.Checked as C
 use Rattle.index.specs.Index.{indexLength}
 use Rattle.runner.specs.RunSays.{Prepared}
 use Rattle.queries.specs.Stream.{State, collecting, asking, stopped, Step, opens, begun, steps}
 use Rattle.desk.specs.declared.Desk as D
 use Rattle.desk.specs.declared.Phase.the-variants as phases
 use Rattle.desk.specs.declared.Next as N
-use Rattle.desk.specs.declared.Judged as J
 use Rattle.desk.specs.declared.Fed as F
 
 -- the bytes of a file that are kept, and those of a query's line: one more than may be, so that too many are told from as many
@@ -64,10 +64,10 @@ pub record Reaches (p : Step) (file line table index out out′ : List ℕ) (at 
   pub printed : Printed out out′ at (r .end) (p .prints)
 
 -- a file's answer is printed; an accepted file's rows are then in the table, and behind a refused one nothing is read
-pub record JudgedAs (file table′ out out′ : List ℕ) (at : ℕ) (r : J.Judged) : Type 0 where
-  pub printed : Printed out out′ at (r .end) (fileLine (answerOf (verdict file)))
-  pub accepts : refusalView (r .checked .answer .refusal) ≡ none → Accepted file table′ (r .checked)
-  pub refuses : (f : Refusal) → refusalView (r .checked .answer .refusal) ≡ some f → begun (verdict file) ≡ stopped
+pub record JudgedAs (file table′ out out′ : List ℕ) (at end : ℕ) (c : C.Checked) : Type 0 where
+  pub printed : Printed out out′ at end (fileLine (answerOf (verdict file)))
+  pub accepts : refusalView (c .answer .refusal) ≡ none → Accepted file table′ c
+  pub refuses : (f : Refusal) → refusalView (c .answer .refusal) ≡ some f → begun (verdict file) ≡ stopped
 
 -- Bytes taken from the front of a chunk: the state behind them, and all that they print, from the output area's start on. Either the
 -- chunk is used up, or the output area has no room for another answer.

@@ -2,27 +2,34 @@
 // answers come out in an output area. The state is a value; the areas are lent at each call.
 
 use answers::answer_line;
-use areas::front;
 use areas::put_byte;
 use checker::Checked;
 use checker::check_file;
 use checker::is_refused;
 use model::number_of;
+use parts::front;
 use queries::put_answer;
 use queries::put_verdict;
+use runner::run::Ran;
 use runner::run::prepare;
 ghost use mathlib.Core.Path.{_≡_};
 ghost use mathlib.Core.Bool.{_&&_, false};
 ghost use mathlib.Core.List.{List, [], _∷_, _++_};
-ghost use Prim.Native.Nat.{ℕ, _+_, _≤_};
-ghost use lib.Dec.{eqb, leb};
-ghost use lib.ListN.{length};
-ghost use Rattle.model.specs.Limits.{letterQ, tableLength, workLength};
+ghost use Prim.Native.Nat.{ℕ, _+_, _≤_, _<_};
+ghost use lib.Dec.{eqb, ltb, leb};
+ghost use lib.ListN.{length, take};
+ghost use Rattle.model.specs.Limits.{letterQ, workLength};
 ghost use Rattle.model.specs.Lines.{Row as RowOf};
-ghost use Rattle.runner.specs.RunSays.{Prepared};
+ghost use Rattle.model.specs.Services.{accepted, answerOfRun};
+ghost use Rattle.model.specs.Desk.{queryOf, answerTo, queryLine, fileLine};
+ghost use Rattle.model.specs.Code.{refusalView, numberOf};
+ghost use Rattle.model.specs.Tools.{isSome};
+ghost use Rattle.index.specs.Index.{indexLength};
+ghost use Rattle.areas.specs.Areas.{Writes};
+ghost use Rattle.runner.specs.RunSays.{Prepared, RanAs};
 ghost use Rattle.queries.specs.Stream.{State, collecting, asking, close, answered, step, finish};
 ghost use Rattle.desk.specs.declared.Phase.the-variants.{Queries};
-ghost use Rattle.desk.specs.DeskSays.{answerRoom, Roomy, Holds, DeskAt, Printed, Reaches, JudgedAs, FedAs};
+ghost use Rattle.desk.specs.DeskSays.{fileRoom, lineRoom, answerRoom, Roomy, Holds, DeskAt, Printed, Reaches, JudgedAs, FedAs};
 
 // What the next byte belongs to: the file, a query, or nothing, where the file is refused.
 pub enum Phase {
@@ -51,12 +58,6 @@ pub struct Fed {
 // The state behind a byte, and the place behind what is printed.
 struct Next {
     pub desk: Desk,
-    pub end: usize,
-}
-
-// What Check gives for a file, and the place behind its answer's line.
-struct Judged {
-    pub checked: Checked,
     pub end: usize,
 }
 
@@ -93,14 +94,18 @@ pub fn opened() -> Desk
     state(Phase::File, true, 0)
 }
 
-// Whether an output area has room for an answer behind place `at`.
-fn has_room(out: &[u8], at: usize) -> bool
-    ensures { λ r. ⌜ r ≡ leb (at + answerRoom) (length (now (out .entry))) ⌝ }
+// Whether a chunk of so many bytes goes on behind `taken`, and an output area of n bytes has room for
+// an answer behind place `at`.
+fn goes_on(taken: usize, bytes: usize, at: usize, n: usize) -> bool
+    ensures { λ r. ⌜ r ≡ (ltb taken bytes && leb (at + answerRoom) n) ⌝ }
 {
-    if out.len() < 160 {
+    if n < 160 {
         return false;
     }
-    at <= out.len() - 160
+    if taken < bytes {
+        return at <= n - 160;
+    }
+    false
 }
 
 // One byte more of a file or of a line, as far as it is kept.
@@ -123,56 +128,48 @@ fn begins(fresh: bool, b: u8) -> bool
     false
 }
 
-// Checks a file and prints its answer.
-fn judge(file: &[u8], table: &mut [u16], work: &mut [u8], out: &mut [u8], at: usize) -> Judged
-    ensures { λ r. ⌜ (tableLength ≤ length (now (table .entry)) → workLength ≤ length (now (work .entry)) → at + answerRoom ≤ length (now (out .entry)) → JudgedAs (now (file .entry)) (now (table .exit)) (now (out .entry)) (now (out .exit)) at r) ⌝ }
+// Whether a checked file is refused.
+fn is_down(c: Checked) -> bool
+    ensures { λ r. ⌜ r ≡ isSome (refusalView (c .answer .refusal)) ⌝ }
 {
-    let c = check_file(file, table, work);
+    let a = c.answer;
+    let f = a.refusal;
+    is_refused(f)
+}
+
+// Prints the answer to a checked file.
+fn put_checked(out: &mut [u8], at: usize, c: Checked) -> usize
+    ensures { λ r. ⌜ (c .answer .place < 10000000000 → Writes (now (out .entry)) (now (out .exit)) at r (fileLine (record { number = numberOf (c .answer .refusal); line = c .answer .place }))) ⌝ }
+{
     let a = c.answer;
     let f = a.refusal;
     let n = number_of(f);
-    let end = put_verdict(out, at, n, a.place);
-    Judged {
-        checked: c,
-        end: end,
-    }
+    put_verdict(out, at, n, a.place)
 }
 
-// The first Q line begins: the file is answered, and an accepted one is made ready for queries.
-fn begin(
-    file: &[u8],
-    line: &mut [u8],
-    table: &mut [u16],
-    work: &mut [u8],
-    index: &mut [u16],
-    out: &mut [u8],
-    at: usize,
-) -> Next
-    ensures { λ r. ⌜ ((area : List ℕ) → Roomy area (now (line .entry)) (now (table .entry)) (now (work .entry)) (now (index .entry)) → at + answerRoom ≤ length (now (out .entry)) → Reaches (close (now (file .entry))) area (now (line .exit)) (now (table .exit)) (now (index .exit)) (now (out .entry)) (now (out .exit)) at r) ⌝ }
+// Behind the answer to a file at its first Q line: a refused file is the end, and an accepted one is made
+// ready for queries.
+fn settle(c: Checked, line: &mut [u8], table: &[u16], index: &mut [u16], end: usize) -> Next
+    ensures { λ r. ⌜ ((file area out out′ : List ℕ) (at : ℕ) → JudgedAs file (now (table .entry)) out out′ at end c → lineRoom ≤ length (now (line .entry)) → indexLength ≤ length (now (index .entry)) → Reaches (close file) area (now (line .exit)) (now (table .entry)) (now (index .exit)) out out′ at r) ⌝ }
 {
-    let j = judge(file, table, work, out, at);
-    let c = j.checked;
-    let a = c.answer;
-    let f = a.refusal;
-    if is_refused(f) {
+    if is_down(c) {
         return Next {
             desk: state(Phase::Stopped, false, 0),
-            end: j.end,
+            end: end,
         };
     }
     prepare(table, c, index);
     let held = put_byte(line, 0, 81);
     Next {
         desk: ready(c.types, c.isos, held),
-        end: j.end,
+        end: end,
     }
 }
 
-// A byte behind bytes of the file.
-fn file_byte(
-    d: Desk,
-    b: u8,
-    file: &mut [u8],
+// The first Q line begins: the file, the first bytes of its area, is checked and answered.
+fn begin(
+    file: &[u8],
+    held: usize,
     line: &mut [u8],
     table: &mut [u16],
     work: &mut [u8],
@@ -180,17 +177,48 @@ fn file_byte(
     out: &mut [u8],
     at: usize,
 ) -> Next
-    ensures { λ r. ⌜ ((bs : List ℕ) → DeskAt d (now (file .entry)) (now (line .entry)) (now (table .entry)) (now (index .entry)) (collecting bs) → Roomy (now (file .entry)) (now (line .entry)) (now (table .entry)) (now (work .entry)) (now (index .entry)) → at + answerRoom ≤ length (now (out .entry)) → Reaches (step (collecting bs) b) (now (file .exit)) (now (line .exit)) (now (table .exit)) (now (index .exit)) (now (out .entry)) (now (out .exit)) at r) ⌝ }
+    ensures { λ r. ⌜ (Roomy (now (file .entry)) (now (line .entry)) (now (table .entry)) (now (work .entry)) (now (index .entry)) → at + answerRoom ≤ length (now (out .entry)) → Reaches (close (take held (now (file .entry)))) (now (file .entry)) (now (line .exit)) (now (table .exit)) (now (index .exit)) (now (out .entry)) (now (out .exit)) at r) ⌝ }
 {
-    let held = d.held;
-    if begins(d.fresh, b) {
-        return begin(front(file, held), line, table, work, index, out, at);
-    }
+    let c = check_file(front(file, held), table, work);
+    let end = put_checked(out, at, c);
+    settle(c, line, table, index, end)
+}
+
+// One byte more of the file.
+fn file_byte(held: usize, b: u8, file: &mut [u8], at: usize) -> Next
+    ensures { λ r. ⌜ ((bs line table index out : List ℕ) → Holds fileRoom held (now (file .entry)) bs → fileRoom ≤ length (now (file .entry)) → at + answerRoom ≤ length out → Reaches (record { next = collecting (bs ++ (b ∷ [])); prints = [] }) (now (file .exit)) line table index out out at r) ⌝ }
+{
     let more = hold(file, held, b, 65537);
     Next {
         desk: state(Phase::File, b == 10, more),
         end: at,
     }
+}
+
+// Answers a query's line with the first `room` bytes of a work area.
+fn answer_with(
+    types: usize,
+    isos: usize,
+    line: &[u8],
+    table: &[u16],
+    index: &[u16],
+    work: &mut [u8],
+    room: usize,
+    result: &mut [u8],
+) -> Ran
+    requires { ⌜ room ≤ length (now work) ⌝ }
+    ensures { λ r. ⌜ ((rs : List RowOf) → Prepared (now (table .entry)) types (now (index .entry)) isos rs → 40960 ≤ room → room ≤ 65536 → 127 ≤ length (now (result .entry)) → RanAs (answerOfRun (answerTo (accepted rs) (queryOf (now (line .entry))))) (now (result .entry)) (now (result .exit)) r) ⌝ }
+{
+    answer_line(table, types, index, isos, line, &mut work[0..room], result)
+}
+
+// Prints what a run gave, whose letters stand in a result area.
+fn put_ran(out: &mut [u8], at: usize, r: Ran, result: &[u8]) -> usize
+    ensures { λ e. ⌜ Writes (now (out .entry)) (now (out .exit)) at e (queryLine (record { number = numberOf (r .refusal); count = r .count; letters = take (r .length) (now (result .entry)) })) ⌝ }
+{
+    let f = r.refusal;
+    let n = number_of(f);
+    put_answer(out, at, n, r.count, front(result, r.length))
 }
 
 // Prints the answer to a query's line. The run wants a work area of 65,536 bytes; where it is shorter,
@@ -210,18 +238,17 @@ fn answer(
         return at;
     }
     let mut result = [0u8; 127];
-    let r = answer_line(
-        table,
+    let r = answer_with(
         d.types,
-        index,
         d.isos,
         line,
-        &mut work[0..65536],
+        table,
+        index,
+        work,
+        65536,
         &mut result,
     );
-    let f = r.refusal;
-    let n = number_of(f);
-    put_answer(out, at, n, r.count, front(&result, r.length))
+    put_ran(out, at, r, &result)
 }
 
 // A byte behind bytes of a query's line.
@@ -266,8 +293,14 @@ fn feed_byte(
     ensures { λ r. ⌜ ((s : State) → DeskAt d (now (file .entry)) (now (line .entry)) (now (table .entry)) (now (index .entry)) s → Roomy (now (file .entry)) (now (line .entry)) (now (table .entry)) (now (work .entry)) (now (index .entry)) → at + answerRoom ≤ length (now (out .entry)) → Reaches (step s b) (now (file .exit)) (now (line .exit)) (now (table .exit)) (now (index .exit)) (now (out .entry)) (now (out .exit)) at r) ⌝ }
 {
     let phase = d.phase;
+    let held = d.held;
     match phase {
-        Phase::File => file_byte(d, b, file, line, table, work, index, out, at),
+        Phase::File => {
+            if begins(d.fresh, b) {
+                return begin(file, held, line, table, work, index, out, at);
+            }
+            file_byte(held, b, file, at)
+        }
         Phase::Queries => query_byte(d, b, line, table, work, index, out, at),
         Phase::Stopped => Next { desk: d, end: at },
     }
@@ -292,14 +325,9 @@ pub fn feed(
     let mut desk = d;
     let mut taken: usize = 0;
     let mut written: usize = 0;
-    while taken < chunk.len() {
-        if !has_room(out, written) {
-            return Fed {
-                desk: desk,
-                taken: taken,
-                written: written,
-            };
-        }
+    let bytes = chunk.len();
+    let room = out.len();
+    while goes_on(taken, bytes, written, room) {
         let b = chunk[taken];
         let n = feed_byte(desk, b, file, line, table, work, index, out, written);
         desk = n.desk;
@@ -330,8 +358,8 @@ pub fn finished(
     let held = d.held;
     match phase {
         Phase::File => {
-            let j = judge(front(file, held), table, work, out, 0);
-            j.end
+            let c = check_file(front(file, held), table, work);
+            put_checked(out, 0, c)
         }
         Phase::Queries => {
             if held == 0 {

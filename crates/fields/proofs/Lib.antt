@@ -1,5 +1,4 @@
--- The table of forms; one byte of a line; the digits of a number; the fields behind a letter.
-pub mod Forms
+-- One byte of a line; the digits of a number; a field.
 pub mod Bytes
 pub mod Digits
-pub mod Rows
+pub mod Fields

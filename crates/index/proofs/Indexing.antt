@@ -15,7 +15,7 @@ use Rattle.nodes.specs.Unfolding.{cellOf, typeOf, patternOf}
 use Rattle.nodes.specs.InTable.{letAt, letsIn, clauseIn}
 use Rattle.nodes.specs.Walk.{FileIn, isoRows, tailAt}
 use Rattle.nodes.proofs.Rows.{clause≢iso, let≢iso}
-use Rattle.areas.proofs.Writing.{narrow-same}
+use Rattle.words.proofs.Bits.{narrow-same}
 use Rattle.nodes.proofs.Walking.{no-lets, one-let-more, tail-end, row-of, lines-few, whole-file, head-few, letter-iso, letter-clause, other-let, iso-rows-few, iso-rows-other, iso-rows-longer, iso-rows-early}
 use Rattle.index.specs.Index.{indexLength, placeAt, clausesAt, isoBetween, isosAt}
 use Rattle.index.specs.Indexed.{placesOf, places, Indexed}

@@ -3,9 +3,9 @@
 // iso i's row, and behind the last iso's stands 1,089. So an index has 1,090 numbers: 33 places of
 // isos, 1,056 rows, and the number of rows.
 
-use areas::narrow;
-use areas::store_word;
 use nodes::cell;
+use words::narrow;
+use words::store_word;
 ghost use mathlib.Core.Path.{_≡_};
 ghost use mathlib.Core.List.{List};
 ghost use Prim.Native.Nat.{ℕ, suc, _+_, _≤_, _<_};

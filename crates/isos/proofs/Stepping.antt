@@ -3,13 +3,13 @@ use Prim.Native.Nat.{ℕ, suc, _+_, _-_, _%_, _≤_, _<_}
 use native.Mathlib.Numerals.{add-one}
 use native.Mathlib.Omega.{arith}
 use mathlib.Core.Path.{_≡_, sym, ap, ap₂, _∙_, subst, subst₂, subst₃}
-use mathlib.Core.Option.{none, some}
+use mathlib.Core.Option.{Option, none, some}
 use mathlib.Core.List.{List, [], _∷_}
 use lib.ListN.{length, getD, getElem?, take, drop, set, length-set, length-drop, drop-of-length-le}
 use lib.Seq.{drop-cons, getD-set-same, drop-set-lt, take-all}
 use Rattle.model.specs.Limits.{maxLines}
 use Rattle.model.specs.Lines.{Row}
-use Rattle.model.specs.Refusals.{clauseLine}
+use Rattle.model.specs.Refusals.{Refusal, clauseLine}
 use Rattle.model.specs.Tools.{orElse}
 use Rattle.model.specs.Code.{refusalView}
 use Rattle.model.specs.Unfold.{isosOf}
@@ -21,17 +21,27 @@ use Rattle.nodes.specs.InTable.{clauseIn, sigsIn, patternsAt, sidesFault}
 use Rattle.nodes.specs.Walk.{FileIn, isoRows, WalkAt}
 use Rattle.nodes.proofs.Rows.{get-row}
 use Rattle.nodes.proofs.Walking.{row-of, lines-few, head-few, letter-iso, letter-clause, other-let, walk-start, walk-let, walk-clause, walk-iso, walk-end, own-row, clause-slots, clause-room, iso-above, iso-within}
-use Rattle.trees.specs.Rules.{Slotted}
+use Rattle.typing.specs.Rules.{Slotted}
 use Rattle.isos.specs.declared.Walk as W
-use Rattle.isos.specs.Answers.{asFault}
+use Rattle.isos.specs.Answers.{asFault, OwnFault}
 use Rattle.isos.specs.Walked.{Walked}
-use Rattle.areas.proofs.Writing.{narrow-same}
+use Rattle.words.proofs.Bits.{narrow-same}
 
 -- a store in front of the rows that are kept
 stored : (l : List ℕ) (k a : ℕ) → k < length l → drop k (set l k a) ≡ a ∷ drop (suc k) l
 stored l k a h =
     let wide : k < length (set l k a) = omega (arith, length-set l k a) in
     drop-cons (set l k a) k 0 wide ∙ ap₂ _∷_ (getD-set-same l k a 0 h) (drop-set-lt (suc k) l k a (omega arith))
+
+-- the refusal of a clause, by the types of its iso's I line
+pub own-fault : (t : List ℕ) (base : ℕ) (starts : List ℕ) (own n below : ℕ) {v head a b : ℕ} {o : Option Refusal} → v ≡ getD starts own 0 → head ≡ v
+    → a ≡ cellOf t head 1 → b ≡ cellOf t head 2
+    → (n < maxLines → Slotted (clauseIn t base n below) → o ≡ clauseFault (sigsIn t starts) (typeOf t a) (typeOf t b) (clauseIn t base n below))
+    → OwnFault t base starts own n below o
+own-fault t base starts own n below ev eh ea eb eo =
+    let from = ea ∙ ap (λ x. cellOf t x 1) (eh ∙ ev) in
+    let to = eb ∙ ap (λ x. cellOf t x 2) (eh ∙ ev) in
+    record { same = λ h k. eo h k ∙ ap₂ (λ x y. clauseFault (sigsIn t starts) (typeOf t x) (typeOf t y) (clauseIn t base n below)) from to }
 
 -- what the code tests before a C row, and before an I row
 pub record ClauseInside (w : W.Walk) (n : ℕ) : Type 0 where
@@ -70,13 +80,11 @@ module _ {t : List ℕ} {base patterns lines : ℕ} {rs : List Row} (f : FileIn 
       }
 
   -- a C row
-  pub walked-clause : (starts : List ℕ) → starts ≡ isoRows 0 rs → cellOf t n 0 ≡ 67 → {v head a b : ℕ} → v ≡ getD starts (w .iso - 1) 0 → head ≡ v
-      → a ≡ cellOf t head 1 → b ≡ cellOf t head 2 → (g : R.Refusal)
-      → (n < maxLines → Slotted (clauseIn t base n (w .below)) → refusalView g ≡ clauseFault (sigsIn t starts) (typeOf t a) (typeOf t b) (clauseIn t base n (w .below)))
+  pub walked-clause : (starts : List ℕ) → starts ≡ isoRows 0 rs → cellOf t n 0 ≡ 67 → (g : R.Refusal) → OwnFault t base starts (w .iso - 1) n (w .below) (refusalView g)
       → {m : ℕ} → m ≡ n % 65536 → (p : A.Answer) → asFault p ≡ orElse (at (n + 1) (refusalView g)) (asFault (w .pending))
       → Walked t base rs n
       (record { clauses = set (w .clauses) (w .first - 1) m; first = w .first - 1; below = n; iso = w .iso; pending = p; found = w .found })
-  walked-clause starts e c {v} {head} {a} {b} ev eh ea eb g eg {m} em p ep =
+  walked-clause starts e c g eg {m} em p ep =
       record {
         places = length-set (w .clauses) (w .first - 1) m ∙ s .places;
         within = omega (arith, s .within);
@@ -109,13 +117,10 @@ module _ {t : List ℕ} {base patterns lines : ℕ} {rs : List Row} (f : FileIn 
           (stored (w .clauses) (w .first - 1) m (omega (arith, inside .room, s .places, s .within))
           ∙ ap₂ (λ x i. x ∷ drop i (w .clauses)) (narrow-same em (omega (arith, inside .early))) front)
 
-      same : head ≡ top
-      same = eh ∙ ev ∙ ap (λ l. getD l (w .iso - 1) 0) e
-
       judged : refusalView g ≡ clauseFault (sigsIn t (isoRows 0 rs)) (typeOf t (cellOf t top 1)) (typeOf t (cellOf t top 2)) (clauseIn t base n (w .below))
       judged =
-          eg (inside .early) (clause-slots f n (r .1) k (s .holds))
-          ∙ (λ i. clauseFault (sigsIn t (e i)) (typeOf t ((ea ∙ ap (λ x. cellOf t x 1) same) i)) (typeOf t ((eb ∙ ap (λ x. cellOf t x 2) same) i)) (clauseIn t base n (w .below)))
+          eg .same (inside .early) (clause-slots f n (r .1) k (s .holds))
+          ∙ ap (λ l. clauseFault (sigsIn t l) (typeOf t (cellOf t (getD l (w .iso - 1) 0) 1)) (typeOf t (cellOf t (getD l (w .iso - 1) 0) 2)) (clauseIn t base n (w .below))) e
 
       refusal : orElse (at (suc n) (clauseFault (sigsIn t (isoRows 0 rs)) (typeOf t (cellOf t top 1)) (typeOf t (cellOf t top 2)) (clauseIn t base n (w .below)))) (asFault (w .pending))
           ≡ asFault p
@@ -132,13 +137,14 @@ module _ {t : List ℕ} {base patterns lines : ℕ} {rs : List Row} (f : FileIn 
       }
 
   -- an I row
-  pub walked-iso : cellOf t n 0 ≡ 73 → (a p q : A.Answer)
-      → asFault a
-      ≡ orElse (asFault (w .pending))
-      (at (suc n) (sidesFault (patternsAt t base 1 (take (32 - w .first) (drop (w .first) (w .clauses)))) (patternsAt t base 2 (take (32 - w .first) (drop (w .first) (w .clauses))))))
-      → asFault p ≡ none → asFault q ≡ orElse (asFault a) (asFault (w .found))
+  pub walked-iso : cellOf t n 0 ≡ 73 → (p q : A.Answer) → asFault p ≡ none
+      → asFault q
+      ≡ orElse
+      (orElse (asFault (w .pending))
+      (at (suc n) (sidesFault (patternsAt t base 1 (take (32 - w .first) (drop (w .first) (w .clauses)))) (patternsAt t base 2 (take (32 - w .first) (drop (w .first) (w .clauses)))))))
+      (asFault (w .found))
       → Walked t base rs n (record { clauses = w .clauses; first = 32; below = n; iso = w .iso - 1; pending = p; found = q })
-  walked-iso c a p q ea ep eq =
+  walked-iso c p q ep eq =
       record {
         places = s .places;
         within = omega arith;
@@ -165,8 +171,7 @@ module _ {t : List ℕ} {base patterns lines : ℕ} {rs : List Row} (f : FileIn 
       refusal =
           sym
           (eq
-          ∙ ap (λ o. orElse o (asFault (w .found)))
-          (ea ∙ ap (λ l. orElse (asFault (w .pending)) (at (suc n) (sidesFault (patternsAt t base 1 l) (patternsAt t base 2 l)))) whole))
+          ∙ ap (λ l. orElse (orElse (asFault (w .pending)) (at (suc n) (sidesFault (patternsAt t base 1 l) (patternsAt t base 2 l)))) (asFault (w .found))) whole)
 
 -- what the loop knows at row n, whatever file the table holds
 pub record Walking (t : List ℕ) (base : ℕ) (starts : List ℕ) (stop lines isos n : ℕ) (w : W.Walk) : Type 0 where

@@ -1,15 +1,16 @@
 // All isos of a table. The rows are walked from the last to the first, so that L rows are known before
 // their C row and C rows before their I row; an earlier refusal replaces a later one.
 
-use areas::narrow;
-use areas::wide;
-use areas::word_at;
-use clauses::clause::clause_fault;
-use clauses::sides::side_fault;
+use clauses::clause_fault;
 use model::Answer;
 use model::Refusal;
 use nodes::cell;
+use sides::side_fault;
+use words::narrow;
+use words::wide;
+use words::word_at;
 ghost use mathlib.Core.Path.{_≡_};
+ghost use mathlib.Core.Bool.{true};
 ghost use mathlib.Core.List.{List};
 ghost use mathlib.Core.Option.{none as nothing};
 ghost use Prim.Native.Nat.{ℕ, suc, _+_, _≤_, _<_};
@@ -22,7 +23,7 @@ ghost use Rattle.model.specs.Clauses.{at, fault};
 ghost use Rattle.nodes.specs.Unfolding.{cellOf};
 ghost use Rattle.nodes.specs.InTable.{patternsAt, sidesFault};
 ghost use Rattle.nodes.specs.Walk.{FileIn, isoRows};
-ghost use Rattle.isos.specs.Answers.{asFault};
+ghost use Rattle.isos.specs.Answers.{asFault, OwnFault};
 ghost use Rattle.isos.specs.Walked.{StartsOf, Walked};
 
 // The rows of the I lines.
@@ -105,53 +106,75 @@ fn sooner(f: Refusal, place: usize, later: Answer) -> Answer
     }
 }
 
+// The refusal of the clause with its C row at n and its L rows up to `below`, in the iso of place `own`.
+fn own_fault(t: &[u16], base: usize, starts: &[u16], own: usize, n: usize, below: usize) -> Refusal
+    ensures { λ r. ⌜ OwnFault (now (t .entry)) base (now (starts .entry)) own n below (refusalView r) ⌝ }
+{
+    let head = wide(word_at(starts, own));
+    let a = cell(t, head, 1);
+    let b = cell(t, head, 2);
+    clause_fault(t, base, starts, a, b, n, below)
+}
+
+// Whether an I line stands above row n of the table, and place `first` is one of the 32 or their end.
+fn is_inside(i: usize, first: usize, n: usize) -> bool
+    ensures { λ r. ⌜ (r ≡ true → (0 < i) × (first ≤ 32) × (n < 4096)) × (0 < i → first ≤ 32 → n < 4096 → r ≡ true) ⌝ }
+{
+    if i == 0 {
+        return false;
+    }
+    if 32 < first {
+        return false;
+    }
+    if 4096 <= n {
+        return false;
+    }
+    true
+}
+
 // The walk with the C row n.
 fn with_clause(t: &[u16], base: usize, starts: &[u16], w: Walk, n: usize) -> Walk
     ensures { λ r. ⌜ ((rs : List RowOf) (patterns lines : ℕ) → FileIn (now (t .entry)) base patterns lines rs → now (starts .entry) ≡ isoRows 0 rs → n < lines → cellOf (now (t .entry)) n 0 ≡ 67 → Walked (now (t .entry)) base rs (suc n) w → Walked (now (t .entry)) base rs n r) ⌝ }
 {
     let i = w.iso;
     let first = w.first;
-    let below = w.below;
-    let found = w.found;
-    let pending = w.pending;
-    if i == 0 {
-        return w;
+    if is_inside(i, first, n) {
+        if 0 < first {
+            let f = own_fault(t, base, starts, i - 1, n, w.below);
+            let slot = first - 1;
+            let mut clauses = w.clauses;
+            clauses[slot] = narrow(n);
+            let found = w.found;
+            let pending = w.pending;
+            return Walk {
+                clauses: clauses,
+                first: slot,
+                below: n,
+                iso: i,
+                pending: sooner(f, n + 1, pending),
+                found: found,
+            };
+        }
     }
-    if first == 0 {
-        return w;
-    }
-    if 32 < first {
-        return w;
-    }
-    if 4096 <= n {
-        return w;
-    }
-    let own = i - 1;
-    let head = wide(word_at(starts, own));
-    let a = cell(t, head, 1);
-    let b = cell(t, head, 2);
-    let f = clause_fault(t, base, starts, a, b, n, below);
-    let slot = first - 1;
-    let mut clauses = w.clauses;
-    clauses[slot] = narrow(n);
-    Walk {
-        clauses: clauses,
-        first: slot,
-        below: n,
-        iso: i,
-        pending: sooner(f, n + 1, pending),
-        found: found,
-    }
+    w
 }
 
-// The first refusal of an iso with its I row at n, at one of its clauses or else on its sides.
-fn iso_answer(t: &[u16], base: usize, rows: &[u16], n: usize, pending: Answer) -> Answer
+// The first refusal from an I row n on: at a clause of its iso, or else on the iso's sides, or else
+// what was found further down.
+fn iso_found(
+    t: &[u16],
+    base: usize,
+    rows: &[u16],
+    n: usize,
+    pending: Answer,
+    found: Answer,
+) -> Answer
     requires { ⌜ (length (now rows) ≤ 32) × (n < 4096) ⌝ }
-    ensures { λ r. ⌜ asFault r ≡ orElse (asFault pending) (at (suc n) (sidesFault (patternsAt (now (t .entry)) base 1 (now (rows .entry))) (patternsAt (now (t .entry)) base 2 (now (rows .entry))))) ⌝ }
+    ensures { λ r. ⌜ asFault r ≡ orElse (orElse (asFault pending) (at (suc n) (sidesFault (patternsAt (now (t .entry)) base 1 (now (rows .entry))) (patternsAt (now (t .entry)) base 2 (now (rows .entry)))))) (asFault found) ⌝ }
 {
     let f = pending.refusal;
     match f {
-        Refusal::Nothing => sooner(side_fault(t, base, rows), n + 1, none()),
+        Refusal::Nothing => sooner(side_fault(t, base, rows), n + 1, found),
         _ => pending,
     }
 }
@@ -162,30 +185,22 @@ fn with_iso(t: &[u16], base: usize, w: Walk, n: usize) -> Walk
 {
     let i = w.iso;
     let first = w.first;
-    let found = w.found;
-    let pending = w.pending;
-    let clauses = w.clauses;
-    if i == 0 {
-        return w;
+    if is_inside(i, first, n) {
+        let clauses = w.clauses;
+        let found = w.found;
+        let pending = w.pending;
+        let clear = none();
+        let above = i - 1;
+        return Walk {
+            clauses: clauses,
+            first: 32,
+            below: n,
+            iso: above,
+            pending: clear,
+            found: iso_found(t, base, &clauses[first..32], n, pending, found),
+        };
     }
-    if 32 < first {
-        return w;
-    }
-    if 4096 <= n {
-        return w;
-    }
-    let a = iso_answer(t, base, &clauses[first..32], n, pending);
-    let f = a.refusal;
-    let clear = none();
-    let above = i - 1;
-    Walk {
-        clauses: clauses,
-        first: 32,
-        below: n,
-        iso: above,
-        pending: clear,
-        found: sooner(f, a.place, found),
-    }
+    w
 }
 
 // The walk with row n. An L row leaves it as it is.

@@ -9,9 +9,9 @@ use Rattle.model.specs.Lines.{Row}
 use Rattle.model.specs.Judge.{Seen, stage, inOrder, fieldsFit, named, withinCeilings, judge}
 use Rattle.model.specs.declared.Row as R
 use Rattle.model.specs.Code.{kindView, rowView}
-use Rattle.judge.specs.declared.Seen as C
-use Rattle.judge.specs.Told.{Counts, Told}
-use Rattle.judge.proofs.Ceilings.{Within}
+use Rattle.counts.specs.declared.Seen as C
+use Rattle.counts.specs.Told.{Counts, Told}
+use Rattle.ceilings.proofs.Ceilings.{Within}
 
 -- ---- a row
 

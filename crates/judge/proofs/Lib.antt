@@ -1,4 +1,3 @@
--- The tests of a row; its ceilings; its refusal.
+-- The tests of a row; its refusal.
 pub mod Testing
-pub mod Ceilings
 pub mod Judging

@@ -14,8 +14,8 @@ use Rattle.model.specs.declared.Kind as K
 use Rattle.model.specs.declared.Kind.the-variants as kinds
 use Rattle.model.specs.declared.Row as R
 use Rattle.model.specs.Code.{kindView, rowView}
-use Rattle.judge.specs.declared.Seen as C
-use Rattle.judge.specs.Told.{Counts}
+use Rattle.counts.specs.declared.Seen as C
+use Rattle.counts.specs.Told.{Counts}
 
 -- ---- order
 

@@ -11,11 +11,11 @@ use Rattle.model.specs.declared.Row as R
 use Rattle.model.specs.declared.Refusal as F
 use Rattle.model.specs.declared.Refusal.the-variants as refusals
 use Rattle.model.specs.Code.{rowView, refusalView}
-use Rattle.fields.specs.declared.Line as L
-use Rattle.fields.specs.declared.Line.the-variants as forms
-use Rattle.fields.specs.Views.{asLine}
-use Rattle.judge.specs.declared.Seen as C
-use Rattle.judge.specs.Told.{Told}
+use Rattle.rows.specs.declared.Line as L
+use Rattle.rows.specs.declared.Line.the-variants as forms
+use Rattle.rows.specs.Views.{asLine}
+use Rattle.counts.specs.declared.Seen as C
+use Rattle.counts.specs.Told.{Told}
 use Rattle.lines.specs.Reads.{Verdict, refused, judgedRow, judgedForm, judgedLine}
 
 -- ---- a refusal or none

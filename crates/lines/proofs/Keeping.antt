@@ -18,9 +18,9 @@ use Rattle.model.specs.Judge.{Seen, start, stage, inOrder, typeNode, typeTree, 
 use Rattle.model.proofs.Passing.{Fit, judge-fit}
 use Rattle.nodes.specs.Unfolding.{cellOf, smallerOf, typeOf, patternOf}
 use Rattle.nodes.proofs.Unfolding.{smaller-less, type-node, type-same, pattern-node, pattern-same}
-use Rattle.judge.specs.declared.Seen as C
-use Rattle.judge.specs.Told.{startSeen, seenAfter, SmallCounts, Counts, TypesAt, PatternsAt, Told}
-use Rattle.judge.proofs.Ceilings.{type-named, inj-named, pair-named}
+use Rattle.counts.specs.declared.Seen as C
+use Rattle.counts.specs.Told.{startSeen, seenAfter, SmallCounts, Counts, TypesAt, PatternsAt, Told}
+use Rattle.ceilings.proofs.Ceilings.{type-named, inj-named, pair-named}
 use Rattle.lines.proofs.Storing.{rows-before, row-stored}
 
 -- ---- where rows stand

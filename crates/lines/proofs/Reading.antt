@@ -18,11 +18,11 @@ use Rattle.model.specs.declared.Refusal.the-variants as refusals
 use Rattle.model.specs.Code.{kindView, rowView, refusalView}
 use Rattle.model.proofs.Basic.{none≢some, some-inj}
 use Rattle.model.proofs.Printing.{WellFormed, read-print}
-use Rattle.judge.specs.declared.Seen as C
+use Rattle.counts.specs.declared.Seen as C
 use Rattle.lines.specs.declared.read.Judged as J
 use Rattle.lines.specs.declared.read.Judged.the-variants as judged
 use Rattle.split.specs.Split.{LineEnd}
-use Rattle.judge.specs.Told.{startSeen, seenAfter, SmallCounts, Told}
+use Rattle.counts.specs.Told.{startSeen, seenAfter, SmallCounts, Told}
 use Rattle.lines.specs.Reads.{passes, refused, asJudged, judgedRow, judgedForm, judgedLine, ReadSays}
 use Rattle.lines.proofs.Keeping.{Stands, stands-start, stands-kept, counts-small, told-start, told-kept}
 

@@ -10,7 +10,7 @@ use Rattle.model.specs.Refusals.{Refusal, badLine}
 use Rattle.model.specs.Lines.{Row, rowOf, lines, numbers}
 use Rattle.model.specs.Judge.{Seen, start, judge, afterAll, readFrom, rows, faulty}
 use Rattle.model.specs.Code.{rowView, refusalView}
-use Rattle.judge.specs.Told.{Told}
+use Rattle.counts.specs.Told.{Told}
 use Rattle.lines.specs.declared.read.Judged as J
 use Rattle.lines.specs.declared.read.Judged.the-variants as judged
 use Rattle.lines.specs.declared.read.Read as R

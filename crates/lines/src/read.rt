@@ -1,16 +1,16 @@
 // A whole file into the table: refusals 3 to 7.
 
-use areas::store_word;
-use fields::Line;
-use fields::letter_of;
-use fields::row_of;
-use judge::Seen;
+use counts::Seen;
+use counts::nothing_seen;
+use counts::seen_after;
+use forms::letter_of;
 use judge::judge;
-use judge::nothing_seen;
-use judge::seen_after;
 use model::Refusal;
 use model::Row;
+use rows::Line;
+use rows::row_of;
 use split::line_end;
+use words::store_word;
 ghost use mathlib.Core.Path.{_≡_};
 ghost use Prim.Native.Nat.{_*_, _≤_, _<_};
 ghost use lib.ListN.{length};
@@ -19,7 +19,7 @@ ghost use Rattle.model.specs.Limits.{tableLength, maxLines, rowWidth};
 ghost use Rattle.model.specs.Lines.{lines, numbers};
 ghost use Rattle.model.specs.Judge.{Seen as SeenOf};
 ghost use Rattle.model.specs.Code.{rowView, refusalView};
-ghost use Rattle.judge.specs.Told.{Told};
+ghost use Rattle.counts.specs.Told.{Told};
 ghost use Rattle.lines.specs.Reads.{asJudged, judgedRow, judgedLine, ReadSays};
 
 // A row that passes, or the line's refusal.

@@ -2,8 +2,8 @@
 // count, by recursion over lines whose numbers fall. P lines are numbered from `base`, the row of the
 // first one.
 
-use areas::wide;
-use areas::word_at;
+use words::wide;
+use words::word_at;
 ghost use mathlib.Core.Path.{_≡_};
 ghost use Prim.Native.Nat.{_+_, _<_, min};
 ghost use Rattle.model.specs.Trees.{typeNodes, nodes, tags};

@@ -1,8 +1,8 @@
 // Numbers and rows as text in an output area.
 
 use areas::put_byte;
-use fields::fields_of;
-use fields::letter_of;
+use forms::fields_of;
+use forms::letter_of;
 use model::Row;
 ghost use mathlib.Core.Path.{_≡_};
 ghost use Prim.Native.Nat.{_+_, _%_, _<_};

@@ -23,15 +23,15 @@ use Rattle.nodes.specs.InTable.{letAt, clauseIn}
 use Rattle.index.specs.Index.{placeAt, isoAt}
 use Rattle.values.specs.declared.Upto as U
 use Rattle.values.specs.declared.Upto.the-variants as upto
-use Rattle.values.specs.Texts.{At, alike, matched, Below, ranges, built}
+use Rattle.values.specs.Texts.{At, Ends, alike, matched, Below, ranges, built}
 use Rattle.values.specs.Agrees.{Agrees}
 use Rattle.values.specs.Traces.{Small, LetsTrace, done, step, Runs}
-use Rattle.values.proofs.Matching.{place-alike, nothing-alike}
+use Rattle.patterns.proofs.Matching.{place-alike, nothing-alike}
 use Rattle.values.proofs.Agreeing.{at-within, at-take, at-sets, take-sets, bind-alike, length-ranges, below-ranges, below-more, agrees-empty, agrees-more, agrees-bind, built-build, at-slice}
 use Rattle.reduction.specs.declared.Reduced as R
 use Rattle.reduction.specs.declared.Reduced.the-variants as reduced
 use Rattle.values.proofs.Tracing.{runs-least}
-use Rattle.reduction.specs.Frames.{frame, EnvAt, sided, sidedClause, sidedLet, sidedLets, sideAt, Laid, Chosen, Applied, Stepped, LetsRan}
+use Rattle.reduction.specs.Frames.{frame, EnvAt, Moved, sided, sidedClause, sidedLet, sidedLets, sideAt, Laid, Chosen, Applied, Stepped, LetsRan}
 use Rattle.reduction.proofs.Laying.{inside, clause-at, lhs-at, rhs-at, lets-at, length-sided, let-at, let-q, let-p, let-iso}
 
 -- ---- answers
@@ -73,31 +73,31 @@ pub side-found : (t : List ℕ) (base : ℕ) (index : List ℕ) (back : Bool) (m
 side-found t base index back m {j} {p} {f} e h k = ap (patternOf t base) (e ∙ ap₂ (cellOf t) h k)
 
 -- no clause from place `from` up to place m matches
-pub record Choosing (S : ℕ → Pat) (work : List ℕ) (at from stop : ℕ) (vars₀ vars : List ℕ) (m : ℕ) : Type 0 where
+pub record Choosing (S : ℕ → Pat) (work : List ℕ) (at end from stop : ℕ) (vars₀ vars : List ℕ) (m : ℕ) : Type 0 where
   pub onward : from ≤ m
   pub wide : length vars ≡ length vars₀
-  pub notYet : (v : Val) (n : ℕ) → At work at v → Below vars₀ (at + length (letters v)) → from + n < stop → alike (S (from + n)) v ≡ true
+  pub notYet : (v : Val) (n : ℕ) → At work at v → end ≡ at + length (letters v) → Below vars₀ (at + length (letters v)) → from + n < stop → alike (S (from + n)) v ≡ true
       → ((k : ℕ) → k < n → alike (S (from + k)) v ≡ false) → (m ≤ from + n) × Below vars (at + length (letters v))
 
-pub choosing-start : (S : ℕ → Pat) (work : List ℕ) (at from stop : ℕ) (vars : List ℕ) → Choosing S work at from stop vars vars from
-choosing-start S work at from stop vars =
-    record { onward = omega arith; wide = refl; notYet = λ v n a b h hit miss. (omega arith, b) }
+pub choosing-start : (S : ℕ → Pat) (work : List ℕ) (at end from stop : ℕ) (vars : List ℕ) → Choosing S work at end from stop vars vars from
+choosing-start S work at end from stop vars =
+    record { onward = omega arith; wide = refl; notYet = λ v n a z b h hit miss. (omega arith, b) }
 
-pub choosing-next : {S : ℕ → Pat} {work : List ℕ} {at from stop : ℕ} {vars₀ vars vars′ : List ℕ} {m : ℕ} (q : Pat) → Choosing S work at from stop vars₀ vars m
-    → q ≡ S m → length vars′ ≡ length vars → ((v : Val) → At work at v → upto.Nothing ≡ matched (alike q v) (at + length (letters v)))
-    → ((v : Val) → At work at v → vars′ ≡ ranges q v at vars) → Choosing S work at from stop vars₀ vars′ (m + 1)
-choosing-next {S} {work} {at} {from} {stop} {vars₀} {vars} {vars′} {m} q c e wide missed range =
+pub choosing-next : {S : ℕ → Pat} {work : List ℕ} {at end from stop : ℕ} {vars₀ vars vars′ : List ℕ} {m : ℕ} (q : Pat) → Choosing S work at end from stop vars₀ vars m
+    → q ≡ S m → length vars′ ≡ length vars → ((v : Val) → At work at v → Ends end at v → upto.Nothing ≡ matched (alike q v) (at + length (letters v)))
+    → ((v : Val) → At work at v → Ends end at v → vars′ ≡ ranges q v at vars) → Choosing S work at end from stop vars₀ vars′ (m + 1)
+choosing-next {S} {work} {at} {end} {from} {stop} {vars₀} {vars} {vars′} {m} q c e wide missed range =
     let o = c .onward in
     record {
       onward = omega (arith, o);
       wide = wide ∙ c .wide;
-      notYet = λ v n a b h hit miss.
-          let r = c .notYet v n a b h hit miss in
+      notYet = λ v n a z b h hit miss.
+          let r = c .notYet v n a z b h hit miss in
           let r₀ = r .0 in
-          let f : alike (S m) v ≡ false = subst (λ p. alike p v ≡ false) e (nothing-alike _ _ (missed v a)) in
+          let f : alike (S m) v ≡ false = subst (λ p. alike p v ≡ false) e (nothing-alike _ _ (missed v a (λ _. z))) in
           let other : m ≡ from + n → ⊥ = λ k. not-both hit (subst (λ x. alike (S x) v ≡ false) k f) in
           let later : m < from + n = further m (from + n) r₀ other in
-          (omega (arith, later), subst (λ u. Below u (at + length (letters v))) (sym (range v a)) (below-ranges q v at vars _ (r .1) (omega arith)));
+          (omega (arith, later), subst (λ u. Below u (at + length (letters v))) (sym (range v a (λ _. z))) (below-ranges q v at vars _ (r .1) (omega arith)));
     }
   where
     further : (x y : ℕ) → x ≤ y → (x ≡ y → ⊥) → x < y
@@ -107,21 +107,21 @@ choosing-next {S} {work} {at} {from} {stop} {vars₀} {vars} {vars′} {m} q c e
         go (inl b) = absurd (k (omega arith))
         go (inr b) = b
 
-pub choosing-found : {S : ℕ → Pat} {work : List ℕ} {at from stop : ℕ} {vars₀ vars vars′ : List ℕ} {m : ℕ} {x : ℕ} (q : Pat) → Choosing S work at from stop vars₀ vars m
-    → q ≡ S m → ((v : Val) → At work at v → upto.Place x ≡ matched (alike q v) (at + length (letters v)))
-    → ((v : Val) → At work at v → vars′ ≡ ranges q v at vars)
-    → (v : Val) (n : ℕ) → At work at v → Below vars₀ (at + length (letters v)) → from + n < stop → alike (S (from + n)) v ≡ true
+pub choosing-found : {S : ℕ → Pat} {work : List ℕ} {at end from stop : ℕ} {vars₀ vars vars′ : List ℕ} {m : ℕ} {x : ℕ} (q : Pat) → Choosing S work at end from stop vars₀ vars m
+    → q ≡ S m → ((v : Val) → At work at v → Ends end at v → upto.Place x ≡ matched (alike q v) (at + length (letters v)))
+    → ((v : Val) → At work at v → Ends end at v → vars′ ≡ ranges q v at vars)
+    → (v : Val) (n : ℕ) → At work at v → end ≡ at + length (letters v) → Below vars₀ (at + length (letters v)) → from + n < stop → alike (S (from + n)) v ≡ true
     → ((k : ℕ) → k < n → alike (S (from + k)) v ≡ false) → Chosen (S (from + n)) v at vars₀ vars′ (from + n) m
-choosing-found {S} {work} {at} {from} {stop} {vars₀} {vars} {vars′} {m} q c e took range v n a b h hit miss =
-    let r = c .notYet v n a b h hit miss in
-    let hits : alike (S m) v ≡ true = subst (λ p. alike p v ≡ true) e (place-alike _ _ _ (took v a) .0) in
+choosing-found {S} {work} {at} {end} {from} {stop} {vars₀} {vars} {vars′} {m} q c e took range v n a z b h hit miss =
+    let r = c .notYet v n a z b h hit miss in
+    let hits : alike (S m) v ≡ true = subst (λ p. alike p v ≡ true) e (place-alike _ _ _ (took v a (λ _. z)) .0) in
     let same : m ≡ from + n = here (either (from + n) m) (r .0) (c .onward) hits in
     record {
       place = same;
       earlier = vars;
       below = r .1;
       wide = c .wide;
-      matched = range v a ∙ ap (λ p. ranges p v at vars) (e ∙ ap S same);
+      matched = range v a (λ _. z) ∙ ap (λ p. ranges p v at vars) (e ∙ ap S same);
     }
   where
     here : (from + n ≤ m) ⊎ (m < from + n) → m ≤ from + n → from ≤ m → alike (S m) v ≡ true → m ≡ from + n
@@ -130,10 +130,10 @@ choosing-found {S} {work} {at} {from} {stop} {vars₀} {vars} {vars′} {m} q c 
         let k : from + (m - from) ≡ m = omega arith in
         absurd (not-both z (subst (λ w. alike (S w) v ≡ false) k (miss (m - from) (omega arith))))
 
-pub choosing-end : {S : ℕ → Pat} {work : List ℕ} {at from stop : ℕ} {vars₀ vars : List ℕ} {m : ℕ} → Choosing S work at from stop vars₀ vars m → stop ≤ m
-    → (v : Val) (n : ℕ) → At work at v → Below vars₀ (at + length (letters v)) → from + n < stop → alike (S (from + n)) v ≡ true
+pub choosing-end : {S : ℕ → Pat} {work : List ℕ} {at end from stop : ℕ} {vars₀ vars : List ℕ} {m : ℕ} → Choosing S work at end from stop vars₀ vars m → stop ≤ m
+    → (v : Val) (n : ℕ) → At work at v → end ≡ at + length (letters v) → Below vars₀ (at + length (letters v)) → from + n < stop → alike (S (from + n)) v ≡ true
     → ((k : ℕ) → k < n → alike (S (from + k)) v ≡ false) → Chosen (S (from + n)) v at vars₀ vars (from + n) stop
-choosing-end c past v n a b h hit miss = let r = c .notYet v n a b h hit miss in let r₀ = r .0 in absurd (omega (arith, r₀))
+choosing-end c past v n a z b h hit miss = let r = c .notYet v n a z b h hit miss in let r₀ = r .0 in absurd (omega (arith, r₀))
 
 -- ---- a pattern built on top of the letters
 
@@ -183,7 +183,7 @@ at-result w w′ at v h k e =
 -- the letters up to the result's end, and the environment with the result matched
 pub stepped-done : {w₀ w₁ w₂ vars vars′ : List ℕ} {top end left : ℕ} {u w : Val} {f g : Slots Val} {m x y : ℕ} {r : R.Reduced} (p : Pat) → Ready w₀ w₁ vars top end u f
     → Applied w₁ w₂ top left w m r → r ≡ reduced.Done x y → length w₂ ≡ length w₁ → bind p w f ≡ some g → top + length (letters w) ≤ length w₀ → top + length (letters w) < 65536
-    → ((v : Val) → At w₂ top v → vars′ ≡ ranges p v top vars) → Stepped w₀ w₂ vars′ top left w g m (reduced.Done x y)
+    → ((v : Val) → At w₂ top v → Ends x top v → vars′ ≡ ranges p v top vars) → Stepped w₀ w₂ vars′ top left w g m (reduced.Done x y)
 stepped-done {w₀} {w₁} {w₂} {vars} {vars′} {top} {end} {left} {u} {w} {f} {g} {m} {x} {y} {r} p rd ap′ is wide b room small range =
     record {
       done = λ h. sym is ∙ ap′ .done h;
@@ -199,7 +199,7 @@ stepped-done {w₀} {w₁} {w₂} {vars} {vars′} {top} {end} {left} {u} {w} {f
     env h =
         let k = rd .wide in
         let a : At w₂ top w = at-result w₁ w₂ top w top≤ (omega (arith, k, wide)) (ap′ .result h) in
-        let e = range w a in
+        let e = range w a (λ _. done-place (sym is ∙ ap′ .done h)) in
         let same : take top w₀ ≡ take top w₂ = sym (below-result w₁ w₂ top (letters w) top≤ (ap′ .result h) ∙ rd .kept) in
         let next : ℕ = top + length (letters w) in
         let older : Agrees (take next w₂) vars f =
@@ -242,12 +242,12 @@ ApplySays t base index back i work work′ at end left r =
     → at + suc i * frame ≤ length work → length work ≤ 65536 → Applied work work′ at left w m r
 
 -- q is built, and the iso applied to it
-step-ready : (t : List ℕ) (base : ℕ) (back : Bool) (row i : ℕ) {jq fq : ℕ} {w₀ w₁ vars : List ℕ} {top end : ℕ} (l : Let) (e : Slots Val) {f : Slots Val} {u : Val}
+step-ready : (t : List ℕ) (base : ℕ) (back : Bool) (row i : ℕ) {jq : ℕ} {w₀ w₁ vars : List ℕ} {top end : ℕ} (l : Let) (e : Slots Val) {f : Slots Val} {u : Val}
     → l ≡ sidedLet back (letAt t base row) → l .iso < i → build (l .q) e ≡ some (u, f) → Small u → EnvAt w₀ top vars e → top + i * frame ≤ length w₀
-    → jq ≡ cellOf t row fq → fq ≡ cond back 1 3
+    → jq ≡ cellOf t row (cond back 1 3)
     → ((n : ℕ) → Below vars n → n ≤ top → Writes w₀ w₁ top end (built (patternOf t base jq) (take n w₀) vars)) → Ready w₀ w₁ vars top end u f
-step-ready t base back row i {jq} {fq} {w₀} {w₁} {vars} {top} {end} l e {f} {u} is less b small env room cell side writes =
-    let same : l .q ≡ patternOf t base jq = ap (λ x. x .q) is ∙ let-q t base back row ∙ ap (patternOf t base) (sym (cell ∙ ap (cellOf t row) side)) in
+step-ready t base back row i {jq} {w₀} {w₁} {vars} {top} {end} l e {f} {u} is less b small env room cell writes =
+    let same : l .q ≡ patternOf t base jq = ap (λ x. x .q) is ∙ let-q t base back row ∙ ap (patternOf t base) (sym cell) in
     ready (patternOf t base jq) env (subst (λ p. build p e ≡ some (u, f)) same b) (omega (arith, small, room, less)) writes
 
 step-applied : (t : List ℕ) (base : ℕ) (index : List ℕ) (back : Bool) (row i j : ℕ) {w₀ w₁ w₂ vars : List ℕ} {top end left : ℕ} {r : R.Reduced} (os : List Iso) (d : ℕ) (l : Let) {f : Slots Val} {u : Val} (w : Val) (m : ℕ)
@@ -258,23 +258,23 @@ step-applied t base index back row i j os d l {f} {u} w m laid is less small run
     let wide = rd .wide in
     says os d u w m laid (subst (λ k. Runs d os k u w m) same run) (rd .spelled) small (rd .ends) (omega (arith, room, wide, same, less)) (omega (arith, wide, most))
 
-pub step-done : (t : List ℕ) (base : ℕ) (index : List ℕ) (back : Bool) (row i j : ℕ) {jq fq jp fp : ℕ} {w₀ w₁ w₂ vars vars′ : List ℕ} {top end left x y : ℕ} {r : R.Reduced} → j ≡ cellOf t row 2
-    → jq ≡ cellOf t row fq → fq ≡ cond back 1 3
+pub step-done : (t : List ℕ) (base : ℕ) (index : List ℕ) (back : Bool) (row i j : ℕ) {jq jp : ℕ} {w₀ w₁ w₂ vars vars′ : List ℕ} {top end left x y : ℕ} {r : R.Reduced} → j ≡ cellOf t row 2
+    → jq ≡ cellOf t row (cond back 1 3)
     → ((n : ℕ) → Below vars n → n ≤ top → Writes w₀ w₁ top end (built (patternOf t base jq) (take n w₀) vars))
-    → ApplySays t base index back j w₁ w₂ top end left r → length w₂ ≡ length w₁ → r ≡ reduced.Done x y → jp ≡ cellOf t row fp → fp ≡ cond back 3 1
-    → ((v : Val) → At w₂ top v → vars′ ≡ ranges (patternOf t base jp) v top vars) → StepSays t base index back i row w₀ w₂ top vars vars′ left (reduced.Done x y)
-step-done t base index back row i j {jq} {fq} {jp} {fp} cell cellq sideq writes says wide told cellp sidep range os d l e f g u w m laid is less b small run little bound env room most =
-    let rd = step-ready t base back row i l e is less b small env room cellq sideq writes in
-    let same : l .p ≡ patternOf t base jp = ap (λ x. x .p) is ∙ let-p t base back row ∙ ap (patternOf t base) (sym (cellp ∙ ap (cellOf t row) sidep)) in
+    → ApplySays t base index back j w₁ w₂ top end left r → length w₂ ≡ length w₁ → r ≡ reduced.Done x y → jp ≡ cellOf t row (cond back 3 1)
+    → ((v : Val) → At w₂ top v → Ends x top v → vars′ ≡ ranges (patternOf t base jp) v top vars) → StepSays t base index back i row w₀ w₂ top vars vars′ left (reduced.Done x y)
+step-done t base index back row i j {jq} {jp} cell cellq writes says wide told cellp range os d l e f g u w m laid is less b small run little bound env room most =
+    let rd = step-ready t base back row i l e is less b small env room cellq writes in
+    let same : l .p ≡ patternOf t base jp = ap (λ x. x .p) is ∙ let-p t base back row ∙ ap (patternOf t base) (sym cellp) in
     stepped-done (patternOf t base jp) rd (step-applied t base index back row i j os d l w m laid is less small run room most cell rd says) told wide
     (subst (λ p. bind p w f ≡ some g) same bound) (omega (arith, little, room, less)) (omega (arith, little, room, most, less)) range
 
-pub step-spent : (t : List ℕ) (base : ℕ) (index : List ℕ) (back : Bool) (row i j : ℕ) {jq fq : ℕ} {w₀ w₁ w₂ vars vars′ : List ℕ} {top end left : ℕ} {r : R.Reduced} → j ≡ cellOf t row 2
-    → jq ≡ cellOf t row fq → fq ≡ cond back 1 3
+pub step-spent : (t : List ℕ) (base : ℕ) (index : List ℕ) (back : Bool) (row i j : ℕ) {jq : ℕ} {w₀ w₁ w₂ vars vars′ : List ℕ} {top end left : ℕ} {r : R.Reduced} → j ≡ cellOf t row 2
+    → jq ≡ cellOf t row (cond back 1 3)
     → ((n : ℕ) → Below vars n → n ≤ top → Writes w₀ w₁ top end (built (patternOf t base jq) (take n w₀) vars))
     → ApplySays t base index back j w₁ w₂ top end left r → r ≡ reduced.Spent → StepSays t base index back i row w₀ w₂ top vars vars′ left reduced.Spent
-step-spent t base index back row i j cell cellq sideq writes says told os d l e f g u w m laid is less b small run little bound env room most =
-    let rd = step-ready t base back row i l e is less b small env room cellq sideq writes in
+step-spent t base index back row i j cell cellq writes says told os d l e f g u w m laid is less b small run little bound env room most =
+    let rd = step-ready t base back row i l e is less b small env room cellq writes in
     stepped-spent (step-applied t base index back row i j os d l w m laid is less small run room most cell rd says) told
 
 -- ---- the let steps of a clause
@@ -506,9 +506,9 @@ pub record Picked (t : List ℕ) (base : ℕ) (back : Bool) (os : List Iso) (i r
   pub counts : suc count ≡ m
 
 -- what the choice of a clause ensures
-abbrev pub ChoiceSays : List ℕ → ℕ → List ℕ → Bool → ℕ → ℕ → List ℕ → ℕ → List ℕ → List ℕ → ℕ → Type 0
-ChoiceSays t base index back from stop work at vars vars′ r =
-    (v : Val) (n : ℕ) → At work at v → Below vars (at + length (letters v)) → from + n < stop → alike (sideAt t base index back (from + n)) v ≡ true
+abbrev pub ChoiceSays : List ℕ → ℕ → List ℕ → Bool → ℕ → ℕ → List ℕ → ℕ → ℕ → List ℕ → List ℕ → ℕ → Type 0
+ChoiceSays t base index back from stop work at end vars vars′ r =
+    (v : Val) (n : ℕ) → At work at v → end ≡ at + length (letters v) → Below vars (at + length (letters v)) → from + n < stop → alike (sideAt t base index back (from + n)) v ≡ true
     → ((k : ℕ) → k < n → alike (sideAt t base index back (from + k)) v ≡ false)
     → Chosen (sideAt t base index back (from + n)) v at vars vars′ (from + n) r
 
@@ -553,7 +553,7 @@ placed t base index back i o v place c {first} e chosen bound before =
 
 -- the choice comes out at the trace's clause
 picked : {t : List ℕ} {base : ℕ} {index : List ℕ} {back : Bool} {i first stop r row below at end : ℕ} {w₀ vars′ : List ℕ}
-    → ChoiceSays t base index back first stop w₀ at (replicate 64 0) vars′ r → first ≡ placeAt index i + 1 → stop ≡ placeAt index (i + 1)
+    → ChoiceSays t base index back first stop w₀ at end (replicate 64 0) vars′ r → first ≡ placeAt index i + 1 → stop ≡ placeAt index (i + 1)
     → row ≡ placeAt index r → below ≡ placeAt index (r + 1)
     → (os : List Iso) (d : ℕ) (v w : Val) (m : ℕ) → Laid t base index back os → Runs d os i v w m → At w₀ at v → end ≡ at + length (letters v) → end < 65536
     → (r < stop) × Picked t base back os i row below w₀ end vars′ w m
@@ -566,7 +566,7 @@ picked {t} {base} {index} {back} {i} {first} {stop} {r} {row} {below} {at} {end}
     let same : placeAt index i + 1 + n ≡ first + n = ap (λ x. x + n) (sym f) in
     let stops : placeAt index (suc i) ≡ stop = ap (placeAt index) (omega arith) ∙ sym s in
     let inside : first + n < stop = subst (λ x. first + n < x) stops (subst (λ x. x < placeAt index (suc i)) same (p .within)) in
-    let ch = says v n a (below-zeros 64 _) inside (subst (λ x. alike (sideAt t base index back x) v ≡ true) same (p .hit))
+    let ch = says v n a e (below-zeros 64 _) inside (subst (λ x. alike (sideAt t base index back x) v ≡ true) same (p .hit))
     (λ k h. subst (λ x. alike (sideAt t base index back (x + k)) v ≡ false) (sym f) (p .miss k h)) in
     let here : placeAt index i + 1 + n ≡ r = same ∙ sym (ch .place) in
     let is : c .clause ≡ sidedClause back (clauseIn t base row below) =
@@ -681,6 +681,13 @@ applied-done {i = i} {end = end} {left = left} {rest = rest} {top = top} {after 
             let both = length-append (take a l) bs in
             ap (take (a + length bs)) (sets-eq bs l a h) ∙ take-at (take a l ++ bs) (drop (a + length bs) l) (a + length bs) (omega (arith, t, both))
 
+-- the result, built and copied
+pub moved : (t : List ℕ) (base row : ℕ) (back : Bool) {vars w₀ w₁ w₂ : List ℕ} {top at jr last end : ℕ} → jr ≡ cellOf t row (cond back 1 2)
+    → ((k : ℕ) → Below vars k → k ≤ top → Writes w₀ w₁ top last (built (patternOf t base jr) (take k w₀) vars))
+    → (at ≤ top → last ≤ length w₁ → Writes w₁ w₂ at end (slice top last w₁)) → Moved (patternOf t base (cellOf t row (cond back 1 2))) vars w₀ w₂ top at end
+moved t base row back {vars} {w₀} {w₁} {w₂} {top} {at} {jr} {last} {end} e writes copies =
+    subst (λ j. Moved (patternOf t base j) vars w₀ w₂ top at end) e record { area = w₁; last = last; writes = writes; copies = copies }
+
 -- a budget that is not spent, less one and one more
 one-left : (n : ℕ) → (n ≡ 0 → ⊥) → n - 1 + 1 ≡ n
 one-left zero h = absurd (h refl)
@@ -688,7 +695,7 @@ one-left (suc n) h = omega arith
 
 -- the choice in an application: its clause, by the places read
 pub choice : (t : List ℕ) (base : ℕ) (index : List ℕ) (back : Bool) (i r row below at end : ℕ) {h stop : ℕ} {w₀ vars′ : List ℕ}
-    → ChoiceSays t base index back (h + 1) stop w₀ at (replicate 64 0) vars′ r → h ≡ placeAt index i → stop ≡ placeAt index (i + 1)
+    → ChoiceSays t base index back (h + 1) stop w₀ at end (replicate 64 0) vars′ r → h ≡ placeAt index i → stop ≡ placeAt index (i + 1)
     → row ≡ placeAt index r → below ≡ placeAt index (r + 1)
     → (os : List Iso) (d : ℕ) (v w : Val) (m : ℕ) → Laid t base index back os → Runs d os i v w m → At w₀ at v → Small v → end ≡ at + length (letters v)
     → at + suc i * frame ≤ length w₀ → length w₀ ≤ 65536 → (r < stop) × Picked t base back os i row below w₀ end vars′ w m
@@ -696,30 +703,28 @@ choice t base index back i r row below at end says h s row′ below′ os d v w 
     picked says (ap (λ x. x + 1) h) s row′ below′ os d v w m laid run a e (omega (arith, small, e, room, most))
 
 pub unmatched : (t : List ℕ) (base : ℕ) (index : List ℕ) (back : Bool) (i r at end left : ℕ) {h stop : ℕ} {w₀ vars′ : List ℕ}
-    → ChoiceSays t base index back (h + 1) stop w₀ at (replicate 64 0) vars′ r → h ≡ placeAt index i → stop ≡ placeAt index (i + 1) → stop ≤ r
+    → ChoiceSays t base index back (h + 1) stop w₀ at end (replicate 64 0) vars′ r → h ≡ placeAt index i → stop ≡ placeAt index (i + 1) → stop ≤ r
     → ApplySays t base index back i w₀ w₀ at end left reduced.Spent
 unmatched t base index back i r at end left says h s past os d v w m laid run a small e room most =
     let c = choice t base index back i r (placeAt index r) (placeAt index (r + 1)) at end says h s refl refl os d v w m laid run a small e room most in let c₀ = c .0 in absurd (omega (arith, c₀))
 
 pub apply-spent : (t : List ℕ) (base : ℕ) (index : List ℕ) (back : Bool) (i r row below at end left : ℕ) {h stop : ℕ} {w₀ w₁ vars vars′ : List ℕ} {z : R.Reduced}
-    → ChoiceSays t base index back (h + 1) stop w₀ at (replicate 64 0) vars r → h ≡ placeAt index i → stop ≡ placeAt index (i + 1)
+    → ChoiceSays t base index back (h + 1) stop w₀ at end (replicate 64 0) vars r → h ≡ placeAt index i → stop ≡ placeAt index (i + 1)
     → row ≡ placeAt index r → below ≡ placeAt index (r + 1) → (left ≡ 0 → ⊥)
     → LetsSay t base index back i (row + 1) below w₀ w₁ end vars vars′ (left - 1) z → z ≡ reduced.Spent → ApplySays t base index back i w₀ w₁ at end left reduced.Spent
 apply-spent t base index back i r row below at end left says h s row′ below′ some′ lets told os d v w m laid run a small e room most =
     let p = choice t base index back i r row below at end says h s row′ below′ os d v w m laid run a small e room most .1 in
     applied-spent p (ran at v laid lets p small e room most) told (one-left left some′)
 
-pub apply-done : (t : List ℕ) (base : ℕ) (index : List ℕ) (back : Bool) (i r row below at end left : ℕ) {h stop top x jr fr last after : ℕ} {w₀ w₁ w₂ w₃ vars vars′ : List ℕ} {z : R.Reduced}
-    → ChoiceSays t base index back (h + 1) stop w₀ at (replicate 64 0) vars r → h ≡ placeAt index i → stop ≡ placeAt index (i + 1)
+pub apply-done : (t : List ℕ) (base : ℕ) (index : List ℕ) (back : Bool) (i r row below at end left : ℕ) {h stop top x after : ℕ} {w₀ w₁ w₃ vars vars′ : List ℕ} {z : R.Reduced}
+    → ChoiceSays t base index back (h + 1) stop w₀ at end (replicate 64 0) vars r → h ≡ placeAt index i → stop ≡ placeAt index (i + 1)
     → row ≡ placeAt index r → below ≡ placeAt index (r + 1) → (left ≡ 0 → ⊥)
     → LetsSay t base index back i (row + 1) below w₀ w₁ end vars vars′ (left - 1) z → z ≡ reduced.Done top x → length w₁ ≡ length w₀
-    → jr ≡ cellOf t row fr → fr ≡ cond back 1 2
-    → ((k : ℕ) → Below vars′ k → k ≤ top → Writes w₁ w₂ top last (built (patternOf t base jr) (take k w₁) vars′))
-    → (at ≤ top → last ≤ length w₂ → Writes w₂ w₃ at after (slice top last w₂)) → ApplySays t base index back i w₀ w₃ at end left (reduced.Done after x)
-apply-done t base index back i r row below at end left says h s row′ below′ some′ lets told wide cell side writes copy os d v w m laid run a small e room most =
+    → Moved (patternOf t base (cellOf t row (cond back 1 2))) vars′ w₁ w₃ top at after → ApplySays t base index back i w₀ w₃ at end left (reduced.Done after x)
+apply-done t base index back i r row below at end left says h s row′ below′ some′ lets told wide moved os d v w m laid run a small e room most =
     let p = choice t base index back i r row below at end says h s row′ below′ os d v w m laid run a small e room most .1 in
     applied-done at v (patternOf t base _) p (ran at v laid lets p small e room most) told (one-left left some′) (p .few) small e room wide
-    (ap (patternOf t base) (cell ∙ ap (cellOf t row) side)) writes copy
+    refl (moved .writes) (moved .copies)
 
 -- ---- the measures of the cycle, three for each iso
 

@@ -5,14 +5,16 @@ use mathlib.Core.Bool.{Bool, cond}
 use mathlib.Core.Option.{some}
 use mathlib.Core.List.{List, _++_, map, reverse}
 use lib.ListN.{length, getElem?, take}
+use lib.Seq.{slice}
 use Rattle.model.specs.Limits.{variables}
 use Rattle.model.specs.Trees.{Pat, Val, Let, Clause, Iso, invertLet, invertClause, invert}
 use Rattle.model.specs.Slots.{Slots}
 use Rattle.model.specs.Letters.{letters}
+use Rattle.areas.specs.Areas.{Writes}
 use Rattle.nodes.specs.Unfolding.{cellOf, patternOf}
 use Rattle.nodes.specs.InTable.{letsIn}
 use Rattle.index.specs.Index.{placeAt, isoAt}
-use Rattle.values.specs.Texts.{Below, ranges}
+use Rattle.values.specs.Texts.{Below, ranges, built}
 use Rattle.values.specs.Agrees.{Agrees}
 use Rattle.reduction.specs.declared.Reduced as R
 use Rattle.reduction.specs.declared.Reduced.the-variants as reduced
@@ -57,6 +59,13 @@ pub record Chosen (p : Pat) (v : Val) (at : ℕ) (vars vars′ : List ℕ) (foun
   pub below : Below earlier (at + length (letters v))
   pub wide : length earlier ≡ length vars
   pub matched : vars′ ≡ ranges p v at earlier
+
+-- the pattern p, written at `top` with its variables' letters put in, and copied to a place before, where it ends before `end`
+pub record Moved (p : Pat) (vars work work′ : List ℕ) (top at end : ℕ) : Type 0 where
+  pub area : List ℕ
+  pub last : ℕ
+  pub writes : (k : ℕ) → Below vars k → k ≤ top → Writes work area top last (built p (take k work) vars)
+  pub copies : at ≤ top → last ≤ length area → Writes area work′ at end (slice top last area)
 
 -- an application that gives w with m applications: within the budget, w's letters take the argument's place and what stands before them is
 -- as it was; else it is spent

@@ -1,13 +1,13 @@
 // The reduction over a checked table. Letters made on the way live in the work area, each
 // application's behind those of the one that called it; its result takes the place of its argument.
 
-use areas::wide;
-use areas::word_at;
 use nodes::cell;
+use patterns::build_at;
+use patterns::match_at;
 use values::Upto;
-use values::build_at;
 use values::copy_range;
-use values::match_at;
+use ways::place;
+use ways::side;
 ghost use mathlib.Core.Path.{_≡_};
 ghost use mathlib.Core.Bool.{true, false, cond};
 ghost use mathlib.Core.List.{List};
@@ -19,22 +19,16 @@ ghost use Rattle.model.specs.Slots.{Slots};
 ghost use Rattle.model.specs.Letters.{letters};
 ghost use Rattle.model.specs.Reduction.{bind, build};
 ghost use Rattle.nodes.specs.InTable.{letAt};
+ghost use Rattle.nodes.specs.Unfolding.{cellOf, patternOf};
 ghost use Rattle.index.specs.Index.{placeAt};
 ghost use Rattle.values.specs.Texts.{At, alike, Below};
 ghost use Rattle.values.specs.Traces.{Small, LetsTrace, Runs};
-ghost use Rattle.reduction.specs.Frames.{frame, EnvAt, sidedLet, sidedLets, Laid, sideAt, Chosen, Applied, Stepped, LetsRan};
+ghost use Rattle.reduction.specs.Frames.{frame, EnvAt, Moved, sidedLet, sidedLets, Laid, sideAt, Chosen, Applied, Stepped, LetsRan};
 
 // Where a result ends and what is left of the budget.
 pub enum Reduced {
     Done(usize, u32),
     Spent,
-}
-
-// Number m of the index.
-pub fn place(index: &[u16], m: usize) -> usize
-    ensures { λ r. ⌜ (r ≡ placeAt (now (index .entry)) m) × (r < 65536) ⌝ }
-{
-    wide(word_at(index, m))
 }
 
 // Number m + 1 of the index.
@@ -47,14 +41,11 @@ fn next_place(index: &[u16], m: usize) -> usize
     0
 }
 
-// A field for the way forward, or another for the way back.
-pub fn side(back: bool, forth: usize, other: usize) -> usize
-    ensures { λ r. ⌜ r ≡ cond back other forth ⌝ }
+// The line that a row names for the way forward in one field, for the way back in another.
+fn line(t: &[u16], row: usize, back: bool, forth: usize, other: usize) -> usize
+    ensures { λ r. ⌜ r ≡ cellOf (now (t .entry)) row (cond back other forth) ⌝ }
 {
-    if back {
-        return other;
-    }
-    forth
+    cell(t, row, side(back, forth, other))
 }
 
 // The rows from one up to another, none where they are not in this order.
@@ -89,14 +80,23 @@ fn choose(
     stop: usize,
     work: &[u8],
     at: usize,
+    end: usize,
     vars: &mut [u16],
 ) -> usize
-    ensures { λ r. ⌜ ((v : Val) (n : ℕ) → At (now (work .entry)) at v → Below (now (vars .entry)) (at + length (letters v)) → from + n < stop → alike (sideAt (now (t .entry)) base (now (index .entry)) back (from + n)) v ≡ true → ((k : ℕ) → k < n → alike (sideAt (now (t .entry)) base (now (index .entry)) back (from + k)) v ≡ false) → Chosen (sideAt (now (t .entry)) base (now (index .entry)) back (from + n)) v at (now (vars .entry)) (now (vars .exit)) (from + n) r) ⌝ }
+    ensures { λ r. ⌜ ((v : Val) (n : ℕ) → At (now (work .entry)) at v → end ≡ at + length (letters v) → Below (now (vars .entry)) (at + length (letters v)) → from + n < stop → alike (sideAt (now (t .entry)) base (now (index .entry)) back (from + n)) v ≡ true → ((k : ℕ) → k < n → alike (sideAt (now (t .entry)) base (now (index .entry)) back (from + k)) v ≡ false) → Chosen (sideAt (now (t .entry)) base (now (index .entry)) back (from + n)) v at (now (vars .entry)) (now (vars .exit)) (from + n) r) ⌝ }
 {
     let field = side(back, 1, 2);
     let mut m = from;
     while m < stop {
-        match match_at(t, base, cell(t, place(index, m), field), work, at, vars) {
+        match match_at(
+            t,
+            base,
+            cell(t, place(index, m), field),
+            work,
+            at,
+            end,
+            vars,
+        ) {
             Upto::Place(_) => {
                 return m;
             }
@@ -106,6 +106,23 @@ fn choose(
         }
     }
     stop
+}
+
+// Builds the result of a clause at `top` and copies it to a place before; gives where it then ends.
+fn put_result(
+    t: &[u16],
+    base: usize,
+    row: usize,
+    back: bool,
+    vars: &[u16],
+    work: &mut [u8],
+    top: usize,
+    at: usize,
+) -> usize
+    ensures { λ r. ⌜ Moved (patternOf (now (t .entry)) base (cellOf (now (t .entry)) row (cond back 1 2))) (now (vars .entry)) (now (work .entry)) (now (work .exit)) top at r ⌝ }
+{
+    let last = build_at(t, base, line(t, row, back, 2, 1), vars, work, top);
+    copy_range(work, top, last, at)
 }
 
 // One let step: builds q at `top`, applies the iso to it, and matches what comes out with p.
@@ -127,10 +144,10 @@ fn let_step(
     if i <= j {
         return Reduced::Spent;
     }
-    let end = build_at(t, base, cell(t, row, side(back, 3, 1)), vars, work, top);
+    let end = build_at(t, base, line(t, row, back, 3, 1), vars, work, top);
     match apply(t, base, index, back, j, work, top, end, left) {
         Reduced::Done(e, l) => {
-            match_at(t, base, cell(t, row, side(back, 1, 3)), work, top, vars);
+            match_at(t, base, line(t, row, back, 1, 3), work, top, e, vars);
             Reduced::Done(e, l)
         }
         Reduced::Spent => Reduced::Spent,
@@ -204,7 +221,7 @@ pub fn apply(
     let mut vars = [0u16; 64];
     let first = place(index, i) + 1;
     let stop = next_place(index, i);
-    let m = choose(t, base, index, back, first, stop, work, at, &mut vars);
+    let m = choose(t, base, index, back, first, stop, work, at, end, &mut vars);
     if stop <= m {
         return Reduced::Spent;
     }
@@ -224,8 +241,7 @@ pub fn apply(
         left - 1,
     ) {
         Reduced::Done(top, l) => {
-            let last = build_at(t, base, cell(t, row, side(back, 2, 1)), &vars, work, top);
-            let after = copy_range(work, top, last, at);
+            let after = put_result(t, base, row, back, &vars, work, top, at);
             Reduced::Done(after, l)
         }
         Reduced::Spent => Reduced::Spent,

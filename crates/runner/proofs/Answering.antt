@@ -7,27 +7,25 @@ use mathlib.Core.Bool.{Bool, true, false, _||_, or-true, or-false}
 use mathlib.Core.Option.{none, some}
 use mathlib.Core.List.{List, [], _++_}
 use lib.Dec.{ltb}
-use lib.ListN.{length, drop, take, replicate, length-drop, length-append, length-replicate}
+use lib.ListN.{length, drop, take, replicate, length-replicate}
 use lib.Seq.{length-take-le, drop-at}
 use borrow.Author.Tests.{lt-ltb, le-ltb}
 use borrow.Rule.Slice.PartMut.{midOf, postOf}
 use Rattle.model.specs.Limits.{resultLength, workLength, tableLength}
 use Rattle.model.specs.Tools.{isSome}
 use Rattle.model.specs.Refusals.{number, shortArea}
-use Rattle.model.specs.Lines.{Row}
 use Rattle.model.specs.Services.{Verdict, accepted, refused, verdict, filled, written, tableAfter, workAfter, short, unless, answerOf, check, answerOfRun, runOf, runService}
 use Rattle.model.specs.Code.{refusalView, numberOf, numbered}
 use Rattle.model.specs.declared.Answer as A
 use Rattle.model.proofs.Basic.{isSome-true, ltb-false, neither}
-use Rattle.areas.specs.Areas.{cleared}
+use Rattle.parts.specs.Cleared.{cleared}
 use Rattle.checker.specs.CheckSays.{CheckSays, Accepted}
 use Rattle.checker.specs.declared.Checked as C
 use Rattle.model.proofs.Files.{number-positive}
 use Rattle.checker.proofs.Checks.{cleared-filled, unless-accepted, flag-none}
 use Rattle.runner.specs.declared.run.Ran as R
-use Rattle.runner.specs.RunSays.{Prepared, answerFor, RanAs, RunSays}
+use Rattle.runner.specs.RunSays.{answerFor, RanAs, RunSays}
 
--- neither of two is so
 -- ---- Run, by the verdict
 
 -- an answer and areas that agree with a verdict
@@ -120,40 +118,37 @@ pub work-room : (s t w t′ w′ : List ℕ) (c : C.Checked) (b : Bool) → leng
 work-room s t w t′ w′ c b wide says acc e y =
     let g = whole s t w t′ w′ c b says acc e y in let h = g .work-long in omega (arith, wide, h)
 
--- a front part of the work area after the run, cleared again
-pub cleared-work : (w w₁ w₂ ys w′ : List ℕ) → workLength ≤ length w → length w₁ ≡ length w → drop workLength w₁ ≡ drop workLength w → length ys ≡ workLength
-    → w₂ ≡ ys ++ drop workLength w₁ → w′ ≡ cleared workLength w₂ → w′ ≡ filled workLength [] w
-cleared-work w w₁ w₂ ys w′ long wide same n e f =
-    let d = length-drop workLength w₁ in
-    let a = length-append ys (drop workLength w₁) in
-    let back : drop workLength w₂ ≡ drop workLength w = ap (drop workLength) e ∙ drop-at ys (drop workLength w₁) workLength n ∙ same in
-    let size : length w₂ ≡ length w = ap length e ∙ omega (arith, d, a, n, wide, long) in
-    f ∙ ap₂ (λ k l. replicate (min workLength k) 0 ++ l) size back ∙ cleared-filled workLength w long
+-- ---- the work area's front, lent on
 
-pub run-accepted : (s t w : List ℕ) (i : ℕ) (back : Bool) (budget : ℕ) (value o t′ w₁ w₂ ys w′ o′ index : List ℕ) (c : C.Checked) (r : R.Ran) (b : Bool) → resultLength ≤ length o
+pub front-length : (room : ℕ) (w : List ℕ) → room ≤ length w → length (midOf 0 (room - 0) w) ≡ room
+front-length room w h = ap (λ k. length (take k w)) (sub-zero room) ∙ length-take-le room w h
+
+-- what lies behind it
+pub front-rest : (room : ℕ) (w ys w′ : List ℕ) → room ≤ length w → length ys ≡ length (midOf 0 (room - 0) w) → w′ ≡ ys ++ postOf 0 (room - 0) w → drop room w′ ≡ drop room w
+front-rest room w ys w′ h n e =
+    ap (drop room) e ∙ drop-at ys (postOf 0 (room - 0) w) room (n ∙ front-length room w h) ∙ ap (λ k. drop k w) (sub-zero room)
+
+-- cleared again after the run
+pub cleared-work : (w w₁ w₂ w′ : List ℕ) → workLength ≤ length w → length w₁ ≡ length w → w₁ ≡ filled workLength [] w → length w₂ ≡ length w₁
+    → drop workLength w₂ ≡ drop workLength w₁ → w′ ≡ cleared workLength w₂ → w′ ≡ filled workLength [] w
+cleared-work w w₁ w₂ w′ long wide e₁ same rest e′ =
+    e′ ∙ ap₂ (λ k l. replicate (min workLength k) 0 ++ l) (same ∙ wide) (rest ∙ ap (drop workLength) e₁ ∙ filled-drop w) ∙ cleared-filled workLength w long
+
+pub run-accepted : (s t w : List ℕ) (i : ℕ) (back : Bool) (budget : ℕ) (value o t′ w₁ w₂ w′ o′ : List ℕ) (c : C.Checked) (r : R.Ran) (b : Bool) → resultLength ≤ length o
     → length w₁ ≡ length w → CheckSays s t w t′ w₁ (c .answer) → (refusalView (c .answer .refusal) ≡ none → Accepted s t′ c)
-    → b ≡ isSome (refusalView (c .answer .refusal)) → b ≡ false
-    → ((x : List ℕ) (a : Accepted x t′ c) → 1090 ≤ 1090 → Prepared t′ (c .types) index (c .isos) (a .file))
-    → ((rs : List Row) → Prepared t′ (c .types) index (c .isos) rs → 40960 ≤ length (midOf 0 (workLength - 0) w₁) → length (midOf 0 (workLength - 0) w₁) ≤ 65536 → 127 ≤ length o
-    → RanAs (answerFor rs i back budget value) o o′ r)
-    → length ys ≡ length (midOf 0 (workLength - 0) w₁) → w₂ ≡ ys ++ postOf 0 (workLength - 0) w₁ → w′ ≡ cleared workLength w₂
-    → RunSays s t w i back budget value o t′ w′ o′ r
-run-accepted s t w i back budget value o t′ w₁ w₂ ys w′ o′ index c r b h wide says acc e y prep ran ny e₂ e′ =
+    → b ≡ isSome (refusalView (c .answer .refusal)) → b ≡ false → length w₂ ≡ length w₁ → drop workLength w₂ ≡ drop workLength w₁
+    → ((x : List ℕ) (a : Accepted x t′ c) → 40960 ≤ workLength → workLength ≤ 65536 → 127 ≤ length o → RanAs (answerFor (a .file) i back budget value) o o′ r)
+    → w′ ≡ cleared workLength w₂ → RunSays s t w i back budget value o t′ w′ o′ r
+run-accepted s t w i back budget value o t′ w₁ w₂ w′ o′ c r b h wide says acc e y same rest ran e′ =
     let g = whole s t w t′ w₁ c b says acc e y in
-    let long = g .work-long in
-    let part : length (midOf 0 (workLength - 0) w₁) ≡ workLength =
-    ap (λ k. length (take k w₁)) (sub-zero workLength) ∙ length-take-le workLength w₁ (omega (arith, wide, long)) in
-    let q = ran (g .file .file) (prep s (g .file) (omega arith)) (omega (arith, part)) (omega (arith, part)) h in
-    let v : unless (short t w) (verdict s) ≡ accepted (g .file .file) = g .verdict-is in
-    let post : postOf 0 (workLength - 0) w₁ ≡ drop workLength w₁ = ap (λ k. drop k w₁) (sub-zero workLength) in
-    let behind : drop workLength w₁ ≡ drop workLength w = ap (drop workLength) (g .work-is) ∙ filled-drop w in
+    let q = ran s (g .file) (omega arith) (omega arith) h in
     run-says s t w i back budget value o t′ w′ o′ r (short t w) (long-result t w o h)
-    (subst (Agrees t w i back budget value o t′ w′ o′ r) (sym v)
+    (subst (Agrees t w i back budget value o t′ w′ o′ r) (sym (g .verdict-is))
     (record {
       number = q .number;
       count = q .count;
       bytes = q .bytes;
       table = g .table-is;
-      work = cleared-work w w₁ w₂ ys w′ long wide behind (ny ∙ part) (e₂ ∙ ap (λ l. ys ++ l) post) e′;
+      work = cleared-work w w₁ w₂ w′ (g .work-long) wide (g .work-is) same rest e′;
       result = q .result;
     }))

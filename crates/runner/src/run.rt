@@ -1,7 +1,6 @@
 // The run on a checked table, and the service.
 
 use areas::byte_at;
-use areas::clear_bytes;
 use areas::put_byte;
 use checker::Checked;
 use checker::check_file;
@@ -9,16 +8,17 @@ use checker::is_refused;
 use index::index_isos;
 use model::Refusal;
 use nodes::cell;
+use parts::clear_bytes;
 use reduction::Reduced;
 use reduction::apply;
-use reduction::place;
-use reduction::side;
 use values::Upto;
 use values::typed_end;
+use ways::place;
+use ways::side;
 ghost use mathlib.Core.Path.{_≡_};
 ghost use mathlib.Core.List.{List};
 ghost use Prim.Native.Nat.{ℕ, _-_, _≤_};
-ghost use lib.ListN.{length};
+ghost use lib.ListN.{length, drop};
 ghost use lib.Seq.{paste};
 ghost use Rattle.model.specs.Lines.{Row as RowOf};
 ghost use Rattle.nodes.specs.Unfolding.{typeOf};
@@ -132,6 +132,38 @@ pub fn run_checked(
     }
 }
 
+// Indexes the isos of an accepted file and runs one of them, in the first `room` bytes of the work area.
+fn run_accepted(
+    table: &[u16],
+    c: Checked,
+    i: usize,
+    back: bool,
+    budget: u32,
+    value: &[u8],
+    work: &mut [u8],
+    room: usize,
+    result: &mut [u8],
+) -> Ran
+    requires { ⌜ room ≤ length (now work) ⌝ }
+    ensures { λ r. ⌜ drop room (now (work .exit)) ≡ drop room (now (work .entry)) ⌝ }
+    ensures { λ r. ⌜ ((s : List ℕ) (a : Accepted s (now (table .entry)) c) → 40960 ≤ room → room ≤ 65536 → 127 ≤ length (now (result .entry)) → RanAs (answerFor (a .file) i back budget (now (value .entry))) (now (result .entry)) (now (result .exit)) r) ⌝ }
+{
+    let mut index = [0u16; 1090];
+    prepare(table, c, &mut index);
+    run_checked(
+        table,
+        c.types,
+        &index,
+        c.isos,
+        i,
+        back,
+        budget,
+        value,
+        &mut work[0..room],
+        result,
+    )
+}
+
 // Checks a file and runs its iso i on a value. The result area needs 127 bytes; a refusal leaves it
 // untouched.
 pub fn run(
@@ -155,20 +187,7 @@ pub fn run(
     if is_refused(f) {
         return refused(f);
     }
-    let mut index = [0u16; 1090];
-    prepare(table, c, &mut index);
-    let r = run_checked(
-        table,
-        c.types,
-        &index,
-        c.isos,
-        i,
-        back,
-        budget,
-        value,
-        &mut work[0..65536],
-        result,
-    );
+    let r = run_accepted(table, c, i, back, budget, value, work, 65536, result);
     clear_bytes(work, 65536);
     r
 }

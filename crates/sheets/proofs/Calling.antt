@@ -1,30 +1,26 @@
 -- What the call answers and leaves in the areas, case by case, against the model's sheet.
-use Prim.Native.Nat.{ℕ, _+_, _-_, _*_, _≤_, _<_}
+use Prim.Native.Nat.{ℕ, _-_, _*_, _≤_, _<_}
 use native.Mathlib.Omega.{arith}
-use native.Mathlib.Nat.{sub-zero}
 use mathlib.Core.Path.{_≡_, refl, sym, ap, _∙_, subst}
 use mathlib.Core.Bool.{Bool, true, false, cond, _||_}
 use mathlib.Core.Option.{none, some}
-use mathlib.Core.List.{List, [], _++_}
-use lib.ListN.{length, drop, take, length-map}
-use lib.Seq.{length-take-le}
-use borrow.Rule.Slice.PartMut.{midOf, postOf}
+use mathlib.Core.List.{List, []}
+use lib.ListN.{length, drop, length-map}
 use Rattle.model.specs.Limits.{workLength, maxQueries}
 use Rattle.model.specs.Tools.{isSome}
 use Rattle.model.specs.Refusals.{number, shortArea, tooLong}
-use Rattle.model.specs.Lines.{Row, lines}
+use Rattle.model.specs.Lines.{lines}
 use Rattle.model.specs.Services.{Verdict, accepted, refused, verdict, filled, tableAfter, workAfter, short, unless, answerOf, check}
 use Rattle.model.specs.Sheet.{answersTo, numbersAfter, lettersAfter, narrowSheet, sheetVerdict, sheet}
 use Rattle.model.specs.Code.{refusalView, numberOf, numbered}
 use Rattle.model.specs.declared.Answer as A
 use Rattle.model.proofs.Basic.{isSome-true, lt-ltb, not-ltb}
-use Rattle.areas.specs.Areas.{cleared}
+use Rattle.parts.specs.Cleared.{cleared}
 use Rattle.checker.specs.CheckSays.{CheckSays, Accepted}
 use Rattle.checker.specs.declared.Checked as C
 use Rattle.model.proofs.Files.{number-positive}
 use Rattle.checker.proofs.Checks.{flag-none}
-use Rattle.runner.specs.RunSays.{Prepared}
-use Rattle.runner.proofs.Answering.{filled-drop, cleared-work}
+use Rattle.runner.proofs.Answering.{cleared-work}
 use Rattle.sheets.specs.Answering.{AllAnswered}
 use Rattle.sheets.specs.SheetSays.{SheetSays}
 use Rattle.sheets.specs.declared.Answered as S
@@ -136,33 +132,26 @@ answers-room t w q n o {m = m} c e y =
     let j = h .letters in
     (omega (arith, c, i), omega (arith, c, j))
 
-pub sheet-accepted : (s t w q n o t′ w₁ w₂ ys w′ n′ o′ index : List ℕ) (c : C.Checked) (r : S.Answered) {b g : Bool} {m : ℕ} → m ≡ length (lines q)
+pub sheet-accepted : (s t w q n o t′ w₁ w₂ w′ n′ o′ : List ℕ) (c : C.Checked) (r : S.Answered) {b g : Bool} {m : ℕ} → m ≡ length (lines q)
     → b ≡ (short t w || narrowSheet m n o) → b ≡ false → m ≤ maxQueries
     → length w₁ ≡ length w → CheckSays s t w t′ w₁ (c .answer) → (refusalView (c .answer .refusal) ≡ none → Accepted s t′ c)
     → g ≡ isSome (refusalView (c .answer .refusal)) → g ≡ false
-    → ((x : List ℕ) (a : Accepted x t′ c) → 1090 ≤ 1090 → Prepared t′ (c .types) index (c .isos) (a .file))
-    → ((rs : List Row) → Prepared t′ (c .types) index (c .isos) rs → 40960 ≤ length (midOf 0 (workLength - 0) w₁) → length (midOf 0 (workLength - 0) w₁) ≤ 65536
-    → AllAnswered rs q n o n′ o′)
-    → length ys ≡ length (midOf 0 (workLength - 0) w₁) → w₂ ≡ ys ++ postOf 0 (workLength - 0) w₁ → w′ ≡ cleared workLength w₂
-    → r .answer ≡ c .answer → r .queries ≡ m → SheetSays s t w q n o t′ w′ n′ o′ r
-sheet-accepted s t w q n o t′ w₁ w₂ ys w′ n′ o′ index c r {b} {g} {m} count e y h wide says acc f z prep all ny e₂ e′ same k =
+    → length w₂ ≡ length w₁ → drop workLength w₂ ≡ drop workLength w₁
+    → ((x : List ℕ) (a : Accepted x t′ c) → 40960 ≤ workLength → workLength ≤ 65536 → AllAnswered (a .file) q n o n′ o′)
+    → w′ ≡ cleared workLength w₂ → r .answer ≡ c .answer → r .queries ≡ m → SheetSays s t w q n o t′ w′ n′ o′ r
+sheet-accepted s t w q n o t′ w₁ w₂ w′ n′ o′ c r {b} {g} {m} count e y h wide says acc f z still rest all e′ same k =
     let room = roomy t w n o m (sym e ∙ y) in
-    let long = room .works in
     let x = checks (room .enough) says in
     let a = acc (flag-none g (refusalView (c .answer .refusal)) f z) in
-    let part : length (midOf 0 (workLength - 0) w₁) ≡ workLength =
-    ap (λ i. length (take i w₁)) (sub-zero workLength) ∙ length-take-le workLength w₁ (omega (arith, wide, long)) in
-    let d = all (a .file) (prep s a (omega arith)) (omega (arith, part)) (omega (arith, part)) in
-    let post : postOf 0 (workLength - 0) w₁ ≡ drop workLength w₁ = ap (λ i. drop i w₁) (sub-zero workLength) in
+    let d = all s a (omega arith) (omega arith) in
     let front : w₁ ≡ filled workLength [] w = x .work ∙ ap (λ v. workAfter v w) (a .accepts) in
-    let behind : drop workLength w₁ ≡ drop workLength w = ap (drop workLength) front ∙ filled-drop w in
     sheet-says s t w q n o t′ w′ n′ o′ r (accepted (a .file)) (few s t w q n o count e y h ∙ a .accepts)
     (record {
       number = ap (λ y. numberOf (y .refusal)) same ∙ x .number ∙ ap (λ v. answerOf v .number) (a .accepts);
       line = ap (λ y. y .place) same ∙ x .line ∙ ap (λ v. answerOf v .line) (a .accepts);
       answered = k ∙ count ∙ sym (length-map (lines q) _);
       table = x .table ∙ ap (λ v. tableAfter v t) (a .accepts);
-      work = cleared-work w w₁ w₂ ys w′ long wide behind (ny ∙ part) (e₂ ∙ ap (λ l. ys ++ l) post) e′;
+      work = cleared-work w w₁ w₂ w′ (room .works) wide front still rest e′;
       numbers = d .numbers;
       letters = d .letters;
     })

@@ -1,13 +1,14 @@
 // A whole sheet in one call: a file is checked once, and each line of a list of queries answered.
 
 use answers::answer_line;
-use areas::clear_bytes;
 use areas::store_number;
+use checker::Checked;
 use checker::check_file;
 use checker::is_refused;
 use model::Answer;
 use model::Refusal;
 use model::number_of;
+use parts::clear_bytes;
 use runner::run::Ran;
 use runner::run::prepare;
 use split::count_lines;
@@ -15,14 +16,15 @@ use split::line_end;
 ghost use mathlib.Core.Path.{_≡_};
 ghost use mathlib.Core.Bool.{_||_};
 ghost use mathlib.Core.List.{List, [], _∷_};
-ghost use Prim.Native.Nat.{_+_, _*_, _%_, _≤_};
-ghost use lib.ListN.{length};
+ghost use Prim.Native.Nat.{ℕ, _+_, _*_, _%_, _≤_};
+ghost use lib.ListN.{length, drop};
 ghost use lib.Seq.{sets};
 ghost use Rattle.model.specs.Lines.{Row as RowOf, lines};
 ghost use Rattle.model.specs.Services.{short, accepted, answerOfRun};
 ghost use Rattle.model.specs.Desk.{queryOf, answerTo};
 ghost use Rattle.model.specs.Sheet.{narrowSheet};
 ghost use Rattle.model.specs.Code.{numberOf};
+ghost use Rattle.checker.specs.CheckSays.{Accepted};
 ghost use Rattle.runner.specs.RunSays.{Prepared};
 ghost use Rattle.sheets.specs.Answering.{OneAnswered, AllAnswered};
 ghost use Rattle.sheets.specs.SheetSays.{SheetSays};
@@ -143,6 +145,34 @@ fn answer_lines(
     }
 }
 
+// Indexes the isos of an accepted file and answers the queries, in the first `room` bytes of the work area.
+fn answer_all(
+    table: &[u16],
+    c: Checked,
+    queries: &[u8],
+    work: &mut [u8],
+    room: usize,
+    numbers: &mut [u32],
+    letters: &mut [u8],
+)
+    requires { ⌜ (room ≤ length (now work)) × (length (lines (now queries)) * 3 ≤ length (now numbers)) × (length (lines (now queries)) * 127 ≤ length (now letters)) ⌝ }
+    ensures { λ z. ⌜ drop room (now (work .exit)) ≡ drop room (now (work .entry)) ⌝ }
+    ensures { λ z. ⌜ ((s : List ℕ) (a : Accepted s (now (table .entry)) c) → 40960 ≤ room → room ≤ 65536 → AllAnswered (a .file) (now (queries .entry)) (now (numbers .entry)) (now (letters .entry)) (now (numbers .exit)) (now (letters .exit))) ⌝ }
+{
+    let mut index = [0u16; 1090];
+    prepare(table, c, &mut index);
+    answer_lines(
+        table,
+        c.types,
+        &index,
+        c.isos,
+        queries,
+        &mut work[0..room],
+        numbers,
+        letters,
+    );
+}
+
 // Checks a file and answers up to 600 queries, one a line. The table needs 16,384 numbers, the work area
 // 65,536 bytes, the numbers three elements for each query and the letters 127 bytes; a refusal of the
 // call leaves numbers and letters untouched.
@@ -172,18 +202,7 @@ pub fn sheet(
             queries: 0,
         };
     }
-    let mut index = [0u16; 1090];
-    prepare(table, c, &mut index);
-    answer_lines(
-        table,
-        c.types,
-        &index,
-        c.isos,
-        queries,
-        &mut work[0..65536],
-        numbers,
-        letters,
-    );
+    answer_all(table, c, queries, work, 65536, numbers, letters);
     clear_bytes(work, 65536);
     Answered {
         answer: a,

@@ -8,7 +8,7 @@ use Rattle.model.specs.Trees.{Pat, punit, pvar, pinj, ppair}
 use Rattle.model.specs.Judge.{patternNode}
 use Rattle.model.specs.Clauses.{clash, plain}
 use Rattle.nodes.specs.Unfolding.{cellOf, smallerOf, patternOf}
-use Rattle.trees.proofs.Shapes.{Injects, lefts, rights, injects, Pairs, pairs, paired, opened}
+use Rattle.children.proofs.Shapes.{Injects, lefts, rights, injects, Pairs, pairs, paired, opened}
 
 -- ---- two nodes, by their kinds
 
@@ -73,6 +73,9 @@ plain-pair n p q (pairs k) = refl
 -- ---- a line of kind k, and two lines of kinds k and j
 
 module _ (t : List ℕ) (base p : ℕ) {k : ℕ} (e : k ≡ cellOf t (base + p) 1) where
+  pub clash-end : (q : Pat) → k < 2 → false ≡ clash (patternOf t base p) q
+  clash-end q h = leaf-clash k _ _ _ q h ∙ ap (λ x. clash x q) (opened t base p e)
+
   pub plain-end : k < 2 → true ≡ plain (patternOf t base p)
   plain-end h = plain-leaf k _ _ _ h ∙ ap plain (opened t base p e)
 
@@ -99,9 +102,6 @@ module _ (t : List ℕ) (base p : ℕ) {k : ℕ} (e : k ≡ cellOf t (base + p) 
       ∙ plain-parts h s i
 
 module _ (t : List ℕ) (base p q : ℕ) {k j : ℕ} (e : k ≡ cellOf t (base + p) 1) (f : j ≡ cellOf t (base + q) 1) where
-  pub clash-end : k < 2 → false ≡ clash (patternOf t base p) (patternOf t base q)
-  clash-end h = leaf-clash k _ _ _ (patternOf t base q) h ∙ ap (λ x. clash x (patternOf t base q)) (opened t base p e)
-
   pub end-clash : j < 2 → false ≡ clash (patternOf t base p) (patternOf t base q)
   end-clash h = clash-leaf j _ _ _ (patternOf t base p) h ∙ ap (λ x. clash (patternOf t base p) x) (opened t base q f)
 

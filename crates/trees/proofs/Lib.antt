@@ -1,7 +1,3 @@
--- Laws about the trees that the table's lines unfold to: same type, clash, let shapes, marks and fit.
-pub mod Shapes
+-- Laws about the trees that the table's lines unfold to: same type, clash and let shapes.
 pub mod Sameness
 pub mod Clashing
-pub mod Marking
-pub mod Meeting
-pub mod Rules

@@ -12,9 +12,9 @@ use Rattle.model.specs.Code.{kindView}
 use Rattle.model.specs.declared.Kind as K
 use Rattle.model.proofs.Basic.{none≢some, some-inj}
 use Rattle.model.proofs.Printing.{kindOf-letter}
-use Rattle.fields.specs.Views.{asLetter}
-use Rattle.fields.specs.declared.Letter as L
-use Rattle.fields.specs.declared.Letter.the-variants as letters
+use Rattle.forms.specs.Views.{asLetter}
+use Rattle.forms.specs.declared.Letter as L
+use Rattle.forms.specs.declared.Letter.the-variants as letters
 use Rattle.areas.specs.Areas.{Writes}
 use Rattle.nodes.specs.Unfolding.{cellOf}
 use Rattle.nodes.specs.Walk.{FileIn}

@@ -2,8 +2,8 @@
 
 use checker::check_file;
 use checker::is_refused;
-use fields::Letter;
-use fields::kind_of;
+use forms::Letter;
+use forms::kind_of;
 use model::Answer;
 use model::Kind;
 use model::Refusal;

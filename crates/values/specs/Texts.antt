@@ -1,5 +1,5 @@
 -- Closed values as letters in an area, and what matching and building do there.
-use Prim.Native.Nat.{ℕ, suc, _+_, _%_, _≤_}
+use Prim.Native.Nat.{ℕ, suc, _+_, _-_, _%_, _≤_, _<_}
 use mathlib.Core.Path.{_≡_}
 use mathlib.Core.Bool.{Bool, true, false, cond, _&&_}
 use mathlib.Core.Option.{Option, none, some}
@@ -18,6 +18,10 @@ use Rattle.values.specs.declared.Upto.the-variants as upto
 pub record At (s : List ℕ) (at : ℕ) (v : Val) : Type 0 where
   pub rest : List ℕ
   pub spells : drop at s ≡ letters v ++ rest
+
+-- a place that is that value's end, or 0 where none is told
+abbrev pub Ends : ℕ → ℕ → Val → Type 0
+Ends end at v = 0 < end → end ≡ at + length (letters v)
 
 -- the bytes behind a place
 abbrev pub asUpto : List ℕ → U.Upto → Option (List ℕ)
@@ -41,6 +45,10 @@ abbrev pub behind : Ty → List ℕ → Option (List ℕ)
 behind tunit bs = behindUnit bs
 behind (tsum a b) bs = behindTag (behind a) (behind b) bs
 behind (tprod a b) bs = behindPair (behind a) (behind b) bs
+
+-- the letter of a P line of kind k that is no variable
+abbrev pub letterFor : ℕ → ℕ
+letterFor k = cond (eqb k 0) letterU (cond (eqb k 2) (letterOf left) (cond (eqb k 3) (letterOf right) letterP))
 
 -- whether a pattern is of a value's shape, whatever its variables
 abbrev pub alike : Pat → Val → Bool
@@ -85,6 +93,13 @@ built (ppair p q) s vars = letterP ∷ (built p s vars ++ built q s vars)
 -- every range ends at or before a place
 pub record Below (vars : List ℕ) (top : ℕ) : Type 0 where
   pub ends : (n : ℕ) → getD vars (variables + n) 0 ≤ top
+
+-- n letters, all of those from one place up to another if they fit behind a place, and else none
+pub record Span (len from to at n : ℕ) : Type 0 where
+  pub short : n ≤ to - from
+  pub from-in : 0 < n → from + n ≤ len
+  pub to-in : 0 < n → at + n ≤ len
+  pub all : to ≤ len → at + (to - from) ≤ len → n ≡ to - from
 
 -- what matching answers
 abbrev pub matched : Bool → ℕ → U.Upto

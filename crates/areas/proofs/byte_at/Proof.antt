@@ -3,18 +3,13 @@ use mathlib.Core.Path.{sym}
 use borrow.Author.Needs.{needs}
 use Rattle.areas.proofs.byte_at.Statement.{statement}
 use Rattle.areas.proofs.byte_at.Tie as tie
-use Rattle.areas.proofs.byte_at.Reads as reads
-use Rattle.areas.proofs.byte_at.Lts as lts
 
--- src/lib.rt:12:16
 shared-slice-read-result : tie.Need-shared-slice-read-result
 shared-slice-read-result c = search needs
 
--- src/lib.rt:12:9
 returns : tie.Need-returns
 returns c = search needs
 
--- src/lib.rt:8:1
 returns-2 : tie.Need-returns-2
 returns-2 c = sym (List·getD-eq-default (c .before .args .bytes .now) 0 (c .if1 .left))
 

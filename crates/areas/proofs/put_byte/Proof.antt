@@ -4,26 +4,19 @@ use Rattle.areas.proofs.Writing.{place-in, place-out}
 use borrow.Author.Needs.{needs}
 use Rattle.areas.proofs.put_byte.Statement.{statement}
 use Rattle.areas.proofs.put_byte.Tie as tie
-use Rattle.areas.proofs.put_byte.Reads as reads
-use Rattle.areas.proofs.put_byte.Lts as lts
 
--- src/lib.rt:43:9
 slice-write-bytes : tie.Need-slice-write-bytes
 slice-write-bytes c = search needs
 
--- src/lib.rt:44:16
 add-result : tie.Need-add-result
 add-result c = search needs
 
--- src/lib.rt:44:9
 same-length : tie.Need-same-length
 same-length c = search needs
 
--- src/lib.rt:44:9
 returns : tie.Need-returns
 returns c = (refl, place-in (c .before .args .bytes .now) _ (c .if1 .taken))
 
--- src/lib.rt:38:1
 returns-2 : tie.Need-returns-2
 returns-2 c = (sym (set-out _ _ _ (c .if1 .left)), place-out (c .before .args .bytes .now) _ (c .if1 .left))
 

@@ -1,4 +1,6 @@
 -- `desk::finished` meets its contract, phase by phase.
+use mathlib.Core.Path.{refl}
+use Rattle.desk.proofs.Answering.{judged-file}
 use Rattle.desk.proofs.Feeding.{finish-file, finish-none, finish-line, finish-stopped}
 use borrow.Author.Needs.{needs}
 use Rattle.desk.proofs.finished.Statement.{statement}
@@ -8,10 +10,13 @@ enum-told : tie.Need-enum-told
 enum-told c = search needs
 
 front-requires : tie.Need-front-requires
-front-requires c κs = search needs
+front-requires c κs = tt
 
-judge-requires : tie.Need-judge-requires
-judge-requires c κs = search needs
+check-file-requires : tie.Need-check-file-requires
+check-file-requires c κs = tt
+
+put-checked-requires : tie.Need-put-checked-requires
+put-checked-requires c κs = tt
 
 enum-told-2 : tie.Need-enum-told-2
 enum-told-2 c = search needs
@@ -23,39 +28,43 @@ returns c =
     finish-none (a .d) (e .enum-told2 .given .1) (c .if1 .taken)
 
 front-requires-2 : tie.Need-front-requires-2
-front-requires-2 c κs = search needs
+front-requires-2 c κs = tt
 
 answer-requires : tie.Need-answer-requires
-answer-requires c κs = search needs
+answer-requires c κs = tt
 
 enum-told-3 : tie.Need-enum-told-3
 enum-told-3 c = search needs
 
 same-length : tie.Need-same-length
-same-length c = search needs
+same-length c = c .before .before .before .before .before .before .before .before .check-file .kept .1 .0
 
 same-length-2 : tie.Need-same-length-2
-same-length-2 c = search needs
+same-length-2 c = c .before .before .before .before .before .before .before .before .check-file .kept .1 .1 .0
 
 same-length-3 : tie.Need-same-length-3
-same-length-3 c = search needs
+same-length-3 c = c .before .before .put-checked .kept .0
 
 returns-2 : tie.Need-returns-2
 returns-2 c =
-    let k = c .before .before .before .before .before .before in
-    let f = k .before .before .before .before in
+    let w = c .before .before in
+    let k = w .before .before .before .before .before .before in
+    let f = k .before .before .before in
     let e = f .before in
     let a = e .before .before .before .before .before .before .before .before .args in
-    finish-file (a .d) (e .enum-told .given .1) (f .front .ensures) (λ roomy room. k .judge .ensures (roomy .tables) (roomy .works) room)
+    finish-file (a .d) (e .enum-told .given .1) (f .front .ensures)
+    (λ roomy room.
+    judged-file (f .front .result .now) (a .table .now) (a .work .now) (k .check-file .result) (k .check-file .ensures .0) (k .check-file .ensures .1)
+    (w .put-checked .ensures) (roomy .tables) (roomy .works) room)
 
 same-length-4 : tie.Need-same-length-4
-same-length-4 c = search needs
+same-length-4 c = refl
 
 same-length-5 : tie.Need-same-length-5
-same-length-5 c = search needs
+same-length-5 c = c .before .before .before .before .answer .kept .1 .1 .1 .1 .0
 
 same-length-6 : tie.Need-same-length-6
-same-length-6 c = search needs
+same-length-6 c = c .before .before .before .before .answer .kept .1 .1 .1 .1 .1 .0
 
 returns-3 : tie.Need-returns-3
 returns-3 c =
@@ -77,7 +86,8 @@ finished-spec =
     (tie.spec
     enum-told
     front-requires
-    judge-requires
+    check-file-requires
+    put-checked-requires
     enum-told-2
     returns
     front-requires-2

@@ -1,14 +1,13 @@
 -- `desk::hold` meets its contract: the byte is stored, or the ceiling is reached.
 use Rattle.desk.proofs.Holding.{hold-more, hold-full}
-use borrow.Author.Needs.{needs}
 use Rattle.desk.proofs.hold.Statement.{statement}
 use Rattle.desk.proofs.hold.Tie as tie
 
 put-byte-requires : tie.Need-put-byte-requires
-put-byte-requires c κs = search needs
+put-byte-requires c κs = tt
 
 same-length : tie.Need-same-length
-same-length c = search needs
+same-length c = c .before .before .put-byte .kept .0
 
 returns : tie.Need-returns
 returns c =

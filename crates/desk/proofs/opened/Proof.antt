@@ -1,11 +1,10 @@
 -- `desk::opened` meets its contract: nothing is kept of an empty file, and a line begins.
 use Rattle.desk.proofs.Feeding.{start-desk}
-use borrow.Author.Needs.{needs}
 use Rattle.desk.proofs.opened.Statement.{statement}
 use Rattle.desk.proofs.opened.Tie as tie
 
 state-requires : tie.Need-state-requires
-state-requires c κs = search needs
+state-requires c κs = tt
 
 returns : tie.Need-returns
 returns c = start-desk (c .state .ensures)

@@ -1,30 +1,29 @@
 -- `desk::query_byte` meets its contract: a line feed ends the line, which is answered; any other byte is the line's.
 use mathlib.Core.Bool.{false}
 use Rattle.desk.proofs.Feeding.{reaches-state, query-ends, query-more}
-use borrow.Author.Needs.{needs}
 use Rattle.desk.proofs.query_byte.Statement.{statement}
 use Rattle.desk.proofs.query_byte.Tie as tie
 
 hold-requires : tie.Need-hold-requires
-hold-requires c κs = search needs
+hold-requires c κs = tt
 
 front-requires : tie.Need-front-requires
-front-requires c κs = search needs
+front-requires c κs = tt
 
 answer-requires : tie.Need-answer-requires
-answer-requires c κs = search needs
+answer-requires c κs = tt
 
 ready-requires : tie.Need-ready-requires
-ready-requires c κs = search needs
+ready-requires c κs = tt
 
 same-length : tie.Need-same-length
-same-length c = search needs
+same-length c = c .before .before .before .before .before .before .before .before .before .before .before .before .before .hold .kept .0
 
 same-length-2 : tie.Need-same-length-2
-same-length-2 c = search needs
+same-length-2 c = c .before .before .before .before .before .answer .kept .1 .1 .1 .1 .0
 
 same-length-3 : tie.Need-same-length-3
-same-length-3 c = search needs
+same-length-3 c = c .before .before .before .before .before .answer .kept .1 .1 .1 .1 .1 .0
 
 returns : tie.Need-returns
 returns c =
@@ -38,10 +37,10 @@ returns c =
     (query-ends (a .d) (a .b) false rs l h (i .if1 .taken) (λ x. k .hold .ensures l x (roomy .lines)) (f .front .ensures) (λ p. w .answer .ensures rs p (roomy .works) room))
 
 ready-requires-2 : tie.Need-ready-requires-2
-ready-requires-2 c κs = search needs
+ready-requires-2 c κs = tt
 
 same-length-4 : tie.Need-same-length-4
-same-length-4 c = search needs
+same-length-4 c = c .before .before .before .before .hold .kept .0
 
 returns-2 : tie.Need-returns-2
 returns-2 c =

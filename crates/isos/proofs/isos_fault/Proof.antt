@@ -1,5 +1,5 @@
 -- `isos::isos_fault` meets its contract: no guard returns for a file, and the walk ends with the first refusal of its isos.
-use Rattle.trees.proofs.Marking.{slots}
+use Rattle.marks.proofs.Marking.{slots}
 use mathlib.Core.Path.{refl}
 use Rattle.isos.proofs.Collecting.{head-small, starts-few, front-part}
 use native.Mathlib.Omega.{arith}

@@ -1,39 +1,20 @@
--- `isos::with_clause` meets its contract: no guard returns in a file's C row, and the walk goes on with the clause's refusal.
+-- `isos::with_clause` meets its contract: a file's C row is inside, and the walk goes on with the clause's refusal.
 use native.Mathlib.Omega.{arith}
+use mathlib.Core.Bool.{true≢false}
+use mathlib.Core.Path.{sym, _∙_}
 use Rattle.isos.proofs.Stepping.{clause-inside, walked-clause}
 use borrow.Author.Needs.{needs}
 use Rattle.isos.proofs.with_clause.Statement.{statement}
 use Rattle.isos.proofs.with_clause.Tie as tie
 
-returns : tie.Need-returns
-returns c rs patterns lines f e h k s = let i = clause-inside f h s k in absurd (omega arith)
+is-inside-requires : tie.Need-is-inside-requires
+is-inside-requires c κs = search needs
 
-returns-2 : tie.Need-returns-2
-returns-2 c rs patterns lines f e h k s = let i = clause-inside f h s k in absurd (omega arith)
+sub-own-fault : tie.Need-sub-own-fault
+sub-own-fault c = let k = c .before .before .is-inside .ensures .0 (c .before .if1 .taken) in omega (arith, k .0, k .1, k .2)
 
-returns-3 : tie.Need-returns-3
-returns-3 c rs patterns lines f e h k s = let i = clause-inside f h s k in absurd (omega arith)
-
-returns-4 : tie.Need-returns-4
-returns-4 c rs patterns lines f e h k s = let i = clause-inside f h s k in absurd (omega arith)
-
-sub-own : tie.Need-sub-own
-sub-own c = search needs
-
-word-at-requires : tie.Need-word-at-requires
-word-at-requires c κs = search needs
-
-wide-requires : tie.Need-wide-requires
-wide-requires c κs = search needs
-
-cell-requires : tie.Need-cell-requires
-cell-requires c κs = search needs
-
-cell-requires-2 : tie.Need-cell-requires-2
-cell-requires-2 c κs = search needs
-
-clause-fault-requires : tie.Need-clause-fault-requires
-clause-fault-requires c κs = search needs
+own-fault-requires : tie.Need-own-fault-requires
+own-fault-requires c κs = search needs
 
 sub-slot : tie.Need-sub-slot
 sub-slot c = search needs
@@ -42,56 +23,42 @@ narrow-requires : tie.Need-narrow-requires
 narrow-requires c κs = search needs
 
 mul-clauses : tie.Need-mul-clauses
-mul-clauses c = search needs
+mul-clauses c = let k = c .before .before .before .before .before .is-inside .ensures .0 (c .before .before .before .before .if1 .taken) in omega (arith, k .0, k .1, k .2)
 
 array-write-clauses : tie.Need-array-write-clauses
-array-write-clauses c = search needs
+array-write-clauses c = let k = c .before .before .before .before .before .is-inside .ensures .0 (c .before .before .before .before .if1 .taken) in omega (arith, k .0, k .1, k .2)
 
 add-sooner : tie.Need-add-sooner
-add-sooner c = search needs
+add-sooner c = let k = c .before .before .before .before .before .before .before .is-inside .ensures .0 (c .before .before .before .before .before .before .if1 .taken) in omega (arith, k .0, k .1, k .2)
 
 sooner-requires : tie.Need-sooner-requires
 sooner-requires c κs = search needs
 
-returns-5 : tie.Need-returns-5
-returns-5 c rs patterns lines f e h k s =
-    let w = c .before .before .before in
-    let a = w .before .before .before .before .before .before .before .before .before .before .before .before .before .args in
-    walked-clause
-    f
-    h
-    s
-    (a .starts .now)
-    e
-    k
-    (w .before .before .before .before .word-at .ensures)
-    (w .before .before .before .wide .ensures .0)
-    (w .before .before .cell .ensures .0)
-    (w .before .cell2 .ensures .0)
-    (w .clause-fault .result)
-    (w .clause-fault .ensures)
-    (c .before .narrow .ensures)
-    (c .sooner .result)
-    (c .sooner .ensures)
+returns : tie.Need-returns
+returns c rs patterns lines f e h k s =
+    let w = c .before .before .before .before .before in
+    walked-clause f h s _ e k (w .own-fault .result) (w .own-fault .ensures) (c .before .before .before .narrow .ensures) (c .sooner .result) (c .sooner .ensures)
+
+returns-2 : tie.Need-returns-2
+returns-2 c rs patterns lines f e h k s = let i = clause-inside f h s k in absurd (omega (arith, i .room))
+
+returns-3 : tie.Need-returns-3
+returns-3 c rs patterns lines f e h k s =
+    let i = clause-inside f h s k in absurd (true≢false (sym (c .before .is-inside .ensures .1 (i .owned) (i .places) (i .early)) ∙ c .if1 .left))
 
 pub with-clause-spec : {M : Type 1} → statement M
 with-clause-spec =
     tie.close
     (tie.spec
-    returns
-    returns-2
-    returns-3
-    returns-4
-    sub-own
-    word-at-requires
-    wide-requires
-    cell-requires
-    cell-requires-2
-    clause-fault-requires
+    is-inside-requires
+    sub-own-fault
+    own-fault-requires
     sub-slot
     narrow-requires
     mul-clauses
     array-write-clauses
     add-sooner
     sooner-requires
-    returns-5)
+    returns
+    returns-2
+    returns-3)

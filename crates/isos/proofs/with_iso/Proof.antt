@@ -1,68 +1,57 @@
--- `isos::with_iso` meets its contract: no guard returns in a file's I row, and the walk goes on with the iso's refusal and no clause.
-use Rattle.trees.proofs.Marking.{slots}
+-- `isos::with_iso` meets its contract: a file's I row is inside, and the walk goes on with the iso's refusal and no clause.
+use Rattle.marks.proofs.Marking.{slots}
 use native.Mathlib.Omega.{arith}
+use mathlib.Core.Bool.{true≢false}
+use mathlib.Core.Path.{sym, _∙_}
 use Rattle.isos.proofs.Stepping.{iso-inside, walked-iso}
 use borrow.Author.Needs.{needs}
 use Rattle.isos.proofs.with_iso.Statement.{statement}
 use Rattle.isos.proofs.with_iso.Tie as tie
 
-returns : tie.Need-returns
-returns c rs patterns lines f h e s = let i = iso-inside f h s e in absurd (omega arith)
-
-returns-2 : tie.Need-returns-2
-returns-2 c rs patterns lines f h e s = let i = iso-inside f h s e in absurd (omega arith)
-
-returns-3 : tie.Need-returns-3
-returns-3 c rs patterns lines f h e s = let i = iso-inside f h s e in absurd (omega arith)
-
-mul-iso-answer : tie.Need-mul-iso-answer
-mul-iso-answer c = search needs
-
-part-iso-answer-start : tie.Need-part-iso-answer-start
-part-iso-answer-start c = search needs
-
-part-iso-answer-end : tie.Need-part-iso-answer-end
-part-iso-answer-end c = let s = c .before .before .before .before .before .before .before .before in omega (arith, slots (s .args .w .clauses) (s .good .1 .1 .0 .1 .1 .0 .1 .0 .1))
-
-iso-answer-requires : tie.Need-iso-answer-requires
-iso-answer-requires c κs = search needs
+is-inside-requires : tie.Need-is-inside-requires
+is-inside-requires c κs = search needs
 
 none-requires : tie.Need-none-requires
 none-requires c κs = search needs
 
 sub-above : tie.Need-sub-above
-sub-above c = search needs
+sub-above c = let k = c .before .before .before .before .before .is-inside .ensures .0 (c .before .before .before .before .if1 .taken) in omega (arith, k .0, k .1, k .2)
 
-sooner-requires : tie.Need-sooner-requires
-sooner-requires c κs = search needs
+mul-iso-found : tie.Need-mul-iso-found
+mul-iso-found c = let k = c .before .before .before .before .before .is-inside .ensures .0 (c .before .before .before .before .if1 .taken) in omega (arith, k .0, k .1, k .2)
 
-returns-4 : tie.Need-returns-4
-returns-4 c rs patterns lines f h e s =
-    let w = c .before .before in
-    walked-iso
-    f
-    h
-    s
-    e
-    (w .iso-answer .result)
-    (c .before .none .result)
-    (c .sooner .result)
-    (w .iso-answer .ensures)
-    (c .before .none .ensures)
-    (c .sooner .ensures)
+sub-iso-found : tie.Need-sub-iso-found
+sub-iso-found c = let k = c .before .before .before .before .before .is-inside .ensures .0 (c .before .before .before .before .if1 .taken) in omega (arith, k .0, k .1, k .2)
+
+part-iso-found-start : tie.Need-part-iso-found-start
+part-iso-found-start c = let k = c .before .before .before .before .before .before .is-inside .ensures .0 (c .before .before .before .before .before .if1 .taken) in omega (arith, k .0, k .1, k .2)
+
+part-iso-found-end : tie.Need-part-iso-found-end
+part-iso-found-end c = let s = c .before .before .before .before .before .before .before .before in omega (arith, slots (s .args .w .clauses) (s .good .1 .1 .0 .1 .1 .0 .1 .0 .1))
+
+iso-found-requires : tie.Need-iso-found-requires
+iso-found-requires c κs =
+    let k = c .before .before .before .before .before .before .before .is-inside .ensures .0 (c .before .before .before .before .before .before .if1 .taken) in
+    (search needs, k .2)
+
+returns : tie.Need-returns
+returns c rs patterns lines f h e s = let w = c .before .before .before in walked-iso f h s e (w .none .result) (c .iso-found .result) (w .none .ensures) (c .iso-found .ensures)
+
+returns-2 : tie.Need-returns-2
+returns-2 c rs patterns lines f h e s =
+    let i = iso-inside f h s e in absurd (true≢false (sym (c .before .is-inside .ensures .1 (i .above) (i .places) (i .early)) ∙ c .if1 .left))
 
 pub with-iso-spec : {M : Type 1} → statement M
 with-iso-spec =
     tie.close
     (tie.spec
-    returns
-    returns-2
-    returns-3
-    mul-iso-answer
-    part-iso-answer-start
-    part-iso-answer-end
-    iso-answer-requires
+    is-inside-requires
     none-requires
     sub-above
-    sooner-requires
-    returns-4)
+    mul-iso-found
+    sub-iso-found
+    part-iso-found-start
+    part-iso-found-end
+    iso-found-requires
+    returns
+    returns-2)

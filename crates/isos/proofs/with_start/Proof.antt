@@ -2,7 +2,7 @@
 use native.Mathlib.Omega.{arith}
 use lib.ListN.{set}
 use mathlib.Core.Path.{refl, ap}
-use Rattle.areas.proofs.Writing.{narrow-same}
+use Rattle.words.proofs.Bits.{narrow-same}
 use borrow.Author.Needs.{needs}
 use Rattle.isos.proofs.with_start.Statement.{statement}
 use Rattle.isos.proofs.with_start.Tie as tie

@@ -1,6 +1,6 @@
 -- `queries::after_letter` meets its contract: three fields, a comma, and the letters.
 use Rattle.queries.proofs.Asking.{no-iso, no-direction, no-budget, no-comma, all-fields}
-use Rattle.fields.proofs.Rows.{value, wrong}
+use Rattle.fields.proofs.Fields.{value, wrong}
 use Rattle.fields.proofs.Bytes.{past, other}
 use lib.ListN.{drop}
 use borrow.Author.Needs.{needs}

@@ -20,13 +20,13 @@ use Rattle.reduction.proofs.+apply+let_step+run_lets.Lts-run_lets as ru
 use Rattle.nodes.proofs.cell.Reads as cell-reads
 use Rattle.reduction.proofs.choose.Reads as choose-reads
 use Rattle.reduction.proofs.let_row.Reads as let-row-reads
+use Rattle.reduction.proofs.line.Reads as line-reads
 use Rattle.reduction.proofs.next_place.Reads as next-place-reads
-use Rattle.reduction.proofs.place.Reads as place-reads
-use Rattle.reduction.proofs.side.Reads as side-reads
+use Rattle.ways.proofs.place.Reads as place-reads
+use Rattle.reduction.proofs.put_result.Reads as put-result-reads
 use Rattle.reduction.proofs.span.Reads as span-reads
-use Rattle.values.proofs.build_at.Reads as build-at-reads
-use Rattle.values.proofs.copy_range.Reads as copy-range-reads
-use Rattle.values.proofs.match_at.Reads as match-at-reads
+use Rattle.patterns.proofs.build_at.Reads as build-at-reads
+use Rattle.patterns.proofs.match_at.Reads as match-at-reads
 use Rattle.reduction.proofs.+apply+let_step+run_lets.{statement}
 use Rattle.reduction.proofs.+apply+let_step+run_lets.Tie.{close}
 
@@ -60,40 +60,13 @@ run-lets-below t =
     and 4 run-lets-kinds.ps (falls 4 run-lets-kinds.ps _<_ μ-run-lets t) run-lets.Pre
 
 abbrev ks-apply : ℕ → apply-lts.Claims
-ks-apply t = (place-reads.Asked, place-reads.Learnt, next-place-reads.Asked, next-place-reads.Learnt, choose-reads.Asked, choose-reads.Learnt, run-lets-below t, run-lets.Post, side-reads.Asked, side-reads.Learnt, cell-reads.Asked, cell-reads.Learnt, build-at-reads.Asked, build-at-reads.Learnt, copy-range-reads.Asked, copy-range-reads.Learnt)
+ks-apply t = (place-reads.Asked, place-reads.Learnt, next-place-reads.Asked, next-place-reads.Learnt, choose-reads.Asked, choose-reads.Learnt, run-lets-below t, run-lets.Post, put-result-reads.Asked, put-result-reads.Learnt)
 
 abbrev ks-let-step : ℕ → let-step-lts.Claims
-ks-let-step t = (cell-reads.Asked, cell-reads.Learnt, side-reads.Asked, side-reads.Learnt, build-at-reads.Asked, build-at-reads.Learnt, apply-below t, apply.Post, match-at-reads.Asked, match-at-reads.Learnt)
+ks-let-step t = (cell-reads.Asked, cell-reads.Learnt, line-reads.Asked, line-reads.Learnt, build-at-reads.Asked, build-at-reads.Learnt, apply-below t, apply.Post, match-at-reads.Asked, match-at-reads.Learnt)
 
 abbrev ks-run-lets : ℕ → run-lets-lts.Claims
 ks-run-lets t = (span-reads.Asked, span-reads.Learnt, let-row-reads.Asked, let-row-reads.Learnt, let-step-below t, let-step.Post)
-
-apply-returns : (t : ℕ) → apply-lts.Need-returns (ks-apply t) (apply-at t) apply.Post
-apply-returns t c = λ os d v w m laid run at′ small e room most. applied-none (c .if1 .taken) os d _ v m run
-
-apply-returns-2 : (t : ℕ) → apply-lts.Need-returns-2 (ks-apply t) (apply-at t) apply.Post
-apply-returns-2 t c = unmatched (c .before .before .before .before .before .before .before .before .before .before .before .args .t .now) (c .before .before .before .before .before .before .before .before .before .before .before .args .base) (c .before .before .before .before .before .before .before .before .before .before .before .args .index .now) (c .before .before .before .before .before .before .before .before .before .before .before .args .back) (c .before .before .before .before .before .before .before .before .before .before .before .args .i) (c .before .before .choose .result) (c .before .before .before .before .before .before .before .before .before .before .before .args .at) (c .before .before .before .before .before .before .before .before .before .before .before .args .end) (c .before .before .before .before .before .before .before .before .before .before .before .args .left) (c .before .before .choose .ensures) (c .before .before .before .before .before .before .place .ensures .0) (c .before .before .before .before .before .next-place .ensures .0) (c .if2 .taken)
-
-apply-run-lets-requires : (t : ℕ) → apply-lts.Need-run-lets-requires (ks-apply t) (apply-at t) apply.Post
-apply-run-lets-requires t c κs = (lets-fall (c .before .before .before .before .before .before .before .before .before .before .before .before .before .before .before .args .i) (c .before .before .before .before .before .before .before .before .before .before .before .before .before .before .before .pre .0), (rows-in (c .before .before .before .place2 .ensures .1), c .before .before .next-place2 .ensures .1))
-
-apply-returns-3 : (t : ℕ) → apply-lts.Need-returns-3 (ks-apply t) (apply-at t) apply.Post
-apply-returns-3 t c = apply-done (c .before .before .before .before .before .before .before .before .before .before .before .before .before .before .before .before .before .before .before .before .before .before .before .before .before .before .before .before .before .before .before .before .before .args .t .now) (c .before .before .before .before .before .before .before .before .before .before .before .before .before .before .before .before .before .before .before .before .before .before .before .before .before .before .before .before .before .before .before .before .before .args .base) (c .before .before .before .before .before .before .before .before .before .before .before .before .before .before .before .before .before .before .before .before .before .before .before .before .before .before .before .before .before .before .before .before .before .args .index .now) (c .before .before .before .before .before .before .before .before .before .before .before .before .before .before .before .before .before .before .before .before .before .before .before .before .before .before .before .before .before .before .before .before .before .args .back) (c .before .before .before .before .before .before .before .before .before .before .before .before .before .before .before .before .before .before .before .before .before .before .before .before .before .before .before .before .before .before .before .before .before .args .i) (c .before .before .before .before .before .before .before .before .before .before .before .before .before .before .before .before .before .before .before .before .before .before .before .before .choose .result) (c .before .before .before .before .before .before .before .before .before .before .before .before .before .before .before .before .before .before .before .before .before .place2 .result) (c .before .before .before .before .before .before .before .before .before .before .before .before .before .before .before .before .before .before .before .before .next-place2 .result) (c .before .before .before .before .before .before .before .before .before .before .before .before .before .before .before .before .before .before .before .before .before .before .before .before .before .before .before .before .before .before .before .before .before .args .at) (c .before .before .before .before .before .before .before .before .before .before .before .before .before .before .before .before .before .before .before .before .before .before .before .before .before .before .before .before .before .before .before .before .before .args .end) (c .before .before .before .before .before .before .before .before .before .before .before .before .before .before .before .before .before .before .before .before .before .before .before .before .before .before .before .before .before .before .before .before .before .args .left) (c .before .before .before .before .before .before .before .before .before .before .before .before .before .before .before .before .before .before .before .before .before .before .before .before .choose .ensures) (c .before .before .before .before .before .before .before .before .before .before .before .before .before .before .before .before .before .before .before .before .before .before .before .before .before .before .before .before .place .ensures .0) (c .before .before .before .before .before .before .before .before .before .before .before .before .before .before .before .before .before .before .before .before .before .before .before .before .before .before .before .next-place .ensures .0) (c .before .before .before .before .before .before .before .before .before .before .before .before .before .before .before .before .before .before .before .before .before .place2 .ensures .0) (c .before .before .before .before .before .before .before .before .before .before .before .before .before .before .before .before .before .before .before .before .next-place2 .ensures .0) (c .before .before .before .before .before .before .before .before .before .before .before .before .before .before .before .before .before .before .before .before .before .before .before .before .before .before .before .before .before .if1 .left) (c .before .before .before .before .before .before .before .before .before .before .before .before .before .before .before .before .before .run-lets .ensures) (c .before .before .before .before .before .before .before .before .before .before .before .before .top .given .1) (c .before .before .before .before .before .before .before .before .before .before .before .before .before .before .before .before .before .run-lets .kept .1 .1 .1 .1 .1 .1 .1 .0) (c .before .before .before .before .before .before .before .before .before .cell .ensures .0) (c .before .before .before .before .before .before .before .before .before .before .side .ensures) (c .before .before .before .before .before .before .build-at .ensures) (c .before .before .copy-range .ensures .1)
-
-apply-returns-4 : (t : ℕ) → apply-lts.Need-returns-4 (ks-apply t) (apply-at t) apply.Post
-apply-returns-4 t c = apply-spent (c .before .before .before .before .before .before .before .before .before .before .before .before .before .before .before .before .before .before .before .before .before .args .t .now) (c .before .before .before .before .before .before .before .before .before .before .before .before .before .before .before .before .before .before .before .before .before .args .base) (c .before .before .before .before .before .before .before .before .before .before .before .before .before .before .before .before .before .before .before .before .before .args .index .now) (c .before .before .before .before .before .before .before .before .before .before .before .before .before .before .before .before .before .before .before .before .before .args .back) (c .before .before .before .before .before .before .before .before .before .before .before .before .before .before .before .before .before .before .before .before .before .args .i) (c .before .before .before .before .before .before .before .before .before .before .before .before .choose .result) (c .before .before .before .before .before .before .before .before .before .place2 .result) (c .before .before .before .before .before .before .before .before .next-place2 .result) (c .before .before .before .before .before .before .before .before .before .before .before .before .before .before .before .before .before .before .before .before .before .args .at) (c .before .before .before .before .before .before .before .before .before .before .before .before .before .before .before .before .before .before .before .before .before .args .end) (c .before .before .before .before .before .before .before .before .before .before .before .before .before .before .before .before .before .before .before .before .before .args .left) (c .before .before .before .before .before .before .before .before .before .before .before .before .choose .ensures) (c .before .before .before .before .before .before .before .before .before .before .before .before .before .before .before .before .place .ensures .0) (c .before .before .before .before .before .before .before .before .before .before .before .before .before .before .before .next-place .ensures .0) (c .before .before .before .before .before .before .before .before .before .place2 .ensures .0) (c .before .before .before .before .before .before .before .before .next-place2 .ensures .0) (c .before .before .before .before .before .before .before .before .before .before .before .before .before .before .before .before .before .if1 .left) (c .before .before .before .before .before .run-lets .ensures) (c .enum-told .given .1)
-
-let-step-returns : (t : ℕ) → let-step-lts.Need-returns (ks-let-step t) (let-step-at t) let-step.Post
-let-step-returns t c = λ os d l e f g u w m laid is less b small run little bound env room most. stepped-late (c .before .before .before .before .before .before .args .t .now) (c .before .before .before .before .before .before .args .base) (c .before .before .before .before .before .before .args .back) (c .before .before .before .before .before .before .args .i) (c .before .cell .result) (c .before .before .before .before .before .before .args .row) l is less (c .before .cell .ensures .0) (c .if1 .taken)
-
-let-step-apply-requires : (t : ℕ) → let-step-lts.Need-apply-requires (ks-let-step t) (let-step-at t) let-step.Post
-let-step-apply-requires t c κs = (apply-falls (c .before .before .before .before .before .before .before .before .before .before .before .before .before .before .args .i) (c .before .before .before .before .before .before .before .before .before .cell .result) (c .before .before .before .before .before .before .before .before .before .before .before .before .before .before .pre .0) (c .before .before .before .before .before .before .before .before .if1 .left), tt)
-
-let-step-returns-2 : (t : ℕ) → let-step-lts.Need-returns-2 (ks-let-step t) (let-step-at t) let-step.Post
-let-step-returns-2 t c = step-done (c .before .before .before .before .before .before .before .before .before .before .before .before .before .before .before .before .before .before .before .before .before .before .before .before .before .before .before .args .t .now) (c .before .before .before .before .before .before .before .before .before .before .before .before .before .before .before .before .before .before .before .before .before .before .before .before .before .before .before .args .base) (c .before .before .before .before .before .before .before .before .before .before .before .before .before .before .before .before .before .before .before .before .before .before .before .before .before .before .before .args .index .now) (c .before .before .before .before .before .before .before .before .before .before .before .before .before .before .before .before .before .before .before .before .before .before .before .before .before .before .before .args .back) (c .before .before .before .before .before .before .before .before .before .before .before .before .before .before .before .before .before .before .before .before .before .before .before .before .before .before .before .args .row) (c .before .before .before .before .before .before .before .before .before .before .before .before .before .before .before .before .before .before .before .before .before .before .before .before .before .before .before .args .i) (c .before .before .before .before .before .before .before .before .before .before .before .before .before .before .before .before .before .before .before .before .before .before .cell .result) (c .before .before .before .before .before .before .before .before .before .before .before .before .before .before .before .before .before .before .before .before .before .before .cell .ensures .0) (c .before .before .before .before .before .before .before .before .before .before .before .before .before .before .before .before .before .before .before .cell2 .ensures .0) (c .before .before .before .before .before .before .before .before .before .before .before .before .before .before .before .before .before .before .before .before .side .ensures) (c .before .before .before .before .before .before .before .before .before .before .before .before .before .before .before .before .build-at .ensures) (c .before .before .before .before .before .before .before .before .before .before .before .before .apply .ensures) (c .before .before .before .before .before .before .before .before .before .before .before .before .apply .kept .1 .1 .1 .1 .1 .0) (c .before .before .before .before .before .before .before .before .e .given .1) (c .before .before .before .before .before .cell3 .ensures .0) (c .before .before .before .before .before .before .side2 .ensures) (c .before .before .match-at .ensures .1)
-
-let-step-returns-3 : (t : ℕ) → let-step-lts.Need-returns-3 (ks-let-step t) (let-step-at t) let-step.Post
-let-step-returns-3 t c = step-spent (c .before .before .before .before .before .before .before .before .before .before .before .before .before .before .before .before .before .before .before .args .t .now) (c .before .before .before .before .before .before .before .before .before .before .before .before .before .before .before .before .before .before .before .args .base) (c .before .before .before .before .before .before .before .before .before .before .before .before .before .before .before .before .before .before .before .args .index .now) (c .before .before .before .before .before .before .before .before .before .before .before .before .before .before .before .before .before .before .before .args .back) (c .before .before .before .before .before .before .before .before .before .before .before .before .before .before .before .before .before .before .before .args .row) (c .before .before .before .before .before .before .before .before .before .before .before .before .before .before .before .before .before .before .before .args .i) (c .before .before .before .before .before .before .before .before .before .before .before .before .before .before .cell .result) (c .before .before .before .before .before .before .before .before .before .before .before .before .before .before .cell .ensures .0) (c .before .before .before .before .before .before .before .before .before .before .before .cell2 .ensures .0) (c .before .before .before .before .before .before .before .before .before .before .before .before .side .ensures) (c .before .before .before .before .before .before .before .before .build-at .ensures) (c .before .before .before .before .apply .ensures) (c .enum-told .given .1)
 
 abbrev run-lets-Inv-loop : run-lets-lts.InvT-loop
 run-lets-Inv-loop t base index back i from to work₀ end vars₀ budget n top₀ left₀ k₀ work vars top left k =
@@ -102,29 +75,118 @@ run-lets-Inv-loop t base index back i from to work₀ end vars₀ budget n top�
 abbrev run-lets-μ-loop : run-lets-lts.MeasureT-loop
 run-lets-μ-loop t base index back i from to work₀ end vars₀ budget n top₀ left₀ k₀ work vars top left k = n - k
 
+apply-returns : (t : ℕ) → apply-lts.Need-returns (ks-apply t) (apply-at t) apply.Post
+apply-returns t c = λ os d v w m laid run at′ small e room most. applied-none (c .if1 .taken) os d _ v m run
+
+apply-returns-2 : (t : ℕ) → apply-lts.Need-returns-2 (ks-apply t) (apply-at t) apply.Post
+apply-returns-2 t c =
+    let d = c .before .before .before .before .before in
+    let e = d .before .before .before .before .before .before in
+    let a = e .args in
+    unmatched (a .t .now) (a .base) (a .index .now) (a .back) (a .i) (c .before .before .choose .result) (a .at) (a .end) (a .left) (c .before .before .choose .ensures) (d .before .place .ensures .0) (d .next-place .ensures .0) (c .if2 .taken)
+
+apply-run-lets-requires : (t : ℕ) → apply-lts.Need-run-lets-requires (ks-apply t) (apply-at t) apply.Post
+apply-run-lets-requires t c κs =
+    let d = c .before .before .before .before .before .before .before .before .before .before .before .before .before .before .before in
+    let a = d .args in
+    (lets-fall (a .i) (d .pre .0), (rows-in (c .before .before .before .place2 .ensures .1), c .before .before .next-place2 .ensures .1))
+
+apply-returns-3 : (t : ℕ) → apply-lts.Need-returns-3 (ks-apply t) (apply-at t) apply.Post
+apply-returns-3 t c =
+    let d = c .before .before .before .before .before .before in
+    let e = d .before .before .before .before .before in
+    let f = e .before .before .before .before in
+    let g = f .before .before .before .before .before .before in
+    let h = g .before .before .before .before .before .before in
+    let a = h .args in
+    apply-done (a .t .now) (a .base) (a .index .now) (a .back) (a .i) (f .before .before .before .choose .result) (f .place2 .result) (e .before .before .before .next-place2 .result) (a .at) (a .end) (a .left) (f .before .before .before .choose .ensures) (g .before .place .ensures .0) (g .next-place .ensures .0) (f .place2 .ensures .0) (e .before .before .before .next-place2 .ensures .0) (g .before .before .if1 .left) (e .run-lets .ensures) (d .top .given .1) (e .run-lets .kept .1 .1 .1 .1 .1 .1 .1 .0) (c .before .before .put-result .ensures)
+
+apply-returns-4 : (t : ℕ) → apply-lts.Need-returns-4 (ks-apply t) (apply-at t) apply.Post
+apply-returns-4 t c =
+    let d = c .before .before .before .before .before in
+    let e = d .before .before .before .before in
+    let f = e .before .before .before .before .before .before in
+    let g = f .before .before .before .before .before .before in
+    let a = g .args in
+    apply-spent (a .t .now) (a .base) (a .index .now) (a .back) (a .i) (e .before .before .before .choose .result) (e .place2 .result) (d .before .before .before .next-place2 .result) (a .at) (a .end) (a .left) (e .before .before .before .choose .ensures) (f .before .place .ensures .0) (f .next-place .ensures .0) (e .place2 .ensures .0) (d .before .before .before .next-place2 .ensures .0) (f .before .before .if1 .left) (d .run-lets .ensures) (c .enum-told .given .1)
+
+let-step-returns : (t : ℕ) → let-step-lts.Need-returns (ks-let-step t) (let-step-at t) let-step.Post
+let-step-returns t c =
+    let d = c .before .before .before .before .before .before in
+    let a = d .args in
+    λ os d l e f g u w m laid is less b small run little bound env room most. stepped-late (a .t .now) (a .base) (a .back) (a .i) (c .before .cell .result) (a .row) l is less (c .before .cell .ensures .0) (c .if1 .taken)
+
+let-step-apply-requires : (t : ℕ) → let-step-lts.Need-apply-requires (ks-let-step t) (let-step-at t) let-step.Post
+let-step-apply-requires t c κs =
+    let d = c .before .before .before .before .before .before .before in
+    let e = d .before .before .before .before .before .before in
+    let a = e .args in
+    (apply-falls (a .i) (d .before .cell .result) (e .pre .0) (d .if1 .left), tt)
+
+let-step-returns-2 : (t : ℕ) → let-step-lts.Need-returns-2 (ks-let-step t) (let-step-at t) let-step.Post
+let-step-returns-2 t c =
+    let d = c .before .before .before .before .before in
+    let e = d .before .before .before .before .before .before in
+    let f = e .before .before .before .before in
+    let g = f .before .before .before .before .before in
+    let h = g .before .before .before .before .before in
+    let a = h .args in
+    step-done (a .t .now) (a .base) (a .index .now) (a .back) (a .row) (a .i) (g .cell .result) (g .cell .ensures .0) (f .before .before .before .line .ensures) (f .build-at .ensures) (e .apply .ensures) (e .apply .kept .1 .1 .1 .1 .1 .0) (d .before .before .e .given .1) (d .line2 .ensures) (c .before .before .match-at .ensures .1)
+
+let-step-returns-3 : (t : ℕ) → let-step-lts.Need-returns-3 (ks-let-step t) (let-step-at t) let-step.Post
+let-step-returns-3 t c =
+    let d = c .before .before .before .before in
+    let e = d .before .before .before .before in
+    let f = e .before .before .before .before .before in
+    let g = f .before .before .before .before .before in
+    let a = g .args in
+    step-spent (a .t .now) (a .base) (a .index .now) (a .back) (a .row) (a .i) (f .cell .result) (f .cell .ensures .0) (e .before .before .before .line .ensures) (e .build-at .ensures) (d .apply .ensures) (c .enum-told .given .1)
+
 run-lets-loop-holds : (t : ℕ) → run-lets-lts.Need-loop-holds (ks-run-lets t) (run-lets-at t) run-lets.Post run-lets-Inv-loop run-lets-μ-loop
 run-lets-loop-holds t c = (letting-start _ _ _ _ _ _ _ _ _ _ _, refl)
 
 run-lets-let-row-requires : (t : ℕ) → run-lets-lts.Need-let-row-requires (ks-run-lets t) (run-lets-at t) run-lets.Post run-lets-Inv-loop run-lets-μ-loop
-run-lets-let-row-requires t c κs = (c .before .before .before .before .before .before .before .pre .1 .0, span-small (c .before .before .span .result) (c .before .before .before .before .before .before .before .args .from) (c .before .before .before .before .before .before .before .args .to) (c .before .before .span .ensures) (c .before .before .before .before .before .before .before .pre .1 .1), c .loop-test .taken)
+run-lets-let-row-requires t c κs =
+    let d = c .before .before .before .before .before .before .before in
+    let a = d .args in
+    (d .pre .1 .0, span-small (c .before .before .span .result) (a .from) (a .to) (c .before .before .span .ensures) (d .pre .1 .1), c .loop-test .taken)
 
 run-lets-let-step-requires : (t : ℕ) → run-lets-lts.Need-let-step-requires (ks-run-lets t) (run-lets-at t) run-lets.Post run-lets-Inv-loop run-lets-μ-loop
-run-lets-let-step-requires t c κs = (step-falls (c .before .before .before .before .before .before .before .before .before .before .args .i) (c .before .before .before .before .before .before .before .before .before .before .pre .0), tt)
+run-lets-let-step-requires t c κs =
+    let d = c .before .before .before .before .before .before .before .before .before .before in
+    let a = d .args in
+    (step-falls (a .i) (d .pre .0), tt)
 
 run-lets-loop-less : (t : ℕ) → run-lets-lts.Need-loop-less (ks-run-lets t) (run-lets-at t) run-lets.Post run-lets-Inv-loop run-lets-μ-loop
-run-lets-loop-less t c = let h = c .before .before .before .before .before .before .before .before .before .before .before .loop-test .taken in omega (arith, h)
+run-lets-loop-less t c =
+    let d = c .before .before .before .before .before .before .before .before .before .before .before in
+    let j = d .loop-test .taken in omega (arith, j)
 
 run-lets-loop-again : (t : ℕ) → run-lets-lts.Need-loop-again (ks-run-lets t) (run-lets-at t) run-lets.Post run-lets-Inv-loop run-lets-μ-loop
-run-lets-loop-again t c = (letting-next (c .before .e .given .1) (c .before .before .before .before .before .before .before .before .before .before .before .before .loop .inv .0) (c .before .before .before .before .before .before .before .before .before .before .before .loop-test .taken) (c .before .before .before .before .before .before .before .before .before .before .let-row .ensures) (c .before .before .before .before .before .before .before .let-step .kept .1 .1 .1 .1 .1 .1 .0) (c .before .before .before .before .before .before .before .let-step .ensures), c .before .before .before .before .before .before .before .let-step .kept .1 .1 .1 .1 .1 .1 .1 .1 .0 ∙ c .before .before .before .before .before .before .before .before .before .before .before .before .loop .inv .1)
+run-lets-loop-again t c =
+    let d = c .before .before .before .before .before .before .before in
+    let e = d .before .before .before .before in
+    (letting-next (c .before .e .given .1) (e .before .loop .inv .0) (e .loop-test .taken) (d .before .before .before .let-row .ensures) (d .let-step .kept .1 .1 .1 .1 .1 .1 .0) (d .let-step .ensures), d .let-step .kept .1 .1 .1 .1 .1 .1 .1 .1 .0 ∙ e .before .loop .inv .1)
 
 run-lets-same-length : (t : ℕ) → run-lets-lts.Need-same-length (ks-run-lets t) (run-lets-at t) run-lets.Post run-lets-Inv-loop run-lets-μ-loop
-run-lets-same-length t c = c .before .before .before .before .before .before .let-step .kept .1 .1 .1 .1 .1 .1 .0 ∙ c .before .before .before .before .before .before .before .before .before .before .before .loop .inv .0 .wide
+run-lets-same-length t c =
+    let d = c .before .before .before .before .before .before in
+    let e = d .before .before .before .before .before in
+    d .let-step .kept .1 .1 .1 .1 .1 .1 .0 ∙ e .loop .inv .0 .wide
 
 run-lets-same-length-2 : (t : ℕ) → run-lets-lts.Need-same-length-2 (ks-run-lets t) (run-lets-at t) run-lets.Post run-lets-Inv-loop run-lets-μ-loop
-run-lets-same-length-2 t c = c .before .before .before .before .before .before .let-step .kept .1 .1 .1 .1 .1 .1 .1 .1 .0 ∙ c .before .before .before .before .before .before .before .before .before .before .before .loop .inv .1
+run-lets-same-length-2 t c =
+    let d = c .before .before .before .before .before .before in
+    let e = d .before .before .before .before .before in
+    d .let-step .kept .1 .1 .1 .1 .1 .1 .1 .1 .0 ∙ e .loop .inv .1
 
 run-lets-returns : (t : ℕ) → run-lets-lts.Need-returns (ks-run-lets t) (run-lets-at t) run-lets.Post run-lets-Inv-loop run-lets-μ-loop
-run-lets-returns t c = λ os d ls e g m laid is. lets-spent (c .enum-told .given .1) (c .before .before .before .before .before .before .before .before .before .before .before .loop .inv .0) (c .before .before .before .before .before .before .before .before .before .before .loop-test .taken) (c .before .before .before .before .before .before .before .before .before .let-row .ensures) (c .before .before .before .before .before .before .let-step .ensures) os d ls e g m laid (is ∙ ap (sidedLets (c .before .before .before .before .before .before .before .before .before .before .before .before .before .before .before .before .before .args .back) (c .before .before .before .before .before .before .before .before .before .before .before .before .before .before .before .before .before .args .t .now) (c .before .before .before .before .before .before .before .before .before .before .before .before .before .before .before .before .before .args .base) (c .before .before .before .before .before .before .before .before .before .before .before .before .before .before .before .before .before .args .from)) (sym (c .before .before .before .before .before .before .before .before .before .before .before .before .span .ensures)))
+run-lets-returns t c =
+    let d = c .before .before .before .before .before .before in
+    let e = d .before .before .before .before in
+    let f = e .before .before .before .before .before .before .before in
+    let a = f .args in
+    λ os s ls r t w laid is. lets-spent (c .enum-told .given .1) (e .before .loop .inv .0) (e .loop-test .taken) (d .before .before .before .let-row .ensures) (d .let-step .ensures) os s ls r t w laid (is ∙ ap (sidedLets (a .back) (a .t .now) (a .base) (a .from)) (sym (e .before .before .span .ensures)))
 
 run-lets-same-length-3 : (t : ℕ) → run-lets-lts.Need-same-length-3 (ks-run-lets t) (run-lets-at t) run-lets.Post run-lets-Inv-loop run-lets-μ-loop
 run-lets-same-length-3 t c = c .before .loop .inv .0 .wide
@@ -133,7 +195,10 @@ run-lets-same-length-4 : (t : ℕ) → run-lets-lts.Need-same-length-4 (ks-run-l
 run-lets-same-length-4 t c = c .before .loop .inv .1
 
 run-lets-returns-2 : (t : ℕ) → run-lets-lts.Need-returns-2 (ks-run-lets t) (run-lets-at t) run-lets.Post run-lets-Inv-loop run-lets-μ-loop
-run-lets-returns-2 t c = λ os d ls e g m laid is. lets-end (c .before .loop .inv .0) (c .loop-test .left) os d ls e g m laid (is ∙ ap (sidedLets (c .before .before .before .before .before .before .before .args .back) (c .before .before .before .before .before .before .before .args .t .now) (c .before .before .before .before .before .before .before .args .base) (c .before .before .before .before .before .before .before .args .from)) (sym (c .before .before .span .ensures)))
+run-lets-returns-2 t c =
+    let d = c .before .before .before .before .before .before .before in
+    let a = d .args in
+    λ os s ls r t w laid is. lets-end (c .before .loop .inv .0) (c .loop-test .left) os s ls r t w laid (is ∙ ap (sidedLets (a .back) (a .t .now) (a .base) (a .from)) (sym (c .before .before .span .ensures)))
 
 pub +apply+let-step+run-lets-spec : {M : Type 1} → statement M
 +apply+let-step+run-lets-spec = close μ-apply μ-let-step μ-run-lets (λ t. apply-lts.spec (ks-apply t)
@@ -154,10 +219,7 @@ pub +apply+let-step+run-lets-spec : {M : Type 1} → statement M
     (λ c. search needs)
     (apply-run-lets-requires t)
     (λ c. search needs)
-    (λ c κs. search needs)
-    (λ c κs. search needs)
     (λ c. search needs)
-    (λ c κs. search needs)
     (λ c κs. search needs)
     (λ c. search needs)
     (λ c. search needs)
@@ -167,8 +229,8 @@ pub +apply+let-step+run-lets-spec : {M : Type 1} → statement M
     (λ t. let-step-lts.spec (
       cell-reads.Asked,
       cell-reads.Learnt,
-      side-reads.Asked,
-      side-reads.Learnt,
+      line-reads.Asked,
+      line-reads.Learnt,
       build-at-reads.Asked,
       build-at-reads.Learnt,
       apply-below t,
@@ -182,10 +244,8 @@ pub +apply+let-step+run-lets-spec : {M : Type 1} → statement M
     (let-step-returns t)
     (λ c κs. search needs)
     (λ c κs. search needs)
-    (λ c κs. search needs)
     (let-step-apply-requires t)
     (λ c. search needs)
-    (λ c κs. search needs)
     (λ c κs. search needs)
     (λ c κs. search needs)
     (λ c. search needs)

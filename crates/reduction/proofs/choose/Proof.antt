@@ -6,24 +6,18 @@ use Prim.Native.Nat.{_-_}
 use borrow.Author.Needs.{needs}
 use Rattle.reduction.proofs.choose.Statement.{statement}
 use Rattle.reduction.proofs.choose.Tie as tie
-use Rattle.reduction.proofs.choose.Reads as reads
-use Rattle.reduction.proofs.choose.Lts as lts
-use Rattle.nodes.proofs.cell.Reads as cell-reads
-use Rattle.reduction.proofs.place.Reads as place-reads
-use Rattle.reduction.proofs.side.Reads as side-reads
-use Rattle.values.proofs.match_at.Reads as match-at-reads
 
 abbrev Inv-loop : tie.InvT-loop
-Inv-loop t base index back from stop work at vars₀ field m₀ vars m = Choosing (sideAt t base index back) work at from stop vars₀ vars m
+Inv-loop t base index back from stop work at end vars₀ field m₀ vars m = Choosing (sideAt t base index back) work at end from stop vars₀ vars m
 
 abbrev μ-loop : tie.MeasureT-loop
-μ-loop t base index back from stop work at vars₀ field m₀ vars m = stop - m
+μ-loop t base index back from stop work at end vars₀ field m₀ vars m = stop - m
 
 side-requires : tie.Need-side-requires Inv-loop μ-loop
 side-requires c κs = search needs
 
 loop-holds : tie.Need-loop-holds Inv-loop μ-loop
-loop-holds c = choosing-start _ _ _ _ _ _
+loop-holds c = choosing-start _ _ _ _ _ _ _
 
 place-requires : tie.Need-place-requires Inv-loop μ-loop
 place-requires c κs = search needs
@@ -38,10 +32,10 @@ enum-told : tie.Need-enum-told Inv-loop μ-loop
 enum-told c = search needs
 
 same-length : tie.Need-same-length Inv-loop μ-loop
-same-length c = c .before .before .before .before .match-at .kept .1 .1 .1 .1 .1 .0 ∙ c .before .before .before .before .before .before .before .before .before .loop .inv .wide
+same-length c = c .before .before .before .before .match-at .kept .1 .1 .1 .1 .1 .1 .0 ∙ c .before .before .before .before .before .before .before .before .before .loop .inv .wide
 
 returns : tie.Need-returns Inv-loop μ-loop
-returns c = choosing-found _ (c .before .before .before .before .before .before .before .before .before .loop .inv) (side-found (c .before .before .before .before .before .before .before .before .before .before .before .before .before .before .before .args .t .now) (c .before .before .before .before .before .before .before .before .before .before .before .before .before .before .before .args .base) (c .before .before .before .before .before .before .before .before .before .before .before .before .before .before .before .args .index .now) (c .before .before .before .before .before .before .before .before .before .before .before .before .before .before .before .args .back) (c .before .before .before .before .before .before .before .before .before .loop .m) (c .before .before .before .before .before .before .cell .ensures .0) (c .before .before .before .before .before .before .before .place .ensures .0) (c .before .before .before .before .before .before .before .before .before .before .side .ensures)) (λ v a. sym (c .enum-told .given .1) ∙ c .before .before .before .before .match-at .ensures .0 v a) (c .before .before .before .before .match-at .ensures .1)
+returns c = choosing-found _ (c .before .before .before .before .before .before .before .before .before .loop .inv) (side-found (c .before .before .before .before .before .before .before .before .before .before .before .before .before .before .before .args .t .now) (c .before .before .before .before .before .before .before .before .before .before .before .before .before .before .before .args .base) (c .before .before .before .before .before .before .before .before .before .before .before .before .before .before .before .args .index .now) (c .before .before .before .before .before .before .before .before .before .before .before .before .before .before .before .args .back) (c .before .before .before .before .before .before .before .before .before .loop .m) (c .before .before .before .before .before .before .cell .ensures .0) (c .before .before .before .before .before .before .before .place .ensures .0) (c .before .before .before .before .before .before .before .before .before .before .side .ensures)) (λ v a z. sym (c .enum-told .given .1) ∙ c .before .before .before .before .match-at .ensures .0 v a z) (c .before .before .before .before .match-at .ensures .1)
 
 enum-told-2 : tie.Need-enum-told-2 Inv-loop μ-loop
 enum-told-2 c = search needs
@@ -53,7 +47,7 @@ loop-less : tie.Need-loop-less Inv-loop μ-loop
 loop-less c = let h = c .before .before .before .before .before .before .before .before .loop-test .taken in omega (arith, h)
 
 loop-again : tie.Need-loop-again Inv-loop μ-loop
-loop-again c = choosing-next _ (c .before .before .before .before .before .before .before .before .before .loop .inv) (side-found (c .before .before .before .before .before .before .before .before .before .before .before .before .before .before .before .args .t .now) (c .before .before .before .before .before .before .before .before .before .before .before .before .before .before .before .args .base) (c .before .before .before .before .before .before .before .before .before .before .before .before .before .before .before .args .index .now) (c .before .before .before .before .before .before .before .before .before .before .before .before .before .before .before .args .back) (c .before .before .before .before .before .before .before .before .before .loop .m) (c .before .before .before .before .before .before .cell .ensures .0) (c .before .before .before .before .before .before .before .place .ensures .0) (c .before .before .before .before .before .before .before .before .before .before .side .ensures)) (c .before .before .before .before .match-at .kept .1 .1 .1 .1 .1 .0) (λ v a. sym (c .enum-told2 .given .1) ∙ c .before .before .before .before .match-at .ensures .0 v a) (c .before .before .before .before .match-at .ensures .1)
+loop-again c = choosing-next _ (c .before .before .before .before .before .before .before .before .before .loop .inv) (side-found (c .before .before .before .before .before .before .before .before .before .before .before .before .before .before .before .args .t .now) (c .before .before .before .before .before .before .before .before .before .before .before .before .before .before .before .args .base) (c .before .before .before .before .before .before .before .before .before .before .before .before .before .before .before .args .index .now) (c .before .before .before .before .before .before .before .before .before .before .before .before .before .before .before .args .back) (c .before .before .before .before .before .before .before .before .before .loop .m) (c .before .before .before .before .before .before .cell .ensures .0) (c .before .before .before .before .before .before .before .place .ensures .0) (c .before .before .before .before .before .before .before .before .before .before .side .ensures)) (c .before .before .before .before .match-at .kept .1 .1 .1 .1 .1 .1 .0) (λ v a z. sym (c .enum-told2 .given .1) ∙ c .before .before .before .before .match-at .ensures .0 v a z) (c .before .before .before .before .match-at .ensures .1)
 
 same-length-2 : tie.Need-same-length-2 Inv-loop μ-loop
 same-length-2 c = c .before .loop .inv .wide

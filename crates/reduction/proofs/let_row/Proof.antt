@@ -2,8 +2,6 @@ use Rattle.reduction.proofs.Laying.{row-back, row-forth}
 use borrow.Author.Needs.{needs}
 use Rattle.reduction.proofs.let_row.Statement.{statement}
 use Rattle.reduction.proofs.let_row.Tie as tie
-use Rattle.reduction.proofs.let_row.Reads as reads
-use Rattle.reduction.proofs.let_row.Lts as lts
 
 add-result : tie.Need-add-result
 add-result c = search needs

@@ -3,9 +3,6 @@ use lib.Dec.{lit<}
 use borrow.Author.Needs.{needs}
 use Rattle.reduction.proofs.next_place.Statement.{statement}
 use Rattle.reduction.proofs.next_place.Tie as tie
-use Rattle.reduction.proofs.next_place.Reads as reads
-use Rattle.reduction.proofs.next_place.Lts as lts
-use Rattle.reduction.proofs.place.Reads as place-reads
 
 add-place : tie.Need-add-place
 add-place c = search needs

@@ -1,6 +1,5 @@
 -- `sheets::sheet` meets its contract: a short area, too many queries, a refusal of Check, and an accepted file, whose queries are answered. Assumes nothing.
-use mathlib.Core.Path.{refl, ap, _∙_}
-use borrow.Rule.Slice.PartMut.{same-len-mid}
+use mathlib.Core.Path.{refl, ap}
 use Rattle.model.specs.Code.{refusalView}
 use Rattle.sheets.proofs.Calling.{sheet-short, sheet-many, sheet-refused, call-room, answers-room, sheet-accepted}
 use borrow.Author.Needs.{needs}
@@ -87,36 +86,15 @@ returns-3 c =
     sheet-refused (a .file .now) (a .table .now) (a .work .now) (a .queries .now) (a .numbers .now) (a .letters .now) _ _ _ (k .count-lines .ensures) (f .is-short .ensures) (i .before .if1 .left) (i .if2 .left)
     (x .check-file .ensures .0) (c .before .is-refused .ensures) (c .if3 .taken) refl
 
-slice-aggregate-prepare : tie.Need-slice-aggregate-prepare
-slice-aggregate-prepare c = search needs
-
-prepare-requires : tie.Need-prepare-requires
-prepare-requires c κs = search needs
-
-slice-aggregate-answer-lines : tie.Need-slice-aggregate-answer-lines
-slice-aggregate-answer-lines c = search needs
-
-sub-answer-lines : tie.Need-sub-answer-lines
-sub-answer-lines c = search needs
-
-part-answer-lines-start : tie.Need-part-answer-lines-start
-part-answer-lines-start c = search needs
-
-part-answer-lines-end : tie.Need-part-answer-lines-end
-part-answer-lines-end c =
-    let x = c .before .before .before .before .before .before .before .before .before .before .before .before .before in
-    let f = x .before .before .before .before .before in
+answer-all-requires : tie.Need-answer-all-requires
+answer-all-requires c κs =
+    let x = c .before .before .before .before .before .before .before .before .before .before .before in
+    let i = x .before .before .before in
+    let f = i .before .before in
     let k = f .before .before .before .before .before in
     let a = k .before .before .before .before .before .before .before .args in
-    call-room (a .table .now) (a .work .now) (a .numbers .now) (a .letters .now) (x .check-file .last .1 .1 .0) (k .count-lines .result) (f .is-short .ensures) (x .before .before .before .before .if1 .left)
-    (x .check-file .kept .1 .1 .0)
-
-answer-lines-requires : tie.Need-answer-lines-requires
-answer-lines-requires c κs =
-    let f = c .before .before .before .before .before .before .before .before .before .before .before .before .before .before .before .before .before .before .before .before .before in
-    let k = f .before .before .before .before .before in
-    let a = k .before .before .before .before .before .before .before .args in
-    answers-room (a .table .now) (a .work .now) (a .queries .now) (a .numbers .now) (a .letters .now) (k .count-lines .ensures) (f .is-short .ensures) (c .before .before .before .before .before .before .before .before .before .before .before .before .before .before .before .before .before .before .before .before .if1 .left)
+    let r = answers-room (a .table .now) (a .work .now) (a .queries .now) (a .numbers .now) (a .letters .now) (k .count-lines .ensures) (f .is-short .ensures) (i .before .if1 .left) in
+    (call-room (a .table .now) (a .work .now) (a .numbers .now) (a .letters .now) (x .check-file .last .1 .1 .0) (k .count-lines .result) (f .is-short .ensures) (i .before .if1 .left) (x .check-file .kept .1 .1 .0), r .0, r .1)
 
 clear-bytes-requires : tie.Need-clear-bytes-requires
 clear-bytes-requires c κs = search needs
@@ -125,12 +103,7 @@ same-length-13 : tie.Need-same-length-13
 same-length-13 c = search needs
 
 same-length-14 : tie.Need-same-length-14
-same-length-14 c =
-    let l = c .before .before .before .before .before .before .before .before .before .before in
-    let x = l .before .before .before .before .before .before .before .before .before .before .before .before .before .before .before .before .before in
-    c .before .before .clear-bytes .kept .0
-    ∙ same-len-mid 0 65536 (x .check-file .last .1 .1 .0) (l .answer-lines .last .1 .1 .1 .1 .1 .0) (l .answer-lines .kept .1 .1 .1 .1 .1 .0)
-    ∙ x .check-file .kept .1 .1 .0
+same-length-14 c = search needs
 
 same-length-15 : tie.Need-same-length-15
 same-length-15 c = search needs
@@ -141,16 +114,15 @@ same-length-16 c = search needs
 returns-4 : tie.Need-returns-4
 returns-4 c =
     let l = c .before .before .before .before .before .before .before .before .before .before in
-    let p = l .before .before .before .before .before .before .before in
-    let g = p .before .before .before in
+    let g = l .before .before .before .before .before in
     let x = g .before .before .before .before .before .before .before in
     let i = x .before .before .before in
     let f = i .before .before in
     let k = f .before .before .before .before .before in
     let a = k .before .before .before .before .before .before .before .args in
-    sheet-accepted (a .file .now) (a .table .now) (a .work .now) (a .queries .now) (a .numbers .now) (a .letters .now) _ _ _ (l .answer-lines .last .1 .1 .1 .1 .1 .0) _ _ _ _ (x .check-file .result) _ (k .count-lines .ensures)
+    sheet-accepted (a .file .now) (a .table .now) (a .work .now) (a .queries .now) (a .numbers .now) (a .letters .now) _ _ (l .answer-all .last .1 .1 .1 .0) _ _ _ (x .check-file .result) _ (k .count-lines .ensures)
     (f .is-short .ensures) (i .before .if1 .left) (i .if2 .left) (x .check-file .kept .1 .1 .0) (x .check-file .ensures .0) (x .check-file .ensures .1)
-    (g .before .is-refused .ensures) (g .if3 .left) (p .prepare .ensures) (l .answer-lines .ensures) (l .answer-lines .kept .1 .1 .1 .1 .1 .0) refl
+    (g .before .is-refused .ensures) (g .if3 .left) (l .answer-all .kept .1 .1 .1 .0) (l .answer-all .ensures .0) (l .answer-all .ensures .1)
     (c .before .before .clear-bytes .ensures) refl refl
 
 pub sheet-spec : {M : Type 1} → statement M
@@ -178,13 +150,7 @@ sheet-spec =
     same-length-11
     same-length-12
     returns-3
-    slice-aggregate-prepare
-    prepare-requires
-    slice-aggregate-answer-lines
-    sub-answer-lines
-    part-answer-lines-start
-    part-answer-lines-end
-    answer-lines-requires
+    answer-all-requires
     clear-bytes-requires
     same-length-13
     same-length-14

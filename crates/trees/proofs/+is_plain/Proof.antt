@@ -10,7 +10,7 @@ use Rattle.trees.proofs.is_plain.Reads as is-plain
 use Rattle.trees.proofs.is_plain.Kinds as is-plain-kinds
 use Rattle.trees.proofs.+is_plain.Lts-is_plain as is-plain-lts
 use Rattle.nodes.proofs.pattern_cell.Reads as pattern-cell-reads
-use Rattle.trees.proofs.pattern_part.Reads as pattern-part-reads
+use Rattle.children.proofs.pattern_part.Reads as pattern-part-reads
 use Rattle.trees.proofs.+is_plain.{statement}
 use Rattle.trees.proofs.+is_plain.Tie.{close}
 

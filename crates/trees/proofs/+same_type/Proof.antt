@@ -11,7 +11,7 @@ use Rattle.trees.proofs.same_type.Kinds as same-type-kinds
 use Rattle.trees.proofs.+same_type.Lts-same_type as same-type-lts
 use Rattle.nodes.proofs.cell.Reads as cell-reads
 use Rattle.trees.proofs.same_former.Reads as same-former-reads
-use Rattle.trees.proofs.type_part.Reads as type-part-reads
+use Rattle.children.proofs.type_part.Reads as type-part-reads
 use Rattle.trees.proofs.+same_type.{statement}
 use Rattle.trees.proofs.+same_type.Tie.{close}
 

@@ -1,5 +1,8 @@
 -- `values::copy_range` meets its contract. The loop's invariant: what was read is written, and what is still to be read is as it was. The
 -- measure is what is left to read.
+use Rattle.values.proofs.Copying.{copy-end}
+use Rattle.values.proofs.Copying.{copy-reads, copy-writes}
+use mathlib.Core.Path.{refl}
 use Prim.Native.Nat.{_-_}
 use Rattle.values.proofs.Copying.{Copied, copy-start, copy-next, copy-behind, copy-before}
 use borrow.Author.Needs.{needs}
@@ -7,19 +10,31 @@ use Rattle.values.proofs.copy_range.Statement.{statement}
 use Rattle.values.proofs.copy_range.Tie as tie
 
 abbrev Inv-loop : tie.InvT-loop
-Inv-loop work₀ from to at i₀ end₀ work i end = Copied work₀ from to at work i end
+Inv-loop work₀ from to at n i₀ work i = Copied work₀ from at n work i
 
 abbrev μ-loop : tie.MeasureT-loop
-μ-loop work₀ from to at i₀ end₀ work i end = to - i
+μ-loop work₀ from to at n i₀ work i = n - i
+
+span-requires : tie.Need-span-requires Inv-loop μ-loop
+span-requires c κs = search needs
 
 loop-holds : tie.Need-loop-holds Inv-loop μ-loop
-loop-holds c = let a = c .before .args in copy-start (a .work .now) (a .from) (a .to) (a .at)
+loop-holds c = let a = c .before .before .args in copy-start (a .work .now) (a .from) (a .at) (c .span .result)
 
-byte-at-requires : tie.Need-byte-at-requires Inv-loop μ-loop
-byte-at-requires c κs = search needs
+add-work : tie.Need-add-work Inv-loop μ-loop
+add-work c = let h = copy-reads (c .before .loop .inv) (c .loop-test .taken) (c .before .before .span .ensures) in search needs
 
-put-byte-requires : tie.Need-put-byte-requires Inv-loop μ-loop
-put-byte-requires c κs = search needs
+slice-read-work : tie.Need-slice-read-work Inv-loop μ-loop
+slice-read-work c = let h = copy-reads (c .before .before .loop .inv) (c .before .loop-test .taken) (c .before .before .before .span .ensures) in search needs
+
+add-work-2 : tie.Need-add-work-2 Inv-loop μ-loop
+add-work-2 c = let h = copy-writes (c .before .before .loop .inv) (c .before .loop-test .taken) (c .before .before .before .span .ensures) in search needs
+
+slice-write-work : tie.Need-slice-write-work Inv-loop μ-loop
+slice-write-work c =
+    let d = c .before .before in
+    let g = copy-reads (d .loop .inv) (c .before .loop-test .taken) (d .before .span .ensures) in
+    let h = copy-writes (d .loop .inv) (c .before .loop-test .taken) (d .before .span .ensures) in search needs
 
 add-i : tie.Need-add-i Inv-loop μ-loop
 add-i c = search needs
@@ -28,16 +43,16 @@ loop-less : tie.Need-loop-less Inv-loop μ-loop
 loop-less c = search needs
 
 loop-again : tie.Need-loop-again Inv-loop μ-loop
-loop-again c =
-    let d = c .before .before .before .before in
-    copy-next (d .before .before .before .loop .inv) (d .before .before .loop-test .taken) (d .byte-at .ensures) (c .before .before .put-byte .ensures .0) (c .before .before .put-byte .ensures .1)
+loop-again c = copy-next (c .before .before .loop .inv) (c .before .loop-test .taken) (c .before .before .before .span .ensures) refl
+
+add-result : tie.Need-add-result Inv-loop μ-loop
+add-result c = let h = copy-end {most = 18446744073709551616} (c .before .before .span .ensures) (search needs) (search needs) in search needs
 
 same-length : tie.Need-same-length Inv-loop μ-loop
 same-length c = c .before .loop .inv .kept
 
 returns : tie.Need-returns Inv-loop μ-loop
-returns c =
-    (copy-behind (c .before .loop .inv) (c .loop-test .left), copy-before (c .before .loop .inv) (c .loop-test .left))
+returns c = (copy-behind (c .before .loop .inv) (c .loop-test .left) (c .before .before .span .ensures), copy-before (c .before .loop .inv) (c .loop-test .left) (c .before .before .span .ensures))
 
 pub copy-range-spec : {M : Type 1} → statement M
 copy-range-spec =
@@ -45,11 +60,15 @@ copy-range-spec =
     (tie.spec
     Inv-loop
     μ-loop
+    span-requires
     loop-holds
-    byte-at-requires
-    put-byte-requires
+    add-work
+    slice-read-work
+    add-work-2
+    slice-write-work
     add-i
     loop-less
     loop-again
+    add-result
     same-length
     returns)

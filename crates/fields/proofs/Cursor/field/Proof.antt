@@ -1,4 +1,4 @@
-use Rattle.fields.proofs.Rows.{field-past, field-other}
+use Rattle.fields.proofs.Fields.{field-past, field-other}
 use lib.ListN.{drop}
 use Prim.Native.Nat.{_+_}
 use borrow.Author.Needs.{needs}

@@ -1,45 +1,38 @@
-use Rattle.fields.proofs.Digits.{numeral-end, numeral-zero, numeral-below, numeral-above, numeral-digits}
+use Rattle.fields.proofs.Digits.{zero-within, numeral-zero, numeral-digits, numeral-none}
+use native.Mathlib.Omega.{arith}
+use Prim.Native.Nat.{_+_}
 use mathlib.Core.Path.{_∙_}
 use borrow.Author.Needs.{needs}
 use Rattle.fields.proofs.Cursor.number.Statement.{statement}
 use Rattle.fields.proofs.Cursor.number.Tie as tie
 
-returns : tie.Need-returns
-returns c = numeral-end _ _ _ (c .if1 .taken)
+digit-at-requires : tie.Need-digit-at-requires
+digit-at-requires c κs = search needs
 
-shared-slice-read-b : tie.Need-shared-slice-read-b
-shared-slice-read-b c = search needs
-
-add-t10 : tie.Need-add-t10
-add-t10 c = search needs
-
-returns-2 : tie.Need-returns-2
-returns-2 c = numeral-zero _ _ _ (c .before .before .if1 .left) (c .if2 .taken)
-
-returns-3 : tie.Need-returns-3
-returns-3 c = numeral-below _ _ _ (c .before .before .before .if1 .left) (c .before .if2 .left) (c .if3 .taken)
-
-returns-4 : tie.Need-returns-4
-returns-4 c = numeral-above _ _ _ (c .before .before .before .before .if1 .left) (c .before .before .if2 .left) (c .if4 .taken)
+add-t7 : tie.Need-add-t7
+add-t7 c =
+    let a = c .before .before .before .args in
+    omega (arith, zero-within (a .s .now) (a .self .at) (c .before .digit-at .ensures) (c .match .keys1))
 
 digits-at-requires : tie.Need-digits-at-requires
 digits-at-requires c κs = search needs
 
-returns-5 : tie.Need-returns-5
-returns-5 c =
-    let more = c .before .before .before in
-    c .digits-at .ensures
-    ∙ numeral-digits _ _ _ (more .before .before .if1 .left) (more .if2 .left) (c .before .before .if3 .left) (c .before .if4 .left)
+returns : tie.Need-returns
+returns c =
+    let a = c .before .before .before .args in
+    numeral-zero (a .most + 1) (a .s .now) (a .self .at) (c .before .digit-at .ensures) (c .match .keys1)
+
+returns-2 : tie.Need-returns-2
+returns-2 c =
+    let m = c .before .before in
+    let a = m .before .before .before .args in
+    c .digits-at .ensures ∙ numeral-digits (a .most + 1) (a .s .now) (a .self .at) (m .before .digit-at .ensures) (m .match .rest .1) (c .before .if1 .taken)
+
+returns-3 : tie.Need-returns-3
+returns-3 c =
+    let m = c .before in
+    let a = m .before .before .before .args in
+    numeral-none (a .most + 1) (a .s .now) (a .self .at) (m .before .digit-at .ensures) (m .match .rest .1) (c .if1 .left)
 
 pub number-spec : {M : Type 1} → statement M
-number-spec =
-    tie.close
-    (tie.spec
-    returns
-    shared-slice-read-b
-    add-t10
-    returns-2
-    returns-3
-    returns-4
-    digits-at-requires
-    returns-5)
+number-spec = tie.close (tie.spec digit-at-requires add-t7 digits-at-requires returns returns-2 returns-3)

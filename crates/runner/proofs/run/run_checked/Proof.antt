@@ -9,8 +9,8 @@ use Rattle.runner.proofs.run.run_checked.Reads as reads
 use Rattle.runner.proofs.run.run_checked.Lts as lts
 use Rattle.nodes.proofs.cell.Reads as cell-reads
 use Rattle.reduction.proofs.apply.Reads as apply-reads
-use Rattle.reduction.proofs.place.Reads as place-reads
-use Rattle.reduction.proofs.side.Reads as side-reads
+use Rattle.ways.proofs.place.Reads as place-reads
+use Rattle.ways.proofs.side.Reads as side-reads
 use Rattle.runner.proofs.run.copy_front.Reads as copy-front-reads
 use Rattle.runner.proofs.run.is_value.Reads as is-value-reads
 use Rattle.runner.proofs.run.refused.Reads as refused-reads

@@ -1,0 +1,2 @@
+-- The ceilings of a row.
+pub mod Ceilings

@@ -1,0 +1,2 @@
+-- The shape of a P line.
+pub mod Shapes

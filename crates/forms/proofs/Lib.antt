@@ -1,0 +1,2 @@
+-- The table of forms.
+pub mod Forms

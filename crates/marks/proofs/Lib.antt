@@ -1,0 +1,2 @@
+-- Laws of the marks of variables.
+pub mod Marking

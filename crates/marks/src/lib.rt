@@ -1,0 +1,79 @@
+// The variables that a pattern of the table binds or uses, marked one by one.
+
+use children::pattern_part;
+use nodes::pattern_cell;
+ghost use mathlib.Core.Path.{_≡_};
+ghost use Rattle.model.specs.Trees.{vars};
+ghost use Rattle.nodes.specs.Unfolding.{patternOf};
+ghost use Rattle.marks.specs.Marks.{deedView, nextState, markOne, markAll, settledAll};
+
+// How far each variable of a clause has come: 0 not yet bound, 1 bound, 2 used, 3 out of order.
+pub struct Marks {
+    pub state: [u8; 32],
+}
+
+// The state after one more deed, a binding or a use.
+fn next_state(binds: bool, s: u8) -> u8
+    ensures { λ r. ⌜ r ≡ nextState (deedView binds) s ⌝ }
+{
+    if binds {
+        if s == 0 {
+            return 1;
+        }
+        return 3;
+    }
+    if s == 1 {
+        return 2;
+    }
+    3
+}
+
+// The marks after one more deed of variable n, the same where there is no such variable.
+fn mark_one(binds: bool, n: usize, m: Marks) -> Marks
+    ensures { λ r. ⌜ r .state ≡ markOne (deedView binds) n (m .state) ⌝ }
+{
+    if n < 32 {
+        let mut next = m;
+        next.state[n] = next_state(binds, m.state[n]);
+        return next;
+    }
+    m
+}
+
+// The marks after the variables of P line p are bound, or used.
+pub fn mark(t: &[u16], base: usize, p: usize, binds: bool, m: Marks) -> Marks
+    ensures { λ r. ⌜ r .state ≡ markAll (deedView binds) (vars (patternOf (now (t .entry)) base p)) (m .state) ⌝ }
+{
+    let kind = pattern_cell(t, base, p, 1);
+    if kind == 0 {
+        return m;
+    }
+    if kind == 1 {
+        return mark_one(binds, pattern_cell(t, base, p, 2), m);
+    }
+    let a = pattern_part(t, base, p, 2);
+    let first = mark(t, base, a, binds, m);
+    if kind < 4 {
+        return first;
+    }
+    let b = pattern_part(t, base, p, 3);
+    mark(t, base, b, binds, first)
+}
+
+// Whether each variable was not met, or was bound and then used.
+pub fn settled(m: Marks) -> bool
+    ensures { λ r. ⌜ r ≡ settledAll (m .state) ⌝ }
+{
+    let state = m.state;
+    let mut i: usize = 0;
+    while i < 32 {
+        let s = state[i];
+        if s != 0 {
+            if s != 2 {
+                return false;
+            }
+        }
+        i += 1;
+    }
+    true
+}

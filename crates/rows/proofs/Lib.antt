@@ -1,0 +1,2 @@
+-- The row of a line.
+pub mod Rows

@@ -1,0 +1,3 @@
+-- Laws of the types that variables take, and the tests of a clause against the model's.
+pub mod Meeting
+pub mod Rules

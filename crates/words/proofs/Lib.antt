@@ -1,0 +1,2 @@
+-- Numbers of 16 bits.
+pub mod Bits
