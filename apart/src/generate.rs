@@ -2,6 +2,7 @@
 //! misses of each refusal, damaged bytes, and queries.
 
 pub mod ceiling;
+pub mod counted;
 pub mod damage;
 pub mod draft;
 pub mod fault;
@@ -22,9 +23,13 @@ use random::Random;
 /// refusal of a planned file stops the program.
 pub fn accepted(random: &mut Random) -> Vec<u8> {
     loop {
-        let file = match random.below(12) {
-            0 => ceiling::at_ceiling(random, false),
-            1 => tower::tower(random),
+        let file = match random.below(24) {
+            0 | 1 => ceiling::at_ceiling(random, false),
+            2 | 3 => tower::tower(random),
+            4 => {
+                let place = random.below(counted::COUNTS.len());
+                counted::file(random, place)
+            }
             _ => {
                 let isos = plan::isos(random);
                 scribe::file(random, &isos)

@@ -7,13 +7,14 @@ pub mod cover;
 pub mod desk;
 pub mod generate;
 pub mod lines;
+pub mod numbering;
 pub mod reduce;
 pub mod sheet;
 pub mod tree;
 
 use crate::lines::{Iso, Row};
 use crate::reduce::{apply, turned, Counter};
-use crate::tree::Value;
+use crate::tree::{Type, Value};
 use std::rc::Rc;
 
 /// A refusal by its number, with the line it names; "Where no line is named
@@ -24,10 +25,11 @@ pub struct Refusal {
     pub line: usize,
 }
 
-/// An accepted file: its lines, its isos as trees, and the isos of the turned
-/// file.
+/// An accepted file: its lines, its T lines and isos as trees, and the isos of
+/// the turned file.
 pub struct Rules {
     pub rows: Vec<Row>,
+    pub types: Vec<Rc<Type>>,
     pub isos: Vec<Iso>,
     pub turned: Vec<Iso>,
 }
@@ -54,6 +56,7 @@ pub fn check(file: &[u8]) -> Result<Rules, Refusal> {
     let turned = reader.isos.iter().map(turned).collect();
     Ok(Rules {
         rows: reader.rows,
+        types: reader.types,
         isos: reader.isos,
         turned,
     })

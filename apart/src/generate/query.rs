@@ -117,7 +117,8 @@ pub fn sample(random: &mut Random, ty: &Type, letters: &mut Vec<u8>) {
     }
 }
 
-fn damage(random: &mut Random, letters: &mut Vec<u8>) {
+/// Changes letters, of which there is at least one.
+pub fn damage(random: &mut Random, letters: &mut Vec<u8>) {
     let place = random.below(letters.len());
     let letter = *random.pick(b"ULRPULRPlup,0 \0\xff");
     match random.below(7) {

@@ -11,7 +11,7 @@ use lib.Dec.{ltb}
 use lib.ListN.{length, length-map}
 use Rattle.model.specs.Limits.{maxBytes, maxLines}
 use Rattle.model.specs.Trees.{left, right}
-use Rattle.model.specs.Refusals.{Refusal, number, shortArea, tooLong, badLine, misplaced, badField, badName, ceiling, variable, letShape, badType, overlap, gap, noIso, noValue, spent}
+use Rattle.model.specs.Refusals.{Refusal, number, shortArea, tooLong, badLine, misplaced, badField, badName, ceiling, variable, letShape, badType, overlap, gap, noIso, noValue, spent, tooMany, tooHigh}
 use Rattle.model.specs.Lines.{Row, lines, print, printRows}
 use Rattle.model.specs.Judge.{start, Reading, rows, faulty, readFrom}
 use Rattle.model.specs.Unfold.{isosOf, turnRows}
@@ -112,6 +112,8 @@ number-positive (gap right) = omega arith
 number-positive noIso = omega arith
 number-positive noValue = omega arith
 number-positive spent = omega arith
+number-positive tooMany = omega arith
+number-positive tooHigh = omega arith
 
 -- an answer whose number is 0 is of an accepted file
 pub answer-zero : (v : Verdict) → answerOf v .number ≡ 0 → (rs : List Row) × (v ≡ accepted rs)

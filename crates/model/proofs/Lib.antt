@@ -36,3 +36,4 @@ pub mod Runs
 pub mod Sizes
 -- requests
 pub mod Sheets
+pub mod Numbering

@@ -62,6 +62,10 @@ queryLength = 200
 abbrev pub maxQueries : ℕ
 maxQueries = 600
 
+-- request 02: the most values that are numbered
+abbrev pub maxValues : ℕ
+maxValues = 4294967295
+
 abbrev pub lineFeed : ℕ
 lineFeed = 10
 

@@ -1,4 +1,4 @@
--- The refusals of document 01, each with its number. A case holds the kind of the faulty line where the line may be of any kind.
+-- The refusals of document 01 and of request 02 (18, 19), each with its number. A case holds the kind of the faulty line where the line may be of any kind.
 use Prim.Native.Nat.{ℕ}
 use Rattle.model.specs.Trees.{Tag, left, right}
 
@@ -12,6 +12,7 @@ pub data Refusal : Type 0 where
   variable letShape badType : Refusal
   overlap gap : Tag → Refusal
   noIso noValue spent : Refusal
+  tooMany tooHigh : Refusal
 
 -- the column "number" of document 01's table
 abbrev pub number : Refusal → ℕ
@@ -32,3 +33,5 @@ number (gap right) = 14
 number noIso = 15
 number noValue = 16
 number spent = 17
+number tooMany = 18
+number tooHigh = 19

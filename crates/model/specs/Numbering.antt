@@ -1,0 +1,135 @@
+-- Request 02, "Settings as numbers": the closed values of a type numbered from 0, and what the two services answer and leave in every lent area.
+use Prim.Native.Nat.{ℕ, _+_, _-_, _*_, _/_, _%_}
+use mathlib.Core.Bool.{Bool, true, false, cond, _||_}
+use mathlib.Core.Option.{Option, none, some}
+use mathlib.Core.List.{List, [], _∷_}
+use lib.Dec.{ltb, eqb}
+use lib.ListN.{length, getElem?}
+use Rattle.model.specs.Limits.{resultLength, maxValues}
+use Rattle.model.specs.Tools.{_>>=_, guard}
+use Rattle.model.specs.Trees.{Ty, tunit, tsum, tprod, Tag, left, right, Val, vunit, vinj, vpair, part}
+use Rattle.model.specs.Refusals.{Refusal, number, noIso, noValue, tooMany, tooHigh}
+use Rattle.model.specs.Lines.{Row}
+use Rattle.model.specs.Judge.{start, afterAll}
+use Rattle.model.specs.Letters.{letters, valueOf, inhabits}
+use Rattle.model.specs.Services.{Verdict, accepted, refused, verdict, written, tableAfter, workAfter, short, unless}
+
+-- how many closed values a type has
+abbrev pub count : Ty → ℕ
+count tunit = 1
+count (tsum a b) = count a + count b
+count (tprod a b) = count a * count b
+
+-- "left keeps its number; right adds the left type's count of values"
+abbrev pub offset : Tag → Ty → ℕ
+offset left a = 0
+offset right a = count a
+
+-- "Unit is 0; …; a pair is first times the second type's count, plus second." A value of another type has no number; 0 stands there.
+abbrev pub rank : Val → Ty → ℕ
+rank vunit a = 0
+rank (vinj t v) tunit = 0
+rank (vinj t v) (tsum a b) = offset t a + rank v (part t a b)
+rank (vinj t v) (tprod a b) = 0
+rank (vpair v w) tunit = 0
+rank (vpair v w) (tsum a b) = 0
+rank (vpair v w) (tprod a b) = rank v a * count b + rank w b
+
+-- the value of a type that has a number
+abbrev pub unrank : Ty → ℕ → Val
+unrank tunit n = vunit
+unrank (tsum a b) n = cond (ltb n (count a)) (vinj left (unrank a n)) (vinj right (unrank b (n - count a)))
+unrank (tprod a b) n = vpair (unrank a (n / count b)) (unrank b (n % count b))
+
+-- "in byte order": whether letters stand before others
+abbrev pub before : List ℕ → List ℕ → Bool
+before [] [] = false
+before [] (c ∷ cs) = true
+before (b ∷ bs) [] = false
+before (b ∷ bs) (c ∷ cs) = ltb b c || cond (eqb b c) (before bs cs) false
+
+-- ---- the services
+
+-- a refusal, or what is asked for
+pub data Outcome (A : Type 0) : Type 0 where
+  gives : A → Outcome A
+  fails : Refusal → Outcome A
+
+-- the types of a file's T lines, numbered from 0
+unfoldable pub typesOf : List Row → List Ty
+unfolding start
+typesOf rs = afterAll start rs .types
+
+-- "An absent T line is 15. … 18 …, a count above 4,294,967,295 …, after 15"
+abbrev pub onType : {A : Type 0} → Option Ty → (Ty → Outcome A) → Outcome A
+onType none f = fails noIso
+onType (some a) f = cond (ltb maxValues (count a)) (fails tooMany) (f a)
+
+-- 16, "not exactly one closed value" of the type, after 18
+abbrev pub numberIn : Ty → Option Val → Outcome ℕ
+numberIn a none = fails noValue
+numberIn a (some v) = gives (rank v a)
+
+abbrev pub toNumber : List ℕ → Ty → Outcome ℕ
+toNumber ls a = numberIn a (valueOf ls >>= λ v. guard (inhabits v a) >>= λ _. some v)
+
+-- "19 …, not below the count, after 18"
+abbrev pub toSetting : ℕ → Ty → Outcome (List ℕ)
+toSetting n a = cond (ltb n (count a)) (gives (letters (unrank a n))) (fails tooHigh)
+
+-- "for any T line of an accepted file"
+abbrev pub numberOn : Verdict → ℕ → List ℕ → Outcome ℕ
+numberOn (accepted rs) i ls = onType (getElem? (typesOf rs) i) (toNumber ls)
+numberOn (refused f n) i ls = fails f
+
+abbrev pub settingOn : Verdict → ℕ → ℕ → Outcome (List ℕ)
+settingOn (accepted rs) i n = onType (getElem? (typesOf rs) i) (toSetting n)
+settingOn (refused f m) i n = fails f
+
+-- the refusal's number, 0 where there is none; "With a refusal the setting number is 0"
+abbrev pub refusalOf : {A : Type 0} → Outcome A → ℕ
+refusalOf (gives a) = 0
+refusalOf (fails f) = number f
+
+abbrev pub numberFrom : Outcome ℕ → ℕ
+numberFrom (gives n) = n
+numberFrom (fails f) = 0
+
+abbrev pub lettersFrom : Outcome (List ℕ) → List ℕ
+lettersFrom (gives ls) = ls
+lettersFrom (fails f) = []
+
+-- letters to number
+pub record Numbered : Type 0 where
+  pub number : ℕ
+  pub setting : ℕ
+  pub table : List ℕ
+  pub work : List ℕ
+
+unfoldable pub numberService : List ℕ → List ℕ → List ℕ → ℕ → List ℕ → Numbered
+unfolding verdict typesOf valueOf
+numberService file table work i value =
+    let v : Verdict = unless (short table work) (verdict file) in
+    let o : Outcome ℕ = numberOn v i value in
+    record { number = refusalOf o; setting = numberFrom o; table = tableAfter v table; work = workAfter v work }
+
+-- number to letters, "letters written into 127 lent bytes"
+pub record Lettered : Type 0 where
+  pub number : ℕ
+  pub length : ℕ
+  pub table : List ℕ
+  pub work : List ℕ
+  pub result : List ℕ
+
+unfoldable pub settingService : List ℕ → List ℕ → List ℕ → ℕ → ℕ → List ℕ → Lettered
+unfolding verdict typesOf
+settingService file table work i n result =
+    let v : Verdict = unless (short table work || ltb (length result) resultLength) (verdict file) in
+    let o : Outcome (List ℕ) = settingOn v i n in
+    record {
+      number = refusalOf o;
+      length = length (lettersFrom o);
+      table = tableAfter v table;
+      work = workAfter v work;
+      result = written (lettersFrom o) result;
+    }
