@@ -10,18 +10,15 @@ use apart::numbering::{
 };
 use apart::tree::{Pattern, Type};
 use apart::{check, Rules};
+
+mod common;
+use common::{lines, refused_files};
 use std::collections::BTreeSet;
 use std::rc::Rc;
 
 /// "File S (one line each, parted here by blanks)".
 const S: &str = "T,0,0,0 T,1,0,0 T,2,1,1 P,0,0,0 P,2,0,0 P,3,0,0 P,1,0,0 P,1,1,0 \
 P,4,1,3 P,4,1,4 P,4,2,3 I,1,1 C,1,2 C,2,1 I,2,2 C,5,6 L,4,0,3 C,7,7";
-
-/// Lines parted by blanks, each given its line feed.
-fn lines(words: &str) -> Vec<u8> {
-    let lines: Vec<String> = words.split_whitespace().map(|w| format!("{w}\n")).collect();
-    lines.concat().into_bytes()
-}
 
 fn rules(words: &str) -> Rules {
     check(&lines(words)).expect("accepted")
@@ -518,27 +515,6 @@ fn areas_too_short_change_nothing() {
     }
     let mut areas = Areas::of([TABLE, WORK, 0]);
     assert_eq!(areas.number_of(&lines(S), 2, b"PRULU"), numbered(0, 2));
-}
-
-/// Files refused with 2 to 14.
-fn refused_files() -> [Vec<u8>; 13] {
-    let four = "T,0,0,0 T,1,0,0 T,1,1,1 P,0,0,0 P,2,0,0 P,3,0,0 P,2,1,0 P,2,2,0 P,3,1,0 P,1,0,0";
-    let iso = |words: &str| lines(&format!("{four} {words}"));
-    [
-        vec![b'\n'; 4_097],
-        b"T,0,0,0".to_vec(),
-        lines("P,0,0,0 T,0,0,0"),
-        lines("T,9,0,0"),
-        lines("T,1,0,0"),
-        lines("T,0,0,0 T,2,0,0 T,2,1,1 T,2,2,2 T,2,3,3 T,2,4,4 T,2,5,5 T,2,6,6"),
-        iso("I,1,1 C,6,1"),
-        iso("I,1,1 C,6,6 I,1,1 C,6,6 L,1,0,1"),
-        iso("I,1,1 C,0,0"),
-        iso("I,1,1 C,6,6 C,6,6"),
-        iso("I,2,2 C,3,3 C,4,3"),
-        iso("I,2,2 C,3,3 C,4,4"),
-        iso("I,1,2 C,1,3 C,2,4"),
-    ]
 }
 
 /// A refused file goes before 15, 16, 18 and 19.

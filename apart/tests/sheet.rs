@@ -6,6 +6,9 @@ use apart::desk::query as query_of;
 use apart::lines::split;
 use apart::sheet::{sheet, Lent, NUMBERS, QUERIES};
 
+mod common;
+use common::{lines, refused_files};
+
 /// "File S (one line each, parted here by blanks)".
 const S: &str = "T,0,0,0 T,1,0,0 T,2,1,1 P,0,0,0 P,2,0,0 P,3,0,0 P,1,0,0 P,1,1,0 \
 P,4,1,3 P,4,1,4 P,4,2,3 I,1,1 C,1,2 C,2,1 I,2,2 C,5,6 L,4,0,3 C,7,7";
@@ -44,12 +47,6 @@ const BAD_QUERIES: [&str; 20] = [
     "\0",
     "Q,0\0,0,1,LU",
 ];
-
-/// Lines parted by blanks, each given its line feed.
-fn lines(words: &str) -> Vec<u8> {
-    let lines: Vec<String> = words.split_whitespace().map(|w| format!("{w}\n")).collect();
-    lines.concat().into_bytes()
-}
 
 /// The queries of document 01 in one list.
 fn asked() -> Vec<u8> {
@@ -325,27 +322,6 @@ fn refusal_1_goes_before_2_and_2_before_the_file() {
     }
     // Areas long enough for 600 are too short for 601.
     assert_eq!(Areas::exact(600).sheet(&lines(S), &times(601)), (1, 0, 0));
-}
-
-/// Files refused with 2 to 14.
-fn refused_files() -> [Vec<u8>; 13] {
-    let four = "T,0,0,0 T,1,0,0 T,1,1,1 P,0,0,0 P,2,0,0 P,3,0,0 P,2,1,0 P,2,2,0 P,3,1,0 P,1,0,0";
-    let iso = |words: &str| lines(&format!("{four} {words}"));
-    [
-        vec![b'\n'; 4_097],
-        b"T,0,0,0".to_vec(),
-        lines("P,0,0,0 T,0,0,0"),
-        lines("T,9,0,0"),
-        lines("T,1,0,0"),
-        lines("T,0,0,0 T,2,0,0 T,2,1,1 T,2,2,2 T,2,3,3 T,2,4,4 T,2,5,5 T,2,6,6"),
-        iso("I,1,1 C,6,1"),
-        iso("I,1,1 C,6,6 I,1,1 C,6,6 L,1,0,1"),
-        iso("I,1,1 C,0,0"),
-        iso("I,1,1 C,6,6 C,6,6"),
-        iso("I,2,2 C,3,3 C,4,3"),
-        iso("I,2,2 C,3,3 C,4,4"),
-        iso("I,1,2 C,1,3 C,2,4"),
-    ]
 }
 
 /// "A refused file refuses the whole call."

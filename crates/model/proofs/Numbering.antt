@@ -15,13 +15,13 @@ use Rattle.model.specs.Tools.{_>>=_, guard}
 use Rattle.model.specs.Trees.{Ty, tunit, tsum, tprod, left, right, Val, vinj, vpair, typeNodes}
 use Rattle.model.specs.Refusals.{Refusal, noIso, noValue, tooMany, tooHigh}
 use Rattle.model.specs.Lines.{Row}
-use Rattle.model.specs.Letters.{letters, valueOf, inhabits}
-use Rattle.model.specs.Services.{Verdict, accepted, refused, verdict}
+use Rattle.model.specs.Letters.{letters, inhabits}
+use Rattle.model.specs.Services.{Verdict, accepted, refused, verdict, valueIn}
 use Rattle.model.specs.Paper.{Of}
 use Rattle.model.specs.Numbering.{count, rank, unrank, before, Outcome, gives, fails, typesOf, onType, numberIn, toNumber, toSetting, numberOn, settingOn, refusalOf, numberFrom}
-use Rattle.model.proofs.Basic.{bind-some, some-bind, none≢some, some-inj, not-some, guard-true, true-guard, true-and, true-or-left, bool-cases, eq-eqb, not-eqb, leb-le, leb-false, ltb-lt, lt-ltb, ltb-false, not-ltb}
-use Rattle.model.proofs.Letters.{value-letters, letters-value, inhabits-of}
-use Rattle.model.proofs.Runs.{accepted-good}
+use Rattle.model.proofs.Basic.{some-bind, none≢some, some-inj, not-some, true-guard, true-and, true-or-left, bool-cases, eq-eqb, not-eqb, leb-le, leb-false, ltb-lt, lt-ltb, ltb-false, not-ltb}
+use Rattle.model.proofs.Letters.{value-letters, inhabits-of}
+use Rattle.model.proofs.Runs.{accepted-good, value-in}
 use Rattle.model.proofs.Sizes.{of-small, types-small}
 
 -- ---- counts
@@ -222,16 +222,6 @@ thirty-one = refl
 
 fails≢gives : {A : Type 0} {f : Refusal} {y : A} → _≡_ {A = Outcome A} (fails f) (gives y) → ⊥
 fails≢gives e = false≢true cc
-
-abbrev valueIn : List ℕ → Ty → Option Val
-valueIn ls a = valueOf ls >>= λ v. guard (inhabits v a) >>= λ _. some v
-
-value-in : (ls : List ℕ) (a : Ty) (v : Val) → valueIn ls a ≡ some v → (ls ≡ letters v) × (inhabits v a ≡ true)
-value-in ls a v e =
-    let r = bind-some (valueOf ls) (λ u. guard (inhabits u a) >>= λ _. some u) e in
-    let s = bind-some (guard (inhabits (r .0) a)) (λ _. some (r .0)) (r .2) in
-    let same = some-inj (s .2) in
-    (letters-value ls (r .0) (r .1) ∙ ap letters same, subst (λ u. inhabits u a ≡ true) same (guard-true (inhabits (r .0) a) (s .1)))
 
 to-number : (v : Val) (a : Ty) → inhabits v a ≡ true → toNumber (letters v) a ≡ gives (rank v a)
 to-number v a h =

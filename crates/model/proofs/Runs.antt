@@ -8,14 +8,14 @@ use mathlib.Core.List.{List, map, List·Memᴰ}
 use lib.Dec.{leb}
 use lib.ListN.{getElem?, length}
 use Rattle.model.specs.Tools.{_>>=_, guard}
-use Rattle.model.specs.Trees.{Val, Iso, invert}
+use Rattle.model.specs.Trees.{Ty, Val, Iso, invert}
 use Rattle.model.specs.Refusals.{Refusal, spent}
 use Rattle.model.specs.Lines.{Row}
 use Rattle.model.specs.Judge.{start}
 use Rattle.model.specs.Unfold.{isosOf, turnRows}
 use Rattle.model.specs.Reduction.{reduce}
 use Rattle.model.specs.Letters.{letters, valueOf, inhabits}
-use Rattle.model.specs.Services.{accepted, verdict, turned, Ran, gives, failed, within, argument, from, onIso, runRows, toward, runOf, run}
+use Rattle.model.specs.Services.{accepted, verdict, turned, Ran, gives, failed, within, valueIn, argument, from, onIso, runRows, toward, runOf, run}
 use Rattle.model.specs.Paper.{Of, Apart, FileOk, OnWay, ExactlyOne}
 use Rattle.model.specs.Clauses.{lefts, rights}
 use Rattle.model.specs.Terms.{Steps, eapp, valTerm}
@@ -88,15 +88,17 @@ good-toward false rs g = g
 pub accepted-good : (bs : List ℕ) (rs : List Row) → verdict bs ≡ accepted rs → GoodRows rs
 accepted-good bs rs e = let h = accepted-iff bs rs .0 e in record { passes = passes-of bs rs (h .0); ok = h .1 }
 
--- the bytes are one closed value of the from-type, or they are not
+-- the bytes are one closed value of a type
+pub value-in : (bs : List ℕ) (a : Ty) (v : Val) → valueIn bs a ≡ some v → (bs ≡ letters v) × (inhabits v a ≡ true)
+value-in bs a v e =
+    let r = bind-some (valueOf bs) (λ u. guard (inhabits u a) >>= λ _. some u) e in
+    let s = bind-some (guard (inhabits (r .0) a)) (λ _. some (r .0)) (r .2) in
+    let same = some-inj (s .2) in
+    (letters-value bs (r .0) (r .1) ∙ ap letters same, subst (λ u. inhabits u a ≡ true) same (guard-true (inhabits (r .0) a) (s .1)))
+
+-- of the from-type, or they are not
 argument-some : (o : Iso) (bs : List ℕ) (v : Val) → argument o bs ≡ some v → (bs ≡ letters v) × Of v (o .from)
-argument-some o bs v e =
-    let r = bind-some (valueOf bs) (λ u. guard (inhabits u (o .from)) >>= λ _. some u) e in
-    let s = bind-some (guard (inhabits (r .0) (o .from))) (λ _. some (r .0)) (r .2) in
-    let same = some-inj (s .2) in (
-      letters-value bs (r .0) (r .1) ∙ ap letters same,
-      subst (λ z. Of z (o .from)) same (inhabits-of (r .0) (o .from) (guard-true (inhabits (r .0) (o .from)) (s .1))),
-    )
+argument-some o bs v e = let r = value-in bs (o .from) v e in (r .0, inhabits-of v (o .from) (r .1))
 
 some-argument : (o : Iso) (bs : List ℕ) (v : Val) → bs ≡ letters v → Of v (o .from) → argument o bs ≡ some v
 some-argument o bs v e h =

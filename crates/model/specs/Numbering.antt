@@ -6,13 +6,12 @@ use mathlib.Core.List.{List, [], _∷_}
 use lib.Dec.{ltb, eqb}
 use lib.ListN.{length, getElem?}
 use Rattle.model.specs.Limits.{resultLength, maxValues}
-use Rattle.model.specs.Tools.{_>>=_, guard}
 use Rattle.model.specs.Trees.{Ty, tunit, tsum, tprod, Tag, left, right, Val, vunit, vinj, vpair, part}
 use Rattle.model.specs.Refusals.{Refusal, number, noIso, noValue, tooMany, tooHigh}
 use Rattle.model.specs.Lines.{Row}
 use Rattle.model.specs.Judge.{start, afterAll}
-use Rattle.model.specs.Letters.{letters, valueOf, inhabits}
-use Rattle.model.specs.Services.{Verdict, accepted, refused, verdict, written, tableAfter, workAfter, short, unless}
+use Rattle.model.specs.Letters.{letters, valueOf}
+use Rattle.model.specs.Services.{Verdict, accepted, refused, verdict, valueIn, written, tableAfter, workAfter, short, unless}
 
 -- how many closed values a type has
 abbrev pub count : Ty → ℕ
@@ -71,7 +70,7 @@ numberIn a none = fails noValue
 numberIn a (some v) = gives (rank v a)
 
 abbrev pub toNumber : List ℕ → Ty → Outcome ℕ
-toNumber ls a = numberIn a (valueOf ls >>= λ v. guard (inhabits v a) >>= λ _. some v)
+toNumber ls a = numberIn a (valueIn ls a)
 
 -- "19 …, not below the count, after 18"
 abbrev pub toSetting : ℕ → Ty → Outcome (List ℕ)

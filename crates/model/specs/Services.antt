@@ -1,13 +1,13 @@
 -- "The three services": what Check, Turn and Run answer, and what every lent area then holds, for any bytes and any areas.
 use Prim.Native.Nat.{ℕ, _-_}
-use mathlib.Core.Bool.{Bool, cond, not, _||_}
+use mathlib.Core.Bool.{Bool, cond, _||_}
 use mathlib.Core.Option.{Option, none, some}
 use mathlib.Core.List.{List, [], _++_, map}
 use lib.Dec.{leb, ltb}
 use lib.ListN.{length, drop, replicate, getElem?}
 use Rattle.model.specs.Limits.{maxBytes, maxLines, tableLength, workLength, resultLength}
 use Rattle.model.specs.Tools.{_>>=_, guard, concat}
-use Rattle.model.specs.Trees.{Val, Iso}
+use Rattle.model.specs.Trees.{Ty, Val, Iso}
 use Rattle.model.specs.Refusals.{Refusal, number, shortArea, tooLong, noIso, noValue, spent}
 use Rattle.model.specs.Lines.{Row, lines, numbers, printRows}
 use Rattle.model.specs.Judge.{start, judge, Reading, rows, faulty, readFrom}
@@ -120,9 +120,12 @@ abbrev pub within : ℕ → Option (Val × ℕ) → Ran
 within budget none = failed spent
 within budget (some r) = cond (leb (r .1) budget) (gives (r .1) (letters (r .0))) (failed spent)
 
--- "not exactly one closed value of the starting type"
+-- "exactly one closed value" of a type; for a run, "of the starting type"
+abbrev pub valueIn : List ℕ → Ty → Option Val
+valueIn value a = valueOf value >>= λ v. guard (inhabits v a) >>= λ _. some v
+
 abbrev pub argument : Iso → List ℕ → Option Val
-argument o value = valueOf value >>= λ v. guard (inhabits v (o .from)) >>= λ _. some v
+argument o value = valueIn value (o .from)
 
 abbrev pub from : List Iso → ℕ → ℕ → Option Val → Ran
 from os i budget none = failed noValue

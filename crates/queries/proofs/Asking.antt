@@ -14,10 +14,11 @@ use Rattle.model.specs.Limits.{lineFeed, comma, letterQ, fieldBound, budgetBoun
 use Rattle.model.specs.Tools.{_>>=_}
 use Rattle.model.specs.Lines.{skip, numeral, fields}
 use Rattle.model.specs.Desk.{Query, beforeEnd, queryOf}
-use Rattle.model.proofs.Basic.{bind-some, bind-assoc}
+use Rattle.model.proofs.Basic.{bind-some}
 use Rattle.model.proofs.Numerals.{read-numeral}
 use Rattle.fields.specs.Views.{asField}
 use Rattle.fields.proofs.Bytes.{from-byte}
+use Rattle.fields.proofs.Fields.{onto, fields-some, fields-none}
 use Rattle.queries.proofs.Streaming.{query-cap}
 use Rattle.queries.specs.Views.{upTo, withLetters, behindLetter}
 
@@ -102,22 +103,6 @@ module _ (s : List ℕ) (iso direction budget at to : ℕ) (e : upTo s at to ≡
       ap (λ m. query iso direction m (slice at to s)) (p ∙ mod-eq-of-lt k) ∙ ap (λ o. o >>= query iso direction budget) there
 
 -- ---- the fields
-
--- a number before the numbers read behind it
-abbrev onto : ℕ → Option (List ℕ × List ℕ) → Option (List ℕ × List ℕ)
-onto n o = o >>= λ s. some (n ∷ s .0, s .1)
-
--- the first field, and then the others
-fields-cons : (bound : ℕ) (bounds bs : List ℕ) → fields (bound ∷ bounds) bs ≡ (asField bound bs >>= λ r. onto (r .0) (fields bounds (r .1)))
-fields-cons bound bounds bs = sym (bind-assoc (skip comma bs) (λ cs. numeral bound cs) (λ r. onto (r .0) (fields bounds (r .1))))
-
--- the first field is there
-fields-some : (bound : ℕ) (bounds bs : List ℕ) {x : ℕ} {cs : List ℕ} → asField bound bs ≡ some (x, cs) → fields (bound ∷ bounds) bs ≡ onto x (fields bounds cs)
-fields-some bound bounds bs e = fields-cons bound bounds bs ∙ ap (λ o. o >>= λ r. onto (r .0) (fields bounds (r .1))) e
-
--- it is not
-fields-none : (bound : ℕ) (bounds bs : List ℕ) → asField bound bs ≡ none → fields (bound ∷ bounds) bs ≡ none
-fields-none bound bounds bs e = fields-cons bound bounds bs ∙ ap (λ o. o >>= λ r. onto (r .0) (fields bounds (r .1))) e
 
 -- a field's number is below its bound
 below-bound : (bs : List ℕ) {n : ℕ} {cs : List ℕ} → asField budgetBound bs ≡ some (n, cs) → n < 4294967296
