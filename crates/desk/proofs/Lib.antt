@@ -6,3 +6,5 @@ pub mod Holding
 pub mod Answering
 -- One byte, the bytes of a chunk, and the end of the input.
 pub mod Feeding
+-- Where the rest of the input no longer matters.
+pub mod Settling

@@ -27,7 +27,7 @@ ghost use Rattle.model.specs.Tools.{isSome};
 ghost use Rattle.index.specs.Index.{indexLength};
 ghost use Rattle.areas.specs.Areas.{Writes};
 ghost use Rattle.runner.specs.RunSays.{Prepared, RanAs};
-ghost use Rattle.queries.specs.Stream.{State, collecting, asking, close, answered, step, finish};
+ghost use Rattle.queries.specs.Stream.{State, collecting, asking, close, answered, step, finish, settled as isSettled};
 ghost use Rattle.desk.specs.declared.Phase.the-variants.{Queries};
 ghost use Rattle.desk.specs.DeskSays.{fileRoom, lineRoom, answerRoom, Roomy, Holds, DeskAt, Printed, Reaches, JudgedAs, FedAs};
 
@@ -338,6 +338,19 @@ pub fn feed(
         desk: desk,
         taken: taken,
         written: written,
+    }
+}
+
+// Whether the rest of the input can change nothing more of what is printed: the file has more than 65,536
+// bytes, or is refused and answered.
+pub fn settled(d: Desk) -> bool
+    ensures { λ r. ⌜ ((file line table index : List ℕ) (s : State) → DeskAt d file line table index s → r ≡ isSettled s) ⌝ }
+{
+    let phase = d.phase;
+    match phase {
+        Phase::File => d.held > 65536,
+        Phase::Queries => false,
+        Phase::Stopped => true,
     }
 }
 

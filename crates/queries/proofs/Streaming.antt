@@ -1,21 +1,22 @@
 -- The machine of specs/Stream prints what the desk program prints, and what it is given may be cut anywhere.
-use Prim.Native.Nat.{ℕ, _<_}
-use mathlib.Core.Path.{_≡_, refl, sym, ap, _∙_, subst}
+use Prim.Native.Nat.{ℕ, _+_, _<_}
+use native.Mathlib.Omega.{arith}
+use mathlib.Core.Path.{_≡_, refl, sym, ap, ap₂, _∙_, subst}
 use mathlib.Core.Logic.{_⊎_, inl, inr}
 use mathlib.Core.Bool.{Bool, true, false, _&&_}
 use mathlib.Core.Option.{none}
 use mathlib.Core.List.{List, [], _∷_, _++_, List·Memᴰ·head, List·Memᴰ·tail, append-assoc, append-nil}
 use lib.Dec.{eqb}
-use lib.ListN.{length}
+use lib.ListN.{length, length-append}
 use Rattle.model.specs.Limits.{lineFeed, letterQ, maxBytes}
 use Rattle.model.specs.Tools.{concat}
 use Rattle.model.specs.Refusals.{tooLong}
 use Rattle.model.specs.Lines.{Row, lines, ontoFirst}
 use Rattle.model.specs.Services.{Verdict, accepted, refused, verdict, over, answerOf, answerOfRun}
 use Rattle.model.specs.Desk.{isQuery, fileLines, queryLines, queryOf, answerTo, queryAnswers, queryLine, fileLine, desk}
-use Rattle.model.proofs.Basic.{bool-cases, not-both, and-true, eqb-eq, each-nil, each-cons, each-append, not-leb, lt-ltb}
+use Rattle.model.proofs.Basic.{bool-cases, not-both, and-true, eqb-eq, each-nil, each-cons, each-append, not-leb, lt-ltb, ltb-lt}
 use Rattle.model.proofs.Printing.{NoFeed, Feedless, lines-feed}
-use Rattle.queries.specs.Stream.{State, collecting, asking, stopped, Step, opensFrom, opens, begun, close, answered, step, finish, behind, steps, output}
+use Rattle.queries.specs.Stream.{State, collecting, asking, stopped, Step, opensFrom, opens, begun, close, answered, step, finish, behind, steps, output, settled}
 
 -- ---- cutting
 
@@ -299,3 +300,48 @@ collects f pre l (b ∷ cs) c =
 pub streams : (bs : List ℕ) → steps (collecting []) bs .prints ++ finish (steps (collecting []) bs .next) ≡ desk bs
 unfolding desk
 streams bs = collects [] [] [] bs (record { all = refl; whole = refl; feedless = each-nil NoFeed; file = refl })
+
+-- ---- where the rest of the input no longer matters
+
+-- behind a refused file nothing is printed
+stopped-output : (bs : List ℕ) → output stopped bs ≡ []
+stopped-output [] = refl
+stopped-output (b ∷ bs) = stopped-output bs
+
+-- of a file that is too long, whatever follows, the refusal is printed
+long-output : (f bs : List ℕ) → maxBytes < length f → output (collecting f) bs ≡ finish (collecting f)
+long-output f [] h = refl
+long-output f (b ∷ bs) h = go (bool-cases (opens f && eqb b letterQ)) (long-output (f ++ (b ∷ [])) bs)
+  where
+    longer : maxBytes < length (f ++ (b ∷ []))
+    longer = omega (arith, h, length-append f (b ∷ []))
+
+    go :
+        ((opens f && eqb b letterQ) ≡ true) ⊎ ((opens f && eqb b letterQ) ≡ false)
+        → (maxBytes < length (f ++ (b ∷ [])) → output (collecting (f ++ (b ∷ []))) bs ≡ finish (collecting (f ++ (b ∷ []))))
+        → output (collecting f) (b ∷ bs) ≡ finish (collecting f)
+    go (inl t) rest =
+        let v : verdict f ≡ refused tooLong 0 = verdict-long f h in
+        rw t
+        (append-assoc (fileLine (answerOf (verdict f))) (steps (begun (verdict f)) bs .prints) (finish (steps (begun (verdict f)) bs .next))
+        ∙ ap (λ x. fileLine (answerOf (verdict f)) ++ output (begun x) bs) v
+        ∙ ap (λ ps. fileLine (answerOf (verdict f)) ++ ps) (stopped-output bs)
+        ∙ append-nil (fileLine (answerOf (verdict f))))
+    go (inr t) rest = rw t (rest longer ∙ finish-cap (f ++ (b ∷ [])) f longer h)
+
+-- from a settled state on the same is printed, whatever follows
+pub settled-output : (s : State) → settled s ≡ true → (bs : List ℕ) → output s bs ≡ finish s
+settled-output (collecting f) e bs = long-output f bs (ltb-lt maxBytes (length f) e)
+settled-output (asking rs l) e bs = absurd (not-both e refl)
+settled-output stopped e bs = stopped-output bs
+
+-- So whoever stops reading there prints what the desk program prints of all of the input, whatever it goes on with.
+pub settled-desk : (xs ys : List ℕ) → settled (steps (collecting []) xs .next) ≡ true
+    → steps (collecting []) xs .prints ++ finish (steps (collecting []) xs .next) ≡ desk (xs ++ ys)
+settled-desk xs ys e =
+    let s : State = steps (collecting []) xs .next in
+    let p : List ℕ = steps (collecting []) xs .prints in
+    ap (λ o. p ++ o) (sym (settled-output s e ys))
+    ∙ sym (append-assoc p (steps s ys .prints) (finish (steps s ys .next)))
+    ∙ ap₂ (λ a n. a ++ finish n) (sym (prints-append (collecting []) xs ys)) (sym (next-append (collecting []) xs ys))
+    ∙ streams (xs ++ ys)

@@ -1,9 +1,10 @@
 -- The desk program as a machine that takes its input byte by byte and keeps no more than the file, its rows and one line.
 use Prim.Native.Nat.{ℕ}
-use mathlib.Core.Bool.{Bool, true, cond, _&&_}
+use mathlib.Core.Bool.{Bool, true, false, cond, _&&_}
 use mathlib.Core.List.{List, [], _∷_, _++_}
-use lib.Dec.{eqb}
-use Rattle.model.specs.Limits.{lineFeed, letterQ}
+use lib.Dec.{eqb, ltb}
+use lib.ListN.{length}
+use Rattle.model.specs.Limits.{lineFeed, letterQ, maxBytes}
 use Rattle.model.specs.Lines.{Row}
 use Rattle.model.specs.Services.{Verdict, accepted, refused, verdict, answerOf, answerOfRun}
 use Rattle.model.specs.Desk.{queryOf, answerTo, queryLine, fileLine}
@@ -69,3 +70,9 @@ steps s (b ∷ bs) = behind (step s b .prints) (steps (step s b .next) bs)
 -- all that is printed from a state on
 abbrev pub output : State → List ℕ → List ℕ
 output s bs = steps s bs .prints ++ finish (steps s bs .next)
+
+-- whether the bytes that follow can change nothing of what is still printed: the file has too many bytes, or a refused file is answered
+abbrev pub settled : State → Bool
+settled (collecting bs) = ltb maxBytes (length bs)
+settled (asking rs l) = false
+settled stopped = true

@@ -1,2 +1,2 @@
--- The lengths of the areas that the loops lend.
-pub mod Lengths
+-- The lengths of the areas that the loops lend, and the state behind what was read.
+pub mod Going

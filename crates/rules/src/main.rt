@@ -1,27 +1,43 @@
 // The desk program: reads a file and queries from standard input, and prints the answers as the bytes
-// come. All but the reading and writing is in `desk`.
+// come. It never answers for what it has not read: where a read or a write fails, standard error says so,
+// and nothing more is printed. All but the reading and writing is in `desk`.
 
 use desk::Desk;
 use desk::feed;
 use desk::finished;
 use desk::opened;
+use desk::settled;
+use parts::front;
+use parts::tail;
+use stdio::Input;
+use stdio::read_some;
+use stdio::say_endless;
+use stdio::write_front;
+ghost use mathlib.Core.List.{List};
+ghost use Prim.Native.Nat.{ℕ};
+ghost use Rattle.queries.specs.Stream.{State, steps};
+ghost use Rattle.desk.specs.DeskSays.{DeskAt};
+ghost use Rattle.rules.specs.Running.{Lent, Ready, TookAll, Reached};
 
-// The desk's state after a chunk, and whether the input goes on.
-struct Turn {
-    pub desk: Desk,
-    pub more: bool,
+// How far a run has come: the input goes on; or all was read that its answers depend on, and only what
+// the end of the input gives is still to be printed; or a read or a write failed.
+enum Progress {
+    More(Desk),
+    Done(Desk),
+    Failed,
 }
 
-// Writes the first n bytes of an area, all of them where there are fewer.
-fn print_front(s: &[u8], n: usize) {
-    if n < s.len() {
-        io::write_all(1, &s[0..n]);
-        return;
+// Whether the state behind a chunk wants more input.
+fn behind(d: Desk) -> Progress
+    ensures { λ r. ⌜ ((file line table index : List ℕ) (s : State) → DeskAt d file line table index s → TookAll s file line table index r) ⌝ }
+{
+    if settled(d) {
+        return Progress::Done(d);
     }
-    io::write_all(1, s);
+    Progress::More(d)
 }
 
-// Feeds a chunk to the desk and writes what it prints.
+// Feeds a chunk to the desk, all of it, and writes what it prints before it goes on.
 fn answer_chunk(
     d: Desk,
     chunk: &[u8],
@@ -31,23 +47,21 @@ fn answer_chunk(
     work: &mut [u8],
     index: &mut [u16],
     out: &mut [u8],
-) -> Desk {
+) -> Progress
+    requires { ⌜ Ready d (now file) (now line) (now table) (now work) (now index) (now out) ⌝ }
+    ensures { λ r. ⌜ ((s : State) → DeskAt d (now (file .entry)) (now (line .entry)) (now (table .entry)) (now (index .entry)) s → TookAll (steps s (now (chunk .entry)) .next) (now (file .exit)) (now (line .exit)) (now (table .exit)) (now (index .exit)) r) ⌝ }
+{
     let mut desk = d;
     let mut at: usize = 0;
     while at < chunk.len() {
-        let f = feed(desk, &chunk[at..], file, line, table, work, index, out);
-        let taken = f.taken;
-        print_front(out, f.written);
+        let f = feed(desk, tail(chunk, at), file, line, table, work, index, out);
+        if !write_front(out, f.written) {
+            return Progress::Failed;
+        }
         desk = f.desk;
-        if taken == 0 {
-            return desk;
-        }
-        if chunk.len() - at < taken {
-            return desk;
-        }
-        at += taken;
+        at += f.taken;
     }
-    desk
+    behind(desk)
 }
 
 // Reads once and answers what came.
@@ -59,24 +73,38 @@ fn answer_some(
     work: &mut [u8],
     index: &mut [u16],
     out: &mut [u8],
-) -> Turn {
+) -> Progress
+    requires { ⌜ Ready d (now file) (now line) (now table) (now work) (now index) (now out) ⌝ }
+    ensures { λ r. ⌜ Reached (now (file .exit)) (now (line .exit)) (now (table .exit)) (now (work .exit)) (now (index .exit)) (now (out .exit)) r ⌝ }
+{
     let mut chunk = [0u8; 4096];
-    let got = libc::read(0, &mut chunk);
-    if got <= 0 {
-        return Turn {
-            desk: d,
-            more: false,
-        };
-    }
-    let n = io::count(got, &chunk);
-    Turn {
-        desk: answer_chunk(d, &chunk[..n], file, line, table, work, index, out),
-        more: true,
+    let i = read_some(&mut chunk);
+    match i {
+        Input::Bytes(n) => answer_chunk(d, front(&chunk, n), file, line, table, work, index, out),
+        Input::Again => Progress::More(d),
+        Input::End => Progress::Done(d),
+        Input::Failed => Progress::Failed,
     }
 }
 
-// Answers all of the input. A proved loop has to end, so it counts its turns down from a number that no
-// run uses up.
+// Writes what the end of the input gives.
+fn answer_end(
+    d: Desk,
+    file: &[u8],
+    line: &[u8],
+    table: &mut [u16],
+    work: &mut [u8],
+    index: &[u16],
+    out: &mut [u8],
+)
+    requires { ⌜ Ready d (now file) (now line) (now table) (now work) (now index) (now out) ⌝ }
+{
+    let n = finished(d, file, line, table, work, index, out);
+    write_front(out, n);
+}
+
+// Answers the input up to where the rest of it can change nothing. A proved loop has to end, so it counts
+// its turns down from a number that no run uses up.
 fn answer_all(
     file: &mut [u8],
     line: &mut [u8],
@@ -84,18 +112,24 @@ fn answer_all(
     work: &mut [u8],
     index: &mut [u16],
     out: &mut [u8],
-) -> Desk {
+)
+    requires { ⌜ Lent (now file) (now line) (now table) (now work) (now index) (now out) ⌝ }
+{
     let mut desk = opened();
     let mut turns = u64::MAX;
     while turns > 0 {
-        let t = answer_some(desk, file, line, table, work, index, out);
-        desk = t.desk;
-        if !t.more {
-            return desk;
+        let p = answer_some(desk, file, line, table, work, index, out);
+        match p {
+            Progress::More(d) => desk = d,
+            Progress::Done(d) => {
+                answer_end(d, file, line, table, work, index, out);
+                return;
+            }
+            Progress::Failed => return,
         }
         turns -= 1;
     }
-    desk
+    say_endless();
 }
 
 fn main() {
@@ -105,7 +139,7 @@ fn main() {
     let mut work = [0u8; 65536];
     let mut index = [0u16; 1090];
     let mut out = [0u8; 8192];
-    let d = answer_all(
+    answer_all(
         &mut file,
         &mut line,
         &mut table,
@@ -113,6 +147,4 @@ fn main() {
         &mut index,
         &mut out,
     );
-    let n = finished(d, &file, &line, &mut table, &mut work, &index, &mut out);
-    print_front(&out, n);
 }

@@ -1,28 +1,42 @@
-// Turns the file on standard input; prints `number,line` and then the turned file.
+// Turns the file on standard input; prints `number,line` and then the turned file. Where a read or a
+// write fails, standard error says so and nothing more is printed.
 
+use areas::put_byte;
+use parts::front;
+use printer::put_number;
+use stdio::Filled;
+use stdio::read_area;
+use stdio::write_front;
 use turner::turn;
 
-// Writes the first n bytes of an area, all of them where there are fewer.
-fn print_front(s: &[u8], n: usize) {
-    if n < s.len() {
-        io::write_all(1, &s[0..n]);
-        return;
+// Prints `number,line`; whether that was done.
+fn print_answer(number: u8, line: usize) -> bool {
+    let mut text = [0u8; 32];
+    let comma = put_number(&mut text, 0, number as usize);
+    let from = put_byte(&mut text, comma, 44);
+    let feed = put_number(&mut text, from, line);
+    let end = put_byte(&mut text, feed, 10);
+    write_front(&text, end)
+}
+
+// Turns a file that was read whole, or as far as shows that it is too long.
+fn print_turned(file: &[u8]) {
+    let mut table = [0u16; 16384];
+    let mut work = [0u8; 65536];
+    let mut output = [0u8; 65537];
+    let r = turn(file, &mut table, &mut work, &mut output);
+    let a = r.answer;
+    let f = a.refusal;
+    if print_answer(model::number_of(f), a.place) {
+        write_front(&output, r.length);
     }
-    io::write_all(1, s);
 }
 
 fn main() {
     let mut input = [0u8; 65537];
-    let mut table = [0u16; 16384];
-    let mut work = [0u8; 65536];
-    let mut output = [0u8; 65537];
-    let n = io::read_full(0, &mut input);
-    let r = turn(&input[..n], &mut table, &mut work, &mut output);
-    let a = r.answer;
-    let f = a.refusal;
-    io::print_decimal(1, model::number_of(f) as u64);
-    io::write_all(1, b",");
-    io::print_decimal(1, a.place as u64);
-    io::write_all(1, b"\n");
-    print_front(&output, r.length);
+    let f = read_area(&mut input);
+    match f {
+        Filled::Bytes(n) => print_turned(front(&input, n)),
+        Filled::Failed => {}
+    }
 }

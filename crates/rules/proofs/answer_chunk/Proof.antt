@@ -1,146 +1,118 @@
+-- `rules::answer_chunk` meets its contract: all of the chunk is taken, unless a write fails.
+use Prim.Native.Nat.{_-_}
 use native.Mathlib.Omega.{arith}
-use Rattle.rules.proofs.Lengths.{Lengths, lengths-start, lengths-next, falls-on}
 use mathlib.Core.Path.{_∙_}
 use lib.ListN.{length}
-use Prim.Native.Nat.{_-_}
+use Rattle.rules.proofs.Going.{Feeds, feeds-start, fed-within, fed-less, fed-next, fed-all}
 use borrow.Author.Needs.{needs}
 use Rattle.rules.proofs.answer_chunk.Statement.{statement}
 use Rattle.rules.proofs.answer_chunk.Tie as tie
-use Rattle.rules.proofs.answer_chunk.Reads as reads
-use Rattle.rules.proofs.answer_chunk.Lts as lts
-use Rattle.desk.proofs.feed.Reads as feed-reads
-use Rattle.rules.proofs.print_front.Reads as print-front-reads
 
 abbrev Inv-loop : tie.InvT-loop
 Inv-loop chunk file₀ line₀ table₀ work₀ index₀ out₀ desk₀ at₀ file line table work index out desk at =
-    Lengths file₀ line₀ table₀ work₀ index₀ out₀ file line table work index out
+    Feeds chunk file₀ line₀ table₀ work₀ index₀ out₀ desk₀ file line table work index out desk at
 
 abbrev μ-loop : tie.MeasureT-loop
-μ-loop chunk file₀ line₀ table₀ work₀ index₀ out₀ desk₀ at₀ file line table work index out desk at = length chunk - at
+μ-loop chunk file₀ line₀ table₀ work₀ index₀ out₀ desk₀ at₀ file line table work index out desk at =
+    length chunk - at
 
--- src/main.rt:37:5
 loop-holds : tie.Need-loop-holds Inv-loop μ-loop
-loop-holds c = lengths-start _ _ _ _ _ _
+loop-holds c = feeds-start _ _ _ _ _ _ _ _
 
--- src/main.rt:38:28
-sub-feed : tie.Need-sub-feed Inv-loop μ-loop
-sub-feed c = search needs
+tail-requires : tie.Need-tail-requires Inv-loop μ-loop
+tail-requires c κs = search needs
 
--- src/main.rt:38:28
-part-feed-start : tie.Need-part-feed-start Inv-loop μ-loop
-part-feed-start c = search needs
-
--- src/main.rt:38:28
-part-feed-end : tie.Need-part-feed-end Inv-loop μ-loop
-part-feed-end c = search needs
-
--- src/main.rt:38:13
 feed-requires : tie.Need-feed-requires Inv-loop μ-loop
 feed-requires c κs = search needs
 
--- src/main.rt:40:9
-print-front-requires : tie.Need-print-front-requires Inv-loop μ-loop
-print-front-requires c κs = search needs
+write-front-requires : tie.Need-write-front-requires Inv-loop μ-loop
+write-front-requires c κs = search needs
 
--- src/main.rt:43:13
 same-length : tie.Need-same-length Inv-loop μ-loop
-same-length c = c .before .before .before .before .before .before .before .before .before .before .before .before .before .before .before .before .feed .kept .1 .1 .0 ∙ c .before .before .before .before .before .before .before .before .before .before .before .before .before .before .before .before .before .before .before .before .before .before .before .before .before .loop .inv .file
+same-length c =
+    let k = c .before .before .before .before .before .before .before .before .before .before .before .before .before .before .before in
+    k .feed .kept .1 .1 .0 ∙ k .before .before .before .before .before .before .before .before .before .loop .inv .lengths .file
 
--- src/main.rt:43:13
 same-length-2 : tie.Need-same-length-2 Inv-loop μ-loop
-same-length-2 c = c .before .before .before .before .before .before .before .before .before .before .before .before .before .before .before .before .feed .kept .1 .1 .1 .0 ∙ c .before .before .before .before .before .before .before .before .before .before .before .before .before .before .before .before .before .before .before .before .before .before .before .before .before .loop .inv .line
+same-length-2 c =
+    let k = c .before .before .before .before .before .before .before .before .before .before .before .before .before .before .before in
+    k .feed .kept .1 .1 .1 .0 ∙ k .before .before .before .before .before .before .before .before .before .loop .inv .lengths .line
 
--- src/main.rt:43:13
 same-length-3 : tie.Need-same-length-3 Inv-loop μ-loop
-same-length-3 c = c .before .before .before .before .before .before .before .before .before .before .before .before .before .before .before .before .feed .kept .1 .1 .1 .1 .0 ∙ c .before .before .before .before .before .before .before .before .before .before .before .before .before .before .before .before .before .before .before .before .before .before .before .before .before .loop .inv .table
+same-length-3 c =
+    let k = c .before .before .before .before .before .before .before .before .before .before .before .before .before .before .before in
+    k .feed .kept .1 .1 .1 .1 .0 ∙ k .before .before .before .before .before .before .before .before .before .loop .inv .lengths .table
 
--- src/main.rt:43:13
 same-length-4 : tie.Need-same-length-4 Inv-loop μ-loop
-same-length-4 c = c .before .before .before .before .before .before .before .before .before .before .before .before .before .before .before .before .feed .kept .1 .1 .1 .1 .1 .0 ∙ c .before .before .before .before .before .before .before .before .before .before .before .before .before .before .before .before .before .before .before .before .before .before .before .before .before .loop .inv .work
+same-length-4 c =
+    let k = c .before .before .before .before .before .before .before .before .before .before .before .before .before .before .before in
+    k .feed .kept .1 .1 .1 .1 .1 .0 ∙ k .before .before .before .before .before .before .before .before .before .loop .inv .lengths .work
 
--- src/main.rt:43:13
 same-length-5 : tie.Need-same-length-5 Inv-loop μ-loop
-same-length-5 c = c .before .before .before .before .before .before .before .before .before .before .before .before .before .before .before .before .feed .kept .1 .1 .1 .1 .1 .1 .0 ∙ c .before .before .before .before .before .before .before .before .before .before .before .before .before .before .before .before .before .before .before .before .before .before .before .before .before .loop .inv .index
+same-length-5 c =
+    let k = c .before .before .before .before .before .before .before .before .before .before .before .before .before .before .before in
+    k .feed .kept .1 .1 .1 .1 .1 .1 .0 ∙ k .before .before .before .before .before .before .before .before .before .loop .inv .lengths .index
 
--- src/main.rt:43:13
 same-length-6 : tie.Need-same-length-6 Inv-loop μ-loop
-same-length-6 c = c .before .before .before .before .before .before .before .before .before .before .before .before .before .before .before .before .feed .kept .1 .1 .1 .1 .1 .1 .1 .0 ∙ c .before .before .before .before .before .before .before .before .before .before .before .before .before .before .before .before .before .before .before .before .before .before .before .before .before .loop .inv .out
+same-length-6 c =
+    let k = c .before .before .before .before .before .before .before .before .before .before .before .before .before .before .before in
+    k .feed .kept .1 .1 .1 .1 .1 .1 .1 .0 ∙ k .before .before .before .before .before .before .before .before .before .loop .inv .lengths .out
 
--- src/main.rt:43:13
 returns : tie.Need-returns Inv-loop μ-loop
-returns c = search needs
+returns c = λ s h. tt
 
--- src/main.rt:45:12
-sub-if2 : tie.Need-sub-if2 Inv-loop μ-loop
-sub-if2 c = search needs
-
--- src/main.rt:46:13
-same-length-7 : tie.Need-same-length-7 Inv-loop μ-loop
-same-length-7 c = c .before .before .before .before .before .before .before .before .before .before .before .before .before .before .before .before .before .feed .kept .1 .1 .0 ∙ c .before .before .before .before .before .before .before .before .before .before .before .before .before .before .before .before .before .before .before .before .before .before .before .before .before .before .loop .inv .file
-
--- src/main.rt:46:13
-same-length-8 : tie.Need-same-length-8 Inv-loop μ-loop
-same-length-8 c = c .before .before .before .before .before .before .before .before .before .before .before .before .before .before .before .before .before .feed .kept .1 .1 .1 .0 ∙ c .before .before .before .before .before .before .before .before .before .before .before .before .before .before .before .before .before .before .before .before .before .before .before .before .before .before .loop .inv .line
-
--- src/main.rt:46:13
-same-length-9 : tie.Need-same-length-9 Inv-loop μ-loop
-same-length-9 c = c .before .before .before .before .before .before .before .before .before .before .before .before .before .before .before .before .before .feed .kept .1 .1 .1 .1 .0 ∙ c .before .before .before .before .before .before .before .before .before .before .before .before .before .before .before .before .before .before .before .before .before .before .before .before .before .before .loop .inv .table
-
--- src/main.rt:46:13
-same-length-10 : tie.Need-same-length-10 Inv-loop μ-loop
-same-length-10 c = c .before .before .before .before .before .before .before .before .before .before .before .before .before .before .before .before .before .feed .kept .1 .1 .1 .1 .1 .0 ∙ c .before .before .before .before .before .before .before .before .before .before .before .before .before .before .before .before .before .before .before .before .before .before .before .before .before .before .loop .inv .work
-
--- src/main.rt:46:13
-same-length-11 : tie.Need-same-length-11 Inv-loop μ-loop
-same-length-11 c = c .before .before .before .before .before .before .before .before .before .before .before .before .before .before .before .before .before .feed .kept .1 .1 .1 .1 .1 .1 .0 ∙ c .before .before .before .before .before .before .before .before .before .before .before .before .before .before .before .before .before .before .before .before .before .before .before .before .before .before .loop .inv .index
-
--- src/main.rt:46:13
-same-length-12 : tie.Need-same-length-12 Inv-loop μ-loop
-same-length-12 c = c .before .before .before .before .before .before .before .before .before .before .before .before .before .before .before .before .before .feed .kept .1 .1 .1 .1 .1 .1 .1 .0 ∙ c .before .before .before .before .before .before .before .before .before .before .before .before .before .before .before .before .before .before .before .before .before .before .before .before .before .before .loop .inv .out
-
--- src/main.rt:46:13
-returns-2 : tie.Need-returns-2 Inv-loop μ-loop
-returns-2 c = search needs
-
--- src/main.rt:48:9
 add-at : tie.Need-add-at Inv-loop μ-loop
-add-at c = let g = c .before .before .before .before .before .before .before .before .before .before .before .before .before .before .before .before .before .before .before .before .before .before .before .before .before .before .before .before .before .before .before .before .before .before .good .1 .0 .0 in let h = c .before .before .before .before .before .before .before .before .before .before .before .before .before .before .before .before .before .before .before .before .before .before .before .before .before .loop-test .taken in let m = c .if2 .left in record { fits = omega (arith, g, h, m) }
+add-at c =
+    let k = c .before .before .before .before .before .before .before .before .before .before .before .before .before .before .before .before .before in
+    let t = k .before .before .before .before .before .before .before in
+    let l = t .before in
+    let i = l .before in
+    let a = i .before .before .before .before .before .before .before .before in
+    let w = fed-within (i .loop .inv) (a .pre) (k .feed .result) (t .tail .ensures) (l .loop-test .taken) (k .feed .ensures) in
+    let g = a .good .1 .0 .0 in
+    record { fits = omega (arith, w, g) }
 
--- src/main.rt:37:5
 loop-less : tie.Need-loop-less Inv-loop μ-loop
-loop-less c = let h = c .before .before .before .before .before .before .before .before .before .before .before .before .before .before .before .before .before .before .before .before .before .before .before .before .before .loop-test .taken in let k = c .before .if1 .left in let m = c .if2 .left in falls-on h k m
+loop-less c =
+    let k = c .before .before .before .before .before .before .before .before .before .before .before .before .before .before .before .before .before in
+    let t = k .before .before .before .before .before .before .before in
+    let l = t .before in
+    let i = l .before in
+    let a = i .before .before .before .before .before .before .before .before in
+    fed-less (i .loop .inv) (a .pre) (k .feed .result) (t .tail .ensures) (l .loop-test .taken) (k .feed .ensures)
 
--- src/main.rt:37:5
 loop-again : tie.Need-loop-again Inv-loop μ-loop
-loop-again c = lengths-next (c .before .before .before .before .before .before .before .before .before .before .before .before .before .before .before .before .before .before .before .before .before .before .before .before .before .before .loop .inv) (record { file = c .before .before .before .before .before .before .before .before .before .before .before .before .before .before .before .before .before .feed .kept .1 .1 .0; line = c .before .before .before .before .before .before .before .before .before .before .before .before .before .before .before .before .before .feed .kept .1 .1 .1 .0; table = c .before .before .before .before .before .before .before .before .before .before .before .before .before .before .before .before .before .feed .kept .1 .1 .1 .1 .0; work = c .before .before .before .before .before .before .before .before .before .before .before .before .before .before .before .before .before .feed .kept .1 .1 .1 .1 .1 .0; index = c .before .before .before .before .before .before .before .before .before .before .before .before .before .before .before .before .before .feed .kept .1 .1 .1 .1 .1 .1 .0; out = c .before .before .before .before .before .before .before .before .before .before .before .before .before .before .before .before .before .feed .kept .1 .1 .1 .1 .1 .1 .1 .0 })
+loop-again c =
+    let k = c .before .before .before .before .before .before .before .before .before .before .before .before .before .before .before .before .before in
+    let t = k .before .before .before .before .before .before .before in
+    let l = t .before in
+    let i = l .before in
+    let a = i .before .before .before .before .before .before .before .before in
+    fed-next (i .loop .inv) (a .pre) (k .feed .result) (t .tail .ensures) (l .loop-test .taken) (k .feed .ensures) (record { file = k .feed .kept .1 .1 .0; line = k .feed .kept .1 .1 .1 .0; table = k .feed .kept .1 .1 .1 .1 .0; work = k .feed .kept .1 .1 .1 .1 .1 .0; index = k .feed .kept .1 .1 .1 .1 .1 .1 .0; out = k .feed .kept .1 .1 .1 .1 .1 .1 .1 .0 })
 
--- src/main.rt:25:1
-same-length-13 : tie.Need-same-length-13 Inv-loop μ-loop
-same-length-13 c = c .before .loop .inv .file
+behind-requires : tie.Need-behind-requires Inv-loop μ-loop
+behind-requires c κs = search needs
 
--- src/main.rt:25:1
-same-length-14 : tie.Need-same-length-14 Inv-loop μ-loop
-same-length-14 c = c .before .loop .inv .line
+same-length-7 : tie.Need-same-length-7 Inv-loop μ-loop
+same-length-7 c = c .before .before .loop .inv .lengths .file
 
--- src/main.rt:25:1
-same-length-15 : tie.Need-same-length-15 Inv-loop μ-loop
-same-length-15 c = c .before .loop .inv .table
+same-length-8 : tie.Need-same-length-8 Inv-loop μ-loop
+same-length-8 c = c .before .before .loop .inv .lengths .line
 
--- src/main.rt:25:1
-same-length-16 : tie.Need-same-length-16 Inv-loop μ-loop
-same-length-16 c = c .before .loop .inv .work
+same-length-9 : tie.Need-same-length-9 Inv-loop μ-loop
+same-length-9 c = c .before .before .loop .inv .lengths .table
 
--- src/main.rt:25:1
-same-length-17 : tie.Need-same-length-17 Inv-loop μ-loop
-same-length-17 c = c .before .loop .inv .index
+same-length-10 : tie.Need-same-length-10 Inv-loop μ-loop
+same-length-10 c = c .before .before .loop .inv .lengths .work
 
--- src/main.rt:25:1
-same-length-18 : tie.Need-same-length-18 Inv-loop μ-loop
-same-length-18 c = c .before .loop .inv .out
+same-length-11 : tie.Need-same-length-11 Inv-loop μ-loop
+same-length-11 c = c .before .before .loop .inv .lengths .index
 
--- src/main.rt:25:1
-returns-3 : tie.Need-returns-3 Inv-loop μ-loop
-returns-3 c = search needs
+same-length-12 : tie.Need-same-length-12 Inv-loop μ-loop
+same-length-12 c = c .before .before .loop .inv .lengths .out
+
+returns-2 : tie.Need-returns-2 Inv-loop μ-loop
+returns-2 c = fed-all (c .behind .result) (c .before .before .loop .inv) (c .before .loop-test .left) (c .behind .ensures)
 
 pub answer-chunk-spec : {M : Type 1} → statement M
 answer-chunk-spec =
@@ -149,11 +121,9 @@ answer-chunk-spec =
     Inv-loop
     μ-loop
     loop-holds
-    sub-feed
-    part-feed-start
-    part-feed-end
+    tail-requires
     feed-requires
-    print-front-requires
+    write-front-requires
     same-length
     same-length-2
     same-length-3
@@ -161,21 +131,14 @@ answer-chunk-spec =
     same-length-5
     same-length-6
     returns
-    sub-if2
+    add-at
+    loop-less
+    loop-again
+    behind-requires
     same-length-7
     same-length-8
     same-length-9
     same-length-10
     same-length-11
     same-length-12
-    returns-2
-    add-at
-    loop-less
-    loop-again
-    same-length-13
-    same-length-14
-    same-length-15
-    same-length-16
-    same-length-17
-    same-length-18
-    returns-3)
+    returns-2)

@@ -1,0 +1,34 @@
+-- What the program keeps between two reads, against the machine of the queries' specs/Stream.
+use Prim.Native.Nat.{ℕ, _≤_}
+use mathlib.Core.Path.{_≡_}
+use mathlib.Core.Bool.{true, false}
+use mathlib.Core.List.{List, []}
+use lib.ListN.{length}
+use Rattle.queries.specs.Stream.{State, collecting, steps, settled}
+use Rattle.desk.specs.DeskSays.{answerRoom, Roomy, DeskAt}
+use Rattle.desk.specs.declared.Desk as D
+use Rattle.rules.specs.declared.Progress as P
+use Rattle.rules.specs.declared.Progress.the-variants as progress
+
+-- the areas are as long as the desk wants them
+pub record Lent (file line table work index out : List ℕ) : Type 0 where
+  pub roomy : Roomy file line table work index
+  pub room : answerRoom ≤ length out
+
+-- the state is that of the machine behind some bytes, all that were read so far
+pub record Ready (d : D.Desk) (file line table work index out : List ℕ) : Type 0 where
+  pub bytes : List ℕ
+  pub desk : DeskAt d file line table index (steps (collecting []) bytes .next)
+  pub lent : Lent file line table work index out
+
+-- a chunk is taken to its end, and more is read just where the rest of the input can change what is printed
+abbrev pub TookAll : State → List ℕ → List ℕ → List ℕ → List ℕ → P.Progress → Type 0
+TookAll s file line table index (progress.More d) = DeskAt d file line table index s × (settled s ≡ false)
+TookAll s file line table index (progress.Done d) = DeskAt d file line table index s × (settled s ≡ true)
+TookAll s file line table index progress.Failed = Unit {0}
+
+-- the state behind a read, if none failed and no write did
+abbrev pub Reached : List ℕ → List ℕ → List ℕ → List ℕ → List ℕ → List ℕ → P.Progress → Type 0
+Reached file line table work index out (progress.More d) = Ready d file line table work index out
+Reached file line table work index out (progress.Done d) = Ready d file line table work index out
+Reached file line table work index out progress.Failed = Unit {0}

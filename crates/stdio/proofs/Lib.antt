@@ -1,0 +1,2 @@
+-- A read's answer by its sign.
+pub mod Signs

@@ -1,0 +1,85 @@
+-- `stdio::read_area` meets its contract: what came so far lies within the area.
+use Prim.Native.Nat.{_≤_}
+use native.Mathlib.Omega.{arith}
+use mathlib.Core.Path.{_≡_, refl, _∙_}
+use lib.ListN.{length}
+use Rattle.stdio.proofs.Signs.{more-within}
+use borrow.Author.Needs.{needs}
+use Rattle.stdio.proofs.read_area.Statement.{statement}
+use Rattle.stdio.proofs.read_area.Tie as tie
+
+abbrev Inv-loop : tie.InvT-loop
+Inv-loop area₀ done₀ turns₀ area done turns = (length area ≡ length area₀) × (done ≤ length area)
+
+abbrev μ-loop : tie.MeasureT-loop
+μ-loop area₀ done₀ turns₀ area done turns = turns
+
+loop-holds : tie.Need-loop-holds Inv-loop μ-loop
+loop-holds c = (refl, omega arith)
+
+read-more-requires : tie.Need-read-more-requires Inv-loop μ-loop
+read-more-requires c κs = c .before .before .loop .inv .1
+
+enum-known-s : tie.Need-enum-known-s Inv-loop μ-loop
+enum-known-s c = search needs
+
+enum-told : tie.Need-enum-told Inv-loop μ-loop
+enum-told c = search needs
+
+same-length : tie.Need-same-length Inv-loop μ-loop
+same-length c = c .before .before .before .before .read-more .kept .0 ∙ c .before .before .before .before .before .before .before .loop .inv .0
+
+returns : tie.Need-returns Inv-loop μ-loop
+returns c =
+    let e = c .before .before .before .before .read-more .kept .0 in
+    let h = c .before .before .before .before .before .before .before .loop .inv .1 in
+    omega (arith, e, h)
+
+enum-told-2 : tie.Need-enum-told-2 Inv-loop μ-loop
+enum-told-2 c = search needs
+
+same-length-2 : tie.Need-same-length-2 Inv-loop μ-loop
+same-length-2 c = c .before .before .before .before .read-more .kept .0 ∙ c .before .before .before .before .before .before .before .loop .inv .0
+
+returns-2 : tie.Need-returns-2 Inv-loop μ-loop
+returns-2 c = search needs
+
+sub-turns : tie.Need-sub-turns Inv-loop μ-loop
+sub-turns c = search needs
+
+loop-less : tie.Need-loop-less Inv-loop μ-loop
+loop-less c = let h = c .before .before .before .before .before .before .before .loop-test .taken in omega (arith, h)
+
+loop-again : tie.Need-loop-again Inv-loop μ-loop
+loop-again c = (c .before .before .before .before .before .read-more .kept .0 ∙ c .before .before .before .before .before .before .before .before .loop .inv .0, let k = more-within _ _ (c .before .s .given .1) (c .before .before .before .before .before .read-more .ensures) in let e = c .before .before .before .before .before .read-more .kept .0 in omega (arith, k, e))
+
+say-endless-requires : tie.Need-say-endless-requires Inv-loop μ-loop
+say-endless-requires c κs = search needs
+
+same-length-3 : tie.Need-same-length-3 Inv-loop μ-loop
+same-length-3 c = c .before .before .loop .inv .0
+
+returns-3 : tie.Need-returns-3 Inv-loop μ-loop
+returns-3 c = search needs
+
+pub read-area-spec : {M : Type 1} → statement M
+read-area-spec =
+    tie.close
+    (tie.spec
+    Inv-loop
+    μ-loop
+    loop-holds
+    read-more-requires
+    enum-known-s
+    enum-told
+    same-length
+    returns
+    enum-told-2
+    same-length-2
+    returns-2
+    sub-turns
+    loop-less
+    loop-again
+    say-endless-requires
+    same-length-3
+    returns-3)

@@ -1,0 +1,108 @@
+// Standard input and output for programs that never answer for what they have not read: the end of the
+// input and a read that failed are two things, and standard error says what failed.
+
+use parts::front;
+ghost use mathlib.Core.Path.{_≡_};
+ghost use Prim.Native.Nat.{_≤_};
+ghost use lib.ListN.{length};
+ghost use Rattle.stdio.specs.Reading.{inputOf, Within, Stays, Fits};
+
+// What a read gave: so many bytes, nothing yet where a signal came first, the end of the input, or
+// nothing, since it failed.
+pub enum Input {
+    Bytes(usize),
+    Again,
+    End,
+    Failed,
+}
+
+// What came of reading until an area is full or the input ends: so many bytes, or a read failed.
+pub enum Filled {
+    Bytes(usize),
+    Failed,
+}
+
+// What one read more gave: so many bytes in all, the end, or a failure.
+enum Step {
+    More(usize),
+    End,
+    Failed,
+}
+
+// What a read into an area gave, by its answer and by whether a signal interrupted it. A failure is said
+// at once, as long as the error's number stands.
+fn input_of(got: isize, interrupted: bool, area: &[u8]) -> Input
+    ensures { λ r. ⌜ (r ≡ inputOf got interrupted (length (now (area .entry)))) × Within (length (now (area .entry))) r ⌝ }
+{
+    if got > 0 {
+        return Input::Bytes(io::count(got, area));
+    }
+    if got >= 0 {
+        return Input::End;
+    }
+    if interrupted {
+        return Input::Again;
+    }
+    os::fail(b"cannot read standard input");
+    Input::Failed
+}
+
+// Reads once into an area.
+pub fn read_some(area: &mut [u8]) -> Input
+    ensures { λ r. ⌜ Within (length (now (area .exit))) r ⌝ }
+{
+    let got = libc::read(0, area);
+    let interrupted = os::errno() == libc::EINTR;
+    input_of(got, interrupted, area)
+}
+
+// Says that a loop over the input, which has to end, has used up its turns: no run does.
+pub fn say_endless() {
+    io::write_all(2, b"standard input does not end\n");
+}
+
+// One read more behind the first `done` bytes of an area.
+fn read_more(area: &mut [u8], done: usize) -> Step
+    requires { ⌜ done ≤ length (now area) ⌝ }
+    ensures { λ r. ⌜ Stays (length (now (area .entry))) r ⌝ }
+{
+    if done >= area.len() {
+        return Step::End;
+    }
+    let i = read_some(&mut area[done..]);
+    match i {
+        Input::Bytes(n) => Step::More(done + n),
+        Input::Again => Step::More(done),
+        Input::End => Step::End,
+        Input::Failed => Step::Failed,
+    }
+}
+
+// Reads until an area is full or the input ends.
+pub fn read_area(area: &mut [u8]) -> Filled
+    ensures { λ r. ⌜ Fits (length (now (area .exit))) r ⌝ }
+{
+    let mut done: usize = 0;
+    let mut turns = u64::MAX;
+    while turns > 0 {
+        let s = read_more(area, done);
+        match s {
+            Step::More(n) => done = n,
+            Step::End => return Filled::Bytes(done),
+            Step::Failed => return Filled::Failed,
+        }
+        turns -= 1;
+    }
+    say_endless();
+    Filled::Failed
+}
+
+// Writes the first n bytes of an area, all of them where there are fewer. Answers whether all were
+// written; where they were not, standard error says why.
+pub fn write_front(area: &[u8], n: usize) -> bool {
+    if io::write_all(1, front(area, n)) {
+        return true;
+    }
+    os::fail(b"cannot write standard output");
+    false
+}
