@@ -60,7 +60,7 @@ enum rulefile_number {
     RULEFILE_BAD_FIELD = 5,      /* kind not listed, idle field not 0, variable above 31 */
     RULEFILE_BAD_NAME = 6,       /* a named line does not stand earlier, or an L line names its own iso */
     RULEFILE_CEILING = 7,        /* any other ceiling passed */
-    RULEFILE_VARIABLE = 8,       /* a variable is not bound once and then used once; line of the C */
+    RULEFILE_VARIABLE = 8,       /* a variable bound while live, used while not, or live at the end; line of the C */
     RULEFILE_LET_SHAPE = 9,      /* left or right in a let pattern; line of the C */
     RULEFILE_TYPE = 10,          /* no assignment of types fits; line of the C */
     RULEFILE_OVERLAP_LEFT = 11,  /* two left patterns match one value; line of the I */

@@ -1,52 +1,79 @@
 //! What a clause must satisfy: refusals 8, 9 and 10.
+//!
+//! Since request 03 a number may be bound again once it has been used, and
+//! "Each binding has its own type". So each binding first gets a name of its
+//! own; on the clause with these names all goes by names.
 
-use crate::lines::{Clause, Iso};
+use crate::lines::{Clause, Iso, Let};
 use crate::tree::{Pattern, Type};
+use std::collections::BTreeMap;
+use std::rc::Rc;
 
-/// "each clause in order, lowest of 8 to 10": `None` when the clause stands.
-pub fn fault(clause: &Clause, iso: &Iso, earlier: &[Iso]) -> Option<u8> {
-    if !variables_hold(clause) {
-        Some(8)
-    } else if !let_shape_holds(clause) {
-        Some(9)
-    } else if !types_hold(clause, iso, earlier) {
-        Some(10)
-    } else {
-        None
-    }
+/// "each clause in order, lowest of 8 to 10": the clause with a name of its own
+/// for each binding, or the number of its refusal.
+pub fn checked(clause: &Clause, iso: &Iso, earlier: &[Iso]) -> Result<Clause, u8> {
+    let named = named(clause).ok_or(8)?;
+    shapes_and_types(&named, iso, earlier)?;
+    Ok(named)
 }
 
-/// Where a variable number stands while a clause is gone through.
-#[derive(Clone, Copy, PartialEq)]
-enum Stand {
-    Unseen,
-    Bound,
-    Used,
+/// 9 and 10 of a clause whose variables hold.
+pub(crate) fn shapes_and_types(clause: &Clause, iso: &Iso, earlier: &[Iso]) -> Result<(), u8> {
+    if !let_shape_holds(clause) {
+        Err(9)
+    } else if !types_hold(clause, iso, earlier) {
+        Err(10)
+    } else {
+        Ok(())
+    }
 }
 
 /// 8: "the left pattern binds its variables; each L in order uses those of q,
-/// then binds those of p; the right pattern uses the rest. Within one clause
-/// each number is bound once and, after that, used once."
-fn variables_hold(clause: &Clause) -> bool {
-    let mut stands = [Stand::Unseen; 32];
-    let mut hold = step(&mut stands, &clause.left, Stand::Unseen, Stand::Bound);
-    for step_of in &clause.lets {
-        hold = hold && step(&mut stands, &step_of.q, Stand::Bound, Stand::Used);
-        hold = hold && step(&mut stands, &step_of.p, Stand::Unseen, Stand::Bound);
+/// then binds those of p; the right pattern uses the rest."
+fn named(clause: &Clause) -> Option<Clause> {
+    let mut names = Names::default();
+    let left = names.bind(&clause.left)?;
+    let mut lets = Vec::new();
+    for step in &clause.lets {
+        let q = names.take(&step.q)?;
+        let p = names.bind(&step.p)?;
+        let iso = step.iso;
+        lets.push(Let { p, iso, q });
     }
-    hold = hold && step(&mut stands, &clause.right, Stand::Bound, Stand::Used);
-    hold && !stands.contains(&Stand::Bound)
+    let right = names.take(&clause.right)?;
+    // "bound and still unused": no number is so at the end.
+    names.live.is_empty().then_some(Clause {
+        line: clause.line,
+        left,
+        right,
+        lets,
+    })
 }
 
-/// Moves every variable of the pattern from one stand to the next; false when
-/// one of them is not where it has to be.
-fn step(stands: &mut [Stand; 32], pattern: &Pattern, before: Stand, after: Stand) -> bool {
-    pattern.variables().into_iter().all(|number| {
-        let stand = &mut stands[usize::from(number)];
-        let right = *stand == before;
-        *stand = after;
-        right
-    })
+/// The numbers that are live, each with the name of its binding, and how many
+/// names have been given out.
+#[derive(Default)]
+struct Names {
+    live: BTreeMap<u16, u16>,
+    given: u16,
+}
+
+impl Names {
+    /// "A number must now not be live (bound and still unused) when it is
+    /// bound": a new name for each variable of the pattern.
+    fn bind(&mut self, pattern: &Pattern) -> Option<Rc<Pattern>> {
+        pattern.renamed(&mut |number| {
+            let name = self.given;
+            self.given += 1;
+            let before = self.live.insert(number, name);
+            before.is_none().then_some(name)
+        })
+    }
+
+    /// The pattern uses its variables: each must be live, and is no more.
+    fn take(&mut self, pattern: &Pattern) -> Option<Rc<Pattern>> {
+        pattern.renamed(&mut |number| self.live.remove(&number))
+    }
 }
 
 /// 9: "Let patterns p and q hold only unit, variables and pairs."
@@ -62,9 +89,9 @@ fn let_shape_holds(clause: &Clause) -> bool {
 /// the from- and to-type of its iso."
 ///
 /// Each pattern meets a known type, so each place of a variable demands one
-/// type; an assignment exists when all the demands on one number are equal.
+/// type; an assignment exists when all the demands on one variable are equal.
 fn types_hold(clause: &Clause, iso: &Iso, earlier: &[Iso]) -> bool {
-    let mut demands: [Vec<&Type>; 32] = Default::default();
+    let mut demands = Demands::new();
     let mut fit = demand(&clause.left, &iso.from, &mut demands);
     for step in &clause.lets {
         fit = fit && demand(&step.q, &earlier[step.iso].from, &mut demands);
@@ -72,16 +99,19 @@ fn types_hold(clause: &Clause, iso: &Iso, earlier: &[Iso]) -> bool {
     }
     fit = fit && demand(&clause.right, &iso.to, &mut demands);
     fit && demands
-        .iter()
+        .values()
         .all(|types| types.windows(2).all(|two| two[0] == two[1]))
 }
 
+/// The types that each variable must have.
+type Demands<'a> = BTreeMap<u16, Vec<&'a Type>>;
+
 /// Collects the type that each variable of the pattern must have; false when
 /// the pattern fits the type under no assignment.
-fn demand<'a>(pattern: &Pattern, ty: &'a Type, demands: &mut [Vec<&'a Type>; 32]) -> bool {
+fn demand<'a>(pattern: &Pattern, ty: &'a Type, demands: &mut Demands<'a>) -> bool {
     match (pattern, ty) {
-        (Pattern::Variable(number), _) => {
-            demands[usize::from(*number)].push(ty);
+        (Pattern::Variable(name), _) => {
+            demands.entry(*name).or_default().push(ty);
             true
         }
         (Pattern::Unit, Type::Unit) => true,

@@ -7,6 +7,7 @@ pub mod damage;
 pub mod draft;
 pub mod fault;
 pub mod ground;
+pub mod life;
 pub mod miss;
 pub mod pair;
 pub mod plan;
@@ -14,6 +15,7 @@ pub mod query;
 pub mod random;
 pub mod scribe;
 pub mod shape;
+pub mod thread;
 pub mod tower;
 
 use crate::check;
@@ -30,6 +32,8 @@ pub fn accepted(random: &mut Random) -> Vec<u8> {
                 let place = random.below(counted::COUNTS.len());
                 counted::file(random, place)
             }
+            5 => thread::again(random),
+            6 if random.chance(20) => thread::crowded(random),
             _ => {
                 let isos = plan::isos(random);
                 scribe::file(random, &isos)

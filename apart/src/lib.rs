@@ -2,6 +2,7 @@
 //! its exact rules").
 
 pub mod areas;
+pub mod before;
 pub mod clause;
 pub mod cover;
 pub mod desk;
@@ -12,7 +13,7 @@ pub mod reduce;
 pub mod sheet;
 pub mod tree;
 
-use crate::lines::{Iso, Row};
+use crate::lines::{Clause, Iso, Row};
 use crate::reduce::{apply, turned, Counter};
 use crate::tree::{Type, Value};
 use std::rc::Rc;
@@ -25,8 +26,8 @@ pub struct Refusal {
     pub line: usize,
 }
 
-/// An accepted file: its lines, its T lines and isos as trees, and the isos of
-/// the turned file.
+/// An accepted file: its lines, its T lines and isos as trees, the variables
+/// of each clause named by their bindings, and the isos of the turned file.
 pub struct Rules {
     pub rows: Vec<Row>,
     pub types: Vec<Rc<Type>>,
@@ -40,14 +41,26 @@ pub struct Rules {
 /// to 7. Only then the isos in order: each clause in order, lowest of 8 to 10,
 /// then the iso, lowest of 11 to 14."
 pub fn check(file: &[u8]) -> Result<Rules, Refusal> {
-    let reader = lines::read(file)?;
-    for (place, iso) in reader.isos.iter().enumerate() {
+    check_by(file, clause::checked)
+}
+
+/// What is asked of a clause, given its iso and the earlier ones: the clause
+/// with names for its variables, or the number of its refusal.
+type ClauseRule = fn(&Clause, &Iso, &[Iso]) -> Result<Clause, u8>;
+
+/// Check with a rule for clauses.
+fn check_by(file: &[u8], rule: ClauseRule) -> Result<Rules, Refusal> {
+    let mut reader = lines::read(file)?;
+    for place in 0..reader.isos.len() {
+        let (earlier, others) = reader.isos.split_at_mut(place);
+        let iso = &mut others[0];
+        let mut clauses = Vec::new();
         for clause in &iso.clauses {
-            if let Some(number) = clause::fault(clause, iso, &reader.isos[..place]) {
-                let line = clause.line;
-                return Err(Refusal { number, line });
-            }
+            let line = clause.line;
+            let named = rule(clause, iso, earlier);
+            clauses.push(named.map_err(|number| Refusal { number, line })?);
         }
+        iso.clauses = clauses;
         if let Some(number) = cover::fault(iso) {
             let line = iso.line;
             return Err(Refusal { number, line });

@@ -2,10 +2,12 @@
 
 use crate::lines::{Clause, Iso, Let};
 use crate::tree::{Pattern, Value};
+use std::collections::BTreeMap;
 use std::rc::Rc;
 
-/// The values of a clause's variables so far.
-type Values = [Option<Rc<Value>>; 32];
+/// The values of a clause's variables so far. A clause that has passed the
+/// check has a name for each binding, so that no value is put over another.
+type Values = BTreeMap<u16, Rc<Value>>;
 
 /// The applications made so far, and how many may be made.
 pub struct Counter {
@@ -41,7 +43,7 @@ pub fn apply(
 /// "Take the clause that matches; its left variables now have values." "Where
 /// no clause matches, or several do, ... nothing is given": in an accepted file
 /// exactly one does.
-fn matching_clause<'a>(iso: &'a Iso, value: &Rc<Value>) -> (&'a Clause, Values) {
+pub fn matching_clause<'a>(iso: &'a Iso, value: &Rc<Value>) -> (&'a Clause, Values) {
     let mut found = None;
     for clause in &iso.clauses {
         let mut values = Values::default();
@@ -57,8 +59,9 @@ fn matching_clause<'a>(iso: &'a Iso, value: &Rc<Value>) -> (&'a Clause, Values) 
 /// variables of its left pattern turns that pattern into the value."
 fn matches(pattern: &Pattern, value: &Rc<Value>, values: &mut Values) -> bool {
     match (pattern, &**value) {
-        (Pattern::Variable(number), _) => {
-            values[usize::from(*number)] = Some(Rc::clone(value));
+        (Pattern::Variable(name), _) => {
+            let before = values.insert(*name, Rc::clone(value));
+            assert!(before.is_none(), "one value for each binding");
             true
         }
         (Pattern::Unit, Value::Unit) => true,
@@ -74,8 +77,8 @@ fn matches(pattern: &Pattern, value: &Rc<Value>, values: &mut Values) -> bool {
 fn substitute(pattern: &Pattern, values: &Values) -> Rc<Value> {
     match pattern {
         Pattern::Unit => Rc::new(Value::Unit),
-        Pattern::Variable(number) => {
-            let value = values[usize::from(*number)].as_ref();
+        Pattern::Variable(name) => {
+            let value = values.get(name);
             Rc::clone(value.expect("the variable has a value"))
         }
         Pattern::Left(a) => Rc::new(Value::Left(substitute(a, values))),

@@ -71,6 +71,18 @@ impl Pattern {
             Pattern::Pair(a, b) => [a.variables(), b.variables()].concat(),
         }
     }
+
+    /// The pattern with each variable, from left to right, given the number
+    /// that `name` says; `None` as soon as it says none.
+    pub fn renamed(&self, name: &mut dyn FnMut(u16) -> Option<u16>) -> Option<Rc<Pattern>> {
+        Some(Rc::new(match self {
+            Pattern::Unit => Pattern::Unit,
+            Pattern::Variable(number) => Pattern::Variable(name(*number)?),
+            Pattern::Left(a) => Pattern::Left(a.renamed(name)?),
+            Pattern::Right(a) => Pattern::Right(a.renamed(name)?),
+            Pattern::Pair(a, b) => Pattern::Pair(a.renamed(name)?, b.renamed(name)?),
+        }))
+    }
 }
 
 impl Value {

@@ -365,11 +365,11 @@ fn refusal_8_by_variables() {
         assert_eq!(of(&format!("{plain} I,2,2 {clause}")), (8, 18), "{clause}");
     }
     let lets = [
-        ("C,1,1 L,1,0,1", 8),         // a used-up number is not bound again
+        ("C,1,1 L,1,0,1", 0),         // request 03: a used-up number is bound again
         ("C,1,2 L,2,0,1", 0),         // sent through
         ("C,1,1 L,2,0,1", 8),         // used twice, x1 not used
         ("C,1,2 L,2,0,2", 8),         // used before bound
-        ("C,1,1 L,2,0,1 L,1,0,2", 8), // bound again by a later line
+        ("C,1,1 L,2,0,1 L,1,0,2", 0), // request 03: and by a later line
         ("C,1,2 L,1,0,2 L,2,0,1", 8),
         ("C,1,2 L,2,0,1 L,2,0,1", 8),
         ("C,1,1 L,0,0,0", 10), // variables hold, types do not

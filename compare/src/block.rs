@@ -12,10 +12,11 @@ use crate::tally::{
     Tally, FILE, LIBRARY, QUERY, RULES, THERE_AND_BACK, TURNED_ACCEPTED, TURNED_TWICE,
 };
 use crate::trip::{Step, Trip};
+use crate::variables;
 use apart::areas::Known;
 use apart::desk::desk;
 use apart::generate::random::Random;
-use apart::{turn_rules, Rules};
+use apart::{before, turn_rules, Rules};
 use std::io;
 
 pub struct Block<P, S> {
@@ -47,7 +48,10 @@ impl<P: Program, S: Services> Block<P, S> {
         let input = input::make(random, &known, &trips, due);
         let answered = self.desk(&input)?;
         self.tally.files += 1;
+        variables::count(&mut self.tally, &known, variables::RULES);
+        self.before(&known, &trips, &input);
         self.services(random, &known, &trips);
+        variables::count(&mut self.tally, &known, variables::LIBRARY);
         let list = list::make(random, case, &known, &input.bytes[file.len()..]);
         self.calls.sheet(random, &mut self.tally, &known, &list);
         if let Ok(rules) = &known.checked {
@@ -72,6 +76,17 @@ impl<P: Program, S: Services> Block<P, S> {
             }
             (_, Case::Pair(pair, 0)) => self.tally.pairs[pair] += 1,
             _ => {}
+        }
+    }
+
+    /// Holds the check, and the runs of an accepted file, to what they gave
+    /// before request 03.
+    pub fn before(&mut self, known: &Known, trips: &[Trip], input: &Input) {
+        let steps = trips.iter().flat_map(|trip| trip.steps(false));
+        let asks = steps.map(|step| step.ask).chain(input.asks());
+        match variables::law(&before::check(known.file), known, &asks.collect::<Vec<_>>()) {
+            Ok(row) => self.tally.variables.hit(row, variables::RULES),
+            Err(text) => self.tally.mismatch(text, input.bytes.clone()),
         }
     }
 
@@ -144,7 +159,9 @@ impl<P: Program, S: Services> Block<P, S> {
         self.desk(&input)?;
         self.tally.turned += 1;
         self.tally.laws.hit(TURNED_ACCEPTED, RULES);
+        variables::count(&mut self.tally, &other, variables::TURNED);
         for trip in trips {
+            variables::count_trip(&mut self.tally, known, trip);
             for (turned, known) in [(false, known), (true, &other)] {
                 for step in trip.steps(turned) {
                     self.step(random, known, &step);

@@ -1,8 +1,9 @@
 //! Which files are made.
 
 use apart::generate::ceiling::{self, Ceiling, CEILINGS};
+use apart::generate::life::SLIPS;
 use apart::generate::random::Random;
-use apart::generate::{accepted, any_file, miss, pair, query, tower};
+use apart::generate::{accepted, any_file, miss, pair, query, thread, tower};
 use apart::{check, Rules};
 
 #[derive(Debug, Clone, Copy, PartialEq, Eq)]
@@ -16,6 +17,15 @@ pub enum Case {
     /// A pair of faults by its place in `pair::all`: both, the first alone,
     /// the second alone.
     Pair(usize, usize),
+    /// Accepted but for one clause that breaks rule 8 in one way.
+    Slip(usize),
+    /// Accepted but for one clause that uses a variable with the type of
+    /// another binding.
+    Mistyped,
+    /// Accepted, with a clause that binds a number again.
+    Again,
+    /// Thirty-two variables live at once, each of which can be bound again.
+    Crowded,
     /// Counts around 65,535 and of a million.
     Long,
     /// Thirty-two isos open at once on the longest values.
@@ -33,7 +43,8 @@ pub fn always() -> Vec<Case> {
     let mut cases = vec![Case::Long; 3];
     for over in [false, true].repeat(5) {
         cases.extend([Case::Stack, Case::Longest, Case::Bytes(over)]);
-        cases.push(Case::Full(over));
+        cases.extend([Case::Full(over), Case::Again, Case::Crowded, Case::Mistyped]);
+        cases.extend((0..SLIPS.len()).map(Case::Slip));
         cases.extend((0..CEILINGS.len()).map(|ceiling| Case::Ceiling(ceiling, over)));
         cases.extend((2..15).map(Case::Aimed));
     }
@@ -54,6 +65,16 @@ pub fn file(random: &mut Random, case: Case) -> (Vec<u8>, Option<(u8, usize)>) {
             let made = pair::make(random, pair::all()[place]);
             (made.files[which].clone(), Some(made.answers[which]))
         }
+        Case::Slip(place) => {
+            let (file, line) = thread::slip(random, SLIPS[place]);
+            (file, Some((8, line)))
+        }
+        Case::Mistyped => {
+            let (file, line) = thread::mistyped(random);
+            (file, Some((10, line)))
+        }
+        Case::Again => (thread::again(random), Some((0, 0))),
+        Case::Crowded => (thread::crowded(random), Some((0, 0))),
         Case::Long => (tower::long(random), Some((0, 0))),
         Case::Stack => (tower::stack(random), Some((0, 0))),
         Case::Longest => (tower::longest_value(random), Some((0, 0))),
@@ -90,8 +111,12 @@ pub fn routes(random: &mut Random, case: Case, rules: &Rules) -> Vec<(u16, u32)>
     if rules.isos.is_empty() {
         return Vec::new();
     }
-    if case == Case::Stack {
-        return vec![(rules.isos.len() as u16 - 1, 3_000)];
+    let last = rules.isos.len() as u16 - 1;
+    match case {
+        Case::Stack => return vec![(last, 3_000)],
+        // The clause in question is one of the last iso.
+        Case::Again | Case::Crowded => return vec![(last, 3_000); 4],
+        _ => {}
     }
     let count = 1 + usize::from(random.chance(30));
     let route = |_| {

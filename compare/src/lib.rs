@@ -17,4 +17,5 @@ pub mod service;
 pub mod sheets;
 pub mod tally;
 pub mod trip;
+pub mod variables;
 pub mod work;

@@ -2,6 +2,7 @@
 
 use crate::grid::Grid;
 use crate::sheets;
+use crate::variables;
 use apart::generate::ceiling::CEILINGS;
 use apart::generate::pair;
 
@@ -60,6 +61,7 @@ pub struct Tally {
     pub laws: Grid,
     pub ceilings: Grid,
     pub sheets: Grid,
+    pub variables: Grid,
     /// How often each pair of faults was hit.
     pub pairs: Vec<usize>,
 }
@@ -165,6 +167,7 @@ impl Default for Tally {
             laws: laws(),
             ceilings: ceilings(),
             sheets: sheets::grid(),
+            variables: variables::grid(),
             pairs: vec![0; pair::all().len()],
         }
     }
@@ -187,6 +190,7 @@ impl Tally {
         self.laws.add(&other.laws);
         self.ceilings.add(&other.ceilings);
         self.sheets.add(&other.sheets);
+        self.variables.add(&other.variables);
         for (pair, other) in self.pairs.iter_mut().zip(other.pairs) {
             *pair += other;
         }
@@ -210,7 +214,7 @@ impl Tally {
         }
     }
 
-    fn grids(&self) -> [&Grid; 6] {
+    fn grids(&self) -> [&Grid; 7] {
         [
             &self.numbers,
             &self.areas,
@@ -218,6 +222,7 @@ impl Tally {
             &self.laws,
             &self.ceilings,
             &self.sheets,
+            &self.variables,
         ]
     }
 

@@ -4,8 +4,10 @@ use super::accepted;
 use super::ceiling;
 use super::damage::damage;
 use super::draft::Draft;
+use super::life;
 use super::plan;
 use super::random::Random;
+use super::thread;
 use crate::check;
 use crate::lines::split;
 
@@ -39,7 +41,11 @@ fn attempt(random: &mut Random, base: &[u8], number: u8) -> Vec<u8> {
         3 if random.chance(5) => ceiling::many_bytes(random, false),
         3 => bad_text(random, base),
         7 if special => ceiling::at_ceiling(random, true),
-        8 if special => plan::bound_again(random),
+        8 if special => {
+            let slip = *random.pick(&life::SLIPS);
+            thread::slip(random, slip).0
+        }
+        10 if random.chance(10) => thread::mistyped(random).0,
         11..=14 if special => plan::one_bad_side(random),
         _ => changed(random, base, number),
     }

@@ -21,7 +21,19 @@ pub(super) struct Open {
     pub left: Rc<Pattern>,
     pub lets: Vec<Let>,
     pub held: Held,
+    /// The numbers to be bound, the next one last.
     fresh: Vec<u16>,
+    again: Again,
+}
+
+/// When a number that a let step has used is bound again.
+#[derive(Clone, Copy)]
+enum Again {
+    Never,
+    /// At the next chance.
+    Next,
+    /// At any later one.
+    Later,
 }
 
 fn unit() -> Rc<Type> {
@@ -150,6 +162,10 @@ fn numbers(random: &mut Random) -> Vec<u16> {
     numbers
 }
 
+fn again(random: &mut Random) -> Again {
+    *random.pick(&[Again::Never, Again::Next, Again::Next, Again::Later])
+}
+
 /// Opens a clause by its left pattern; `None` when 32 variables do not do.
 pub(super) fn open(random: &mut Random, case: &Sketch) -> Option<Open> {
     if case.holes().len() > 32 {
@@ -167,6 +183,7 @@ pub(super) fn open(random: &mut Random, case: &Sketch) -> Option<Open> {
         lets: Vec::new(),
         held,
         fresh,
+        again: again(random),
     })
 }
 
@@ -205,6 +222,7 @@ fn by_lists(random: &mut Random, earlier: &[Iso]) -> Option<Iso> {
             lets: Vec::new(),
             held,
             fresh,
+            again: again(random),
         });
     }
     let (from, lefts) = merged(random, &clauses);
@@ -307,14 +325,15 @@ fn add_lets(random: &mut Random, clause: &mut Open, earlier: &[Iso], same: bool)
         if clause.lets.len() == most || (same && called.from != called.to) {
             continue;
         }
-        let before = clause.held.clone();
+        let before = (clause.held.clone(), clause.fresh.clone());
         let q = if same {
             one_of(random, &called.from, &mut clause.held)
         } else {
             gather(random, &called.from, &mut clause.held)
         };
+        let q = q.inspect(|q| take_back(random, clause, q));
         let Some(q) = q.filter(|_| !clause.fresh.is_empty()) else {
-            clause.held = before;
+            (clause.held, clause.fresh) = before;
             continue;
         };
         let p = if same {
@@ -323,6 +342,18 @@ fn add_lets(random: &mut Random, clause: &mut Open, earlier: &[Iso], same: bool)
             spread(random, &called.to, clause, 0)
         };
         clause.lets.push(Let { p, iso, q });
+    }
+}
+
+/// Takes back the numbers that a let step uses, if they are bound again.
+pub(super) fn take_back(random: &mut Random, clause: &mut Open, q: &Pattern) {
+    for number in q.variables() {
+        let places = clause.fresh.len();
+        match clause.again {
+            Again::Never => {}
+            Again::Next => clause.fresh.push(number),
+            Again::Later => clause.fresh.insert(random.below(places + 1), number),
+        }
     }
 }
 
@@ -563,48 +594,4 @@ pub fn one_bad_side(random: &mut Random) -> Vec<u8> {
         all.push(if random.chance(50) { turned(&iso) } else { iso });
     }
     scribe::file(random, &all)
-}
-
-/// A file with one let step whose p binds a number that is used up, and all
-/// else in order.
-pub fn bound_again(random: &mut Random) -> Vec<u8> {
-    let mut all = isos(random);
-    let clauses = all.iter_mut().flat_map(|iso| &mut iso.clauses);
-    let mut clauses: Vec<&mut Clause> = clauses.filter(|clause| !clause.lets.is_empty()).collect();
-    if !clauses.is_empty() {
-        let place = random.below(clauses.len());
-        rebind(random, clauses[place]);
-    }
-    scribe::file(random, &all)
-}
-
-/// Renames a variable of some p to one that its q, or an earlier q, has used.
-fn rebind(random: &mut Random, clause: &mut Clause) {
-    let step = random.below(clause.lets.len());
-    let olds = clause.lets[step].p.variables();
-    let used = clause.lets[..=step]
-        .iter()
-        .flat_map(|step| step.q.variables());
-    let used: Vec<u16> = used.collect();
-    if olds.is_empty() || used.is_empty() {
-        return;
-    }
-    let (old, new) = (*random.pick(&olds), *random.pick(&used));
-    clause.right = renamed(&clause.right, old, new);
-    for step in &mut clause.lets[step..] {
-        step.p = renamed(&step.p, old, new);
-    }
-    for step in &mut clause.lets[step + 1..] {
-        step.q = renamed(&step.q, old, new);
-    }
-}
-
-fn renamed(pattern: &Rc<Pattern>, old: u16, new: u16) -> Rc<Pattern> {
-    Rc::new(match &**pattern {
-        Pattern::Unit => Pattern::Unit,
-        Pattern::Variable(number) => Pattern::Variable(if *number == old { new } else { *number }),
-        Pattern::Left(a) => Pattern::Left(renamed(a, old, new)),
-        Pattern::Right(a) => Pattern::Right(renamed(a, old, new)),
-        Pattern::Pair(a, b) => Pattern::Pair(renamed(a, old, new), renamed(b, old, new)),
-    })
 }

@@ -1,7 +1,7 @@
 //! Towers: isos that send their value through the ones below, for long runs,
 //! and files of the longest values.
 
-use super::plan::{cover, fits, one_of, open, permuted, some_type, two, variable, Open};
+use super::plan::{cover, fits, one_of, open, permuted, some_type, take_back, two, variable, Open};
 use super::random::Random;
 use super::scribe;
 use super::shape::{longest_type, Sketch};
@@ -98,6 +98,7 @@ fn add_storey(random: &mut Random, isos: &mut Vec<Iso>, calls: &[usize]) {
     let mut clause = open(random, &Sketch::Hole(Rc::clone(&ty))).expect("one variable");
     for iso in calls {
         let q = one_of(random, &ty, &mut clause.held).expect("one is held");
+        take_back(random, &mut clause, &q);
         let p = variable(&mut clause, &ty);
         clause.lets.push(Let { p, iso: *iso, q });
     }

@@ -9,16 +9,18 @@ use mathlib.Core.Option.{Option, none, some}
 use mathlib.Core.List.{List, [], _∷_, _++_, map}
 use lib.ListN.{length, getD, getElem?, replicate}
 use Rattle.model.specs.Limits.{maxLines, variables}
-use Rattle.model.specs.Tools.{isSome, firstFailing}
+use Rattle.model.specs.Tools.{firstFailing}
 use Rattle.model.specs.Trees.{Ty, Pat, Let, vars}
-use Rattle.model.specs.Clauses.{Deed, binds, uses, Event, deeds, letEvents, plain, fit, clauseFault}
+use Rattle.model.specs.Clauses.{Deed, binds, uses, Event, deeds, letEvents, plain, used, clauseFault}
+use Rattle.model.specs.Slots.{Slots}
 use Rattle.model.specs.Refusals.{Refusal, variable, letShape, badType}
 use Rattle.nodes.specs.Unfolding.{cellOf, typeOf, patternOf}
 use Rattle.nodes.specs.InTable.{letAt, letsIn, clauseIn, sigsIn}
 use Rattle.marks.specs.Marks.{markOne, markAll, markEvents, settledAll}
-use Rattle.typing.specs.Fitting.{Types, meetAll, entryView, viewIf, envView, freshEnv}
+use Rattle.typing.specs.Fitting.{fitAll, envView, freshEnv}
 use Rattle.typing.specs.declared.Env as E
 use Rattle.typing.specs.Rules.{Slotted, marked, shaped, fitLet, fittedLets, fitted}
+use Rattle.typing.proofs.Meeting.{used-env}
 use Rattle.typing.proofs.Rules.{clause-fault-rule}
 
 -- ---- the L lines from row n up to row `to`
@@ -137,21 +139,21 @@ unknown-at f (x ∷ xs) (suc i) h = unknown-at f xs i (omega arith)
 typesAt : List ℕ → ℕ → Ty × Ty
 typesAt t r = (typeOf t (cellOf t r 1), typeOf t (cellOf t r 2))
 
-module _ (t : List ℕ) (base n : ℕ) (starts : List ℕ) (e : Option Types) {i : ℕ} (ei : i ≡ cellOf t n 2) where
+module _ (t : List ℕ) (base n : ℕ) (starts : List ℕ) (e : Option (Slots Ty)) {i : ℕ} (ei : i ≡ cellOf t n 2) where
   -- an iso that the clause may name: q fits its from-type, then p its to-type
-  pub let-known : {head q a p b : ℕ} {used done : Option Types} → i < length starts → head ≡ getD starts i 0
-      → q ≡ cellOf t n 3 → a ≡ cellOf t head 1 → used ≡ meetAll (fit (patternOf t base q) (typeOf t a)) e
-      → p ≡ cellOf t n 1 → b ≡ cellOf t head 2 → done ≡ meetAll (fit (patternOf t base p) (typeOf t b)) used
+  pub let-known : {head q a p b : ℕ} {used done : Option (Slots Ty)} → i < length starts → head ≡ getD starts i 0
+      → q ≡ cellOf t n 3 → a ≡ cellOf t head 1 → used ≡ fitAll false (patternOf t base q) (typeOf t a) e
+      → p ≡ cellOf t n 1 → b ≡ cellOf t head 2 → done ≡ fitAll true (patternOf t base p) (typeOf t b) used
       → done ≡ fitLet (getElem? (sigsIn t starts) (cellOf t n 2)) (letAt t base n) e
   unfolding typesAt
   let-known {head} {used = used} {done = done} l eh eq ea eu ep eb ed =
-      let first : used ≡ meetAll (fit (letAt t base n .q) (typesAt t head .0)) e = eu ∙ ap₂ (λ k j. meetAll (fit (patternOf t base k) (typeOf t j)) e) eq ea in
-      let second : done ≡ meetAll (fit (letAt t base n .p) (typesAt t head .1)) used = ed ∙ ap₂ (λ k j. meetAll (fit (patternOf t base k) (typeOf t j)) used) ep eb in
+      let first : used ≡ fitAll false (letAt t base n .q) (typesAt t head .0) e = eu ∙ ap₂ (λ k j. fitAll false (patternOf t base k) (typeOf t j) e) eq ea in
+      let second : done ≡ fitAll true (letAt t base n .p) (typesAt t head .1) used = ed ∙ ap₂ (λ k j. fitAll true (patternOf t base k) (typeOf t j) used) ep eb in
       let known : getElem? (sigsIn t starts) (cellOf t n 2) ≡ some (typesAt t head) = ap (getElem? (sigsIn t starts)) (sym ei) ∙ known-at (typesAt t) starts i 0 l ∙ ap (λ r. some (typesAt t r)) (sym eh) in
-      second ∙ ap (meetAll (fit (letAt t base n .p) (typesAt t head .1))) first ∙ sym (ap (λ s. fitLet s (letAt t base n) e) known)
+      second ∙ ap (fitAll true (letAt t base n .p) (typesAt t head .1)) first ∙ sym (ap (λ s. fitLet s (letAt t base n) e) known)
 
   -- any other iso: nothing fits
-  pub let-unknown : {done : Option Types} → length starts ≤ i → done ≡ none
+  pub let-unknown : {done : Option (Slots Ty)} → length starts ≤ i → done ≡ none
       → done ≡ fitLet (getElem? (sigsIn t starts) (cellOf t n 2)) (letAt t base n) e
   unfolding typesAt
   let-unknown l ed =
@@ -159,11 +161,11 @@ module _ (t : List ℕ) (base n : ℕ) (starts : List ℕ) (e : Option Types) {i
       ed ∙ sym (ap (λ s. fitLet s (letAt t base n) e) unknown)
 
 -- what is left to fit from row n on gives the types of the whole walk
-pub record FitsLeft (t starts : List ℕ) (base from to n : ℕ) (first e : Option Types) : Type 0 where
+pub record FitsLeft (t starts : List ℕ) (base from to n : ℕ) (first e : Option (Slots Ty)) : Type 0 where
   pub same : fittedLets (sigsIn t starts) (letsIn t base n (to - n)) e ≡ fittedLets (sigsIn t starts) (letsIn t base from (to - from)) first
 
-module _ {t starts : List ℕ} {base from to n : ℕ} {first e : Option Types} (h : FitsLeft t starts base from to n first e) where
-  pub fits-step : {d : Option Types} → n < to → d ≡ fitLet (getElem? (sigsIn t starts) (cellOf t n 2)) (letAt t base n) e
+module _ {t starts : List ℕ} {base from to n : ℕ} {first e : Option (Slots Ty)} (h : FitsLeft t starts base from to n first e) where
+  pub fits-step : {d : Option (Slots Ty)} → n < to → d ≡ fitLet (getElem? (sigsIn t starts) (cellOf t n 2)) (letAt t base n) e
       → FitsLeft t starts base from to (n + 1) first d
   fits-step l x =
       record {
@@ -181,24 +183,19 @@ fresh-view : (t : List ℕ) {e : E.Env} → e ≡ freshEnv → envView t e ≡ s
 unfolding freshEnv
 fresh-view t h = ap (envView t) h
 
-fits-view : (b : Bool) (e : Types) → b ≡ isSome (viewIf b e)
-fits-view true e = refl
-fits-view false e = refl
-
--- the left pattern, the L lines and the right pattern fit in turn
-pub clause-fitted : (t starts : List ℕ) (base a b row end : ℕ) (start bound stepped done : E.Env) {l r : ℕ} → start ≡ freshEnv
-    → l ≡ cellOf t row 1 → envView t bound ≡ meetAll (fit (patternOf t base l) (typeOf t a)) (envView t start)
+-- the left pattern, the L lines and the right pattern fit in turn, and no variable is live in the end
+pub clause-fitted : (t starts : List ℕ) (base a b row end : ℕ) (start bound stepped done : E.Env) {l r : ℕ} {v : Bool} → start ≡ freshEnv
+    → l ≡ cellOf t row 1 → envView t bound ≡ fitAll true (patternOf t base l) (typeOf t a) (envView t start)
     → envView t stepped ≡ fittedLets (sigsIn t starts) (letsIn t base (row + 1) (end - (row + 1))) (envView t bound)
-    → r ≡ cellOf t row 2 → envView t done ≡ meetAll (fit (patternOf t base r) (typeOf t b)) (envView t stepped)
-    → done .fits ≡ fitted (sigsIn t starts) (typeOf t a) (typeOf t b) (clauseIn t base row end)
+    → r ≡ cellOf t row 2 → envView t done ≡ fitAll false (patternOf t base r) (typeOf t b) (envView t stepped)
+    → v ≡ (done .fits && settledAll (done .line)) → v ≡ fitted (sigsIn t starts) (typeOf t a) (typeOf t b) (clauseIn t base row end)
 unfolding fitted
-clause-fitted t starts base a b row end start bound stepped done es el eb et er ed =
+clause-fitted t starts base a b row end start bound stepped done es el eb et er ed ev =
     let ls : List Let = letsIn t base (suc row) (end - suc row) in
-    let left : envView t bound ≡ meetAll (fit (patternOf t base (cellOf t row 1)) (typeOf t a)) (some (replicate variables none)) = eb ∙ ap₂ (λ k e. meetAll (fit (patternOf t base k) (typeOf t a)) e) el (fresh-view t es) in
+    let left : envView t bound ≡ fitAll true (patternOf t base (cellOf t row 1)) (typeOf t a) (some (replicate variables none)) = eb ∙ ap₂ (λ k e. fitAll true (patternOf t base k) (typeOf t a) e) el (fresh-view t es) in
     let walks : envView t stepped ≡ fittedLets (sigsIn t starts) ls (envView t bound) = et ∙ ap (λ k. fittedLets (sigsIn t starts) (letsIn t base k (end - k)) (envView t bound)) (add-one row) in
-    let right : envView t done ≡ meetAll (fit (patternOf t base (cellOf t row 2)) (typeOf t b)) (envView t stepped) = ed ∙ ap (λ k. meetAll (fit (patternOf t base k) (typeOf t b)) (envView t stepped)) er in
-    fits-view (done .fits) (map (entryView t) (done .line))
-    ∙ ap isSome (right ∙ ap (meetAll (fit (patternOf t base (cellOf t row 2)) (typeOf t b))) (walks ∙ ap (fittedLets (sigsIn t starts) ls) left))
+    let right : envView t done ≡ fitAll false (patternOf t base (cellOf t row 2)) (typeOf t b) (envView t stepped) = ed ∙ ap (λ k. fitAll false (patternOf t base k) (typeOf t b) (envView t stepped)) er in
+    ev ∙ used-env t done ∙ ap used (right ∙ ap (fitAll false (patternOf t base (cellOf t row 2)) (typeOf t b)) (walks ∙ ap (fittedLets (sigsIn t starts) ls) left))
 
 -- ---- the lowest of 8 to 10
 

@@ -8,6 +8,7 @@ use model::Refusal;
 use nodes::cell;
 use trees::is_plain;
 use typing::Env;
+use typing::all_used;
 use typing::fit;
 use typing::no_types;
 use words::wide;
@@ -93,8 +94,8 @@ fn fit_let(t: &[u16], base: usize, starts: &[u16], n: usize, e: Env) -> Env
     let i = cell(t, n, 2);
     if i < starts.len() {
         let head = wide(starts[i]);
-        let used = fit(t, base, cell(t, n, 3), cell(t, head, 1), e);
-        return fit(t, base, cell(t, n, 1), cell(t, head, 2), used);
+        let used = fit(t, base, cell(t, n, 3), cell(t, head, 1), false, e);
+        return fit(t, base, cell(t, n, 1), cell(t, head, 2), true, used);
     }
     misfit(e)
 }
@@ -125,10 +126,10 @@ fn types_fit(
     ensures { λ r. ⌜ (row < maxLines → r ≡ fitted (sigsIn (now (t .entry)) (now (starts .entry))) (typeOf (now (t .entry)) a) (typeOf (now (t .entry)) b) (clauseIn (now (t .entry)) base row end)) ⌝ }
 {
     if row < 4096 {
-        let bound = fit(t, base, cell(t, row, 1), a, no_types());
+        let bound = fit(t, base, cell(t, row, 1), a, true, no_types());
         let stepped = fit_lets(t, base, starts, row + 1, end, bound);
-        let done = fit(t, base, cell(t, row, 2), b, stepped);
-        return done.fits;
+        let done = fit(t, base, cell(t, row, 2), b, false, stepped);
+        return all_used(done);
     }
     false
 }

@@ -3,7 +3,7 @@ use Prim.Native.Nat.{ℕ, zero, suc, _+_, _<_, _≤_}
 use native.Mathlib.Omega.{arith}
 use native.Mathlib.Numerals.{add-one}
 use mathlib.Core.Path.{_≡_, refl, sym, ap, ap₂, _∙_}
-use mathlib.Core.Bool.{Bool, true, false, _&&_, _||_}
+use mathlib.Core.Bool.{Bool, true, false, _&&_}
 use mathlib.Core.List.{List, [], _∷_, _++_, map}
 use lib.Dec.{eqb}
 use lib.ListN.{length, getD, drop, drop-of-length-le, length-map}
@@ -24,17 +24,17 @@ slots m e = sym (length-map m (λ v. v)) ∙ e
 
 -- ---- one deed
 
-pub bound-again : (b : Bool) (s : ℕ) → b ≡ true → (s ≡ 0 → ⊥) → 3 ≡ nextState (deedView b) s
+pub bound-again : (b : Bool) (s : ℕ) → b ≡ true → (s ≡ 0 → ⊥) → 2 ≡ nextState (deedView b) s
 bound-again b s e h = go s h ∙ sym (ap (λ x. nextState (deedView x) s) e)
   where
-    go : (s : ℕ) → (s ≡ 0 → ⊥) → 3 ≡ nextState binds s
+    go : (s : ℕ) → (s ≡ 0 → ⊥) → 2 ≡ nextState binds s
     go zero h = absurd (h refl)
     go (suc s) h = refl
 
-pub used-again : (b : Bool) (s : ℕ) → b ≡ false → (s ≡ 1 → ⊥) → 3 ≡ nextState (deedView b) s
+pub used-again : (b : Bool) (s : ℕ) → b ≡ false → (s ≡ 1 → ⊥) → 2 ≡ nextState (deedView b) s
 used-again b s e h = go s h ∙ sym (ap (λ x. nextState (deedView x) s) e)
   where
-    go : (s : ℕ) → (s ≡ 1 → ⊥) → 3 ≡ nextState uses s
+    go : (s : ℕ) → (s ≡ 1 → ⊥) → 2 ≡ nextState uses s
     go zero h = refl
     go (suc zero) h = absurd (h refl)
     go (suc (suc s)) h = refl
@@ -77,19 +77,7 @@ module _ (t : List ℕ) (base p : ℕ) (d : Deed) (m : List ℕ) {k : ℕ} (e : 
 
 -- ---- once all is walked
 
-abbrev settledOne : ℕ → Bool
-settledOne s = eqb s 0 || eqb s 2
-
-settled-zero : (s : ℕ) → s ≡ 0 → settledOne s ≡ true
-settled-zero s e = ap (λ b. b || eqb s 2) (eq-eqb s 0 e)
-
-settled-two : (s : ℕ) → s ≡ 2 → settledOne s ≡ true
-settled-two s e = ap settledOne e
-
-settled-none : (s : ℕ) → (s ≡ 0 → ⊥) → (s ≡ 2 → ⊥) → settledOne s ≡ false
-settled-none s h l = ap₂ (λ b c. b || c) (ne-eqb s 0 h) (ne-eqb s 2 l)
-
--- what a loop over the states knows after i of them: nothing is wrong yet
+-- what a loop over the numbers knows after i of them: all were 0
 pub record Walked (i : ℕ) (m : List ℕ) : Type 0 where
   pub within : i ≤ 32
   pub rest : settledAll m ≡ settledAll (drop i m)
@@ -97,23 +85,18 @@ pub record Walked (i : ℕ) (m : List ℕ) : Type 0 where
 pub walked-start : (m : List ℕ) → Walked 0 m
 walked-start m = record { within = omega arith; rest = refl }
 
-walked-next : (i : ℕ) (m : List ℕ) → length m ≡ 32 → Walked i m → i < 32 → settledAll m ≡ (settledOne (getD m i 0) && settledAll (drop (suc i) m))
-walked-next i m w h l = h .rest ∙ ap settledAll (drop-cons m i 0 (omega arith))
+module _ (i : ℕ) (m : List ℕ) (full : length m ≡ 32) (w : Walked i m) where
+  opens : i < 32 → settledAll m ≡ (eqb (getD m i 0) 0 && settledAll (drop (suc i) m))
+  opens l = w .rest ∙ ap settledAll (drop-cons m i 0 (omega arith))
 
-walked-step : (i : ℕ) (m : List ℕ) → length m ≡ 32 → Walked i m → i < 32 → settledOne (getD m i 0) ≡ true → Walked (i + 1) m
-walked-step i m w h l e = record {
-  within = omega arith;
-  rest = walked-next i m w h l ∙ ap (λ b. b && settledAll (drop (suc i) m)) e ∙ sym (ap (λ n. settledAll (drop n m)) (add-one i));
-}
+  pub walked-next : i < 32 → getD m i 0 ≡ 0 → Walked (i + 1) m
+  walked-next l e = record {
+    within = omega arith;
+    rest = opens l ∙ ap (λ b. b && settledAll (drop (suc i) m)) (eq-eqb _ 0 e) ∙ sym (ap (λ n. settledAll (drop n m)) (add-one i));
+  }
 
-pub walked-zero : (i : ℕ) (m : List ℕ) → length m ≡ 32 → Walked i m → i < 32 → getD m i 0 ≡ 0 → Walked (i + 1) m
-walked-zero i m w h l e = walked-step i m w h l (settled-zero _ e)
+  pub walked-wrong : i < 32 → (getD m i 0 ≡ 0 → ⊥) → false ≡ settledAll m
+  walked-wrong l e = sym (opens l ∙ ap (λ b. b && settledAll (drop (suc i) m)) (ne-eqb _ 0 e))
 
-pub walked-two : (i : ℕ) (m : List ℕ) → length m ≡ 32 → Walked i m → i < 32 → getD m i 0 ≡ 2 → Walked (i + 1) m
-walked-two i m w h l e = walked-step i m w h l (settled-two _ e)
-
-pub walked-wrong : (i : ℕ) (m : List ℕ) → length m ≡ 32 → Walked i m → i < 32 → (getD m i 0 ≡ 0 → ⊥) → (getD m i 0 ≡ 2 → ⊥) → false ≡ settledAll m
-walked-wrong i m w h l u v = sym (walked-next i m w h l ∙ ap (λ b. b && settledAll (drop (suc i) m)) (settled-none _ u v))
-
-pub walked-all : (i : ℕ) (m : List ℕ) → length m ≡ 32 → Walked i m → 32 ≤ i → true ≡ settledAll m
-walked-all i m w h l = let over : length m ≤ i = omega arith in sym (h .rest ∙ ap settledAll (drop-of-length-le m over))
+  pub walked-all : 32 ≤ i → true ≡ settledAll m
+  walked-all l = let over : length m ≤ i = omega arith in sym (w .rest ∙ ap settledAll (drop-of-length-le m over))

@@ -7,7 +7,7 @@ ghost use Rattle.model.specs.Trees.{vars};
 ghost use Rattle.nodes.specs.Unfolding.{patternOf};
 ghost use Rattle.marks.specs.Marks.{deedView, nextState, markOne, markAll, settledAll};
 
-// How far each variable of a clause has come: 0 not yet bound, 1 bound, 2 used, 3 out of order.
+// How each variable of a clause stands: 0 not live, 1 live, 2 out of order.
 pub struct Marks {
     pub state: [u8; 32],
 }
@@ -20,12 +20,12 @@ fn next_state(binds: bool, s: u8) -> u8
         if s == 0 {
             return 1;
         }
-        return 3;
-    }
-    if s == 1 {
         return 2;
     }
-    3
+    if s == 1 {
+        return 0;
+    }
+    2
 }
 
 // The marks after one more deed of variable n, the same where there is no such variable.
@@ -60,18 +60,15 @@ pub fn mark(t: &[u16], base: usize, p: usize, binds: bool, m: Marks) -> Marks
     mark(t, base, b, binds, first)
 }
 
-// Whether each variable was not met, or was bound and then used.
+// Whether no variable is live, and each was bound only while not live and used only while live.
 pub fn settled(m: Marks) -> bool
     ensures { λ r. ⌜ r ≡ settledAll (m .state) ⌝ }
 {
     let state = m.state;
     let mut i: usize = 0;
     while i < 32 {
-        let s = state[i];
-        if s != 0 {
-            if s != 2 {
-                return false;
-            }
+        if state[i] != 0 {
+            return false;
         }
         i += 1;
     }

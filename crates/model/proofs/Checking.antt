@@ -8,17 +8,17 @@ use mathlib.Core.Option.{Option, none, some}
 use mathlib.Core.List.{List, [], _∷_, List·Memᴰ, List·Memᴰ·head, List·Memᴰ·tail}
 use Rattle.model.specs.Limits.{maxTags}
 use Rattle.model.specs.Tools.{all, firstFailing, firstOf, orElse}
-use Rattle.model.specs.Trees.{Ty, left, right, Pat, punit, pvar, pinj, ppair, Clause, Iso, sameTag, vars, tags}
+use Rattle.model.specs.Trees.{Ty, left, right, Pat, punit, pvar, pinj, ppair, Let, Clause, Iso, sameTag, vars, tags}
+use Rattle.model.specs.Slots.{Slots}
 use Rattle.model.specs.Refusals.{Refusal, variable, letShape, badType, overlap, gap}
 use Rattle.model.specs.Clauses.{Sigs, variablesRule, letShapes, typed, clauseFault, clash, apart, fullWeight, lefts, rights, sideFault, at, isoFault, fault, sigsOf}
-use Rattle.model.specs.Paper.{LetProducts, binders, Linear, Under, Orth, leftRight, rightLeft, under, fst, snd, Apart, alone, beside, Distinct, Covers, ClauseOk, IsoOk, FileOk}
+use Rattle.model.specs.Paper.{LetProducts, Linear, Fits, Chain, Orth, leftRight, rightLeft, under, fst, snd, Apart, alone, beside, Distinct, Covers, ClauseOk, IsoOk, FileOk}
 use Rattle.model.specs.Answers.{ClauseFault, SideFault, overlapLeft, overlapRight, gapLeft, gapRight, FirstClause, IsoFault, inClause, inSides, FirstIso}
 use Rattle.model.proofs.Basic.{none≢some, some-inj, orElse-cases, orElse-none, not-both, is-false, and-true, true-and, or-true, true-or-left, true-or-right}
 use Rattle.model.proofs.Basic.{none-failing, each-map, all-mem, mem-all, firstOf-none, none-firstOf, mem-index}
 use Rattle.model.proofs.Formed.{Formed}
 use Rattle.model.proofs.Variables.{variables-iff, shapes-iff, distinct-lhs, distinct-rhs}
-use Rattle.model.proofs.Assignment.{typed-iff}
-use Rattle.model.proofs.Linear.{Numbered, linear-iff}
+use Rattle.model.proofs.Typing.{typed-iff}
 use Rattle.model.proofs.Covering.{covering}
 
 -- ---- a test that decides a judgement
@@ -107,15 +107,6 @@ module _ (sigs : Sigs) (a b : Ty) (c : Clause) where
   pub clause-fault-iff : (f : Refusal) → (clauseFault sigs a b c ≡ some f) ↔ ClauseFault sigs a b c f
   clause-fault-iff f = (clause-fault f, fault-clause)
 
--- the conditions of document 01 on a clause are the linear typing of Table 1, with each number bound once and let patterns that are
--- products
-pub paper-iff : (sigs : Sigs) (a b : Ty) (c : Clause) → Numbered c → ClauseOk sigs a b c ↔ (Linear sigs a b c × Distinct (binders c) × LetProducts c)
-paper-iff sigs a b c w =
-    let h = linear-iff sigs a b c w in (
-      (λ k. let l = h .0 (k .variables, k .types) in (l .0, l .1, k .shapes)),
-      (λ k. let r = h .1 (k .0, k .1) in record { variables = r .0; shapes = k .2; types = r .1 }),
-    )
-
 -- ---- 11 to 14
 
 -- the patterns of an iso's sides have at most the left and right nodes that a weight can tell
@@ -123,18 +114,22 @@ pub record Light (o : Iso) : Type 0 where
   pub lhs : (c : Clause) → List·Memᴰ c (o .clauses) → tags (c .lhs) ≤ maxTags
   pub rhs : (c : Clause) → List·Memᴰ c (o .clauses) → tags (c .rhs) ≤ maxTags
 
+rhs-fits : {sigs : Sigs} {d : Slots Ty} {ls : List Let} {p : Pat} {b : Ty} → Chain sigs d ls p b → (e : Slots Ty) × Fits e p b
+rhs-fits (Chain.value {d = d} f) = (d, f)
+rhs-fits (Chain.step s k j x y i c) = rhs-fits c
+
 module _ (sigs : Sigs) (o : Iso) (light : Light o) (ok : (c : Clause) → List·Memᴰ c (o .clauses) → ClauseOk sigs (o .from) (o .to) c) where
   left-cover : Apart (lefts o) → (fullWeight (lefts o) ≡ true) ↔ Covers (o .from) (lefts o)
   left-cover =
       covering (o .from) (lefts o)
-      (each-map (λ p. (Γ : ℕ → Ty) × Under Γ p (o .from)) (λ c. c .lhs) (o .clauses) (λ c m. (ok c m .types .Γ, ok c m .types .lhs)))
+      (each-map (λ p. (d : Slots Ty) × Fits d p (o .from)) (λ c. c .lhs) (o .clauses) (λ c m. (ok c m .types .context, ok c m .types .lhs)))
       (each-map (λ p. Distinct (vars p)) (λ c. c .lhs) (o .clauses) (λ c m. distinct-lhs c (ok c m .variables)))
       (each-map (λ p. tags p ≤ maxTags) (λ c. c .lhs) (o .clauses) (light .lhs))
 
   right-cover : Apart (rights o) → (fullWeight (rights o) ≡ true) ↔ Covers (o .to) (rights o)
   right-cover =
       covering (o .to) (rights o)
-      (each-map (λ p. (Γ : ℕ → Ty) × Under Γ p (o .to)) (λ c. c .rhs) (o .clauses) (λ c m. (ok c m .types .Γ, ok c m .types .rhs)))
+      (each-map (λ p. (d : Slots Ty) × Fits d p (o .to)) (λ c. c .rhs) (o .clauses) (λ c m. rhs-fits (ok c m .types .rest)))
       (each-map (λ p. Distinct (vars p)) (λ c. c .rhs) (o .clauses) (λ c m. distinct-rhs c (ok c m .variables)))
       (each-map (λ p. tags p ≤ maxTags) (λ c. c .rhs) (o .clauses) (light .rhs))
 

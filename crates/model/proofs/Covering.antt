@@ -11,8 +11,9 @@ use lib.Dec.{eqb}
 use lib.Pow.{pow-pos}
 use Rattle.model.specs.Limits.{maxTags}
 use Rattle.model.specs.Trees.{Ty, Pat, punit, pvar, pinj, ppair, Val, vunit, vinj, vpair, sameTag, tags, vars}
+use Rattle.model.specs.Slots.{Slots}
 use Rattle.model.specs.Clauses.{fullWeight}
-use Rattle.model.specs.Paper.{Of, Under, Orth, Apart, Distinct, Matched, fill, Covers}
+use Rattle.model.specs.Paper.{Of, Fits, Orth, Apart, Distinct, Matched, fill, Covers}
 use Rattle.model.proofs.Basic.{not-both, is-false, or-true, true-or-left, true-or-right, eqb-eq, eq-eqb, not-eqb, sameTag-eq, eq-sameTag}
 use Rattle.model.proofs.Basic.{distinct-left, distinct-right, distinct-across}
 use Rattle.model.proofs.Orthogonal.{Alike, matched-alike, orth-alike}
@@ -168,7 +169,7 @@ Weighed n a ps =
     ((weights n ps ≡ 2 ^ n) × ((v : Val) → Of v a → hits ps v ≡ 1)) ⊎ ((weights n ps < 2 ^ n) × (v : Val) × Of v a × (hits ps v < 1))
 
 weighed : (n : ℕ) (a : Ty) (ps : List Pat)
-    → ((p : Pat) → List·Memᴰ p ps → (Γ : ℕ → Ty) × Under Γ p a)
+    → ((p : Pat) → List·Memᴰ p ps → (d : Slots Ty) × Fits d p a)
     → ((p : Pat) → List·Memᴰ p ps → tags p ≤ n)
     → Apart ps
     → Weighed n a ps
@@ -201,7 +202,7 @@ abbrev CoversOrGap : Ty → List Pat → Type 0
 CoversOrGap a ps = ((fullWeight ps ≡ true) × Covers a ps) ⊎ ((fullWeight ps ≡ false) × Gap a ps)
 
 covers-or-gap : (a : Ty) (ps : List Pat)
-    → ((p : Pat) → List·Memᴰ p ps → (Γ : ℕ → Ty) × Under Γ p a)
+    → ((p : Pat) → List·Memᴰ p ps → (d : Slots Ty) × Fits d p a)
     → ((p : Pat) → List·Memᴰ p ps → Distinct (vars p))
     → ((p : Pat) → List·Memᴰ p ps → tags p ≤ maxTags)
     → Apart ps
@@ -218,7 +219,7 @@ covers-or-gap a ps fits distinct light apart = go (weighed maxTags a ps fits lig
 
 -- 13 and 14: the test of the weights is the rule that every closed value is matched
 pub covering : (a : Ty) (ps : List Pat)
-    → ((p : Pat) → List·Memᴰ p ps → (Γ : ℕ → Ty) × Under Γ p a)
+    → ((p : Pat) → List·Memᴰ p ps → (d : Slots Ty) × Fits d p a)
     → ((p : Pat) → List·Memᴰ p ps → Distinct (vars p))
     → ((p : Pat) → List·Memᴰ p ps → tags p ≤ maxTags)
     → Apart ps
@@ -231,7 +232,7 @@ covering a ps fits distinct light apart = go (covers-or-gap a ps fits distinct l
 
 -- where the weights fall short some closed value is matched by no pattern
 pub uncovered : (a : Ty) (ps : List Pat)
-    → ((p : Pat) → List·Memᴰ p ps → (Γ : ℕ → Ty) × Under Γ p a)
+    → ((p : Pat) → List·Memᴰ p ps → (d : Slots Ty) × Fits d p a)
     → ((p : Pat) → List·Memᴰ p ps → Distinct (vars p))
     → ((p : Pat) → List·Memᴰ p ps → tags p ≤ maxTags)
     → Apart ps

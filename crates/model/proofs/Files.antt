@@ -53,7 +53,7 @@ unfolding verdict
 verdict-in-form bs rs h =
     ap (λ b. cond b (refused tooLong 0) (afterReading (readFrom start 1 (lines bs)))) (h .fits) ∙ ap afterReading (h .reads)
 
-judged-accepted : (rs qs : List Row) (x : Option (Refusal × ℕ)) → judged rs x ≡ accepted qs → (rs ≡ qs) × (x ≡ none)
+pub judged-accepted : (rs qs : List Row) (x : Option (Refusal × ℕ)) → judged rs x ≡ accepted qs → (rs ≡ qs) × (x ≡ none)
 judged-accepted rs qs none e = (accepted-inj e, refl)
 judged-accepted rs qs (some f) e = absurd (refused≢accepted e)
 

@@ -7,10 +7,7 @@ use Rattle.model.specs.Paper.{Apart, Covers, ClauseOk, IsoOk, FileOk}
 use Rattle.model.proofs.Basic.{each-map}
 use Rattle.model.proofs.Inverse.{lefts-invert, rights-invert}
 use Rattle.model.proofs.Variables.{variables-invert, shapes-invert}
-use Rattle.model.proofs.Assignment.{assigned-invert}
-
-abbrev pub swapSigs : Sigs → Sigs
-swapSigs sigs = map (λ s. (s .1, s .0)) sigs
+use Rattle.model.proofs.Typing.{swapSigs, linear-invert}
 
 pub sigs-invert : (os : List Iso) → sigsOf (map invert os) ≡ swapSigs (sigsOf os)
 sigs-invert [] = refl
@@ -21,7 +18,7 @@ clause-invert sigs a b c h =
     record {
       variables = variables-invert c (h .variables);
       shapes = shapes-invert c (h .shapes);
-      types = assigned-invert sigs a b c (h .types);
+      types = linear-invert sigs a b c (h .types);
     }
 
 pub iso-invert : (sigs : Sigs) (o : Iso) → IsoOk sigs o → IsoOk (swapSigs sigs) (invert o)

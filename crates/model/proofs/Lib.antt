@@ -18,8 +18,8 @@ pub mod Substitution
 pub mod Valuations
 -- what a clause, an iso and a file must satisfy
 pub mod Variables
-pub mod Assignment
-pub mod Linear
+pub mod Joins
+pub mod Typing
 pub mod Weights
 pub mod Covering
 pub mod Checking
@@ -28,7 +28,6 @@ pub mod Running
 pub mod Inverse
 pub mod Inverted
 pub mod Steps
-pub mod Joins
 pub mod Totality
 -- files and runs as bytes
 pub mod Files

@@ -20,11 +20,10 @@ use Rattle.model.specs.Paper.{Of, Apart, FileOk, OnWay, ExactlyOne}
 use Rattle.model.specs.Clauses.{lefts, rights}
 use Rattle.model.specs.Terms.{Steps, eapp, valTerm}
 use Rattle.model.specs.Answers.{RunSays, absent, strange, passed, done}
-use Rattle.model.proofs.Basic.{bind-some, some-bind, none≢some, some-inj, not-some, guard-true, true-guard, leb-le, le-leb, leb-false, bool-cases, not-leb, mem-index, index-map}
+use Rattle.model.proofs.Basic.{bind-some, some-bind, none≢some, some-inj, not-some, guard-true, true-guard, leb-le, le-leb, leb-false, bool-cases, not-leb, index-map}
 use Rattle.model.proofs.Formed.{Formed}
 use Rattle.model.proofs.Letters.{value-letters, letters-value, inhabits-of, of-inhabits}
 use Rattle.model.proofs.Inverse.{reduce-inverse, reduce-unfold}
-use Rattle.model.proofs.Linear.{linear-of, formed-numbered}
 use Rattle.model.proofs.Totality.{Sound, total, on-way}
 use Rattle.model.proofs.Steps.{reduction}
 use Rattle.model.proofs.Passing.{Passes, formed}
@@ -40,7 +39,7 @@ pub record Good (os : List Iso) : Type 0 where
 sound : (os : List Iso) → Good os → Sound os
 sound os g =
     record {
-      linear = λ o m c k. let r = mem-index m in linear-of _ (o .from) (o .to) c (formed-numbered (g .form (r .0) o (r .1) c k)) (g .ok o m .clauses c k .variables) (g .ok o m .clauses c k .types);
+      linear = λ o m c k. g .ok o m .clauses c k .types;
       shapes = λ o m c k. g .ok o m .clauses c k .shapes;
       leftsApart = λ o m. g .ok o m .leftsApart;
       leftsCover = λ o m. g .ok o m .leftsCover;

@@ -259,7 +259,7 @@ module _ (file t w queries numbers letters : List ℕ) where
   unfolding sheet
   short-sheet h = go narrow refl
     where
-      go : (b : Bool) → narrow ≡ b → answerOf (unless b (sheetVerdict count file)) ≡ record { number = 1; line = 0 }
+      go : (b : Bool) → narrow ≡ b → answerOf (unless b (sheetVerdict count (verdict file))) ≡ record { number = 1; line = 0 }
       go true e = refl
       go false e = absurd (h (narrow-room e))
 
@@ -268,18 +268,18 @@ module _ (file t w queries numbers letters : List ℕ) where
       → sheet file t w queries numbers letters .answer ≡ record { number = 2; line = 0 }
   unfolding sheet
   long-sheet r h =
-      ap (λ b. answerOf (unless b (sheetVerdict count file))) (room-narrow r) ∙ ap (λ b. answerOf (cond b (refused tooLong 0) (verdict file))) (lt-ltb h)
+      ap (λ b. answerOf (unless b (sheetVerdict count (verdict file)))) (room-narrow r) ∙ ap (λ b. answerOf (cond b (refused tooLong 0) (verdict file))) (lt-ltb h)
 
   -- where neither test refuses, the verdict is the file's
-  file-verdict : narrow ≡ false → ltb maxQueries count ≡ false → unless narrow (sheetVerdict count file) ≡ verdict file
-  file-verdict p q = ap (λ b. unless b (sheetVerdict count file)) p ∙ ap (λ b. cond b (refused tooLong 0) (verdict file)) q
+  file-verdict : narrow ≡ false → ltb maxQueries count ≡ false → unless narrow (sheetVerdict count (verdict file)) ≡ verdict file
+  file-verdict p q = ap (λ b. unless b (sheetVerdict count (verdict file))) p ∙ ap (λ b. cond b (refused tooLong 0) (verdict file)) q
 
   -- "the file is checked once", "A refused file refuses the whole call"
   pub as-check : Room t w queries numbers letters → length (lines queries) ≤ maxQueries → AsCheck file t w queries numbers letters
   unfolding sheet check
   as-check r h =
       let q : unless (short t w) (verdict file) ≡ verdict file = ap (λ b. unless b (verdict file)) (long-enough t w (r .table) (r .work)) in
-      let e : unless narrow (sheetVerdict count file) ≡ unless (short t w) (verdict file) = file-verdict (room-narrow r) (not-ltb h) ∙ sym q in
+      let e : unless narrow (sheetVerdict count (verdict file)) ≡ unless (short t w) (verdict file) = file-verdict (room-narrow r) (not-ltb h) ∙ sym q in
       record { answer = ap answerOf e; table = ap (λ v. tableAfter v t) e; work = ap (λ v. workAfter v w) e }
 
   -- A call that is not refused: the file is accepted, the areas have room for at most 600 queries, and each query is answered in its place.
@@ -301,7 +301,7 @@ module _ (file t w queries numbers letters : List ℕ) where
   -- A refused call answers no query and leaves the areas of numbers and letters.
   pub refused-sheet : (sheet file t w queries numbers letters .answer .number ≡ 0 → ⊥) → RefusedSheet file t w queries numbers letters
   unfolding sheet
-  refused-sheet h = let r = go (unless narrow (sheetVerdict count file)) h in record { answered = r .0; numbersLeft = r .1; lettersLeft = r .2 }
+  refused-sheet h = let r = go (unless narrow (sheetVerdict count (verdict file))) h in record { answered = r .0; numbersLeft = r .1; lettersLeft = r .2 }
     where
       go : (v : Verdict) → (answerOf v .number ≡ 0 → ⊥)
           → (length (answersTo v (lines queries)) ≡ 0)
@@ -314,7 +314,7 @@ module _ (file t w queries numbers letters : List ℕ) where
   pub low-refusal : (sheet file t w queries numbers letters .answer .number ≡ 0 → ⊥) → sheet file t w queries numbers letters .answer .number ≤ 2
       → (sheet file t w queries numbers letters .table ≡ t) × (sheet file t w queries numbers letters .work ≡ w)
   unfolding sheet
-  low-refusal h l = go (unless narrow (sheetVerdict count file)) h l
+  low-refusal h l = go (unless narrow (sheetVerdict count (verdict file))) h l
     where
       go : (v : Verdict) → (answerOf v .number ≡ 0 → ⊥) → answerOf v .number ≤ 2 → (tableAfter v t ≡ t) × (workAfter v w ≡ w)
       go (accepted rs) h l = absurd (h refl)

@@ -8,8 +8,8 @@ use mathlib.Core.List.{List·Memᴰ, List·Memᴰ·head, List·Memᴰ·tail, Mem
 use lib.Dec.{eqb}
 use Rattle.model.specs.Tools.{all}
 use Rattle.model.specs.Trees.{Pat, punit, pvar, pinj, ppair, Let, Clause, vars, invertLet, invertClause}
-use Rattle.model.specs.Clauses.{Deed, binds, uses, Event, deeds, letEvents, events, history, boundThenUsed, variablesRule, plain, letShapes}
-use Rattle.model.specs.Paper.{BoundOnceUsedOnce, Distinct, nobody, another, Product, LetProducts}
+use Rattle.model.specs.Clauses.{Deed, binds, uses, Event, deeds, letEvents, events, history, alternate, variablesRule, plain, letShapes}
+use Rattle.model.specs.Paper.{Alternate, BoundThenUsed, Distinct, nobody, another, Product, LetProducts}
 use Rattle.model.proofs.Basic.{bool-cases, and-true, true-and, eqb-eq, eq-eqb, each-map, all-mem, mem-all, mem-reverse}
 
 -- ---- histories
@@ -58,30 +58,28 @@ mem-history n {v} (List·Memᴰ·tail {x = w} {xs = vs} m) e z = go (bool-cases 
 
 -- ---- refusal 8
 
-once : (ds : List Deed) → boundThenUsed ds ≡ true → ds ≡ binds ∷ (uses ∷ [])
-once [] e = absurd (false≢true e)
-once (uses ∷ ds) e = absurd (false≢true e)
-once (binds ∷ []) e = absurd (false≢true e)
-once (binds ∷ (binds ∷ ds)) e = absurd (false≢true e)
-once (binds ∷ (uses ∷ [])) e = refl
-once (binds ∷ (uses ∷ (d ∷ ds))) e = absurd (false≢true e)
+alternate-of : (ds : List Deed) → alternate ds ≡ true → Alternate ds
+alternate-of [] e = Alternate.rest
+alternate-of (uses ∷ ds) e = absurd (false≢true e)
+alternate-of (binds ∷ []) e = absurd (false≢true e)
+alternate-of (binds ∷ (binds ∷ ds)) e = absurd (false≢true e)
+alternate-of (binds ∷ (uses ∷ ds)) e = Alternate.again (alternate-of ds e)
 
-pub variables-iff : (c : Clause) → (variablesRule c ≡ true) ↔ BoundOnceUsedOnce c
+of-alternate : {ds : List Deed} → Alternate ds → alternate ds ≡ true
+of-alternate Alternate.rest = refl
+of-alternate (Alternate.again a) = of-alternate a
+
+pub variables-iff : (c : Clause) → (variablesRule c ≡ true) ↔ BoundThenUsed c
 unfolding variablesRule
-variables-iff c = (λ h n. there h n (history-mem n (events c)), λ h. mem-all test (events c) λ v m. back v m (h (v .name)))
+variables-iff c = (λ h n. there h n (history-mem n (events c)), λ h. mem-all test (events c) λ v m. of-alternate (h (v .name)))
   where
     test : Event → Bool
-    test v = boundThenUsed (history (v .name) (events c))
+    test v = alternate (history (v .name) (events c))
 
     there : all test (events c) ≡ true → (n : ℕ) → (history n (events c) ≡ []) ⊎ ((v : Event) × List·Memᴰ v (events c) × (n ≡ v .name))
-        → (history n (events c) ≡ []) ⊎ (history n (events c) ≡ (binds ∷ (uses ∷ [])))
-    there h n (inl e) = inl e
-    there h n (inr (v, m, e)) = inr (once (history n (events c)) (ap (λ k. boundThenUsed (history k (events c))) e ∙ all-mem test h m))
-
-    back : (v : Event) → List·Memᴰ v (events c)
-        → (history (v .name) (events c) ≡ []) ⊎ (history (v .name) (events c) ≡ (binds ∷ (uses ∷ []))) → test v ≡ true
-    back v m (inl e) = absurd (mem-history (v .name) m refl e)
-    back v m (inr e) = ap boundThenUsed e
+        → Alternate (history n (events c))
+    there h n (inl e) = subst Alternate (sym e) Alternate.rest
+    there h n (inr (v, m, e)) = alternate-of (history n (events c)) (ap (λ k. alternate (history k (events c))) e ∙ all-mem test h m)
 
 -- ---- refusal 9
 
@@ -176,13 +174,16 @@ history-invert n c =
     ∙ sym (mirror-three (history n (deeds binds (c .lhs))) (history n (letEvents (c .lets))) (history n (deeds uses (c .rhs))))
     ∙ ap mirror (sym (history-three n (deeds binds (c .lhs)) (letEvents (c .lets)) (deeds uses (c .rhs))))
 
-pub variables-invert : (c : Clause) → BoundOnceUsedOnce c → BoundOnceUsedOnce (invertClause c)
-variables-invert c h n = go (h n)
-  where
-    go : (history n (events c) ≡ []) ⊎ (history n (events c) ≡ (binds ∷ (uses ∷ [])))
-        → (history n (events (invertClause c)) ≡ []) ⊎ (history n (events (invertClause c)) ≡ (binds ∷ (uses ∷ [])))
-    go (inl e) = inl (history-invert n c ∙ ap mirror e)
-    go (inr e) = inr (history-invert n c ∙ ap mirror e)
+alternate-snoc : {ds : List Deed} → Alternate ds → Alternate ((ds ++ (binds ∷ [])) ++ (uses ∷ []))
+alternate-snoc Alternate.rest = Alternate.again Alternate.rest
+alternate-snoc (Alternate.again a) = Alternate.again (alternate-snoc a)
+
+alternate-mirror : {ds : List Deed} → Alternate ds → Alternate (mirror ds)
+alternate-mirror Alternate.rest = Alternate.rest
+alternate-mirror (Alternate.again a) = alternate-snoc (alternate-mirror a)
+
+pub variables-invert : (c : Clause) → BoundThenUsed c → BoundThenUsed (invertClause c)
+variables-invert c h n = subst Alternate (sym (history-invert n c)) (alternate-mirror (h n))
 
 -- a let step of the inverted clause is an inverted let step of the clause
 pub invert-lets : (l : Let) (ls : List Let) → List·Memᴰ l (reverse (map invertLet ls)) → List·Memᴰ (invertLet l) ls
@@ -192,18 +193,6 @@ pub shapes-invert : (c : Clause) → LetProducts c → LetProducts (invertClause
 shapes-invert c h l m = let k = h (invertLet l) (invert-lets l (c .lets) m) in (k .1, k .0)
 
 -- ---- no number twice in a pattern
-
--- what a clause does to a variable: nothing, or it binds it and then uses it
-pub data Whole : List Deed → Type 0 where
-  never : Whole []
-  full : Whole (binds ∷ (uses ∷ []))
-
-pub whole : (c : Clause) → BoundOnceUsedOnce c → (n : ℕ) → Whole (history n (events c))
-whole c h n = go (h n)
-  where
-    go : (history n (events c) ≡ []) ⊎ (history n (events c) ≡ (binds ∷ (uses ∷ []))) → Whole (history n (events c))
-    go (inl e) = subst Whole (sym e) never
-    go (inr e) = subst Whole (sym e) full
 
 -- only one kind of deed
 pub data Only (d : Deed) : List Deed → Type 0 where
@@ -246,34 +235,14 @@ distinct-of d (m ∷ ns) h =
     go n true s = subst (Single d) (sym (single-tail d d (history n (marks d ns)) s)) unseen
     go n false s = s
 
--- a number that does not stand in a list
-pub absent : (n : ℕ) (d : Deed) (ns : List ℕ) → (List·Memᴰ n ns → ⊥) → history n (marks d ns) ≡ []
-absent n d ns h = go (history-mem n (marks d ns))
-  where
-    go : (history n (marks d ns) ≡ []) ⊎ ((v : Event) × List·Memᴰ v (marks d ns) × (n ≡ v .name)) → history n (marks d ns) ≡ []
-    go (inl e) = e
-    go (inr (v, m, e)) =
-        absurd (each-map (λ v. n ≡ v .name → ⊥) (mark d) ns (λ k i e. h (subst (λ j. List·Memᴰ j ns) (sym e) i)) v m e)
-
-pub single-of : (d : Deed) {ns : List ℕ} → Distinct ns → (n : ℕ) → Single d (history n (marks d ns))
-single-of d nobody n = unseen
-single-of d (another {n = m} {ns = ns} h t) n = go (bool-cases (eqb n m)) (single-of d t n)
-  where
-    go : (eqb n m ≡ true) ⊎ (eqb n m ≡ false) → Single d (history n (marks d ns)) → Single d (history n (marks d (m ∷ ns)))
-    go (inl e) s =
-        let q = eqb-eq n m e in
-        subst (Single d)
-        (sym (history-hit n (mark d m) (marks d ns) q ∙ ap (λ r. d ∷ r) (absent n d ns λ k. h (subst (λ j. List·Memᴰ j ns) q k))))
-        (seen refl)
-    go (inr e) s = subst (Single d) (sym (history-miss n (mark d m) (marks d ns) e)) s
-
--- what is bound first is bound once
-first-single : (ds es : List Deed) → Only binds ds → Whole (ds ++ es) → Single binds ds
+-- what the first deeds bind, they bind once
+first-single : (ds es : List Deed) → Only binds ds → Alternate (ds ++ es) → Single binds ds
 first-single [] es o w = unseen
 first-single (d ∷ []) es (more e o) w = seen e
-first-single (d ∷ (e ∷ [])) es (more h o) full = absurd (not-used o)
+first-single (d ∷ (binds ∷ ds)) es o w = elim w [ ]
+first-single (d ∷ (uses ∷ ds)) es (more h o) w = absurd (not-used o)
 
-pub distinct-lhs : (c : Clause) → BoundOnceUsedOnce c → Distinct (vars (c .lhs))
+pub distinct-lhs : (c : Clause) → BoundThenUsed c → Distinct (vars (c .lhs))
 distinct-lhs c h = distinct-of binds (vars (c .lhs)) λ n. single n
   where
     after : List Event
@@ -282,7 +251,7 @@ distinct-lhs c h = distinct-of binds (vars (c .lhs)) λ n. single n
     single : (n : ℕ) → Single binds (history n (deeds binds (c .lhs)))
     single n =
         first-single (history n (deeds binds (c .lhs))) (history n after) (only-marks n binds (vars (c .lhs)))
-        (subst Whole (history-append n (deeds binds (c .lhs)) after) (whole c h n))
+        (subst Alternate (history-append n (deeds binds (c .lhs)) after) (h n))
 
-pub distinct-rhs : (c : Clause) → BoundOnceUsedOnce c → Distinct (vars (c .rhs))
+pub distinct-rhs : (c : Clause) → BoundThenUsed c → Distinct (vars (c .rhs))
 distinct-rhs c h = distinct-lhs (invertClause c) (variables-invert c h)

@@ -11,7 +11,8 @@ use mathlib.Core.List.{List, [], _∷_, map, List·Memᴰ, List·Memᴰ·head, L
 use lib.Pow.{pow-add}
 use Rattle.model.specs.Tools.{total}
 use Rattle.model.specs.Trees.{Ty, tunit, tsum, tprod, left, right, Pat, punit, pvar, pinj, ppair, Val, vunit, vinj, vpair, sameTag, tags}
-use Rattle.model.specs.Paper.{Of, Under}
+use Rattle.model.specs.Paper.{Of, Fits}
+use Rattle.model.specs.Slots.{Slots}
 
 -- ---- sums over the closed values of a type
 
@@ -210,13 +211,13 @@ right-integral a b p = ap (λ x. size b * x + size a * integral b (hit p)) (inte
     regroup x m n = omega arith
 
 -- a pattern with k left and right nodes has the 2^k-th part of all weight
-pub part-of-size : {Γ : ℕ → Ty} {p : Pat} {a : Ty} → Under Γ p a → 2 ^ tags p * integral a (hit p) ≡ size a
-part-of-size Under.unit = refl
-part-of-size (Under.var {a} e) = ap (λ x. 1 * x) (integral-const a 1) ∙ twice-one (size a)
+pub part-of-size : {d : Slots Ty} {p : Pat} {a : Ty} → Fits d p a → 2 ^ tags p * integral a (hit p) ≡ size a
+part-of-size (Fits.unit h) = refl
+part-of-size (Fits.var {a = a} e h k) = ap (λ x. 1 * x) (integral-const a 1) ∙ twice-one (size a)
   where
     twice-one : (n : ℕ) → 1 * (1 * n) ≡ n
     twice-one n = omega arith
-part-of-size (Under.inj {t = left} {p} {a} {b} h) =
+part-of-size (Fits.inj {t = left} {p = p} {a = a} {b = b} h) =
     ap₂ _*_ (pow-add 2 1 (tags p)) (left-integral a b p) ∙ regroup (2 ^ tags p) (size a) (size b) _ (part-of-size h)
   where
     regroup : (k m n x : ℕ) → k * x ≡ m → 2 ^ 1 * k * (n * x) ≡ m * n + m * n
@@ -224,7 +225,7 @@ part-of-size (Under.inj {t = left} {p} {a} {b} h) =
       where
         first : 2 ^ 1 * k * (n * x) ≡ k * x * n + k * x * n
         first = omega arith
-part-of-size (Under.inj {t = right} {p} {a} {b} h) =
+part-of-size (Fits.inj {t = right} {p = p} {a = a} {b = b} h) =
     ap₂ _*_ (pow-add 2 1 (tags p)) (right-integral a b p) ∙ regroup (2 ^ tags p) (size a) (size b) _ (part-of-size h)
   where
     regroup : (k m n x : ℕ) → k * x ≡ n → 2 ^ 1 * k * (m * x) ≡ m * n + m * n
@@ -232,7 +233,7 @@ part-of-size (Under.inj {t = right} {p} {a} {b} h) =
       where
         first : 2 ^ 1 * k * (m * x) ≡ m * (k * x) + m * (k * x)
         first = omega arith
-part-of-size (Under.pair {p} {q} {a} {b} h k) =
+part-of-size (Fits.pair {p = p} {q = q} {a = a} {b = b} j h k) =
     ap₂ _*_ (pow-add 2 (tags p) (tags q)) (pair-integral a b p q)
     ∙ regroup _ _ _ _
     ∙ ap₂ _*_ (part-of-size h) (part-of-size k)
@@ -242,7 +243,7 @@ part-of-size (Under.pair {p} {q} {a} {b} h k) =
 
 -- ---- the weight of a list of patterns, n in place of the ceiling of left and right nodes
 
-one-weight : (n : ℕ) {Γ : ℕ → Ty} {p : Pat} {a : Ty} → Under Γ p a → tags p ≤ n → 2 ^ n * integral a (hit p) ≡ 2 ^ (n - tags p) * size a
+one-weight : (n : ℕ) {d : Slots Ty} {p : Pat} {a : Ty} → Fits d p a → tags p ≤ n → 2 ^ n * integral a (hit p) ≡ 2 ^ (n - tags p) * size a
 one-weight n {p} {a} h l =
     ap (λ k. 2 ^ k * integral a (hit p)) (sym (sub-add-cancel l)) ∙ ap (λ k. k * integral a (hit p)) (pow-add 2 (n - tags p) (tags p))
     ∙ mul-assoc (2 ^ (n - tags p)) (2 ^ tags p) (integral a (hit p))
@@ -252,7 +253,7 @@ abbrev pub weights : ℕ → List Pat → ℕ
 weights n ps = total (map (λ p. 2 ^ (n - tags p)) ps)
 
 pub all-weights : (n : ℕ) (a : Ty) (ps : List Pat)
-    → ((p : Pat) → List·Memᴰ p ps → (Γ : ℕ → Ty) × Under Γ p a)
+    → ((p : Pat) → List·Memᴰ p ps → (d : Slots Ty) × Fits d p a)
     → ((p : Pat) → List·Memᴰ p ps → tags p ≤ n)
     → 2 ^ n * integral a (hits ps) ≡ weights n ps * size a
 all-weights n a [] fits light = ap (λ k. 2 ^ n * k) (integral-const a 0) ∙ regroup _ _

@@ -11,13 +11,13 @@ use Rattle.model.specs.Letters.{letters}
 use Rattle.model.specs.Services.{Ran, gives, failed}
 use Rattle.model.specs.Terms.{Steps, eapp, valTerm}
 use Rattle.model.specs.Clauses.{Sigs, lefts, rights}
-use Rattle.model.specs.Paper.{BoundOnceUsedOnce, LetProducts, Assigned, Of, Apart, Covers, ClauseOk, IsoOk}
+use Rattle.model.specs.Paper.{BoundThenUsed, LetProducts, Linear, Of, Apart, Covers, ClauseOk, IsoOk}
 
--- 8 "variables rule broken", 9 "left or right in a let pattern", 10 "no such assignment"
+-- 8 "variables rule broken", 9 "left or right in a let pattern", 10 "no such assignment" (of types to bindings: the crate `reuse`)
 pub data ClauseFault (sigs : Sigs) (a b : Ty) (c : Clause) : Refusal → Type 0 where
-  variables : ¬ BoundOnceUsedOnce c → ClauseFault sigs a b c variable
-  shapes : BoundOnceUsedOnce c → ¬ LetProducts c → ClauseFault sigs a b c letShape
-  types : BoundOnceUsedOnce c → LetProducts c → ¬ Assigned sigs a b c → ClauseFault sigs a b c badType
+  variables : ¬ BoundThenUsed c → ClauseFault sigs a b c variable
+  shapes : BoundThenUsed c → ¬ LetProducts c → ClauseFault sigs a b c letShape
+  types : BoundThenUsed c → LetProducts c → ¬ Linear sigs a b c → ClauseFault sigs a b c badType
 
 -- 11 and 12 "two left (right) patterns are not orthogonal", 13 and 14 "left (right) patterns do not cover"
 pub data SideFault (o : Iso) : Refusal → Type 0 where

@@ -6,8 +6,9 @@ use mathlib.Core.List.{List, [], _∷_, _++_, map}
 use lib.Dec.{eqb}
 use lib.ListN.{getElem?}
 use Rattle.model.specs.Limits.{maxTags}
-use Rattle.model.specs.Tools.{_>>=_, all, total, firstFailing, firstOf, orElse}
+use Rattle.model.specs.Tools.{_>>=_, guard, all, total, firstFailing, firstOf, orElse}
 use Rattle.model.specs.Trees.{Ty, tunit, tsum, tprod, left, right, Pat, punit, pvar, pinj, ppair, Let, Clause, Iso, sameTag, sameType, part, tags, vars}
+use Rattle.model.specs.Slots.{Slots, put, get, empty, allEmpty}
 use Rattle.model.specs.Refusals.{Refusal, variable, letShape, badType, overlap, gap}
 
 -- 8. "the left pattern binds its variables; each L in order uses those of q, then binds those of p; the right pattern uses the
@@ -34,17 +35,17 @@ abbrev pub history : ℕ → List Event → List Deed
 history n [] = []
 history n (v ∷ vs) = cond (eqb n (v .name)) (v .deed ∷ history n vs) (history n vs)
 
--- "each number is bound once and, after that, used once"
-abbrev pub boundThenUsed : List Deed → Bool
-boundThenUsed [] = false
-boundThenUsed (uses ∷ ds) = false
-boundThenUsed (binds ∷ []) = false
-boundThenUsed (binds ∷ (binds ∷ ds)) = false
-boundThenUsed (binds ∷ (uses ∷ [])) = true
-boundThenUsed (binds ∷ (uses ∷ (d ∷ ds))) = false
+-- Request 03: "A number must now not be live (bound and still unused) when it is bound; it may have been used up earlier in the clause."
+-- So it is bound and then used, any number of times.
+abbrev pub alternate : List Deed → Bool
+alternate [] = true
+alternate (uses ∷ ds) = false
+alternate (binds ∷ []) = false
+alternate (binds ∷ (binds ∷ ds)) = false
+alternate (binds ∷ (uses ∷ ds)) = alternate ds
 
 unfoldable pub variablesRule : Clause → Bool
-variablesRule c = all (λ v. boundThenUsed (history (v .name) (events c))) (events c)
+variablesRule c = all (λ v. alternate (history (v .name) (events c))) (events c)
 
 -- 9. "Let patterns p and q hold only unit, variables and pairs."
 abbrev pub plain : Pat → Bool
@@ -56,49 +57,54 @@ plain (ppair p q) = plain p && plain q
 unfoldable pub letShapes : Clause → Bool
 letShapes c = all (λ l. plain (l .p) && plain (l .q)) (c .lets)
 
--- 10. The type that each variable of a pattern must have if the pattern is to fit a type: nothing where it cannot.
-abbrev pub Demands : Type 0
-Demands = List (ℕ × Ty)
+-- 10. "makes the left pattern fit the from-type, the right pattern the to-type", with a slot for the type of each live variable, as "Each
+-- binding has its own type" (request 03). Binding a pattern that fits a type puts the types of its variables; using it gets them, those of a
+-- pair's second part first, so that the two undo each other.
+abbrev pub learn : Pat → Ty → Slots Ty → Option (Slots Ty)
+learn punit tunit e = some e
+learn punit (tsum a b) e = none
+learn punit (tprod a b) e = none
+learn (pvar n) a e = put n a e
+learn (pinj t p) tunit e = none
+learn (pinj t p) (tsum a b) e = learn p (part t a b) e
+learn (pinj t p) (tprod a b) e = none
+learn (ppair p q) tunit e = none
+learn (ppair p q) (tsum a b) e = none
+learn (ppair p q) (tprod a b) e = learn p a e >>= λ d. learn q b d
 
-abbrev pub joined : Option Demands → Option Demands → Option Demands
-joined a b = a >>= λ xs. b >>= λ ys. some (xs ++ ys)
-
-abbrev pub fit : Pat → Ty → Option Demands
-fit punit tunit = some []
-fit punit (tsum a b) = none
-fit punit (tprod a b) = none
-fit (pvar n) a = some ((n, a) ∷ [])
-fit (pinj t p) tunit = none
-fit (pinj t p) (tsum a b) = fit p (part t a b)
-fit (pinj t p) (tprod a b) = none
-fit (ppair p q) tunit = none
-fit (ppair p q) (tsum a b) = none
-fit (ppair p q) (tprod a b) = joined (fit p a) (fit q b)
+abbrev pub spend : Pat → Ty → Slots Ty → Option (Slots Ty)
+spend punit tunit e = some e
+spend punit (tsum a b) e = none
+spend punit (tprod a b) e = none
+spend (pvar n) a e = get n e >>= λ r. guard (sameType (r .0) a) >>= λ _. some (r .1)
+spend (pinj t p) tunit e = none
+spend (pinj t p) (tsum a b) e = spend p (part t a b) e
+spend (pinj t p) (tprod a b) e = none
+spend (ppair p q) tunit e = none
+spend (ppair p q) (tsum a b) e = none
+spend (ppair p q) (tprod a b) e = spend q b e >>= λ d. spend p a d
 
 -- the types of the isos by number: from-type, then to-type
 abbrev pub Sigs : Type 0
 Sigs = List (Ty × Ty)
 
 -- "each q and p the from- and to-type of its iso"
-abbrev pub fitLets : Sigs → List Let → Option Demands
-fitLets sigs [] = some []
-fitLets sigs (l ∷ ls) =
-    getElem? sigs (l .iso) >>= λ s. joined (fit (l .q) (s .0)) (joined (fit (l .p) (s .1)) (fitLets sigs ls))
+abbrev pub typeLets : Sigs → List Let → Slots Ty → Option (Slots Ty)
+typeLets sigs [] e = some e
+typeLets sigs (l ∷ ls) e =
+    getElem? sigs (l .iso) >>= λ s. spend (l .q) (s .0) e >>= λ f. learn (l .p) (s .1) f >>= λ h. typeLets sigs ls h
 
-abbrev pub demands : Sigs → Ty → Ty → Clause → Option Demands
-demands sigs a b c = joined (fit (c .lhs) a) (joined (fitLets sigs (c .lets)) (fit (c .rhs) b))
+abbrev pub typeClause : Sigs → Ty → Ty → Clause → Option (Slots Ty)
+typeClause sigs a b c = learn (c .lhs) a (empty Ty) >>= λ d. typeLets sigs (c .lets) d >>= λ h. spend (c .rhs) b h
 
--- one type for each number
-abbrev pub agree : Demands → Bool
-agree ds = all (λ d. all (λ e. not (eqb (d .0) (e .0)) || sameType (d .1) (e .1)) ds) ds
+-- all patterns fit, and no variable is live in the end
+abbrev pub used : Option (Slots Ty) → Bool
+used none = false
+used (some e) = allEmpty e
 
-abbrev pub agreeing : Option Demands → Bool
-agreeing none = false
-agreeing (some ds) = agree ds
-
--- "some assignment of types to the clause's variables"
 unfoldable pub typed : Sigs → Ty → Ty → Clause → Bool
-typed sigs a b c = agreeing (demands sigs a b c)
+unfolding empty
+typed sigs a b c = used (typeClause sigs a b c)
 
 -- "each clause in order, lowest of 8 to 10"
 unfoldable pub clauseFault : Sigs → Ty → Ty → Clause → Option Refusal

@@ -2,16 +2,15 @@
 -- them. The laws in proofs/ say that what executes (`Clauses`, `Reduction`, `Services`) agrees with them.
 use Prim.Native.Nat.{ℕ, _+_}
 use mathlib.Core.Path.{_≡_}
-use mathlib.Core.Logic.{_⊎_}
 use mathlib.Core.Bool.{true}
 use mathlib.Core.Option.{none, some}
 use mathlib.Core.List.{List, [], _∷_, _++_, List·Memᴰ}
 use lib.ListN.{getElem?, length}
 use Rattle.model.specs.Limits.{variables}
-use Rattle.model.specs.Trees.{Ty, tunit, tsum, tprod, Tag, left, right, Pat, punit, pvar, pinj, ppair, Val, vunit, vinj, vpair, Let, Clause, Iso, part, vars}
+use Rattle.model.specs.Trees.{Ty, tunit, tsum, tprod, Tag, left, right, Pat, punit, pvar, pinj, ppair, Val, vunit, vinj, vpair, Let, Clause, Iso, part}
 use Rattle.model.specs.Slots.{Slots, put, empty, allEmpty}
 use Rattle.model.specs.Reduction.{bind, build, runLets, reduce}
-use Rattle.model.specs.Clauses.{binds, uses, events, history, Sigs, sigsOf, lefts, rights}
+use Rattle.model.specs.Clauses.{Deed, binds, uses, events, history, Sigs, sigsOf, lefts, rights}
 
 -- "A closed value …: U for the unit type; L or R before a closed value of the left or right type for a sum; P before one of each
 -- part for a product."
@@ -40,48 +39,27 @@ pub data Chain (sigs : Sigs) : Slots Ty → List Let → Pat → Ty → Type 0 w
   step : {d e f g h : Slots Ty} {l : Let} {ls : List Let} {p : Pat} {b : Ty} (s : Ty × Ty) → getElem? sigs (l .iso) ≡ some s
       → Join d e f → Fits e (l .q) (s .0) → Fits g (l .p) (s .1) → Join h f g → Chain sigs h ls p b → Chain sigs d (l ∷ ls) p b
 
--- a clause of the iso rule: Δ ⊢ v : a and Δ ⊢ e : b for one Δ
+-- a clause of the iso rule: Δ ⊢ v : a and Δ ⊢ e : b for one Δ. A let takes the variables of its q out of the context and puts those of its p
+-- in, so that "Each binding has its own type" (request 03).
 pub record Linear (sigs : Sigs) (a b : Ty) (c : Clause) : Type 0 where
   pub context : Slots Ty
   pub wide : length context ≡ variables
   pub lhs : Fits context (c .lhs) a
   pub rest : Chain sigs context (c .lets) (c .rhs) b
 
--- Document 01: "some assignment of types to the clause's variables makes the left pattern fit the from-type, …"
-pub data Under (Γ : ℕ → Ty) : Pat → Ty → Type 0 where
-  unit : Under Γ punit tunit
-  var : {n : ℕ} {a : Ty} → Γ n ≡ a → Under Γ (pvar n) a
-  inj : {t : Tag} {p : Pat} {a b : Ty} → Under Γ p (part t a b) → Under Γ (pinj t p) (tsum a b)
-  pair : {p q : Pat} {a b : Ty} → Under Γ p a → Under Γ q b → Under Γ (ppair p q) (tprod a b)
+-- Request 03: "A number must now not be live (bound and still unused) when it is bound; it may have been used up earlier in the clause":
+-- what happens to it is nothing, or it is bound and then used, over and over.
+pub data Alternate : List Deed → Type 0 where
+  rest : Alternate []
+  again : {ds : List Deed} → Alternate ds → Alternate (binds ∷ (uses ∷ ds))
 
-pub record LetUnder (Γ : ℕ → Ty) (sigs : Sigs) (l : Let) : Type 0 where
-  pub sig : Ty × Ty
-  pub known : getElem? sigs (l .iso) ≡ some sig
-  pub q : Under Γ (l .q) (sig .0)
-  pub p : Under Γ (l .p) (sig .1)
-
-pub record Assigned (sigs : Sigs) (a b : Ty) (c : Clause) : Type 0 where
-  pub Γ : ℕ → Ty
-  pub lhs : Under Γ (c .lhs) a
-  pub lets : (l : Let) → List·Memᴰ l (c .lets) → LetUnder Γ sigs l
-  pub rhs : Under Γ (c .rhs) b
-
--- "Within one clause each number is bound once and, after that, used once."
-abbrev pub BoundOnceUsedOnce : Clause → Type 0
-BoundOnceUsedOnce c = (n : ℕ) → (history n (events c) ≡ []) ⊎ (history n (events c) ≡ (binds ∷ (uses ∷ [])))
+abbrev pub BoundThenUsed : Clause → Type 0
+BoundThenUsed c = (n : ℕ) → Alternate (history n (events c))
 
 -- no number twice
 pub data Distinct : List ℕ → Type 0 where
   nobody : Distinct []
   another : {n : ℕ} {ns : List ℕ} → (List·Memᴰ n ns → ⊥) → Distinct ns → Distinct (n ∷ ns)
-
--- the variables that a clause binds: "each number is bound once" beside the linear typing of Table 1
-abbrev pub letBinders : List Let → List ℕ
-letBinders [] = []
-letBinders (l ∷ ls) = vars (l .p) ++ letBinders ls
-
-abbrev pub binders : Clause → List ℕ
-binders c = vars (c .lhs) ++ letBinders (c .lets)
 
 -- (Products) p ::= () | x | ⟨p₁, p₂⟩, of which let patterns are made
 pub data Product : Pat → Type 0 where
@@ -123,9 +101,9 @@ Covers a ps = (v : Val) → Of v a → (p : Pat) × List·Memᴰ p ps × Matched
 
 -- what a clause and an iso must satisfy
 pub record ClauseOk (sigs : Sigs) (a b : Ty) (c : Clause) : Type 0 where
-  pub variables : BoundOnceUsedOnce c
+  pub variables : BoundThenUsed c
   pub shapes : LetProducts c
-  pub types : Assigned sigs a b c
+  pub types : Linear sigs a b c
 
 pub record IsoOk (sigs : Sigs) (o : Iso) : Type 0 where
   pub clauses : (c : Clause) → List·Memᴰ c (o .clauses) → ClauseOk sigs (o .from) (o .to) c

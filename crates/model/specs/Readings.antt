@@ -2,7 +2,7 @@
 use Prim.Native.Nat.{ℕ}
 use mathlib.Core.Path.{_≡_, refl}
 use mathlib.Core.Option.{none}
-use mathlib.Core.List.{[], _∷_, _++_}
+use mathlib.Core.List.{List, [], _∷_, _++_}
 use Rattle.model.specs.Trees.{tunit, pvar, vunit, Clause}
 use Rattle.model.specs.Reduction.{reduce}
 use Rattle.model.specs.Services.{turned}
@@ -44,3 +44,12 @@ controlled-not : desk (bytes "T,0,0,0\nT,1,0,0\nT,2,1,1\nP,0,0,0\nP,2,0,0\nP,3,0
     ≡ bytes "0,0\n0,1,PLULU\n0,1,PRURU\n"
 unfolding desk
 controlled-not = refl
+
+-- Request 03: a number that is used up may be bound again, and each binding has its own type: x at 1 + 1 goes through iso 0 to an x at
+-- (1 + 1) × 1.
+abbrev pub retyped : List ℕ
+retyped = bytes "T,0,0,0\nT,1,0,0\nT,2,1,0\nP,1,0,0\nP,0,0,0\nP,4,0,1\nI,1,2\nC,0,2\nI,1,2\nC,0,0\nL,0,0,0\nQ,1,0,9,LU\nQ,1,1,9,PLUU\n"
+
+bound-again : desk retyped ≡ bytes "0,0\n0,2,PLUU\n0,2,LU\n"
+unfolding desk
+bound-again = refl

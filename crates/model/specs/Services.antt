@@ -76,11 +76,15 @@ pub record Checked : Type 0 where
   pub table : List ℕ
   pub work : List ℕ
 
+-- … for a file of which the verdict is `file`
+abbrev pub checkBy : Verdict → List ℕ → List ℕ → Checked
+checkBy file table work =
+    let v : Verdict = unless (short table work) file in
+    record { answer = answerOf v; table = tableAfter v table; work = workAfter v work }
+
 unfoldable pub check : List ℕ → List ℕ → List ℕ → Checked
 unfolding verdict
-check bs table work =
-    let v : Verdict = unless (short table work) (verdict bs) in
-    record { answer = answerOf v; table = tableAfter v table; work = workAfter v work }
+check bs table work = checkBy (verdict bs) table work
 
 -- Turn: the turned file's bytes, which a refusal leaves unwritten
 abbrev pub turnedOf : Verdict → List ℕ
@@ -98,10 +102,10 @@ pub record Turned : Type 0 where
   pub work : List ℕ
   pub output : List ℕ
 
-unfoldable pub turn : List ℕ → List ℕ → List ℕ → List ℕ → Turned
-unfolding turned
-turn bs table work output =
-    let v : Verdict = unless (short table work || ltb (length output) (length bs)) (verdict bs) in
+-- … for a file of n bytes
+abbrev pub turnBy : Verdict → ℕ → List ℕ → List ℕ → List ℕ → Turned
+turnBy file n table work output =
+    let v : Verdict = unless (short table work || ltb (length output) n) file in
     record {
       answer = answerOf v;
       length = length (turnedOf v);
@@ -109,6 +113,10 @@ turn bs table work output =
       work = workAfter v work;
       output = written (turnedOf v) output;
     }
+
+unfoldable pub turn : List ℕ → List ℕ → List ℕ → List ℕ → Turned
+unfolding turned
+turn bs table work output = turnBy (verdict bs) (length bs) table work output
 
 -- Run: a refusal, or the count and the letters
 pub data Ran : Type 0 where
@@ -170,10 +178,9 @@ pub record RunResult : Type 0 where
   pub work : List ℕ
   pub result : List ℕ
 
-unfoldable pub runService : List ℕ → List ℕ → List ℕ → ℕ → Bool → ℕ → List ℕ → List ℕ → RunResult
-unfolding run
-runService bs table work i back budget value result =
-    let v : Verdict = unless (short table work || ltb (length result) resultLength) (verdict bs) in
+abbrev pub runBy : Verdict → List ℕ → List ℕ → ℕ → Bool → ℕ → List ℕ → List ℕ → RunResult
+runBy file table work i back budget value result =
+    let v : Verdict = unless (short table work || ltb (length result) resultLength) file in
     let a : RunAnswer = answerOfRun (runOf v i back budget value) in
     record {
       number = a .number;
@@ -183,3 +190,7 @@ runService bs table work i back budget value result =
       work = workAfter v work;
       result = written (a .letters) result;
     }
+
+unfoldable pub runService : List ℕ → List ℕ → List ℕ → ℕ → Bool → ℕ → List ℕ → List ℕ → RunResult
+unfolding run
+runService bs table work i back budget value result = runBy (verdict bs) table work i back budget value result

@@ -1,7 +1,7 @@
 -- The terms of section 3.1 and the reduction rules Cong, LetE and IsoApp of Table 3, with the number of IsoApp steps. An iso is named
 -- by its number in the file.
 use Prim.Native.Nat.{ℕ, _+_}
-use mathlib.Core.Path.{_≡_}
+use mathlib.Core.Path.{_≡_, refl}
 use mathlib.Core.Bool.{cond}
 use mathlib.Core.Option.{Option, none, some}
 use mathlib.Core.List.{List, [], _∷_, List·Memᴰ}
@@ -44,12 +44,13 @@ abbrev pub orVar : ℕ → Option Val → Term
 orVar n none = evar n
 orVar n (some v) = valTerm v
 
--- a valuation without the variables that a let binds anew
+-- a valuation without the numbers that a let binds anew
 abbrev pub without : List ℕ → (ℕ → Option Val) → ℕ → Option Val
 without [] f n = f n
 without (m ∷ ms) f n = cond (eqb n m) none (without ms f n)
 
--- σ(t): "the variables … have been replaced with the corresponding values"
+-- σ(t): "the variables … have been replaced with the corresponding values". What stands behind a let under a number of its p is that let's
+-- binding, another one than σ's (request 03: a number may be used again), and is not replaced. Values are closed, so no let captures what is put in.
 abbrev pub replace : (ℕ → Option Val) → Term → Term
 replace f eunit = eunit
 replace f (evar n) = orVar n (f n)
@@ -57,6 +58,10 @@ replace f (einj t u) = einj t (replace f u)
 replace f (epair t u) = epair (replace f t) (replace f u)
 replace f (eapp i t) = eapp i (replace f t)
 replace f (elet p t u) = elet p (replace f t) (replace (without (vars p) f) u)
+
+-- let x = ω x in x: the x that ω gets is replaced, the x behind the let is not
+used-again : replace (look ((0, vunit) ∷ [])) (elet (pvar 0) (eapp 0 (evar 0)) (evar 0)) ≡ elet (pvar 0) (eapp 0 eunit) (evar 0)
+used-again = refl
 
 -- Table 3. The number is 1 for IsoApp and 0 for LetE; "the value given is matched", not the right side. The other rules are Cong, one
 -- for each applicative context C[-].

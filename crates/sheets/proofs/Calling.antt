@@ -39,11 +39,11 @@ record Agrees (t w : List ℕ) (ls : List (List ℕ)) (n o t′ w′ n′ o′ :
   letters : o′ ≡ lettersAfter (answersTo v ls) o
 
 -- agree with the call where that is its verdict
-sheet-says : (s t w q n o t′ w′ n′ o′ : List ℕ) (r : S.Answered) (v : Verdict) → unless (short t w || narrowSheet (length (lines q)) n o) (sheetVerdict (length (lines q)) s) ≡ v
+sheet-says : (s t w q n o t′ w′ n′ o′ : List ℕ) (r : S.Answered) (v : Verdict) → unless (short t w || narrowSheet (length (lines q)) n o) (sheetVerdict (length (lines q)) (verdict s)) ≡ v
     → Agrees t w (lines q) n o t′ w′ n′ o′ r v → SheetSays s t w q n o t′ w′ n′ o′ r
 unfolding sheet
 sheet-says s t w q n o t′ w′ n′ o′ r v e a =
-    let g : Agrees t w (lines q) n o t′ w′ n′ o′ r (unless (short t w || narrowSheet (length (lines q)) n o) (sheetVerdict (length (lines q)) s)) =
+    let g : Agrees t w (lines q) n o t′ w′ n′ o′ r (unless (short t w || narrowSheet (length (lines q)) n o) (sheetVerdict (length (lines q)) (verdict s))) =
     subst (Agrees t w (lines q) n o t′ w′ n′ o′ r) (sym e) a in
     record { number = g .number; line = g .line; answered = g .answered; table = g .table; work = g .work; numbers = g .numbers; letters = g .letters }
 
@@ -52,14 +52,14 @@ pub sheet-short : (s t w q n o : List ℕ) (r : S.Answered) {b : Bool} {m : ℕ}
     → refusalView (r .answer .refusal) ≡ some shortArea → r .answer .place ≡ 0 → r .queries ≡ 0 → SheetSays s t w q n o t w n o r
 sheet-short s t w q n o r {b} {m} c e y f p k =
     sheet-says s t w q n o t w n o r (refused shortArea 0)
-    (ap (λ x. unless x (sheetVerdict (length (lines q)) s)) (ap (λ x. short t w || narrowSheet x n o) (sym c) ∙ sym e ∙ y))
+    (ap (λ x. unless x (sheetVerdict (length (lines q)) (verdict s))) (ap (λ x. short t w || narrowSheet x n o) (sym c) ∙ sym e ∙ y))
     (record { number = ap numbered f; line = p; answered = k; table = refl; work = refl; numbers = refl; letters = refl })
 
 -- the areas are long enough
 enough : (s t w q n o : List ℕ) {b : Bool} {m : ℕ} → m ≡ length (lines q) → b ≡ (short t w || narrowSheet m n o) → b ≡ false
-    → unless (short t w || narrowSheet (length (lines q)) n o) (sheetVerdict (length (lines q)) s) ≡ sheetVerdict m s
+    → unless (short t w || narrowSheet (length (lines q)) n o) (sheetVerdict (length (lines q)) (verdict s)) ≡ sheetVerdict m (verdict s)
 enough s t w q n o {b} {m} c e y =
-    ap (λ x. unless (short t w || narrowSheet x n o) (sheetVerdict x s)) (sym c) ∙ ap (λ x. unless x (sheetVerdict m s)) (sym e ∙ y)
+    ap (λ x. unless (short t w || narrowSheet x n o) (sheetVerdict x (verdict s))) (sym c) ∙ ap (λ x. unless x (sheetVerdict m (verdict s))) (sym e ∙ y)
 
 -- 2: over 600 queries
 pub sheet-many : (s t w q n o : List ℕ) (r : S.Answered) {b : Bool} {m : ℕ} → m ≡ length (lines q) → b ≡ (short t w || narrowSheet m n o) → b ≡ false → maxQueries < m
@@ -71,7 +71,7 @@ sheet-many s t w q n o r c e y h f p k =
 
 -- at most 600: the verdict is the file's
 few : (s t w q n o : List ℕ) {b : Bool} {m : ℕ} → m ≡ length (lines q) → b ≡ (short t w || narrowSheet m n o) → b ≡ false → m ≤ maxQueries
-    → unless (short t w || narrowSheet (length (lines q)) n o) (sheetVerdict (length (lines q)) s) ≡ verdict s
+    → unless (short t w || narrowSheet (length (lines q)) n o) (sheetVerdict (length (lines q)) (verdict s)) ≡ verdict s
 few s t w q n o c e y h = enough s t w q n o c e y ∙ ap (λ x. cond x (refused tooLong 0) (verdict s)) (not-ltb h)
 
 -- Check's answer and areas, for areas that are long enough

@@ -7,14 +7,13 @@ use nodes::pattern_cell;
 use trees::same_type;
 use words::wide;
 ghost use mathlib.Core.Path.{_≡_};
-ghost use mathlib.Core.Bool.{true, false};
-ghost use mathlib.Core.Option.{some};
-ghost use mathlib.Core.List.{[], _∷_};
-ghost use Rattle.model.specs.Clauses.{fit as demandsOf};
+ghost use mathlib.Core.Bool.{true, false, cond, _&&_};
+ghost use Rattle.model.specs.Trees.{pvar};
+ghost use Rattle.marks.specs.Marks.{settledAll};
 ghost use Rattle.nodes.specs.Unfolding.{typeOf, patternOf};
-ghost use Rattle.typing.specs.Fitting.{envView, EntryOf, meetAll, freshEnv, Parted};
+ghost use Rattle.typing.specs.Fitting.{envView, EntryOf, fitAll, freshEnv, Parted};
 
-// The type of each variable, as one more than its T line, 0 for none yet; and whether all fitted so far.
+// The type of each live variable, as one more than its T line, 0 for none; and whether all fitted so far.
 pub struct Env {
     pub fits: bool,
     pub line: [u16; 32],
@@ -47,29 +46,37 @@ fn entry_of(a: usize) -> u16
     4097
 }
 
-// Variable n has the type of T line a: the first one met, or the same.
-fn assign(t: &[u16], n: usize, a: usize, e: Env) -> Env
+// Variable n is bound to the type of T line a, and must not be live; or it is used with that type, and is live no more.
+fn assign(t: &[u16], n: usize, a: usize, binds: bool, e: Env) -> Env
     requires { ⌜ e .fits ≡ true ⌝ }
-    ensures { λ r. ⌜ envView (now (t .entry)) r ≡ meetAll (some ((n, typeOf (now (t .entry)) a) ∷ [])) (envView (now (t .entry)) e) ⌝ }
+    ensures { λ r. ⌜ envView (now (t .entry)) r ≡ fitAll binds (pvar n) (typeOf (now (t .entry)) a) (envView (now (t .entry)) e) ⌝ }
 {
     if 32 <= n {
         return failed(e);
     }
     let known = wide(e.line[n]);
+    if binds {
+        if known == 0 {
+            let mut r = e;
+            r.line[n] = entry_of(a);
+            return r;
+        }
+        return failed(e);
+    }
     if known == 0 {
-        let mut r = e;
-        r.line[n] = entry_of(a);
-        return r;
+        return failed(e);
     }
     if same_type(t, known - 1, a) {
-        return e;
+        let mut r = e;
+        r.line[n] = 0;
+        return r;
     }
     failed(e)
 }
 
-// The types of the variables once P line p fits T line a.
-pub fn fit(t: &[u16], base: usize, p: usize, a: usize, e: Env) -> Env
-    ensures { λ r. ⌜ envView (now (t .entry)) r ≡ meetAll (demandsOf (patternOf (now (t .entry)) base p) (typeOf (now (t .entry)) a)) (envView (now (t .entry)) e) ⌝ }
+// The types of the live variables once P line p, bound or used, fits T line a.
+pub fn fit(t: &[u16], base: usize, p: usize, a: usize, binds: bool, e: Env) -> Env
+    ensures { λ r. ⌜ envView (now (t .entry)) r ≡ fitAll binds (patternOf (now (t .entry)) base p) (typeOf (now (t .entry)) a) (envView (now (t .entry)) e) ⌝ }
 {
     if e.fits {
         let kp = pattern_cell(t, base, p, 1);
@@ -81,32 +88,81 @@ pub fn fit(t: &[u16], base: usize, p: usize, a: usize, e: Env) -> Env
             return failed(e);
         }
         if kp == 1 {
-            return assign(t, pattern_cell(t, base, p, 2), a, e);
+            return assign(t, pattern_cell(t, base, p, 2), a, binds, e);
         }
-        return fit_parts(t, base, p, a, kp, ka, e);
+        return fit_parts(t, base, p, a, kp, ka, binds, e);
     }
     e
 }
 
-// The same for a P line of kind kp, left, right or pair, and a T line of kind ka.
-fn fit_parts(t: &[u16], base: usize, p: usize, a: usize, kp: usize, ka: usize, e: Env) -> Env
+// The same for a P line of kind kp, left, right or pair, and a T line of kind ka. The second part of a pair is used first.
+fn fit_parts(
+    t: &[u16],
+    base: usize,
+    p: usize,
+    a: usize,
+    kp: usize,
+    ka: usize,
+    binds: bool,
+    e: Env,
+) -> Env
     requires { ⌜ Parted (now t) base p a kp ka ⌝ }
-    ensures { λ r. ⌜ envView (now (t .entry)) r ≡ meetAll (demandsOf (patternOf (now (t .entry)) base p) (typeOf (now (t .entry)) a)) (envView (now (t .entry)) e) ⌝ }
+    ensures { λ r. ⌜ envView (now (t .entry)) r ≡ fitAll binds (patternOf (now (t .entry)) base p) (typeOf (now (t .entry)) a) (envView (now (t .entry)) e) ⌝ }
 {
-    let first = pattern_part(t, base, p, 2);
     if kp < 4 {
+        let only = pattern_part(t, base, p, 2);
         if ka == 1 {
             let part = type_part(t, a, kp);
-            return fit(t, base, first, part, e);
+            return fit(t, base, only, part, binds, e);
         }
         return failed(e);
     }
     if ka < 2 {
         return failed(e);
     }
-    let b = type_part(t, a, 2);
-    let f = fit(t, base, first, b, e);
-    let second = pattern_part(t, base, p, 3);
-    let c = type_part(t, a, 3);
-    fit(t, base, second, c, f)
+    let k = sooner(binds);
+    let l = later(binds);
+    let first = pattern_part(t, base, p, k);
+    let b = type_part(t, a, k);
+    let f = fit(t, base, first, b, binds, e);
+    let second = pattern_part(t, base, p, l);
+    let c = type_part(t, a, l);
+    fit(t, base, second, c, binds, f)
+}
+
+// The field of the part that comes first, and of the one that comes second.
+fn sooner(binds: bool) -> usize
+    ensures { λ r. ⌜ r ≡ cond binds 2 3 ⌝ }
+{
+    if binds {
+        return 2;
+    }
+    3
+}
+
+fn later(binds: bool) -> usize
+    ensures { λ r. ⌜ r ≡ cond binds 3 2 ⌝ }
+{
+    if binds {
+        return 3;
+    }
+    2
+}
+
+// Whether all fitted, and no variable is live.
+pub fn all_used(e: Env) -> bool
+    ensures { λ r. ⌜ r ≡ (e .fits && settledAll (e .line)) ⌝ }
+{
+    if e.fits {
+        let line = e.line;
+        let mut i: usize = 0;
+        while i < 32 {
+            if line[i] != 0 {
+                return false;
+            }
+            i += 1;
+        }
+        return true;
+    }
+    false
 }

@@ -25,7 +25,6 @@ use Rattle.model.proofs.Basic.{bind-some, some-bind, none≢some, some-inj, is-
 use Rattle.model.proofs.Passing.{Passes, done, next, Fit, judge-fit, let-fit}
 use Rattle.model.proofs.Orthogonal.{Alike, matched-alike, orth-alike, apart-head, apart-tail}
 use Rattle.model.proofs.Matching.{bind-matched}
-use Rattle.model.proofs.Linear.{linear-of, formed-numbered}
 use Rattle.model.proofs.Running.{let-run, ClauseRun, clause-run, hit-only}
 use Rattle.model.proofs.Inverse.{reduce-unfold}
 use Rattle.model.proofs.Joins.{EnvOf, build-total, build-all, bind-total, lhs-total}
@@ -245,7 +244,7 @@ few-lets {rs} d = tail-few (afterAll start rs .types) (afterAll start rs .patter
 pub sound : (os : List Iso) → Good os → Sound os
 sound os g =
     record {
-      linear = λ o m c k. let r = mem-index m in linear-of _ (o .from) (o .to) c (formed-numbered (g .form (r .0) o (r .1) c k)) (g .ok o m .clauses c k .variables) (g .ok o m .clauses c k .types);
+      linear = λ o m c k. g .ok o m .clauses c k .types;
       shapes = λ o m c k. g .ok o m .clauses c k .shapes;
       leftsApart = λ o m. g .ok o m .leftsApart;
       leftsCover = λ o m. g .ok o m .leftsCover;

@@ -26,9 +26,12 @@ cell-requires-2 c κs = search needs
 fit-requires-2 : tie.Need-fit-requires-2
 fit-requires-2 c κs = search needs
 
+all-used-requires : tie.Need-all-used-requires
+all-used-requires c κs = search needs
+
 returns : tie.Need-returns
 returns c h =
-    let w = c .before .before in
+    let w = c .before .before .before in
     let s = w .before .before .before .before .before .before .before in
     clause-fitted
     (s .args .t .now)
@@ -41,13 +44,14 @@ returns c h =
     (w .before .before .no-types .result)
     (w .before .fit .result)
     (w .fit-lets .result)
-    (c .fit2 .result)
+    (c .before .fit2 .result)
     (w .before .before .no-types .ensures)
     (w .before .before .before .cell .ensures .0)
     (w .before .fit .ensures)
     (w .fit-lets .ensures)
-    (c .before .cell2 .ensures .0)
-    (c .fit2 .ensures)
+    (c .before .before .cell2 .ensures .0)
+    (c .before .fit2 .ensures)
+    (c .all-used .ensures)
 
 returns-2 : tie.Need-returns-2
 returns-2 c h = absurd (omega arith)
@@ -63,5 +67,6 @@ types-fit-spec =
     fit-lets-requires
     cell-requires-2
     fit-requires-2
+    all-used-requires
     returns
     returns-2)

@@ -1,0 +1,93 @@
+-- The rule as it stood before request 03: "Within one clause each number is bound once and, after that, used once", and "some assignment
+-- of types to the clause's variables", one for each number.
+use Prim.Native.Nat.{ℕ}
+use mathlib.Core.Bool.{Bool, true, false, cond, not, _||_}
+use mathlib.Core.Option.{Option, none, some}
+use mathlib.Core.List.{List, [], _∷_, _++_}
+use lib.Dec.{eqb}
+use lib.ListN.{getElem?}
+use Rattle.model.specs.Tools.{_>>=_, all, firstFailing, firstOf, orElse}
+use Rattle.model.specs.Trees.{Ty, tunit, tsum, tprod, Pat, punit, pvar, pinj, ppair, Let, Clause, Iso, sameType, part}
+use Rattle.model.specs.Refusals.{Refusal, variable, letShape, badType, tooLong}
+use Rattle.model.specs.Clauses.{Deed, binds, uses, events, history, letShapes, Sigs, sigsOf, sideFault, at}
+use Rattle.model.specs.Lines.{lines}
+use Rattle.model.specs.Judge.{Reading, rows, faulty, start, judge, readFrom}
+use Rattle.model.specs.Unfold.{isosOf}
+use Rattle.model.specs.Services.{Verdict, refused, judged, over}
+
+-- 8. "each number is bound once and, after that, used once"
+abbrev pub once : List Deed → Bool
+once [] = false
+once (uses ∷ ds) = false
+once (binds ∷ []) = false
+once (binds ∷ (binds ∷ ds)) = false
+once (binds ∷ (uses ∷ [])) = true
+once (binds ∷ (uses ∷ (d ∷ ds))) = false
+
+unfoldable pub onceRule : Clause → Bool
+onceRule c = all (λ v. once (history (v .name) (events c))) (events c)
+
+-- 10. The type that each variable of a pattern must have if the pattern is to fit a type: nothing where it cannot.
+abbrev pub Demands : Type 0
+Demands = List (ℕ × Ty)
+
+abbrev pub joined : Option Demands → Option Demands → Option Demands
+joined a b = a >>= λ xs. b >>= λ ys. some (xs ++ ys)
+
+abbrev pub fit : Pat → Ty → Option Demands
+fit punit tunit = some []
+fit punit (tsum a b) = none
+fit punit (tprod a b) = none
+fit (pvar n) a = some ((n, a) ∷ [])
+fit (pinj t p) tunit = none
+fit (pinj t p) (tsum a b) = fit p (part t a b)
+fit (pinj t p) (tprod a b) = none
+fit (ppair p q) tunit = none
+fit (ppair p q) (tsum a b) = none
+fit (ppair p q) (tprod a b) = joined (fit p a) (fit q b)
+
+-- "each q and p the from- and to-type of its iso"
+abbrev pub fitLets : Sigs → List Let → Option Demands
+fitLets sigs [] = some []
+fitLets sigs (l ∷ ls) =
+    getElem? sigs (l .iso) >>= λ s. joined (fit (l .q) (s .0)) (joined (fit (l .p) (s .1)) (fitLets sigs ls))
+
+abbrev pub demands : Sigs → Ty → Ty → Clause → Option Demands
+demands sigs a b c = joined (fit (c .lhs) a) (joined (fitLets sigs (c .lets)) (fit (c .rhs) b))
+
+-- one type for each number
+abbrev pub alike : ℕ × Ty → ℕ × Ty → Bool
+alike d e = not (eqb (d .0) (e .0)) || sameType (d .1) (e .1)
+
+abbrev pub agree : Demands → Bool
+agree ds = all (λ d. all (alike d) ds) ds
+
+abbrev pub agreeing : Option Demands → Bool
+agreeing none = false
+agreeing (some ds) = agree ds
+
+unfoldable pub typedOnce : Sigs → Ty → Ty → Clause → Bool
+typedOnce sigs a b c = agreeing (demands sigs a b c)
+
+-- the refusals of clauses, isos and files by these tests; 9 and 11 to 14 are those of today
+unfoldable pub clauseFault : Sigs → Ty → Ty → Clause → Option Refusal
+unfolding onceRule letShapes typedOnce
+clauseFault sigs a b c =
+    firstFailing ((onceRule c, variable) ∷ (letShapes c, letShape) ∷ (typedOnce sigs a b c, badType) ∷ [])
+
+unfoldable pub isoFault : Sigs → Iso → Option (Refusal × ℕ)
+unfolding clauseFault sideFault
+isoFault sigs o =
+    orElse (firstOf (λ c. at (c .line) (clauseFault sigs (o .from) (o .to) c)) (o .clauses)) (at (o .line) (sideFault o))
+
+unfoldable pub fault : List Iso → Option (Refusal × ℕ)
+unfolding isoFault
+fault os = firstOf (isoFault (sigsOf os)) os
+
+abbrev pub afterReading : Reading → Verdict
+afterReading (faulty f n) = refused f n
+afterReading (rows rs) = judged rs (fault (isosOf rs))
+
+unfoldable pub former : List ℕ → Verdict
+unfolding over start judge isosOf fault
+former bs = cond (over bs) (refused tooLong 0) (afterReading (readFrom start 1 (lines bs)))
