@@ -1,5 +1,5 @@
 /*
- * rulefile.h - Check, Turn, Run and whole sheets of queries for rule files.
+ * rulefile.h - Check, Turn, Run, whole sheets of queries and settings as numbers for rule files.
  *
  * Link with librulefile.a (`rt staticlib rulefile` writes target/staticlib/librulefile.a). The library
  * needs memset of the C library and nothing else; it allocates nothing, keeps nothing between calls and
@@ -15,8 +15,8 @@
  *
  * The areas need not be cleared. After a call
  *   - the first RULEFILE_TABLE_LENGTH numbers of the table hold, if the file was accepted, four numbers a
- *     line: the letter's ASCII code and the fields, padded with 0, and zeros behind the last line; on
- *     refusals 3 to 14 they are all 0;
+ *     line: the letter's ASCII code and the fields, padded with 0, and zeros behind the last line, so also
+ *     where the call is refused with 15 or above; on refusals 3 to 14 they are all 0;
  *   - the first RULEFILE_WORK_LENGTH bytes of the work area are 0;
  *   - refusals 1 and 2 leave every area as it was;
  *   - any refusal of the call leaves output, result, and the numbers and letters of a sheet as they were;
@@ -67,9 +67,11 @@ enum rulefile_number {
     RULEFILE_OVERLAP_RIGHT = 12, /* the same, right patterns; line of the I */
     RULEFILE_GAP_LEFT = 13,      /* the left patterns leave a value out; line of the I */
     RULEFILE_GAP_RIGHT = 14,     /* the same, right patterns; line of the I */
-    RULEFILE_NO_ISO = 15,        /* Run: iso number not in the file */
-    RULEFILE_NO_VALUE = 16,      /* Run: not exactly one closed value of the starting type */
-    RULEFILE_SPENT = 17          /* Run: the full count would pass the budget */
+    RULEFILE_NO_ISO = 15,        /* iso number, or number of a T line, not in the file; line 0 */
+    RULEFILE_NO_VALUE = 16,      /* not exactly one closed value of the starting type or T line; line 0 */
+    RULEFILE_SPENT = 17,         /* the full count would pass the budget; line 0 */
+    RULEFILE_TOO_MANY = 18,      /* the T line has over 4,294,967,295 values; line 0 */
+    RULEFILE_TOO_HIGH = 19       /* the setting's number is not below the T line's count of values; line 0 */
 };
 
 /* What Check gives. */
@@ -97,6 +99,18 @@ struct rulefile_sheet_answer {
     uint32_t number; /* enum rulefile_number */
     size_t line;     /* the file's line refused, 0 where none is named */
     size_t queries;  /* queries answered, 0 on refusal */
+};
+
+/* What the letters of a setting give. */
+struct rulefile_number_answer {
+    uint32_t number;  /* enum rulefile_number */
+    uint32_t setting; /* the setting's number, 0 on refusal */
+};
+
+/* What the number of a setting gives. */
+struct rulefile_setting_answer {
+    uint32_t number; /* enum rulefile_number */
+    size_t length;   /* letters written to result, 0 on refusal */
 };
 
 /* Checks a file. */
@@ -144,6 +158,40 @@ struct rulefile_sheet_answer rulefile_sheet(
     const uint8_t *queries, size_t queries_length,
     uint32_t *numbers, size_t numbers_length,
     uint8_t *letters, size_t letters_length);
+
+/*
+ * Checks a file and gives the number of a setting, a value of its T line number `type` (the T lines are
+ * numbered from 0). Unit is 0; left keeps its number; right adds the left type's count of values; a pair
+ * is its first part's number times the second type's count of values, plus its second part's number. So
+ * the settings of a T line have the numbers from 0 to one below its count of values, and these rise as
+ * the letters do in byte order.
+ *
+ * The refusals in their order: 1, 2, those of the file, 15 where it has no such T line, 18 where that one
+ * has over 4,294,967,295 values, 16 where the letters are not exactly one of them. No refusal names
+ * a line. Table and work area are left as rulefile_check leaves them.
+ */
+struct rulefile_number_answer rulefile_number_of(
+    const uint8_t *file, size_t file_length,
+    uint16_t *table, size_t table_length,
+    uint8_t *work, size_t work_length,
+    uint32_t type,
+    const uint8_t *value, size_t value_length);
+
+/*
+ * Checks a file and writes the letters of the value of its T line number `type` that has the number
+ * `setting`: rulefile_number_of of these letters is that number again, and the other way round.
+ *
+ * The refusals in their order: 1, also where the result is shorter than RULEFILE_RESULT_LENGTH, 2, those of
+ * the file, 15 where it has no such T line, 18 where that one has over 4,294,967,295 values, 19 where the
+ * number is not below its count of values. No refusal names a line, and each leaves the result as it was.
+ * Table and work area are left as rulefile_check leaves them.
+ */
+struct rulefile_setting_answer rulefile_setting_of(
+    const uint8_t *file, size_t file_length,
+    uint16_t *table, size_t table_length,
+    uint8_t *work, size_t work_length,
+    uint32_t type, uint32_t setting,
+    uint8_t *result, size_t result_length);
 
 #ifdef __cplusplus
 }

@@ -54,6 +54,10 @@ impl<P: Program, S: Services> Block<P, S> {
         variables::count(&mut self.tally, &known, variables::LIBRARY);
         let list = list::make(random, case, &known, &input.bytes[file.len()..]);
         self.calls.sheet(random, &mut self.tally, &known, &list);
+        self.calls.settings(random, &mut self.tally, case, &known);
+        if matches!(case, Case::Counted(_)) {
+            self.calls.faults(random, &mut self.tally);
+        }
         if let Ok(rules) = &known.checked {
             for ask in input.asks() {
                 self.run(random, &known, ask);

@@ -3,12 +3,14 @@
 
 use crate::areas::{Areas, Kind, Noise, Shape};
 use crate::service::{expected, query, Answer, Ask, Call, Services};
+use crate::settings;
 use crate::sheets::{self, Given};
 use crate::tally::{Tally, BY_SHEET, CHECK, ISO_ABOVE_65535, LETTERS, LIBRARY, RUN, SHORT, TURN};
 use apart::areas::{Known, RESULT};
 use apart::generate::query::line;
 use apart::generate::random::Random;
 use apart::lines::split;
+use apart::numbering::{number_of_rules, setting_of_rules};
 use apart::run_rules;
 use apart::sheet::{NUMBERS, QUERIES};
 
@@ -66,6 +68,7 @@ impl<S: Services> Calls<S> {
         let theirs = self.services.call(known.file, call, self.theirs.lend());
         let lengths = shapes.map(|shape| shape.length);
         count(tally, known, call, lengths, &ours);
+        settings::count(tally, known, call, &ours, &theirs);
         if let Call::Sheet(list) = call {
             let numbers = &self.ours.numbers.lent()[..ours.queries * NUMBERS];
             sheets::count(tally, list, ours.number, numbers);
@@ -108,37 +111,51 @@ fn name(call: Call) -> String {
             iso, back, budget, ..
         }) => format!("Run of iso {iso}, back {back}, budget {budget}"),
         Call::Sheet(list) => format!("Sheet, the last {} bytes its queries", list.len()),
+        Call::NumberOf(ty, _) => format!("number of a setting of T line {ty}"),
+        Call::SettingOf(ty, number) => format!("setting {number} of T line {ty}"),
     }
 }
 
-/// The file and the queries of a call in the form of the desk program.
-fn input(file: &[u8], call: Call) -> Vec<u8> {
+/// The file and the queries of a call in the form of the desk program; the
+/// calls of settings as numbers in that of the stored examples.
+pub fn input(file: &[u8], call: Call) -> Vec<u8> {
     let mut input = file.to_vec();
     match call {
         Call::Check | Call::Turn => {}
         Call::Run(ask) => input.extend(line(ask.iso as usize, ask.back, ask.budget, ask.letters)),
         Call::Sheet(list) => input.extend(list),
+        Call::NumberOf(ty, letters) => {
+            input.extend(format!("N,{ty},").into_bytes());
+            input.extend(letters);
+            input.push(b'\n');
+        }
+        Call::SettingOf(ty, number) => input.extend(format!("S,{ty},{number}\n").into_bytes()),
     }
     input
 }
 
-/// Counts the number given and the kinds of the areas.
+/// Counts the number given and the kinds of the areas. Numbers that are given
+/// for settings have tables of their own.
 fn count(tally: &mut Tally, known: &Known, call: Call, lengths: [usize; 4], ours: &Answer) {
     tally.calls += 1;
     let (column, rows) = match call {
-        Call::Check => (CHECK, &[0, 1][..]),
-        Call::Turn => (TURN, &[0, 1, 2][..]),
-        Call::Run(_) => (RUN, &[0, 1, 3][..]),
-        Call::Sheet(_) => (BY_SHEET, &[4, 5, 6, 7][..]),
+        Call::Check => (Some(CHECK), &[0, 1][..]),
+        Call::Turn => (Some(TURN), &[0, 1, 2][..]),
+        Call::Run(_) => (Some(RUN), &[0, 1, 3][..]),
+        Call::Sheet(_) => (Some(BY_SHEET), &[4, 5, 6, 7][..]),
+        Call::NumberOf(..) => (None, &[8, 9][..]),
+        Call::SettingOf(..) => (None, &[10, 11, 12][..]),
     };
-    tally.numbers.hit(ours.number as usize, column);
-    if ours.number == 1 {
-        tally.numbers.hit(otherwise(known, call), SHORT);
+    if let Some(column) = column {
+        tally.numbers.hit(ours.number as usize, column);
+        if ours.number == 1 {
+            tally.numbers.hit(otherwise(known, call), SHORT);
+        }
     }
     if matches!(call, Call::Run(ask) if ask.iso > 65_535) {
         tally.laws.hit(ISO_ABOVE_65535, LIBRARY);
     }
-    if column == RUN && ours.length == RESULT {
+    if column == Some(RUN) && ours.length == RESULT {
         tally.ceilings.hit(LETTERS, 0);
     }
     tally.count(ours.count, LIBRARY);
@@ -155,7 +172,7 @@ fn count(tally: &mut Tally, known: &Known, call: Call, lengths: [usize; 4], ours
 }
 
 /// The number that the call would be given if its areas were long enough.
-fn otherwise(known: &Known, call: Call) -> usize {
+pub fn otherwise(known: &Known, call: Call) -> usize {
     if matches!(call, Call::Sheet(list) if split(list).len() > QUERIES) {
         return 2;
     }
@@ -163,8 +180,14 @@ fn otherwise(known: &Known, call: Call) -> usize {
         Ok(rules) => rules,
         Err(refusal) => return refusal.number.into(),
     };
-    let Call::Run(ask) = call else { return 0 };
-    let query = query(ask);
-    let ran = run_rules(rules, query.iso, query.back, query.budget, query.value);
-    ran.err().map_or(0, |refusal| refusal.number.into())
+    let refused = match call {
+        Call::Check | Call::Turn | Call::Sheet(_) => None,
+        Call::Run(ask) => {
+            let query = query(ask);
+            run_rules(rules, query.iso, query.back, query.budget, query.value).err()
+        }
+        Call::NumberOf(ty, letters) => number_of_rules(rules, ty, letters).err(),
+        Call::SettingOf(ty, setting) => setting_of_rules(rules, ty, setting).err(),
+    };
+    refused.map_or(0, |refusal| refusal.number.into())
 }

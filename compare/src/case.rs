@@ -1,5 +1,6 @@
 //! Which files are made.
 
+use crate::settings;
 use apart::generate::ceiling::{self, Ceiling, CEILINGS};
 use apart::generate::life::SLIPS;
 use apart::generate::random::Random;
@@ -32,6 +33,9 @@ pub enum Case {
     Stack,
     /// The longest value.
     Longest,
+    /// An accepted file with a type of many values, by the place of their
+    /// count.
+    Counted(usize),
     /// An accepted file with as many queries as a sheet may have, or one more.
     Full(bool),
     Accepted,
@@ -41,6 +45,7 @@ pub enum Case {
 /// The cases that every run has, whatever its seed.
 pub fn always() -> Vec<Case> {
     let mut cases = vec![Case::Long; 3];
+    cases.extend(settings::cases());
     for over in [false, true].repeat(5) {
         cases.extend([Case::Stack, Case::Longest, Case::Bytes(over)]);
         cases.extend([Case::Full(over), Case::Again, Case::Crowded, Case::Mistyped]);
@@ -78,6 +83,7 @@ pub fn file(random: &mut Random, case: Case) -> (Vec<u8>, Option<(u8, usize)>) {
         Case::Long => (tower::long(random), Some((0, 0))),
         Case::Stack => (tower::stack(random), Some((0, 0))),
         Case::Longest => (tower::longest_value(random), Some((0, 0))),
+        Case::Counted(place) => (settings::file(random, place), Some((0, 0))),
         Case::Accepted | Case::Full(_) => (accepted(random), Some((0, 0))),
         Case::Any => (any_file(random), None),
     }

@@ -1,6 +1,6 @@
 //! The exported functions of the library, as `include/rulefile.h` declares
-//! them: unlike the Rust wrapper they give count, length and queries on refusal
-//! too. This module has all `unsafe` of the package.
+//! them: unlike the Rust wrapper they give count, length, queries and setting
+//! on refusal too. This module has all `unsafe` of the package.
 
 use crate::service::{Answer, Ask, Call, Lent};
 use std::ptr::{null, null_mut};
@@ -30,6 +30,18 @@ struct SheetAnswer {
     number: u32,
     line: usize,
     queries: usize,
+}
+
+#[repr(C)]
+struct NumberAnswer {
+    number: u32,
+    setting: u32,
+}
+
+#[repr(C)]
+struct SettingAnswer {
+    number: u32,
+    length: usize,
 }
 
 extern "C" {
@@ -83,6 +95,31 @@ extern "C" {
         letters: *mut u8,
         letters_length: usize,
     ) -> SheetAnswer;
+
+    fn rulefile_number_of(
+        file: *const u8,
+        file_length: usize,
+        table: *mut u16,
+        table_length: usize,
+        work: *mut u8,
+        work_length: usize,
+        ty: u32,
+        value: *const u8,
+        value_length: usize,
+    ) -> NumberAnswer;
+
+    fn rulefile_setting_of(
+        file: *const u8,
+        file_length: usize,
+        table: *mut u16,
+        table_length: usize,
+        work: *mut u8,
+        work_length: usize,
+        ty: u32,
+        setting: u32,
+        result: *mut u8,
+        result_length: usize,
+    ) -> SettingAnswer;
 }
 
 /// Where bytes that are only read begin; null where there are none.
@@ -109,6 +146,8 @@ pub fn call(file: &[u8], call: Call, lent: Lent) -> Answer {
         Call::Turn => turn(file, lent),
         Call::Run(ask) => run(file, ask, lent),
         Call::Sheet(list) => sheet(file, list, lent),
+        Call::NumberOf(ty, letters) => number_of(file, ty, letters, lent),
+        Call::SettingOf(ty, setting) => setting_of(file, ty, setting, lent),
     }
 }
 
@@ -216,6 +255,55 @@ fn sheet(file: &[u8], list: &[u8], lent: Lent) -> Answer {
         number: given.number,
         line: given.line,
         queries: given.queries,
+        ..Answer::default()
+    }
+}
+
+fn number_of(file: &[u8], ty: u32, letters: &[u8], lent: Lent) -> Answer {
+    let Lent { table, work, .. } = lent;
+    // SAFETY: as for `check`.
+    let given = unsafe {
+        rulefile_number_of(
+            begin(file),
+            file.len(),
+            start(table),
+            table.len(),
+            start(work),
+            work.len(),
+            ty,
+            begin(letters),
+            letters.len(),
+        )
+    };
+    Answer {
+        number: given.number,
+        setting: given.setting,
+        ..Answer::default()
+    }
+}
+
+fn setting_of(file: &[u8], ty: u32, setting: u32, lent: Lent) -> Answer {
+    let Lent {
+        table, work, out, ..
+    } = lent;
+    // SAFETY: as for `check`.
+    let given = unsafe {
+        rulefile_setting_of(
+            begin(file),
+            file.len(),
+            start(table),
+            table.len(),
+            start(work),
+            work.len(),
+            ty,
+            setting,
+            start(out),
+            out.len(),
+        )
+    };
+    Answer {
+        number: given.number,
+        length: given.length,
         ..Answer::default()
     }
 }

@@ -36,31 +36,39 @@ fn wrapped(file: &[u8], call: Call, lent: Lent) -> Answer {
         out,
         numbers,
     } = lent;
+    let none = Answer::default();
     let given = match call {
-        Call::Check => rulefile::check(file, table, work).map(|()| (0, 0, 0)),
-        Call::Turn => rulefile::turn(file, table, work, out).map(|length| (0, length, 0)),
+        Call::Check => rulefile::check(file, table, work).map(|()| none),
+        Call::Turn => {
+            let turned = rulefile::turn(file, table, work, out);
+            turned.map(|length| Answer { length, ..none })
+        }
         Call::Run(ask) => {
             let ran = rulefile::run(file, table, work, query(ask), out);
-            ran.map(|ran| (ran.count.into(), ran.length, 0))
+            ran.map(|ran| Answer {
+                count: ran.count.into(),
+                length: ran.length,
+                ..none
+            })
         }
         Call::Sheet(list) => {
             let answered = rulefile::sheet(file, table, work, list, numbers, out);
-            answered.map(|queries| (0, 0, queries))
+            answered.map(|queries| Answer { queries, ..none })
+        }
+        Call::NumberOf(ty, letters) => {
+            let given = rulefile::number_of(file, table, work, ty, letters);
+            given.map(|setting| Answer { setting, ..none })
+        }
+        Call::SettingOf(ty, setting) => {
+            let given = rulefile::setting_of(file, table, work, ty, setting, out);
+            given.map(|length| Answer { length, ..none })
         }
     };
-    match given {
-        Ok((count, length, queries)) => Answer {
-            count,
-            length,
-            queries,
-            ..Answer::default()
-        },
-        Err(Refused { refusal, line }) => Answer {
-            number: refusal.number(),
-            line,
-            ..Answer::default()
-        },
-    }
+    given.unwrap_or_else(|Refused { refusal, line }| Answer {
+        number: refusal.number(),
+        line,
+        ..none
+    })
 }
 
 fn query(ask: Ask) -> Query {

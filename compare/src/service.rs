@@ -3,6 +3,7 @@
 
 use apart::areas::{Known, Query, RESULT, TABLE, WORK};
 use apart::lines::split;
+use apart::numbering;
 use apart::sheet::{self, NUMBERS};
 
 /// What Run is asked. The library takes an iso of 32 bits.
@@ -21,6 +22,10 @@ pub enum Call<'a> {
     Run(Ask<'a>),
     /// With the list of query lines.
     Sheet(&'a [u8]),
+    /// The number of a setting: the number of the T line, and letters.
+    NumberOf(u32, &'a [u8]),
+    /// The setting of a number: the number of the T line, and that number.
+    SettingOf(u32, u32),
 }
 
 /// All that an answer holds; what the service does not give is 0.
@@ -32,10 +37,13 @@ pub struct Answer {
     pub length: usize,
     /// The queries that a sheet has answered.
     pub queries: usize,
+    /// The number of a setting.
+    pub setting: u32,
 }
 
-/// The lent areas; `out` is Turn's output, Run's result or a sheet's letters,
-/// and of no use to Check. `numbers` are of use to a sheet alone.
+/// The lent areas; `out` is Turn's output, Run's result, a sheet's letters or
+/// the letters of a number, and of no use to others. `numbers` are of use to
+/// a sheet alone.
 pub struct Lent<'a> {
     pub table: &'a mut [u16],
     pub work: &'a mut [u8],
@@ -51,8 +59,8 @@ impl Call<'_> {
     /// How many areas it is lent, in the order of `least`.
     pub fn areas(&self) -> usize {
         match self {
-            Call::Check => 2,
-            Call::Turn | Call::Run(_) => 3,
+            Call::Check | Call::NumberOf(..) => 2,
+            Call::Turn | Call::Run(_) | Call::SettingOf(..) => 3,
             Call::Sheet(_) => 4,
         }
     }
@@ -60,9 +68,9 @@ impl Call<'_> {
     /// The least lengths of table, work, out and numbers.
     pub fn least(&self, file: &[u8]) -> [usize; 4] {
         let (out, numbers) = match self {
-            Call::Check => (0, 0),
+            Call::Check | Call::NumberOf(..) => (0, 0),
             Call::Turn => (file.len(), 0),
-            Call::Run(_) => (RESULT, 0),
+            Call::Run(_) | Call::SettingOf(..) => (RESULT, 0),
             Call::Sheet(list) => {
                 let queries = split(list).len();
                 (queries * RESULT, queries * NUMBERS)
@@ -102,6 +110,8 @@ pub fn expected(known: &Known, call: Call, lent: Lent) -> Answer {
             }
         }
         Call::Sheet(list) => sheet(known, list, lent),
+        Call::NumberOf(ty, letters) => number_of(known, ty, letters, lent),
+        Call::SettingOf(ty, setting) => setting_of(known, ty, setting, lent),
     }
 }
 
@@ -117,6 +127,25 @@ fn sheet(known: &Known, list: &[u8], lent: Lent) -> Answer {
         number: given.number.into(),
         line: given.line,
         queries: given.queries,
+        ..Answer::default()
+    }
+}
+
+fn number_of(known: &Known, ty: u32, letters: &[u8], lent: Lent) -> Answer {
+    let given = numbering::number_of(known, lent.table, lent.work, ty, letters);
+    Answer {
+        number: given.number.into(),
+        setting: given.setting,
+        ..Answer::default()
+    }
+}
+
+fn setting_of(known: &Known, ty: u32, setting: u32, lent: Lent) -> Answer {
+    let (table, work) = (lent.table, lent.work);
+    let given = numbering::setting_of(known, table, work, ty, setting, lent.out);
+    Answer {
+        number: given.number.into(),
+        length: given.length,
         ..Answer::default()
     }
 }

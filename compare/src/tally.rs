@@ -1,6 +1,7 @@
 //! What was compared, what was hit, and what differed.
 
 use crate::grid::Grid;
+use crate::settings;
 use crate::sheets;
 use crate::variables;
 use apart::generate::ceiling::CEILINGS;
@@ -59,6 +60,7 @@ pub struct Tally {
     pub areas: Grid,
     pub budgets: Grid,
     pub laws: Grid,
+    pub settings: settings::Grids,
     pub ceilings: Grid,
     pub sheets: Grid,
     pub variables: Grid,
@@ -115,6 +117,11 @@ fn areas() -> Grid {
         "work of a sheet",
         "letters",
         "numbers",
+        "table of number_of",
+        "work of number_of",
+        "table of setting_of",
+        "work of setting_of",
+        "result of setting_of",
     ]);
     let columns = &["exact", "longer", "one short", "empty"];
     Grid::new("area", rows, columns, |_, _| true)
@@ -165,6 +172,7 @@ impl Default for Tally {
             areas: areas(),
             budgets: budgets(),
             laws: laws(),
+            settings: settings::Grids::default(),
             ceilings: ceilings(),
             sheets: sheets::grid(),
             variables: variables::grid(),
@@ -188,6 +196,7 @@ impl Tally {
         self.areas.add(&other.areas);
         self.budgets.add(&other.budgets);
         self.laws.add(&other.laws);
+        self.settings.add(&other.settings);
         self.ceilings.add(&other.ceilings);
         self.sheets.add(&other.sheets);
         self.variables.add(&other.variables);
@@ -228,11 +237,8 @@ impl Tally {
 
     /// All that has to be hit and was not.
     pub fn missing(&self) -> Vec<String> {
-        let mut missing: Vec<String> = self
-            .grids()
-            .iter()
-            .flat_map(|grid| grid.missing())
-            .collect();
+        let grids = self.grids().into_iter().chain(self.settings.all());
+        let mut missing: Vec<String> = grids.flat_map(|grid| grid.missing()).collect();
         for (pair, count) in pair::all().iter().zip(&self.pairs) {
             if *count == 0 {
                 missing.push(format!("{pair:?}"));
@@ -252,7 +258,7 @@ impl Tally {
         for report in &self.reports {
             println!("mismatch: {}", report.text);
         }
-        for grid in self.grids() {
+        for grid in self.grids().into_iter().chain(self.settings.all()) {
             println!("{}", grid.text());
         }
         let hit = self.pairs.iter().filter(|count| **count > 0).count();

@@ -240,12 +240,14 @@ fn a_wrong_step_of_a_trip_is_reported() {
 fn compared(program: fn(&mut Vec<u8>), services: Spoil) -> usize {
     let mut random = Random::new(5);
     let mut block = Block::new(Desk(program), Spoiled(services), &mut random);
-    for case in [
+    let cases = [
         Case::Longest,
         Case::Pair(3, 0),
         Case::Accepted,
         Case::Aimed(8),
-    ] {
+    ];
+    for (place, case) in cases.into_iter().enumerate() {
+        let mut random = Random::new(place as u64);
         block.case(&mut random, case, 9).unwrap();
     }
     assert_eq!(block.tally.files, 4);

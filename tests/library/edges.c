@@ -158,9 +158,17 @@ static bool as_foreseen(const struct area *area)
 
 /* Calls */
 
-enum service { SERVICE_CHECK, SERVICE_TURN, SERVICE_RUN, SERVICE_SHEET };
+enum service {
+    SERVICE_CHECK,
+    SERVICE_TURN,
+    SERVICE_RUN,
+    SERVICE_SHEET,
+    SERVICE_NUMBER_OF,
+    SERVICE_SETTING_OF,
+    SERVICES
+};
 
-static const char *const service_names[] = {"Check", "Turn", "Run", "Sheet"};
+static const char *const service_names[SERVICES] = {"Check", "Turn", "Run", "Sheet", "Number of", "Setting of"};
 
 /* What a query of a sheet is to give. */
 struct reply {
@@ -176,7 +184,7 @@ struct sheet {
     const struct reply *replies;
 };
 
-/* Only a call of Sheet has queries. */
+/* Only a call of Sheet has queries. The type is that of a setting, which goes in as a value or as a number. */
 struct call {
     enum service service;
     struct bytes file;
@@ -185,6 +193,8 @@ struct call {
     uint32_t budget;
     struct bytes value;
     struct sheet sheet;
+    uint32_t type;
+    uint32_t setting;
 };
 
 struct answer {
@@ -193,11 +203,12 @@ struct answer {
     uint32_t count;
     size_t length;
     size_t queries;
+    uint32_t setting;
 };
 
 /*
- * The areas that a call writes: the table and the work area; Turn's output, Run's result or the letters of
- * a sheet; the numbers of a sheet.
+ * The areas that a call writes: the table and the work area; Turn's output, the result of Run or of a
+ * setting's number, or the letters of a sheet; the numbers of a sheet.
  */
 struct lent {
     struct area table;
@@ -215,8 +226,8 @@ struct lengths {
 };
 
 static const struct bytes nothing = {NULL, 0};
-static bool hit[4][RULEFILE_SPENT + 1];
-static bool hit_by_query[RULEFILE_SPENT + 1];
+static bool hit[SERVICES][RULEFILE_TOO_HIGH + 1];
+static bool hit_by_query[RULEFILE_TOO_HIGH + 1];
 
 /* For a sheet of so many queries. */
 static struct lengths sheet_lengths(size_t queries)
@@ -230,7 +241,7 @@ static struct lengths exact_lengths(const struct call *call)
     struct lengths lengths = sheet_lengths(call->sheet.queries);
     if (call->service == SERVICE_TURN)
         lengths.out = call->file.length;
-    if (call->service == SERVICE_RUN)
+    if (call->service == SERVICE_RUN || call->service == SERVICE_SETTING_OF)
         lengths.out = RULEFILE_RESULT_LENGTH;
     return lengths;
 }
@@ -264,15 +275,35 @@ static uint32_t *numbers_of(uint8_t *bytes)
     return (uint32_t *)(void *)bytes;
 }
 
-/* Run's value, or the list of a sheet. */
+/* The list of a sheet, or the value of another service. */
 static struct bytes input_of(const struct call *call)
 {
     return call->service == SERVICE_SHEET ? call->sheet.list : call->value;
 }
 
+/* The two ways of settings as numbers. */
+static struct answer call_settings(const struct call *call, const struct area *file, const struct area *input,
+                                   const struct lent *lent)
+{
+    uint16_t *table = rows_of(lent->table.start);
+    size_t table_length = lent->table.length / 2;
+    if (call->service == SERVICE_NUMBER_OF) {
+        struct rulefile_number_answer a =
+            rulefile_number_of(file->start, file->length, table, table_length, lent->work.start,
+                               lent->work.length, call->type, input->start, input->length);
+        return (struct answer){.number = a.number, .setting = a.setting};
+    }
+    struct rulefile_setting_answer a =
+        rulefile_setting_of(file->start, file->length, table, table_length, lent->work.start, lent->work.length,
+                            call->type, call->setting, lent->out.start, lent->out.length);
+    return (struct answer){.number = a.number, .length = a.length};
+}
+
 static struct answer make_call(const struct call *call, const struct area *file, const struct area *input,
                                const struct lent *lent)
 {
+    if (call->service == SERVICE_NUMBER_OF || call->service == SERVICE_SETTING_OF)
+        return call_settings(call, file, input, lent);
     uint16_t *table = rows_of(lent->table.start);
     size_t table_length = lent->table.length / 2;
     if (call->service == SERVICE_CHECK) {
@@ -379,18 +410,18 @@ static struct outcome perform(enum place place, struct lent *lent, const struct 
 static bool same_answer(struct answer a, struct answer b)
 {
     return a.number == b.number && a.line == b.line && a.count == b.count && a.length == b.length &&
-           a.queries == b.queries;
+           a.queries == b.queries && a.setting == b.setting;
 }
 
 static void print_answer(const char *label, struct answer a)
 {
-    printf("    %s: number %lu, line %zu, count %lu, length %zu, queries %zu\n", label, (unsigned long)a.number,
-           a.line, (unsigned long)a.count, a.length, a.queries);
+    printf("    %s: number %lu, line %zu, count %lu, length %zu, queries %zu, setting %lu\n", label,
+           (unsigned long)a.number, a.line, (unsigned long)a.count, a.length, a.queries, (unsigned long)a.setting);
 }
 
 static void mark(bool *numbers, uint32_t number)
 {
-    if (number <= RULEFILE_SPENT)
+    if (number <= RULEFILE_TOO_HIGH)
         numbers[number] = true;
 }
 
@@ -674,9 +705,134 @@ static const struct sheet_case sheet_cases[] = {
 static const struct reply unanswered[] = {REFUSED(15), REFUSED(3)};
 static const struct sheet unanswered_sheet = {TEXT("Q,65535,0,9,U\nQ\n"), COUNT_OF(unanswered), unanswered};
 
+/* Three times two settings: the first part in three steps, the second a bit. */
+#define SIX "T,0,0,0\nT,1,0,0\nT,1,0,1\nT,2,2,1\n"
+
+/* 32 two-valued types as a chain of products: T line 31 has 2^31 values, T line 32 has 2^32. */
+#define BITS                                                                                                 \
+    "T,0,0,0\nT,1,0,0\nT,2,1,1\nT,2,1,2\nT,2,1,3\nT,2,1,4\nT,2,1,5\nT,2,1,6\nT,2,1,7\nT,2,1,8\nT,2,1,9\n"     \
+    "T,2,1,10\nT,2,1,11\nT,2,1,12\nT,2,1,13\nT,2,1,14\nT,2,1,15\nT,2,1,16\nT,2,1,17\nT,2,1,18\nT,2,1,19\n"     \
+    "T,2,1,20\nT,2,1,21\nT,2,1,22\nT,2,1,23\nT,2,1,24\nT,2,1,25\nT,2,1,26\nT,2,1,27\nT,2,1,28\nT,2,1,29\n"     \
+    "T,2,1,30\nT,2,1,31\n"
+
+/* Ten times a bit 0, ten times a bit 1, each but the last of a chain. */
+#define ZEROS "PLUPLUPLUPLUPLUPLUPLUPLUPLUPLU"
+#define ONES "PRUPRUPRUPRUPRUPRUPRUPRUPRUPRU"
+#define LOWEST_OF_31 ZEROS ZEROS ZEROS "LU"
+#define HIGHEST_OF_31 ONES ONES ONES "RU"
+
+/* Pairs of pairs, 31, 63 and 127 letters. */
+#define UNITS_31 "PPPPUUPUUPPUUPUUPPPUUPUUPPUUPUU"
+#define UNITS_63 "P" UNITS_31 UNITS_31
+#define UNITS_127 "P" UNITS_63 UNITS_63
+
+/* A setting's letters and its number: each is what the other way gives. */
+struct setting_case {
+    int at;
+    struct bytes file; /* accepted */
+    uint32_t type;
+    struct bytes letters;
+    uint32_t setting;
+};
+
+static const struct setting_case setting_cases[] = {
+    {__LINE__, TEXT(S), 0, TEXT("U"), 0},
+    {__LINE__, TEXT(S), 1, TEXT("LU"), 0},
+    {__LINE__, TEXT(S), 1, TEXT("RU"), 1},
+    {__LINE__, TEXT(S), 2, TEXT("PLULU"), 0},
+    {__LINE__, TEXT(S), 2, TEXT("PLURU"), 1},
+    {__LINE__, TEXT(S), 2, TEXT("PRULU"), 2},
+    {__LINE__, TEXT(S), 2, TEXT("PRURU"), 3},
+    {__LINE__, TEXT(STEPS), 2, TEXT("LU"), 0},
+    {__LINE__, TEXT(STEPS), 2, TEXT("RLU"), 1},
+    {__LINE__, TEXT(STEPS), 2, TEXT("RRU"), 2},
+    {__LINE__, TEXT(WIDER), 2, TEXT("PRUU"), 1},
+    {__LINE__, TEXT(SIX), 3, TEXT("PLULU"), 0},
+    {__LINE__, TEXT(SIX), 3, TEXT("PLURU"), 1},
+    {__LINE__, TEXT(SIX), 3, TEXT("PRLULU"), 2},
+    {__LINE__, TEXT(SIX), 3, TEXT("PRLURU"), 3},
+    {__LINE__, TEXT(SIX), 3, TEXT("PRRULU"), 4},
+    {__LINE__, TEXT(SIX), 3, TEXT("PRRURU"), 5},
+    {__LINE__, TEXT(SEVEN_TYPES), 4, TEXT(UNITS_31), 0},
+    {__LINE__, TEXT(SEVEN_TYPES), 6, TEXT(UNITS_127), 0},
+    {__LINE__, TEXT(BITS), 31, TEXT(LOWEST_OF_31), 0},
+    {__LINE__, TEXT(BITS), 31, TEXT(ZEROS ZEROS ZEROS "RU"), 1},
+    {__LINE__, TEXT(BITS), 31, TEXT("PRU" ZEROS ZEROS "PLUPLUPLUPLUPLUPLUPLUPLUPLU" "LU"), 1073741824},
+    {__LINE__, TEXT(BITS), 31, TEXT(HIGHEST_OF_31), 2147483647},
+};
+
+/* A call for a number or for letters that is refused. */
+struct unnumbered_case {
+    int at;
+    struct bytes file;
+    uint32_t type;
+    struct bytes letters;
+    uint32_t setting;
+    uint32_t of_letters; /* the number that the letters are refused with, 0 where they are not asked */
+    uint32_t of_number;  /* the same of the setting's number */
+};
+
+static const struct unnumbered_case unnumbered_cases[] = {
+    /* T lines that are absent; numbers that would be one with fewer bits */
+    {__LINE__, TEXT(S), 3, TEXT("PLURU"), 0, 15, 15},
+    {__LINE__, TEXT(S), 11, TEXT("U"), 0, 15, 15},
+    {__LINE__, TEXT(S), 256, TEXT("U"), 0, 15, 15},
+    {__LINE__, TEXT(S), 258, TEXT("PLURU"), 1, 15, 15},
+    {__LINE__, TEXT(S), 65535, TEXT("U"), 0, 15, 15},
+    {__LINE__, TEXT(S), 65538, TEXT("PLURU"), 1, 15, 15},
+    {__LINE__, TEXT(S), 2147483650, TEXT("PLURU"), 1, 15, 15},
+    {__LINE__, TEXT(S), 4294967295, TEXT("U"), 0, 15, 15},
+    {__LINE__, TEXT(""), 0, TEXT("U"), 0, 15, 15},
+    {__LINE__, TEXT(BITS), 33, TEXT("PLU" LOWEST_OF_31), 0, 15, 15},
+    /* too many values, by one */
+    {__LINE__, TEXT(BITS), 32, TEXT("PLU" LOWEST_OF_31), 0, 18, 18},
+    {__LINE__, TEXT(BITS), 32, TEXT("PRU" HIGHEST_OF_31), 1, 18, 18},
+    {__LINE__, TEXT(BITS), 32, TEXT("PRU" HIGHEST_OF_31), 2147483648, 18, 18},
+    /* not below the count */
+    {__LINE__, TEXT(S), 0, TEXT(""), 1, 16, 19},
+    {__LINE__, TEXT(S), 1, TEXT(""), 2, 16, 19},
+    {__LINE__, TEXT(S), 2, TEXT(""), 4, 16, 19},
+    {__LINE__, TEXT(S), 2, TEXT(""), 5, 16, 19},
+    {__LINE__, TEXT(S), 2, TEXT(""), 256, 16, 19},
+    {__LINE__, TEXT(S), 2, TEXT(""), 65536, 16, 19},
+    {__LINE__, TEXT(S), 2, TEXT(""), 4294967295, 16, 19},
+    {__LINE__, TEXT(SEVEN_TYPES), 6, TEXT(UNITS_63), 1, 16, 19},
+    {__LINE__, TEXT(BITS), 31, TEXT("PLU" LOWEST_OF_31), 2147483648, 16, 19},
+    {__LINE__, TEXT(BITS), 31, TEXT(ZEROS ZEROS ZEROS "L"), 4294967295, 16, 19},
+    /* letters that are no setting of the T line */
+    {__LINE__, TEXT(S), 2, TEXT("U"), 0, 16, 0},
+    {__LINE__, TEXT(S), 2, TEXT("LU"), 0, 16, 0},
+    {__LINE__, TEXT(S), 2, TEXT("PLU"), 0, 16, 0},
+    {__LINE__, TEXT(S), 2, TEXT("PLURUU"), 0, 16, 0},
+    {__LINE__, TEXT(S), 2, TEXT("PLUPLU"), 0, 16, 0},
+    {__LINE__, TEXT(S), 2, TEXT("pluru"), 0, 16, 0},
+    {__LINE__, TEXT(S), 2, TEXT("PLURU\n"), 0, 16, 0},
+    {__LINE__, TEXT(S), 2, TEXT("PLUR\0"), 0, 16, 0},
+    {__LINE__, TEXT(S), 2, TEXT("PLUR\377"), 0, 16, 0},
+    {__LINE__, TEXT(S), 1, TEXT("PLURU"), 0, 16, 0},
+    {__LINE__, TEXT(S), 0, TEXT("UU"), 0, 16, 0},
+    {__LINE__, TEXT(SEVEN_TYPES), 6, TEXT(UNITS_127 "U"), 0, 16, 0},
+    /* 15 before 18, 15 before 16 and 19, 18 before 16 and 19 */
+    {__LINE__, TEXT(BITS), 288, TEXT(""), 4294967295, 15, 15},
+    {__LINE__, TEXT(S), 3, TEXT(""), 4294967295, 15, 15},
+    {__LINE__, TEXT(BITS), 32, TEXT(""), 4294967295, 18, 18},
+    {__LINE__, TEXT(BITS), 32, TEXT("PLU"), 4294967295, 18, 18},
+    {__LINE__, TEXT(BITS), 32, TEXT("U"), 4294967295, 18, 18},
+    /* the file's refusal comes first */
+    {__LINE__, TEXT(BITS "T,2,1,32\n"), 33, TEXT("PLU"), 0, 7, 7},
+    {__LINE__, TEXT(BITS "\n"), 32, TEXT(""), 4294967295, 3, 3},
+    {__LINE__, TEXT(S "C,7,7\n"), 2, TEXT("PLURU"), 1, 11, 11},
+    {__LINE__, TEXT(S "C,7,7\n"), 3, TEXT(""), 4294967295, 11, 11},
+};
+
 static struct call run_call(const struct query_case *c)
 {
-    return (struct call){SERVICE_RUN, c->file, c->iso, c->back, c->budget, c->value, {nothing, 0, NULL}};
+    return (struct call){.service = SERVICE_RUN,
+                         .file = c->file,
+                         .iso = c->iso,
+                         .back = c->back,
+                         .budget = c->budget,
+                         .value = c->value};
 }
 
 static struct call sheet_call(const struct sheet_case *c)
@@ -684,20 +840,24 @@ static struct call sheet_call(const struct sheet_case *c)
     return (struct call){.service = SERVICE_SHEET, .file = c->file, .sheet = {c->list, c->queries, c->replies}};
 }
 
-/* A file through every service; a run of an accepted file asks for an iso that is not there. */
+/* A file through every service; of an accepted one an iso and a T line are asked for that are not there. */
 static void try_file(const struct setting *setting, const struct file_case *c)
 {
-    struct call call = {.service = SERVICE_CHECK, .file = c->file, .iso = UINT32_MAX};
+    struct call call = {.service = SERVICE_CHECK, .file = c->file, .iso = UINT32_MAX, .type = UINT32_MAX};
     struct answer answer = {.number = c->number, .line = c->line};
     try_call(c->at, setting, &call, answer, nothing);
     call.service = SERVICE_TURN;
     try_call(c->at, setting, &call, answer, c->number == RULEFILE_ACCEPTED ? c->turned : nothing);
     struct call sheet = {.service = SERVICE_SHEET, .file = c->file, .sheet = unanswered_sheet};
     try_call(c->at, setting, &sheet, answer, nothing);
-    call.service = SERVICE_RUN;
     answer.line = 0;
     if (answer.number == RULEFILE_ACCEPTED)
         answer.number = RULEFILE_NO_ISO;
+    call.service = SERVICE_RUN;
+    try_call(c->at, setting, &call, answer, nothing);
+    call.service = SERVICE_NUMBER_OF;
+    try_call(c->at, setting, &call, answer, nothing);
+    call.service = SERVICE_SETTING_OF;
     try_call(c->at, setting, &call, answer, nothing);
 }
 
@@ -714,6 +874,30 @@ static void try_sheet(const struct setting *setting, const struct sheet_case *c)
     try_call(c->at, setting, &call, (struct answer){0}, nothing);
 }
 
+/* The letters to the number, and the number to the letters. */
+static void try_setting(const struct setting *setting, const struct setting_case *c)
+{
+    struct call call = {.service = SERVICE_NUMBER_OF, .file = c->file, .type = c->type, .value = c->letters};
+    try_call(c->at, setting, &call, (struct answer){.setting = c->setting}, nothing);
+    call = (struct call){.service = SERVICE_SETTING_OF, .file = c->file, .type = c->type, .setting = c->setting};
+    try_call(c->at, setting, &call, (struct answer){0}, c->letters);
+}
+
+/* Both calls, each of them refused. */
+static void try_unnumbered(const struct setting *setting, const struct unnumbered_case *c)
+{
+    struct call call = {.service = SERVICE_NUMBER_OF,
+                        .file = c->file,
+                        .type = c->type,
+                        .value = c->letters,
+                        .setting = c->setting};
+    if (c->of_letters > 0)
+        try_call(c->at, setting, &call, (struct answer){.number = c->of_letters}, nothing);
+    call.service = SERVICE_SETTING_OF;
+    if (c->of_number > 0)
+        try_call(c->at, setting, &call, (struct answer){.number = c->of_number}, nothing);
+}
+
 static void try_cases(const struct setting *setting)
 {
     for (size_t i = 0; i < COUNT_OF(file_cases); i++)
@@ -722,20 +906,24 @@ static void try_cases(const struct setting *setting)
         try_query(setting, &query_cases[i]);
     for (size_t i = 0; i < COUNT_OF(sheet_cases); i++)
         try_sheet(setting, &sheet_cases[i]);
+    for (size_t i = 0; i < COUNT_OF(setting_cases); i++)
+        try_setting(setting, &setting_cases[i]);
+    for (size_t i = 0; i < COUNT_OF(unnumbered_cases); i++)
+        try_unnumbered(setting, &unnumbered_cases[i]);
 }
 
 /* Groups */
 
-/* The header's numbers are document 01's. */
+/* The header's numbers are those of documents 01 and 02, its structs laid out as stated. */
 static void header_numbers(void)
 {
     static const uint32_t in_order[] = {
         RULEFILE_ACCEPTED, RULEFILE_SHORT_AREA, RULEFILE_TOO_LONG, RULEFILE_BAD_LINE, RULEFILE_MISPLACED,
         RULEFILE_BAD_FIELD, RULEFILE_BAD_NAME, RULEFILE_CEILING, RULEFILE_VARIABLE, RULEFILE_LET_SHAPE,
         RULEFILE_TYPE, RULEFILE_OVERLAP_LEFT, RULEFILE_OVERLAP_RIGHT, RULEFILE_GAP_LEFT, RULEFILE_GAP_RIGHT,
-        RULEFILE_NO_ISO, RULEFILE_NO_VALUE, RULEFILE_SPENT,
+        RULEFILE_NO_ISO, RULEFILE_NO_VALUE, RULEFILE_SPENT, RULEFILE_TOO_MANY, RULEFILE_TOO_HIGH,
     };
-    CHECK(COUNT_OF(in_order) == 18);
+    CHECK(COUNT_OF(in_order) == 20);
     for (size_t i = 0; i < COUNT_OF(in_order); i++)
         CHECK(in_order[i] == i);
     CHECK(RULEFILE_TABLE_LENGTH == 16384);
@@ -745,6 +933,10 @@ static void header_numbers(void)
     CHECK(RULEFILE_MAX_QUERIES == 600);
     CHECK(RULEFILE_MAX_FILE_LENGTH == 65536);
     CHECK(RULEFILE_MAX_LINES == 4096);
+    CHECK(sizeof(struct rulefile_number_answer) == 8);
+    CHECK(offsetof(struct rulefile_number_answer, setting) == 4);
+    CHECK(sizeof(struct rulefile_setting_answer) == 2 * sizeof(size_t));
+    CHECK(offsetof(struct rulefile_setting_answer, length) == sizeof(size_t));
 }
 
 static void exact_areas(void)
@@ -792,7 +984,7 @@ static size_t chosen_length(size_t exact, size_t choice)
 static void try_lengths(int at, enum place place, const struct call *call, struct answer usual, struct bytes text)
 {
     static const struct answer short_area = {.number = RULEFILE_SHORT_AREA};
-    static const size_t choices[] = {16, 64, 64, 256};
+    static const size_t choices[SERVICES] = {16, 64, 64, 256, 16, 64};
     struct lengths exact = exact_lengths(call);
     usual = with_lengths(usual, call, text);
     for (size_t choice = 0; choice < choices[call->service]; choice++) {
@@ -824,16 +1016,20 @@ static void short_areas(void)
     for (size_t i = 0; i < COUNT_OF(places) * COUNT_OF(cases); i++) {
         const struct file_case *c = &cases[i / COUNT_OF(places)];
         enum place place = places[i % COUNT_OF(places)];
-        struct call call = {.service = SERVICE_CHECK, .file = c->file, .iso = 2};
+        struct call call = {.service = SERVICE_CHECK, .file = c->file, .iso = 2, .type = 3};
         struct answer answer = {.number = c->number, .line = c->line};
         try_lengths(c->at, place, &call, answer, nothing);
         call.service = SERVICE_TURN;
         try_lengths(c->at, place, &call, answer, c->turned);
         struct call sheet = {.service = SERVICE_SHEET, .file = c->file, .sheet = unanswered_sheet};
         try_lengths(c->at, place, &sheet, answer, nothing);
-        call.service = SERVICE_RUN;
         answer.line = 0;
         answer.number = c->number == RULEFILE_ACCEPTED ? RULEFILE_NO_ISO : c->number;
+        call.service = SERVICE_RUN;
+        try_lengths(c->at, place, &call, answer, nothing);
+        call.service = SERVICE_NUMBER_OF;
+        try_lengths(c->at, place, &call, answer, nothing);
+        call.service = SERVICE_SETTING_OF;
         try_lengths(c->at, place, &call, answer, nothing);
     }
 }
@@ -848,6 +1044,29 @@ static void short_areas_of_runs(void)
     struct answer answer = {.count = 2};
     try_lengths(__LINE__, NULL_IF_EMPTY, &call, answer, result);
     try_lengths(__LINE__, BEFORE_GUARD, &call, answer, result);
+}
+
+/* Both ways, given and with each refusal of their own, with every choice of lengths. */
+static void short_areas_of_settings(void)
+{
+    static const struct bytes file = TEXT(S);
+    static const struct bytes bits = TEXT(BITS);
+    static const struct bytes letters = TEXT("PRULU");
+    static const enum place places[] = {NULL_IF_EMPTY, BEFORE_GUARD};
+    for (size_t i = 0; i < COUNT_OF(places); i++) {
+        struct call call = {.service = SERVICE_NUMBER_OF, .file = file, .type = 2, .value = letters};
+        try_lengths(__LINE__, places[i], &call, (struct answer){.setting = 2}, nothing);
+        call.value = nothing;
+        try_lengths(__LINE__, places[i], &call, (struct answer){.number = RULEFILE_NO_VALUE}, nothing);
+        call = (struct call){.service = SERVICE_SETTING_OF, .file = file, .type = 2, .setting = 2};
+        try_lengths(__LINE__, places[i], &call, (struct answer){0}, letters);
+        call.setting = 4;
+        try_lengths(__LINE__, places[i], &call, (struct answer){.number = RULEFILE_TOO_HIGH}, nothing);
+        call = (struct call){.service = SERVICE_SETTING_OF, .file = bits, .type = 32};
+        try_lengths(__LINE__, places[i], &call, (struct answer){.number = RULEFILE_TOO_MANY}, nothing);
+        call.service = SERVICE_NUMBER_OF;
+        try_lengths(__LINE__, places[i], &call, (struct answer){.number = RULEFILE_TOO_MANY}, nothing);
+    }
 }
 
 /* Sheets that are answered, one of them without a query, with every choice of lengths. */
@@ -870,6 +1089,28 @@ static void null_areas(void)
     CHECK(a.number == RULEFILE_ACCEPTED && a.line == 0 && a.queries == 0);
     a = rulefile_sheet(NULL, 0, NULL, 0, NULL, 0, NULL, 0, NULL, 0, NULL, 0);
     CHECK(a.number == RULEFILE_SHORT_AREA && a.line == 0 && a.queries == 0);
+    give_back(&lent);
+}
+
+/* The same for settings as numbers. */
+static void null_areas_of_settings(void)
+{
+    struct lent lent = lend(HEAP, sheet_lengths(1));
+    uint16_t *table = rows_of(lent.table.start);
+    struct rulefile_number_answer n = rulefile_number_of(NULL, 0, table, RULEFILE_TABLE_LENGTH, lent.work.start,
+                                                         RULEFILE_WORK_LENGTH, 0, NULL, 0);
+    CHECK(n.number == RULEFILE_NO_ISO && n.setting == 0);
+    n = rulefile_number_of(NULL, 0, NULL, 0, NULL, 0, 0, NULL, 0);
+    CHECK(n.number == RULEFILE_SHORT_AREA && n.setting == 0);
+    struct rulefile_setting_answer s =
+        rulefile_setting_of(NULL, 0, table, RULEFILE_TABLE_LENGTH, lent.work.start, RULEFILE_WORK_LENGTH, 0, 0,
+                            lent.out.start, RULEFILE_RESULT_LENGTH);
+    CHECK(s.number == RULEFILE_NO_ISO && s.length == 0 && as_foreseen(&lent.out));
+    s = rulefile_setting_of(NULL, 0, table, RULEFILE_TABLE_LENGTH, lent.work.start, RULEFILE_WORK_LENGTH, 0, 0,
+                            NULL, 0);
+    CHECK(s.number == RULEFILE_SHORT_AREA && s.length == 0);
+    s = rulefile_setting_of(NULL, 0, NULL, 0, NULL, 0, 0, 0, NULL, 0);
+    CHECK(s.number == RULEFILE_SHORT_AREA && s.length == 0);
     give_back(&lent);
 }
 
@@ -936,7 +1177,12 @@ static void try_built_run(int at, uint32_t iso, bool back, uint32_t budget, stru
                           struct answer answer, struct bytes result)
 {
     static const struct setting settings[] = {{HEAP, 0, NULL}, {BEFORE_GUARD, 0, NULL}};
-    struct call call = {SERVICE_RUN, built_file(), iso, back, budget, value, {nothing, 0, NULL}};
+    struct call call = {.service = SERVICE_RUN,
+                        .file = built_file(),
+                        .iso = iso,
+                        .back = back,
+                        .budget = budget,
+                        .value = value};
     for (size_t i = 0; i < COUNT_OF(settings); i++)
         try_call(at, &settings[i], &call, answer, result);
 }
@@ -1173,6 +1419,65 @@ static void counts_and_budgets(void)
     }
     try_built_run(__LINE__, 31, false, 65536, left, spent, nothing);
     try_built_run(__LINE__, 31, true, 65536, right, spent, nothing);
+}
+
+/* T line 255 of the built file, the last that a file can have: a chain of sums of so many values. */
+static void build_steps(int values)
+{
+    begin();
+    add("T,0,0,0\n");
+    add_times("T,0,0,0\n", (size_t)(256 - values));
+    for (int type = 257 - values; type < 256; type++)
+        add_line('T', 1, 0, type - 1);
+}
+
+/* The letters of a step: so many R, then L if it is not the last, then U. */
+static struct bytes step_letters(uint8_t *letters, size_t step, size_t values)
+{
+    size_t length = step;
+    memset(letters, 'R', step);
+    if (step + 1 < values)
+        letters[length++] = 'L';
+    letters[length++] = 'U';
+    return (struct bytes){letters, length};
+}
+
+/* 64 steps, each both ways and above the one before it; 64 is too high. */
+static void steps_in_order(void)
+{
+    enum { VALUES = 64 };
+    static const struct setting setting = {BEFORE_GUARD, 0, NULL};
+    uint8_t letters[2][VALUES + 1];
+    build_steps(VALUES);
+    for (uint32_t step = 0; step < VALUES; step++) {
+        struct bytes text = step_letters(letters[step % 2], step, VALUES);
+        struct setting_case c = {__LINE__, built_file(), 255, text, step};
+        try_setting(&setting, &c);
+        if (step > 0)
+            CHECK(memcmp(letters[(step + 1) % 2], letters[step % 2], step + 1) < 0);
+    }
+    struct unnumbered_case c = {__LINE__, built_file(), 255, nothing, VALUES, 16, 19};
+    try_unnumbered(&setting, &c);
+    c.type = 256;
+    c.of_letters = c.of_number = 15;
+    try_unnumbered(&setting, &c);
+}
+
+/* Letters of every length, none of them a setting. */
+static void setting_lengths(void)
+{
+    static const struct setting settings[] = {{HEAP, 0, NULL}, {BEFORE_GUARD, 0, NULL}};
+    static const size_t lengths[] = {0, 1, 63, 126, 128, 65536, 1000000};
+    static uint8_t letters[1000000];
+    memset(letters, 'U', sizeof letters);
+    require(put_largest_value(letters) == RULEFILE_RESULT_LENGTH);
+    begin();
+    add(SEVEN_TYPES);
+    for (size_t i = 0; i < COUNT_OF(lengths) * COUNT_OF(settings); i++) {
+        struct bytes value = {letters, lengths[i / COUNT_OF(settings)]};
+        struct unnumbered_case c = {__LINE__, built_file(), 6, value, 1, 16, 19};
+        try_unnumbered(&settings[i % COUNT_OF(settings)], &c);
+    }
 }
 
 /* Lists of queries that are built */
@@ -1565,7 +1870,12 @@ static void sheet_of_counts(void)
     for (uint32_t i = 0; i < 4 * isos; i++) {
         uint32_t count = (UINT32_C(2) << i / 4) - 1;
         uint32_t budget = i % 4 < 2 ? count : count - 1;
-        struct call run = {SERVICE_RUN, built_file(), i / 4, i % 2 == 1, budget, left, {nothing, 0, NULL}};
+        struct call run = {.service = SERVICE_RUN,
+                           .file = built_file(),
+                           .iso = i / 4,
+                           .back = i % 2 == 1,
+                           .budget = budget,
+                           .value = left};
         ask_as_line(&run);
     }
     try_as_checked(__LINE__, built_file());
@@ -1601,7 +1911,12 @@ static struct call stored_run(struct bytes file, struct bytes line)
     require(sscanf((const char *)line.start, "Q,%lu,%lu,%lu,%n", &iso, &back, &budget, &head) == 3 && head > 0);
     require(line.length > (size_t)head && line.start[line.length - 1] == '\n');
     struct bytes value = {line.start + head, line.length - (size_t)head - 1};
-    return (struct call){SERVICE_RUN, file, (uint32_t)iso, back == 1, (uint32_t)budget, value, {nothing, 0, NULL}};
+    return (struct call){.service = SERVICE_RUN,
+                         .file = file,
+                         .iso = (uint32_t)iso,
+                         .back = back == 1,
+                         .budget = (uint32_t)budget,
+                         .value = value};
 }
 
 /* A stored input, its queries in one sheet. */
@@ -1697,6 +2012,17 @@ static void uninitialized_areas(void)
         call = sheet_call(&sheet_cases[i]);
         try_uninitialized(sheet_cases[i].at, &call, (struct answer){0}, nothing);
     }
+    for (size_t i = 0; i < COUNT_OF(setting_cases); i++) {
+        const struct setting_case *c = &setting_cases[i];
+        call = (struct call){.service = SERVICE_NUMBER_OF, .file = c->file, .type = c->type, .value = c->letters};
+        try_uninitialized(c->at, &call, (struct answer){.setting = c->setting}, nothing);
+        call = (struct call){.service = SERVICE_SETTING_OF, .file = c->file, .type = c->type, .setting = c->setting};
+        try_uninitialized(c->at, &call, (struct answer){0}, c->letters);
+    }
+    call = (struct call){.service = SERVICE_SETTING_OF, .file = TEXT(BITS), .type = 32};
+    try_uninitialized(__LINE__, &call, (struct answer){.number = RULEFILE_TOO_MANY}, nothing);
+    call = (struct call){.service = SERVICE_SETTING_OF, .file = TEXT(S), .type = 2, .setting = 4};
+    try_uninitialized(__LINE__, &call, (struct answer){.number = RULEFILE_TOO_HIGH}, nothing);
 }
 
 /* Threads */
@@ -1741,6 +2067,11 @@ static void *work_through(void *argument)
         try_quietly(worker, &run, (struct answer){.count = q->count}, q->result);
         try_quietly(worker, &turn, answer, f->number == RULEFILE_ACCEPTED ? f->turned : nothing);
         try_quietly(worker, &sheet, (struct answer){0}, nothing);
+        const struct setting_case *c = &setting_cases[(worker->first_sheet + i) % COUNT_OF(setting_cases)];
+        struct call number = {.service = SERVICE_NUMBER_OF, .file = c->file, .type = c->type, .value = c->letters};
+        struct call letters = {.service = SERVICE_SETTING_OF, .file = c->file, .type = c->type, .setting = c->setting};
+        try_quietly(worker, &number, (struct answer){.setting = c->setting}, nothing);
+        try_quietly(worker, &letters, (struct answer){0}, c->letters);
     }
     return NULL;
 }
@@ -1767,7 +2098,7 @@ static void threads_at_once(void)
     }
     for (size_t i = 0; i < THREADS; i++) {
         require(pthread_join(threads[i], NULL) == 0);
-        CHECK_AT(queries[i].at, workers[i].calls == 5 * workers[i].rounds);
+        CHECK_AT(queries[i].at, workers[i].calls == 7 * workers[i].rounds);
         CHECK_AT(queries[i].at, workers[i].wrong == 0);
         give_back(&workers[i].lent);
     }
@@ -1775,18 +2106,28 @@ static void threads_at_once(void)
     require(pthread_barrier_destroy(&start) == 0);
 }
 
+/* Whether a service can give a number. */
+static bool can_give(size_t service, size_t number)
+{
+    if (number <= RULEFILE_GAP_RIGHT)
+        return true;
+    if (service == SERVICE_RUN)
+        return number <= RULEFILE_SPENT;
+    bool of_type = number == RULEFILE_NO_ISO || number == RULEFILE_TOO_MANY;
+    return (service == SERVICE_NUMBER_OF && (of_type || number == RULEFILE_NO_VALUE)) ||
+           (service == SERVICE_SETTING_OF && (of_type || number == RULEFILE_TOO_HIGH));
+}
+
 /* Every number was given by every service that can give it, and by no other; the same for the queries of sheets. */
 static void every_number(void)
 {
-    for (size_t number = 0; number <= RULEFILE_SPENT; number++) {
-        bool of_queries = number == RULEFILE_ACCEPTED || number == RULEFILE_BAD_LINE || number >= RULEFILE_NO_ISO;
+    for (size_t number = 0; number <= RULEFILE_TOO_HIGH; number++) {
+        bool of_queries = number == RULEFILE_ACCEPTED || number == RULEFILE_BAD_LINE ||
+                          (number >= RULEFILE_NO_ISO && number <= RULEFILE_SPENT);
         if (!CHECK(hit_by_query[number] == of_queries))
             printf("    number %zu of a query\n", number);
-    }
-    for (size_t service = SERVICE_CHECK; service <= SERVICE_SHEET; service++) {
-        size_t last = service == SERVICE_RUN ? RULEFILE_SPENT : RULEFILE_GAP_RIGHT;
-        for (size_t number = 0; number <= RULEFILE_SPENT; number++) {
-            if (!CHECK(hit[service][number] == (number <= last)))
+        for (size_t service = 0; service < SERVICES; service++) {
+            if (!CHECK(hit[service][number] == can_give(service, number)))
                 printf("    number %zu of %s\n", number, service_names[service]);
         }
     }
@@ -1805,8 +2146,10 @@ static const struct group groups[] = {
     {"reused_areas", reused_areas},
     {"short_areas", short_areas},
     {"short_areas_of_runs", short_areas_of_runs},
+    {"short_areas_of_settings", short_areas_of_settings},
     {"short_areas_of_sheets", short_areas_of_sheets},
     {"null_areas", null_areas},
+    {"null_areas_of_settings", null_areas_of_settings},
     {"file_lengths", file_lengths},
     {"longest_file", longest_file},
     {"ceilings", ceilings},
@@ -1814,6 +2157,8 @@ static const struct group groups[] = {
     {"damaged_files", damaged_files},
     {"single_bytes", single_bytes},
     {"counts_and_budgets", counts_and_budgets},
+    {"steps_in_order", steps_in_order},
+    {"setting_lengths", setting_lengths},
     {"query_lines", query_lines},
     {"damaged_queries", damaged_queries},
     {"query_lengths", query_lengths},

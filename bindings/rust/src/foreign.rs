@@ -29,6 +29,18 @@ pub struct SheetAnswer {
     pub queries: usize,
 }
 
+#[repr(C)]
+pub struct NumberAnswer {
+    pub number: u32,
+    pub setting: u32,
+}
+
+#[repr(C)]
+pub struct SettingAnswer {
+    pub number: u32,
+    pub length: usize,
+}
+
 extern "C" {
     fn rulefile_check(
         file: *const u8,
@@ -80,6 +92,31 @@ extern "C" {
         letters: *mut u8,
         letters_length: usize,
     ) -> SheetAnswer;
+
+    fn rulefile_number_of(
+        file: *const u8,
+        file_length: usize,
+        table: *mut u16,
+        table_length: usize,
+        work: *mut u8,
+        work_length: usize,
+        ty: u32,
+        value: *const u8,
+        value_length: usize,
+    ) -> NumberAnswer;
+
+    fn rulefile_setting_of(
+        file: *const u8,
+        file_length: usize,
+        table: *mut u16,
+        table_length: usize,
+        work: *mut u8,
+        work_length: usize,
+        ty: u32,
+        setting: u32,
+        result: *mut u8,
+        result_length: usize,
+    ) -> SettingAnswer;
 }
 
 pub fn check(file: &[u8], table: &mut [u16], work: &mut [u8]) -> CheckAnswer {
@@ -162,6 +199,54 @@ pub fn sheet(
             numbers.len(),
             letters.as_mut_ptr(),
             letters.len(),
+        )
+    }
+}
+
+pub fn number_of(
+    file: &[u8],
+    table: &mut [u16],
+    work: &mut [u8],
+    ty: u32,
+    letters: &[u8],
+) -> NumberAnswer {
+    // SAFETY: as for `check`.
+    unsafe {
+        rulefile_number_of(
+            file.as_ptr(),
+            file.len(),
+            table.as_mut_ptr(),
+            table.len(),
+            work.as_mut_ptr(),
+            work.len(),
+            ty,
+            letters.as_ptr(),
+            letters.len(),
+        )
+    }
+}
+
+pub fn setting_of(
+    file: &[u8],
+    table: &mut [u16],
+    work: &mut [u8],
+    ty: u32,
+    setting: u32,
+    result: &mut [u8],
+) -> SettingAnswer {
+    // SAFETY: as for `check`.
+    unsafe {
+        rulefile_setting_of(
+            file.as_ptr(),
+            file.len(),
+            table.as_mut_ptr(),
+            table.len(),
+            work.as_mut_ptr(),
+            work.len(),
+            ty,
+            setting,
+            result.as_mut_ptr(),
+            result.len(),
         )
     }
 }

@@ -1,8 +1,9 @@
-//! Check, Turn, Run and whole sheets of queries for rule files, over the proved static library.
+//! Check, Turn, Run, whole sheets of queries and settings as numbers for rule files, over the proved static
+//! library.
 //!
-//! Callers who keep their own areas lend them to [`check`], [`turn`], [`run`] and [`sheet`]; areas of any length are
-//! safe, and what each then holds is said in `include/rulefile.h`. Callers who do not want to make one
-//! [`Desk`], which owns the areas:
+//! Callers who keep their own areas lend them to [`check`], [`turn`], [`run`], [`sheet`], [`number_of`] and
+//! [`setting_of`]; areas of any length are safe, and what each then holds is said in `include/rulefile.h`.
+//! Callers who do not want to make one [`Desk`], which owns the areas:
 //!
 //! ```
 //! let mut desk = rulefile::Desk::new();
@@ -10,6 +11,9 @@
 //! desk.check(file)?;
 //! let there = desk.run(file, 0, rulefile::Direction::Forward, 9, b"LU")?;
 //! assert_eq!((there.letters.as_slice(), there.count), (b"RU".as_slice(), 1));
+//! // T line 1 has two settings, with the numbers 0 and 1.
+//! assert_eq!(desk.number_of(file, 1, b"RU")?, 1);
+//! assert_eq!(desk.setting_of(file, 1, 1)?, b"RU");
 //! # Ok::<(), rulefile::Refused>(())
 //! ```
 
@@ -106,6 +110,40 @@ pub fn sheet(
     Refused::unless_0(answer.number, answer.line).map(|()| answer.queries)
 }
 
+/// Checks a file and gives the number of a setting, a value of its T line number `ty`, counted from 0. The
+/// numbers of the settings of one T line begin with 0 and rise as their letters do in byte order.
+///
+/// Refused, in this order: what [`check`] refuses, an absent T line (15), one of over 4,294,967,295 values
+/// (18), letters that are not exactly one of its values (16).
+pub fn number_of(
+    file: &[u8],
+    table: &mut [u16],
+    work: &mut [u8],
+    ty: u32,
+    letters: &[u8],
+) -> Result<u32, Refused> {
+    let answer = foreign::number_of(file, table, work, ty, letters);
+    Refused::unless_0(answer.number, 0).map(|()| answer.setting)
+}
+
+/// Checks a file and writes the letters of the value of its T line number `ty` that has a number; gives how
+/// many they are. It undoes [`number_of`].
+///
+/// Refused, in this order: what [`check`] refuses, of which 1 also for a result area of less than 127 bytes,
+/// an absent T line (15), one of over 4,294,967,295 values (18), a number that is not below its count of
+/// values (19). The result area is then as it was.
+pub fn setting_of(
+    file: &[u8],
+    table: &mut [u16],
+    work: &mut [u8],
+    ty: u32,
+    setting: u32,
+    result: &mut [u8],
+) -> Result<usize, Refused> {
+    let answer = foreign::setting_of(file, table, work, ty, setting, result);
+    Refused::unless_0(answer.number, 0).map(|()| answer.length)
+}
+
 /// The areas of the services, for callers who do not keep their own.
 #[derive(Clone, Debug)]
 pub struct Desk {
@@ -178,6 +216,19 @@ impl Desk {
             .chunks(NUMBERS_A_QUERY)
             .zip(letters.chunks(RESULT_LENGTH));
         Ok(threes.take(answered).map(answer_of).collect())
+    }
+
+    /// The number of a setting, a value of T line number `ty` of the file.
+    pub fn number_of(&mut self, file: &[u8], ty: u32, letters: &[u8]) -> Result<u32, Refused> {
+        number_of(file, &mut self.table, &mut self.work, ty, letters)
+    }
+
+    /// The letters of the value of T line number `ty` of the file that has a number.
+    pub fn setting_of(&mut self, file: &[u8], ty: u32, setting: u32) -> Result<Vec<u8>, Refused> {
+        let mut result = [0; RESULT_LENGTH];
+        let (table, work) = (&mut self.table, &mut self.work);
+        let length = setting_of(file, table, work, ty, setting, &mut result)?;
+        Ok(result[..length].to_vec())
     }
 
     /// The table as the last call left it: four numbers a line of the file that was accepted.

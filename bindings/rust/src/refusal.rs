@@ -1,9 +1,9 @@
-//! The refusals of document 01, by name.
+//! The refusals of document 01 and of the requests after it, by name.
 
 use std::error::Error;
 use std::fmt;
 
-/// Why a file or a run is refused; the discriminants are document 01's numbers.
+/// Why a file or a call is refused; the discriminants are the numbers of the documents.
 #[derive(Clone, Copy, Debug, PartialEq, Eq, Hash)]
 #[repr(u32)]
 pub enum Refusal {
@@ -24,11 +24,13 @@ pub enum Refusal {
     NoIso = 15,
     NoValue = 16,
     Spent = 17,
+    TooMany = 18,
+    TooHigh = 19,
 }
 
 use Refusal::*;
 
-const ALL: [(Refusal, &str); 17] = [
+const ALL: [(Refusal, &str); 19] = [
     (ShortArea, "short area"),
     (TooLong, "too long"),
     (BadLine, "bad line"),
@@ -46,15 +48,17 @@ const ALL: [(Refusal, &str); 17] = [
     (NoIso, "no iso"),
     (NoValue, "no value"),
     (Spent, "spent"),
+    (TooMany, "too many values"),
+    (TooHigh, "number too high"),
 ];
 
 impl Refusal {
-    /// Document 01's number.
+    /// The number of the documents.
     pub fn number(self) -> u32 {
         self as u32
     }
 
-    /// Document 01's word.
+    /// The word of the documents.
     pub fn word(self) -> &'static str {
         ALL[self as usize - 1].1
     }
@@ -74,7 +78,7 @@ pub struct Refused {
 }
 
 impl Refused {
-    /// The library's contract rules out every number above 17.
+    /// The library's contract rules out every number above 19.
     pub(crate) fn unless_0(number: u32, line: usize) -> Result<(), Refused> {
         match (number, Refusal::of(number)) {
             (0, _) => Ok(()),

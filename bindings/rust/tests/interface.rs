@@ -2,8 +2,8 @@
 //! length, the stored examples, and the header.
 
 use rulefile::{
-    check, run, sheet, turn, Desk, Direction, Query, Ran, Refusal, Refused, Value, MAX_QUERIES,
-    NUMBERS_A_QUERY, RESULT_LENGTH, TABLE_LENGTH, WORK_LENGTH,
+    check, number_of, run, setting_of, sheet, turn, Desk, Direction, Query, Ran, Refusal, Refused,
+    Value, MAX_QUERIES, NUMBERS_A_QUERY, RESULT_LENGTH, TABLE_LENGTH, WORK_LENGTH,
 };
 use std::error::Error;
 use std::fs;
@@ -20,8 +20,8 @@ const S_TURNED: &str = "T,0,0,0 T,1,0,0 T,2,1,1 P,0,0,0 P,2,0,0 P,3,0,0 P,1,0,0 
 const QUERIES: &str = "Q,1,0,9,PLURU\nQ,1,1,9,PLULU\nQ,1,0,2,PRULU\nQ,1,0,2,PLURU\nQ,1,0,1,PLURU\n\
     Q,2,0,9,U\nQ,1,0,9,PLU\n";
 
-/// Document 01's words, the first one for number 1.
-const WORDS: [&str; 17] = [
+/// The words of documents 01 and 02, the first one for number 1.
+const WORDS: [&str; 19] = [
     "short area",
     "too long",
     "bad line",
@@ -39,7 +39,18 @@ const WORDS: [&str; 17] = [
     "no iso",
     "no value",
     "spent",
+    "too many values",
+    "number too high",
 ];
+
+/// The words of which a refusal's name is made; those of two are cut.
+fn name_words(word: &str) -> &str {
+    match word {
+        "too many values" => "too many",
+        "number too high" => "too high",
+        word => word,
+    }
+}
 
 /// A file from its lines.
 fn file(lines: &str) -> Vec<u8> {
@@ -71,7 +82,7 @@ fn value(count: u32, letters: &str) -> Result<Value, Refused> {
     })
 }
 
-/// A file that is refused, by all four services.
+/// A file that is refused, by all services.
 fn expect_refused(file: &[u8], refusal: Refusal, line: usize) {
     let mut desk = Desk::new();
     assert_eq!(desk.check(file), Err(refused(refusal, line)));
@@ -84,6 +95,12 @@ fn expect_refused(file: &[u8], refusal: Refusal, line: usize) {
         desk.run(file, 0, Forward, 9, b"U"),
         Err(refused(refusal, 0))
     );
+    for ty in [0, 256, u32::MAX] {
+        let answer = desk.number_of(file, ty, b"");
+        assert_eq!(answer, Err(refused(refusal, 0)));
+        let answer = desk.setting_of(file, ty, u32::MAX);
+        assert_eq!(answer, Err(refused(refusal, 0)));
+    }
 }
 
 #[test]
@@ -310,6 +327,103 @@ fn a_value_of_127_letters() {
     }
 }
 
+/// A number and its letters, both ways.
+fn expect_number(desk: &mut Desk, file: &[u8], ty: u32, setting: u32, letters: &str) {
+    let bytes = letters.as_bytes();
+    assert_eq!(desk.number_of(file, ty, bytes), Ok(setting), "{letters}");
+    assert_eq!(desk.setting_of(file, ty, setting), Ok(bytes.to_vec()));
+}
+
+#[test]
+fn settings_of_document_01_as_numbers() {
+    let mut desk = Desk::new();
+    let s = file(S);
+    expect_number(&mut desk, &s, 0, 0, "U");
+    for (setting, letters) in ["LU", "RU"].into_iter().enumerate() {
+        expect_number(&mut desk, &s, 1, setting as u32, letters);
+    }
+    for (setting, letters) in ["PLULU", "PLURU", "PRULU", "PRURU"].into_iter().enumerate() {
+        expect_number(&mut desk, &s, 2, setting as u32, letters);
+    }
+    assert_eq!(desk.table(), rows(S));
+    // Three times two settings, the left ones of a sum before the right ones.
+    let six = file("T,0,0,0 T,1,0,0 T,1,0,1 T,2,2,1");
+    expect_number(&mut desk, &six, 3, 1, "PLURU");
+    expect_number(&mut desk, &six, 3, 2, "PRLULU");
+    expect_number(&mut desk, &six, 3, 5, "PRRURU");
+}
+
+/// So many two-valued types as one chain of products; T line `count` is the last.
+fn bits(count: u32) -> String {
+    let chain = (1..count).map(|above| format!(" T,2,1,{above}"));
+    format!("T,0,0,0 T,1,0,0{}", chain.collect::<String>())
+}
+
+#[test]
+fn the_limit_of_numbers() {
+    let mut desk = Desk::new();
+    let highest = "PRU".repeat(30) + "RU";
+    let bits_31 = file(&bits(31));
+    expect_number(&mut desk, &bits_31, 31, 0, &highest.replace('R', "L"));
+    expect_number(&mut desk, &bits_31, 31, (1 << 31) - 1, &highest);
+    for above in [1 << 31, u32::MAX] {
+        let answer = desk.setting_of(&bits_31, 31, above);
+        assert_eq!(answer, Err(refused(Refusal::TooHigh, 0)));
+    }
+    // "a product of 32 two-valued types passes it by one"
+    let bits_32 = file(&bits(32));
+    expect_number(&mut desk, &bits_32, 31, (1 << 31) - 1, &highest);
+    let letters = format!("PRU{highest}");
+    let too_many = refused(Refusal::TooMany, 0);
+    for letters in [&letters[..], &highest, "", "U"] {
+        let answer = desk.number_of(&bits_32, 32, letters.as_bytes());
+        assert_eq!(answer, Err(too_many));
+    }
+    for setting in [0, 1, u32::MAX] {
+        assert_eq!(desk.setting_of(&bits_32, 32, setting), Err(too_many));
+    }
+}
+
+#[test]
+fn refusals_of_settings() {
+    let mut desk = Desk::new();
+    let s = file(S);
+    for ty in [3, 17, 256, 65_536, 65_538, 1 << 31, u32::MAX] {
+        let no_type = refused(Refusal::NoIso, 0);
+        for letters in [&b"PLURU"[..], b"LU", b"U", b""] {
+            assert_eq!(desk.number_of(&s, ty, letters), Err(no_type));
+        }
+        for setting in [0, 4, u32::MAX] {
+            assert_eq!(desk.setting_of(&s, ty, setting), Err(no_type));
+        }
+    }
+    let long = vec![b'P'; 1_000_000];
+    for letters in [
+        &b""[..],
+        b"U",
+        b"PLU",
+        b"PLURUU",
+        b"pluru",
+        b"PLUR\0",
+        b"PLUR\xff",
+        &long,
+    ] {
+        let answer = desk.number_of(&s, 2, letters);
+        assert_eq!(answer, Err(refused(Refusal::NoValue, 0)));
+    }
+    for (ty, count) in [(0, 1), (1, 2), (2, 4)] {
+        for setting in [count, count + 1, 65_536, 1 << 31, u32::MAX] {
+            let answer = desk.setting_of(&s, ty, setting);
+            assert_eq!(answer, Err(refused(Refusal::TooHigh, 0)));
+        }
+    }
+    assert_eq!(
+        desk.number_of(b"", 0, b"U"),
+        Err(refused(Refusal::NoIso, 0))
+    );
+    assert_eq!(desk.setting_of(b"", 0, 0), Err(refused(Refusal::NoIso, 0)));
+}
+
 #[test]
 fn refusals_by_number_and_word() {
     for (place, word) in WORDS.iter().enumerate() {
@@ -317,9 +431,9 @@ fn refusals_by_number_and_word() {
         let refusal = Refusal::of(number).unwrap();
         assert_eq!((refusal.number(), refusal.word()), (number, *word));
         let name = format!("{refusal:?}").to_lowercase();
-        assert_eq!(name, word.replace(' ', ""));
+        assert_eq!(name, name_words(word).replace(' ', ""));
     }
-    for number in [0, 18, 19, 256, 257, 65_537, u32::MAX] {
+    for number in [0, 20, 21, 256, 257, 65_537, u32::MAX] {
         assert_eq!(Refusal::of(number), None);
     }
 }
@@ -415,6 +529,15 @@ impl Lent {
     fn sheet(&mut self, file: &[u8], queries: &[u8]) -> Result<usize, Refused> {
         let (table, work) = (&mut self.table, &mut self.work);
         sheet(file, table, work, queries, &mut self.numbers, &mut self.out)
+    }
+
+    fn number_of(&mut self, file: &[u8], ty: u32, letters: &[u8]) -> Result<u32, Refused> {
+        number_of(file, &mut self.table, &mut self.work, ty, letters)
+    }
+
+    fn setting_of(&mut self, file: &[u8], ty: u32, setting: u32) -> Result<usize, Refused> {
+        let (table, work) = (&mut self.table, &mut self.work);
+        setting_of(file, table, work, ty, setting, &mut self.out)
     }
 
     /// The table begins as stated, the work area with zeros, the output with the text; all else is kept.
@@ -516,6 +639,71 @@ fn areas_after_refusals() {
             let mut areas = lent(RESULT_LENGTH);
             assert_eq!(areas.run(&s, query), Err(refused(refusal, 0)));
             areas.expect(&rows(S), b"");
+        }
+    }
+}
+
+#[test]
+fn areas_of_settings() {
+    let (s, large) = (file(S), file(&bits(32)));
+    let wrong = file(&format!("{S} C,7,7"));
+    for extra in [0, 1, 1000] {
+        let lent = |out| Lent::new(TABLE_LENGTH + extra, WORK_LENGTH + extra, out + extra);
+        for (file, ty, letters, answer, table) in [
+            (&s, 2, "PRULU", Ok(2), rows(S)),
+            (&s, 3, "PRULU", Err(Refusal::NoIso), rows(S)),
+            (&s, 2, "PRUL", Err(Refusal::NoValue), rows(S)),
+            (&large, 32, "", Err(Refusal::TooMany), rows(&bits(32))),
+            (&wrong, 2, "PRULU", Err(Refusal::OverlapLeft), rows("")),
+        ] {
+            let mut areas = lent(0);
+            let given = areas.number_of(file, ty, letters.as_bytes());
+            assert_eq!(given, answer.map_err(|refusal| refused(refusal, 0)));
+            areas.expect(&table, b"");
+        }
+        for (file, ty, setting, answer, table) in [
+            (&s, 2, 2, Ok("PRULU"), rows(S)),
+            (&s, 0, 0, Ok("U"), rows(S)),
+            (&s, 3, 2, Err(Refusal::NoIso), rows(S)),
+            (&s, 2, 4, Err(Refusal::TooHigh), rows(S)),
+            (&large, 32, 0, Err(Refusal::TooMany), rows(&bits(32))),
+            (&wrong, 2, 2, Err(Refusal::OverlapLeft), rows("")),
+        ] {
+            let mut areas = lent(RESULT_LENGTH);
+            let given = areas.setting_of(file, ty, setting);
+            let length = answer.map(str::len);
+            assert_eq!(given, length.map_err(|refusal| refused(refusal, 0)));
+            areas.expect(&table, answer.unwrap_or_default().as_bytes());
+        }
+    }
+}
+
+#[test]
+fn short_and_empty_areas_of_settings() {
+    let short = refused(Refusal::ShortArea, 0);
+    let full = [TABLE_LENGTH, WORK_LENGTH, RESULT_LENGTH];
+    let files = [
+        file(S),
+        file(&bits(32)),
+        file("T"),
+        b"".to_vec(),
+        vec![b'T'; 65_537],
+    ];
+    for place in 0..3 {
+        for length in [full[place] - 1, 0] {
+            let mut lengths = full;
+            lengths[place] = length;
+            let mut areas = Lent::new(lengths[0], lengths[1], lengths[2]);
+            for (file, ty) in files.iter().flat_map(|file| [(file, 0), (file, 32)]) {
+                assert_eq!(areas.setting_of(file, ty, 0), Err(short));
+                assert_eq!(areas.setting_of(file, ty, u32::MAX), Err(short));
+                // The way to a number has no result.
+                if place < 2 {
+                    assert_eq!(areas.number_of(file, ty, b"U"), Err(short));
+                    assert_eq!(areas.number_of(file, ty, b""), Err(short));
+                }
+            }
+            areas.expect_unchanged();
         }
     }
 }
@@ -627,6 +815,14 @@ fn too_long_changes_nothing() {
     assert_eq!(areas.check(&long), Err(refused(Refusal::TooLong, 0)));
     assert_eq!(areas.turn(&long), Err(refused(Refusal::TooLong, 0)));
     assert_eq!(areas.run(&long, QUERY), Err(refused(Refusal::TooLong, 0)));
+    assert_eq!(
+        areas.number_of(&long, 0, b"U"),
+        Err(refused(Refusal::TooLong, 0))
+    );
+    assert_eq!(
+        areas.setting_of(&long, 0, 0),
+        Err(refused(Refusal::TooLong, 0))
+    );
     areas.expect_unchanged();
     let mut areas = Lent::new(TABLE_LENGTH, WORK_LENGTH, long.len() - 1);
     assert_eq!(areas.turn(&long), Err(refused(Refusal::ShortArea, 0)));
@@ -678,7 +874,9 @@ fn desks_in_threads() {
                 reply(count, letters),
             ];
             (0..200).all(|_| {
-                desk.run(&file(S), 1, Forward, 2, letters.as_bytes()) == value(count, given)
+                let number = desk.number_of(&file(S), 2, letters.as_bytes()).unwrap();
+                desk.setting_of(&file(S), 2, number) == Ok(letters.as_bytes().to_vec())
+                    && desk.run(&file(S), 1, Forward, 2, letters.as_bytes()) == value(count, given)
                     && desk.sheet(&file(S), list.as_bytes()) == Ok(replies.to_vec())
             })
         })
@@ -763,22 +961,28 @@ fn answers(input: &str) -> String {
     format!("0,0\n{}", lines.concat())
 }
 
-/// The inputs below a folder.
-fn inputs(folder: &Path) -> Vec<PathBuf> {
+/// The files below a folder whose names end so.
+fn below(folder: &Path, ending: &str) -> Vec<PathBuf> {
     let paths = fs::read_dir(folder)
         .unwrap()
         .map(|entry| entry.unwrap().path());
     let (folders, files): (Vec<_>, Vec<_>) = paths.partition(|path| path.is_dir());
     let here = files
         .into_iter()
-        .filter(|path| path.extension().is_some_and(|end| end == "in"));
-    here.chain(folders.iter().flat_map(|folder| inputs(folder)))
+        .filter(|path| path.extension().is_some_and(|end| end == ending));
+    here.chain(folders.iter().flat_map(|folder| below(folder, ending)))
         .collect()
+}
+
+/// The stored examples whose names end so.
+fn examples(ending: &str) -> Vec<PathBuf> {
+    let folder = Path::new(env!("CARGO_MANIFEST_DIR")).join("../../examples");
+    below(&folder, ending)
 }
 
 #[test]
 fn stored_examples() {
-    let inputs = inputs(&Path::new(env!("CARGO_MANIFEST_DIR")).join("../../examples"));
+    let inputs = examples("in");
     assert!(inputs.len() > 20, "{} examples", inputs.len());
     for input in inputs {
         let expected = fs::read_to_string(input.with_extension("out")).unwrap();
@@ -788,6 +992,73 @@ fn stored_examples() {
             "{}",
             input.display()
         );
+    }
+}
+
+/// The line that answers `N,type,letters`. The number that comes out is sent back.
+fn answer_letters(desk: &mut Desk, file: &[u8], ty: u32, letters: &str) -> String {
+    match desk.number_of(file, ty, letters.as_bytes()) {
+        Ok(setting) => {
+            let back = desk.setting_of(file, ty, setting);
+            assert_eq!(back, Ok(letters.as_bytes().to_vec()));
+            format!("0,{setting}\n")
+        }
+        Err(refused) => format!("{},0\n", refused.refusal.number()),
+    }
+}
+
+/// The line that answers `S,type,number`. The letters that come out are sent back.
+fn answer_number(desk: &mut Desk, file: &[u8], ty: u32, setting: u32) -> String {
+    match desk.setting_of(file, ty, setting) {
+        Ok(letters) => {
+            assert_eq!(desk.number_of(file, ty, &letters), Ok(setting));
+            format!("0,{}\n", String::from_utf8(letters).unwrap())
+        }
+        Err(refused) => format!("{},\n", refused.refusal.number()),
+    }
+}
+
+/// The line that answers a call of a stored example.
+fn answer_call(desk: &mut Desk, file: &[u8], line: &str) -> String {
+    let fields: Vec<&str> = line.splitn(3, ',').collect();
+    let ty = fields[1].parse().unwrap();
+    match fields[0] {
+        "N" => answer_letters(desk, file, ty, fields[2]),
+        "S" => answer_number(desk, file, ty, fields[2].parse().unwrap()),
+        _ => panic!("{line} is no call"),
+    }
+}
+
+/// What the example program prints for a file and calls.
+fn answer_calls(text: &str) -> String {
+    let calls = text
+        .split_inclusive('\n')
+        .skip_while(|line| !line.starts_with(['N', 'S']));
+    let length = text.len() - calls.clone().map(str::len).sum::<usize>();
+    let file = &text.as_bytes()[..length];
+    let mut desk = Desk::new();
+    let calls = calls.map(|line| answer_call(&mut desk, file, line.trim_end_matches('\n')));
+    let calls: String = calls.collect();
+    match desk.check(file) {
+        Ok(()) => format!("0,0\n{calls}"),
+        Err(refused) => format!("{},{}\n", refused.refusal.number(), refused.line),
+    }
+}
+
+#[test]
+fn stored_calls() {
+    let calls = examples("calls");
+    assert!(calls.len() >= 3, "{} examples", calls.len());
+    let mut numbers = Vec::new();
+    for path in calls {
+        let expected = fs::read_to_string(path.with_extension("answers")).unwrap();
+        let found = answer_calls(&fs::read_to_string(&path).unwrap());
+        assert_eq!(found, expected, "{}", path.display());
+        let number = |line: &str| line.split(',').next().unwrap().parse::<u32>().unwrap();
+        numbers.extend(expected.lines().map(number));
+    }
+    for number in [0, 15, 16, 18, 19] {
+        assert!(numbers.contains(&number), "{number} in no example");
     }
 }
 
@@ -827,7 +1098,7 @@ fn header_and_wrapper_agree() {
     let refusals = (0..=100).filter_map(Refusal::of);
     expected.extend(refusals.map(|refusal| {
         (
-            refusal.word().to_uppercase().replace(' ', "_"),
+            name_words(refusal.word()).to_uppercase().replace(' ', "_"),
             refusal.number(),
         )
     }));

@@ -4,6 +4,7 @@ use isos::isos_fault;
 use lines::read::read_file;
 use model::Answer;
 use model::Refusal;
+use model::is_refused;
 use parts::clear_bytes;
 use parts::clear_words;
 use split::count_lines;
@@ -13,19 +14,8 @@ ghost use Prim.Native.Nat.{_≤_};
 ghost use lib.ListN.{length};
 ghost use Rattle.model.specs.Limits.{tableLength, maxLines};
 ghost use Rattle.model.specs.Lines.{lines};
-ghost use Rattle.model.specs.Tools.{isSome};
 ghost use Rattle.model.specs.Code.{refusalView};
 ghost use Rattle.checker.specs.CheckSays.{CheckSays, Outcome, Loaded, Accepted, Filed, Early};
-
-// Whether a refusal is one.
-pub fn is_refused(f: Refusal) -> bool
-    ensures { λ r. ⌜ r ≡ isSome (refusalView f) ⌝ }
-{
-    match f {
-        Refusal::Nothing => false,
-        _ => true,
-    }
-}
 
 // An answer, and of an accepted file how many T, P and I lines the table holds, and how many lines.
 pub struct Checked {

@@ -5,7 +5,7 @@ use answers::answer_line;
 use areas::put_byte;
 use checker::Checked;
 use checker::check_file;
-use checker::is_refused;
+use model::is_refused;
 use model::number_of;
 use parts::front;
 use queries::put_answer;

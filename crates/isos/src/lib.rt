@@ -4,6 +4,7 @@
 use clauses::clause_fault;
 use model::Answer;
 use model::Refusal;
+use model::is_refused;
 use nodes::cell;
 use sides::side_fault;
 use words::narrow;
@@ -97,13 +98,13 @@ fn none() -> Answer
 fn sooner(f: Refusal, place: usize, later: Answer) -> Answer
     ensures { λ r. ⌜ asFault r ≡ orElse (at place (refusalView f)) (asFault later) ⌝ }
 {
-    match f {
-        Refusal::Nothing => later,
-        _ => Answer {
+    if is_refused(f) {
+        return Answer {
             place: place,
             refusal: f,
-        },
+        };
     }
+    later
 }
 
 // The refusal of the clause with its C row at n and its L rows up to `below`, in the iso of place `own`.
@@ -173,10 +174,10 @@ fn iso_found(
     ensures { λ r. ⌜ asFault r ≡ orElse (orElse (asFault pending) (at (suc n) (sidesFault (patternsAt (now (t .entry)) base 1 (now (rows .entry))) (patternsAt (now (t .entry)) base 2 (now (rows .entry)))))) (asFault found) ⌝ }
 {
     let f = pending.refusal;
-    match f {
-        Refusal::Nothing => sooner(side_fault(t, base, rows), n + 1, found),
-        _ => pending,
+    if is_refused(f) {
+        return pending;
     }
+    sooner(side_fault(t, base, rows), n + 1, found)
 }
 
 // The walk with the I row n.

@@ -7,6 +7,7 @@ use forms::letter_of;
 use judge::judge;
 use model::Refusal;
 use model::Row;
+use model::is_refused;
 use rows::Line;
 use rows::row_of;
 use split::line_end;
@@ -41,10 +42,10 @@ pub struct Read {
 fn passed(r: Row, f: Refusal) -> Judged
     ensures { λ j. ⌜ asJudged j ≡ judgedRow (rowView r) (refusalView f) ⌝ }
 {
-    match f {
-        Refusal::Nothing => Judged::Good(r),
-        _ => Judged::Bad(f),
+    if is_refused(f) {
+        return Judged::Bad(f);
     }
+    Judged::Good(r)
 }
 
 // The lowest of 3 to 7 of a line, below the rows that `c` tells of.

@@ -3,6 +3,8 @@
 -- shared facts
 pub mod Basic
 pub mod Formed
+-- the code's cases
+pub mod Refusing
 -- numerals, letters, lines and rows
 pub mod Numerals
 pub mod Letters
@@ -35,4 +37,3 @@ pub mod Runs
 pub mod Sizes
 -- requests
 pub mod Sheets
-pub mod Numbering

@@ -12,7 +12,6 @@ pub mod Letters
 pub mod Services
 pub mod Desk
 pub mod Sheet
-pub mod Numbering
 pub mod Cases
 pub mod Readings
 pub mod Code

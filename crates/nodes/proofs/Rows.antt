@@ -3,7 +3,7 @@ use Prim.Native.Nat.{ℕ, zero, suc, _+_, _≤_, _<_}
 use native.Mathlib.Nat.{add-zero, add-suc, suc-add, zero-add, not-suc-le-zero}
 use native.Mathlib.Omega.{arith}
 use mathlib.Core.Path.{_≡_, refl, sym, ap, ap₂, _∙_, subst}
-use mathlib.Core.Option.{some}
+use mathlib.Core.Option.{none, some}
 use mathlib.Core.List.{List, [], _∷_, _++_, List·Memᴰ}
 use lib.ListN.{length, getD, getElem?, take, drop, length-append}
 use Rattle.model.specs.Refusals.{Kind, typeLine, patternLine, isoLine, clauseLine, letLine}
@@ -30,6 +30,11 @@ module _ {A : Type 0} where
   get-row [] n d h = absurd (not-suc-le-zero h)
   get-row (x ∷ xs) zero d h = refl
   get-row (x ∷ xs) (suc n) d h = get-row xs n d (omega arith)
+
+  pub past-row : (xs : List A) (n : ℕ) → length xs ≤ n → getElem? xs n ≡ none
+  past-row [] n h = refl
+  past-row (x ∷ xs) zero h = absurd (omega arith)
+  past-row (x ∷ xs) (suc n) h = past-row xs n (omega arith)
 
 pub after-split : (s : Seen) (rs : List Row) (n : ℕ) → afterAll (afterAll s (take n rs)) (drop n rs) ≡ afterAll s rs
 after-split s rs zero = refl

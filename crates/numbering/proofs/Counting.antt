@@ -10,9 +10,9 @@ use borrow.Author.Tests.{ltb-true, ltb-false}
 use Rattle.model.specs.Limits.{maxValues}
 use Rattle.model.specs.Trees.{Ty}
 use Rattle.model.specs.Judge.{typeNode}
-use Rattle.model.specs.Numbering.{count}
+use Rattle.ranking.specs.Numbering.{count}
 use Rattle.model.proofs.Basic.{bool-cases}
-use Rattle.model.proofs.Numbering.{count-positive}
+use Rattle.ranking.proofs.Numbering.{count-positive}
 use Rattle.nodes.proofs.Unfolding.{node-sum, node-prod}
 use Rattle.numbering.specs.Numbers.{Counts}
 

@@ -7,12 +7,12 @@ use lib.ListN.{length, getD, length-append}
 use Rattle.model.specs.Limits.{maxValues}
 use Rattle.model.specs.Trees.{Ty, tunit, tsum, tprod, Val, vunit, vinj, vpair, left, right}
 use Rattle.model.specs.Letters.{letters, inhabits}
-use Rattle.model.specs.Numbering.{count}
+use Rattle.ranking.specs.Numbering.{count}
 use Rattle.model.proofs.Basic.{not-both, and-true}
 use Rattle.values.specs.Texts.{At}
 use Rattle.patterns.proofs.Spelling.{at-within, at-first, at-inj, at-left, at-right}
 use Rattle.numbering.specs.Numbers.{Counts, Ranks}
-use Rattle.model.proofs.Numbering.{rank-below, count-left, count-right, count-first, count-second}
+use Rattle.ranking.proofs.Numbering.{rank-below, count-left, count-right, count-first, count-second}
 use Rattle.numbering.proofs.Counting.{counted, times-plus-is}
 
 -- `next` is the place behind the letter at place `at`

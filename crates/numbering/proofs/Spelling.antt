@@ -10,12 +10,12 @@ use borrow.Author.Tests.{lt-ltb, le-ltb}
 use Rattle.model.specs.Limits.{maxValues}
 use Rattle.model.specs.Trees.{Ty, tunit, tsum, tprod, vinj, vpair, left, right}
 use Rattle.model.specs.Letters.{letters}
-use Rattle.model.specs.Numbering.{count, unrank}
+use Rattle.ranking.specs.Numbering.{count, unrank}
 use Rattle.areas.specs.Areas.{Writes}
 use Rattle.areas.proofs.Writing.{place-in, writes-one, writes-both, writes-as}
 use Rattle.values.proofs.Agreeing.{letters-some}
 use Rattle.numbering.specs.Numbers.{Counts, Unranks}
-use Rattle.model.proofs.Numbering.{count-positive, count-left, count-right, count-first, count-second}
+use Rattle.ranking.proofs.Numbering.{count-positive, count-left, count-right, count-first, count-second}
 use Rattle.numbering.proofs.Counting.{counted}
 
 -- the letters are written, where the type's values are numbered and n is the number of one

@@ -8,7 +8,7 @@ use lib.Seq.{sets}
 use Rattle.model.specs.Limits.{maxValues}
 use Rattle.model.specs.Trees.{Ty, Val}
 use Rattle.model.specs.Letters.{letters, inhabits}
-use Rattle.model.specs.Numbering.{count, rank, unrank}
+use Rattle.ranking.specs.Numbering.{count, rank, unrank}
 use Rattle.values.specs.Texts.{At}
 
 -- how many values a type has, one above the most that are numbered for all above

@@ -13,7 +13,7 @@ ghost use Rattle.model.specs.Limits.{maxValues};
 ghost use Rattle.model.specs.Trees.{Ty, Val, tsum, tprod};
 ghost use Rattle.model.specs.Judge.{typeNode};
 ghost use Rattle.model.specs.Letters.{letters, inhabits};
-ghost use Rattle.model.specs.Numbering.{count, rank, unrank};
+ghost use Rattle.ranking.specs.Numbering.{count, rank, unrank};
 ghost use Rattle.nodes.specs.Unfolding.{typeOf};
 ghost use Rattle.values.specs.Texts.{At};
 ghost use Rattle.numbering.specs.Numbers.{Counts, Ranks, Unranks};

@@ -6,10 +6,13 @@ use mathlib.Core.Bool.{Bool}
 use mathlib.Core.List.{List}
 use Rattle.model.specs.Services.{check, turn, runService}
 use Rattle.model.specs.Sheet.{sheet}
+use Rattle.ranking.specs.Numbering.{numberService, settingService}
 use Rattle.rulefile.specs.declared.CheckAnswer as C
 use Rattle.rulefile.specs.declared.TurnAnswer as T
 use Rattle.rulefile.specs.declared.RunAnswer as R
 use Rattle.rulefile.specs.declared.SheetAnswer as S
+use Rattle.rulefile.specs.declared.NumberAnswer as N
+use Rattle.rulefile.specs.declared.SettingAnswer as L
 
 -- "Check gives a number and a line"
 pub record CheckGiven (file t w t′ w′ : List ℕ) (r : C.CheckAnswer) : Type 0 where
@@ -45,3 +48,18 @@ pub record SheetGiven (file t w queries n o t′ w′ n′ o′ : List ℕ) (r :
   pub work : w′ ≡ sheet file t w queries n o .work
   pub numbers : n′ ≡ sheet file t w queries n o .numbers
   pub letters : o′ ≡ sheet file t w queries n o .letters
+
+-- request 02, letters to number
+pub record NumberGiven (file t w : List ℕ) (i : ℕ) (value t′ w′ : List ℕ) (r : N.NumberAnswer) : Type 0 where
+  pub number : r .number ≡ numberService file t w i value .number
+  pub setting : r .setting ≡ numberService file t w i value .setting
+  pub table : t′ ≡ numberService file t w i value .table
+  pub work : w′ ≡ numberService file t w i value .work
+
+-- and number to letters
+pub record SettingGiven (file t w : List ℕ) (i n : ℕ) (o t′ w′ o′ : List ℕ) (r : L.SettingAnswer) : Type 0 where
+  pub number : r .number ≡ settingService file t w i n o .number
+  pub bytes : r .length ≡ settingService file t w i n o .length
+  pub table : t′ ≡ settingService file t w i n o .table
+  pub work : w′ ≡ settingService file t w i n o .work
+  pub result : o′ ≡ settingService file t w i n o .result

@@ -1,13 +1,15 @@
-// The interface for callers in C and in Rust: Check, Turn, Run and a whole sheet under document 01's
-// numbers. Each
-// slice passes as a pointer and a length, each answer as a struct; `include/rulefile.h` declares them.
+// The interface for callers in C and in Rust: Check, Turn, Run, a whole sheet and settings as numbers
+// under document 01's numbers. Each slice passes as a pointer and a length, each answer as a struct;
+// `include/rulefile.h` declares them.
 
 use checker::check;
 use model::number_of;
 use runner::run::run;
+use settings::to_number;
+use settings::to_setting;
 use sheets::sheet;
 use turner::turn;
-ghost use Rattle.rulefile.specs.Given.{CheckGiven, TurnGiven, RunGiven, SheetGiven};
+ghost use Rattle.rulefile.specs.Given.{CheckGiven, TurnGiven, RunGiven, SheetGiven, NumberGiven, SettingGiven};
 
 // Check's number and line.
 #[repr(C)]
@@ -38,6 +40,20 @@ pub struct SheetAnswer {
     pub number: u32,
     pub line: usize,
     pub queries: usize,
+}
+
+// The number of a call for a setting's number, and that number.
+#[repr(C)]
+pub struct NumberAnswer {
+    pub number: u32,
+    pub setting: u32,
+}
+
+// The number of a call for a setting's letters, and how many were written.
+#[repr(C)]
+pub struct SettingAnswer {
+    pub number: u32,
+    pub length: usize,
 }
 
 // Checks a file.
@@ -115,5 +131,44 @@ pub extern "C" fn rulefile_sheet(
         number: number_of(f) as u32,
         line: verdict.place,
         queries: done.queries,
+    }
+}
+
+// Checks a file and gives the number of a value of its T line `line`.
+#[no_mangle]
+pub extern "C" fn rulefile_number_of(
+    file: &[u8],
+    table: &mut [u16],
+    work: &mut [u8],
+    line: u32,
+    value: &[u8],
+) -> NumberAnswer
+    ensures { λ r. ⌜ NumberGiven (now (file .entry)) (now (table .entry)) (now (work .entry)) line (now (value .entry)) (now (table .exit)) (now (work .exit)) r ⌝ }
+{
+    let told = to_number(file, table, work, line as usize, value);
+    let f = told.refusal;
+    NumberAnswer {
+        number: number_of(f) as u32,
+        setting: told.setting,
+    }
+}
+
+// Checks a file and writes the letters of the value of its T line `line` with a number.
+#[no_mangle]
+pub extern "C" fn rulefile_setting_of(
+    file: &[u8],
+    table: &mut [u16],
+    work: &mut [u8],
+    line: u32,
+    setting: u32,
+    result: &mut [u8],
+) -> SettingAnswer
+    ensures { λ r. ⌜ SettingGiven (now (file .entry)) (now (table .entry)) (now (work .entry)) line setting (now (result .entry)) (now (table .exit)) (now (work .exit)) (now (result .exit)) r ⌝ }
+{
+    let told = to_setting(file, table, work, line as usize, setting, result);
+    let f = told.refusal;
+    SettingAnswer {
+        number: number_of(f) as u32,
+        length: told.length,
     }
 }

@@ -22,7 +22,8 @@ use Rattle.parts.specs.Cleared.{cleared}
 use Rattle.checker.specs.CheckSays.{CheckSays, Accepted}
 use Rattle.checker.specs.declared.Checked as C
 use Rattle.model.proofs.Files.{number-positive}
-use Rattle.checker.proofs.Checks.{cleared-filled, unless-accepted, flag-none}
+use Rattle.checker.proofs.Checks.{cleared-filled}
+use Rattle.checker.proofs.Whole.{whole}
 use Rattle.runner.specs.declared.run.Ran as R
 use Rattle.runner.specs.RunSays.{answerFor, RanAs, RunSays}
 
@@ -83,30 +84,6 @@ run-refused s t w i back budget value o t′ w′ a r b h c e y same k l =
     })
 
 -- ---- an accepted file
-
--- what an accepted file says of the areas
-record Whole (s t w t′ w′ : List ℕ) (c : C.Checked) : Type 0 where
-  pub file : Accepted s t′ c
-  pub verdict-is : unless (short t w) (verdict s) ≡ accepted (file .file)
-  pub work-long : workLength ≤ length w
-  pub work-is : w′ ≡ filled workLength [] w
-  pub table-is : t′ ≡ tableAfter (accepted (file .file)) t
-
-whole : (s t w t′ w′ : List ℕ) (c : C.Checked) (b : Bool) → CheckSays s t w t′ w′ (c .answer) → (refusalView (c .answer .refusal) ≡ none → Accepted s t′ c)
-    → b ≡ isSome (refusalView (c .answer .refusal)) → b ≡ false → Whole s t w t′ w′ c
-unfolding check
-whole s t w t′ w′ c b says acc e y =
-    let n : refusalView (c .answer .refusal) ≡ none = flag-none b (refusalView (c .answer .refusal)) e y in
-    let a = acc n in
-    let u = unless-accepted (short t w) (verdict s) (sym (says .number) ∙ ap numbered n) in
-    let v : unless (short t w) (verdict s) ≡ accepted (a .file) = u .1 ∙ a .accepts in
-    record {
-      file = a;
-      verdict-is = v;
-      work-long = ltb-false (length w) workLength (neither (ltb (length t) tableLength) (ltb (length w) workLength) (u .0) .1);
-      work-is = says .work ∙ ap (λ x. workAfter x w) v;
-      table-is = says .table ∙ ap (λ x. tableAfter x t) v;
-    }
 
 -- what lies behind a cleared work area
 pub filled-drop : (w : List ℕ) → drop workLength (filled workLength [] w) ≡ drop workLength w

@@ -24,15 +24,16 @@ use Rattle.model.proofs.Turning.{isos-turn}
 use Rattle.model.proofs.Runs.{good-toward, accepted-good}
 use Rattle.nodes.specs.Unfolding.{cellOf, typeOf}
 use Rattle.nodes.proofs.Tails.{isos-few}
-use Rattle.nodes.proofs.Rows.{isos-told}
+use Rattle.nodes.proofs.Rows.{isos-told, past-row}
 use Rattle.index.specs.Index.{placeAt, isosAt}
 use Rattle.isos.proofs.Collecting.{head-small}
 use Rattle.checker.specs.CheckSays.{Accepted}
 use Rattle.checker.specs.declared.Checked as C
 use Rattle.checker.proofs.Checks.{isos-counted}
-use Rattle.values.specs.Texts.{behind}
+use Rattle.values.specs.Texts.{behind, alone}
 use Rattle.values.specs.Traces.{Small, Runs}
-use Rattle.values.proofs.Agreeing.{argument-some, argument-none}
+use Rattle.values.proofs.Alone.{alone-true, alone-false}
+use Rattle.values.proofs.Agreeing.{value-some, value-none}
 use Rattle.values.proofs.Tracing.{traced}
 use Rattle.reduction.specs.declared.Reduced as D
 use Rattle.reduction.specs.declared.Reduced.the-variants as reduced
@@ -40,9 +41,8 @@ use Rattle.reduction.specs.Frames.{Laid, Applied}
 use Rattle.reduction.proofs.Laying.{inside, laid, from-at}
 use Rattle.reduction.proofs.Framing.{ApplySays, either, done-place, done-left, done≢spent}
 use Rattle.runner.specs.declared.run.Ran as R
-use Rattle.runner.specs.Values.{alone}
 use Rattle.runner.specs.RunSays.{Prepared, answerFor, RanAs}
-use Rattle.runner.proofs.Copying.{value-front, paste-front, alone-true, alone-false}
+use Rattle.runner.proofs.Copying.{value-front, paste-front}
 
 -- ---- the isos of a direction
 
@@ -56,11 +56,6 @@ isos-small rs ps =
 toward-length : (back : Bool) (rs : List Row) → Passes start rs → length (isosOf (toward back rs)) ≡ length (isosOf rs)
 toward-length false rs ps = refl
 toward-length true rs ps = ap length (isos-turn rs ps) ∙ length-map (isosOf rs) invert
-
-past : {A : Type 0} (xs : List A) (i : ℕ) → length xs ≤ i → getElem? xs i ≡ none
-past [] i h = refl
-past (x ∷ xs) zero h = absurd (omega arith)
-past (x ∷ xs) (suc i) h = past xs i (omega arith)
 
 -- the model's run, by its cases
 on-none : (rs : List Row) (i budget : ℕ) (value : List ℕ) → getElem? (isosOf rs) i ≡ none → runRows rs i budget value ≡ failed noIso
@@ -100,7 +95,7 @@ no-iso t base index isos i back budget value o r h n k l rs p =
     let many = toward-length back rs (p .good .passes) in
     let all = p .count in
     ran-refused (answerFor rs i back budget value) o r noIso
-    (ap answerOfRun (on-none (toward back rs) i budget value (past (isosOf (toward back rs)) i (omega (arith, many, all))))) n k l
+    (ap answerOfRun (on-none (toward back rs) i budget value (past-row (isosOf (toward back rs)) i (omega (arith, many, all))))) n k l
 
 -- the iso of a run, and the type of its value
 record Found (t : List ℕ) (base : ℕ) (index : List ℕ) (back : Bool) (i j : ℕ) (rs : List Row) : Type 0 where
@@ -131,7 +126,7 @@ pub no-value : (t : List ℕ) (base : ℕ) (index : List ℕ) (isos i : ℕ) (ba
 no-value t base index isos i back budget value o r j row h f b less ej er eh ef eb not′ n k l rs p =
     let x = found t base index isos i back j row h f less ej er eh ef rs p in
     let none′ : argument (x .o) value ≡ none =
-    argument-none (x .o) value (λ y. alone-false (behind (typeOf t j) value) (sym eb ∙ not′) (ap (λ a. behind a value) (sym (x .type)) ∙ y)) in
+    value-none (x .o .from) value (λ y. alone-false (behind (typeOf t j) value) (sym eb ∙ not′) (ap (λ a. behind a value) (sym (x .type)) ∙ y)) in
     ran-refused (answerFor rs i back budget value) o r noValue
     (ap answerOfRun (on-some (toward back rs) i budget value (x .at) ∙ ap (from (isosOf (toward back rs)) i budget) none′)) n k l
 
@@ -156,7 +151,7 @@ begun : (t : List ℕ) (base : ℕ) (index : List ℕ) (isos i : ℕ) (back : Bo
     → (rs : List Row) → Prepared t base index isos rs → Begun t base index i back budget value rs
 begun t base index isos i back budget value j row h f b less ej er eh ef eb yes′ rs p =
     let x = found t base index isos i back j row h f less ej er eh ef rs p in
-    let a = argument-some (x .o) value (ap (λ y. behind y value) (x .type) ∙ alone-true (behind (typeOf t j) value) (sym eb ∙ yes′)) in
+    let a = value-some (x .o .from) value (ap (λ y. behind y value) (x .type) ∙ alone-true (behind (typeOf t j) value) (sym eb ∙ yes′)) in
     let g = good-toward back rs (p .good) in
     let r = traced (toward back rs) g i (x .o) (x .at) (a .0) (a .3) in
     let n = isos-small rs (p .good .passes) in

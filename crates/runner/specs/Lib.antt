@@ -1,2 +1,1 @@
 pub mod RunSays
-pub mod Values

@@ -4,15 +4,14 @@ use areas::byte_at;
 use areas::put_byte;
 use checker::Checked;
 use checker::check_file;
-use checker::is_refused;
 use index::index_isos;
 use model::Refusal;
+use model::is_refused;
 use nodes::cell;
 use parts::clear_bytes;
 use reduction::Reduced;
 use reduction::apply;
-use values::Upto;
-use values::typed_end;
+use values::is_value;
 use ways::place;
 use ways::side;
 ghost use mathlib.Core.Path.{_≡_};
@@ -21,11 +20,8 @@ ghost use Prim.Native.Nat.{ℕ, _-_, _≤_};
 ghost use lib.ListN.{length, drop};
 ghost use lib.Seq.{paste};
 ghost use Rattle.model.specs.Lines.{Row as RowOf};
-ghost use Rattle.nodes.specs.Unfolding.{typeOf};
 ghost use Rattle.index.specs.Index.{indexLength};
 ghost use Rattle.checker.specs.CheckSays.{Accepted};
-ghost use Rattle.values.specs.Texts.{behind};
-ghost use Rattle.runner.specs.Values.{alone};
 ghost use Rattle.runner.specs.RunSays.{Prepared, answerFor, RanAs, RunSays};
 
 // A refusal or none, the number of applications, and the number of letters in the result area.
@@ -53,20 +49,6 @@ fn copy_front(from: &[u8], n: usize, to: &mut [u8])
     while i < n {
         put_byte(to, i, byte_at(from, i));
         i += 1;
-    }
-}
-
-// Whether the letters are exactly one closed value of T line i.
-fn is_value(t: &[u16], i: usize, value: &[u8]) -> bool
-    ensures { λ r. ⌜ r ≡ alone (behind (typeOf (now (t .entry)) i) (now (value .entry))) ⌝ }
-{
-    match typed_end(t, i, value, 0) {
-        Upto::Place(n) => {
-            return value.len() <= n;
-        }
-        Upto::Nothing => {
-            return false;
-        }
     }
 }
 

@@ -1,13 +1,13 @@
 // Turn: the file's bytes in; the turned file's bytes in the output area, and its length.
 
 use checker::check_file;
-use checker::is_refused;
 use forms::Letter;
 use forms::kind_of;
 use model::Answer;
 use model::Kind;
 use model::Refusal;
 use model::Row;
+use model::is_refused;
 use nodes::cell;
 use printer::put_row;
 ghost use mathlib.Core.Path.{_≡_};

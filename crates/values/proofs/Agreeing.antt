@@ -19,7 +19,7 @@ use Rattle.model.specs.Slots.{Slots, put, empty}
 use Rattle.model.specs.Letters.{letters, letterU, letterP, letterOf, valueOf, inhabits}
 use Rattle.model.specs.Reduction.{bind, build}
 use Rattle.model.specs.Paper.{Of}
-use Rattle.model.specs.Services.{argument}
+use Rattle.model.specs.Services.{valueIn}
 use Rattle.model.proofs.Basic.{bind-some, some-bind, none≢some, some-inj, not-some, guard-true, true-guard, true-and, eqb-eq, ltb-lt, lt-ltb}
 use Rattle.model.proofs.Slots.{slot, put-of-get, put-length, Filled, put-filled, filled-keeps, slot-empty}
 use Rattle.model.proofs.Binding.{bind-length}
@@ -351,28 +351,28 @@ value-behind (Of.pair {v} {w} {a} {b} h k) cs =
     ∙ some-bind (λ ds. behind b ds) (value-behind h (letters w ++ cs))
     ∙ value-behind k cs
 
--- ---- a run's argument
+-- ---- letters that are a value of a type
 
--- letters that pass the test of the starting type are the argument
-pub argument-some : (o : Iso) (bs : List ℕ) → behind (o .from) bs ≡ some [] → (v : Val) × (argument o bs ≡ some v) × (bs ≡ letters v) × Of v (o .from)
-argument-some o bs h =
-    let d = behind-value (o .from) bs h in
+-- letters that pass the test are one
+pub value-some : (a : Ty) (bs : List ℕ) → behind a bs ≡ some [] → (v : Val) × (valueIn bs a ≡ some v) × (bs ≡ letters v) × Of v a
+value-some a bs h =
+    let d = behind-value a bs h in
     let v = d .0 in
     let e : bs ≡ letters v = d .2 ∙ append-nil (letters v) in (
       v,
-      some-bind (λ u. guard (inhabits u (o .from)) >>= λ _. some u) (ap valueOf e ∙ value-letters v)
+      some-bind (λ u. guard (inhabits u a) >>= λ _. some u) (ap valueOf e ∙ value-letters v)
           ∙ some-bind (λ _. some v) (true-guard (of-inhabits (d .1))),
       e,
       d .1,
     )
 
 -- and where they do not, there is none
-pub argument-none : (o : Iso) (bs : List ℕ) → (behind (o .from) bs ≡ some [] → ⊥) → argument o bs ≡ none
-argument-none o bs h =
-    not-some (argument o bs)
+pub value-none : (a : Ty) (bs : List ℕ) → (behind a bs ≡ some [] → ⊥) → valueIn bs a ≡ none
+value-none a bs h =
+    not-some (valueIn bs a)
     (λ u k.
-    let d = bind-some (valueOf bs) (λ v. guard (inhabits v (o .from)) >>= λ _. some v) k in
+    let d = bind-some (valueOf bs) (λ v. guard (inhabits v a) >>= λ _. some v) k in
     let v = d .0 in
-    let g = bind-some (guard (inhabits v (o .from))) (λ _. some v) (d .2) in
-    h (ap (behind (o .from)) (letters-value bs v (d .1) ∙ sym (append-nil (letters v)))
-    ∙ value-behind (inhabits-of v (o .from) (guard-true (inhabits v (o .from)) (g .1))) []))
+    let g = bind-some (guard (inhabits v a)) (λ _. some v) (d .2) in
+    h (ap (behind a) (letters-value bs v (d .1) ∙ sym (append-nil (letters v)))
+    ∙ value-behind (inhabits-of v a (guard-true (inhabits v a) (g .1))) []))

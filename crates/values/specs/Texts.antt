@@ -46,6 +46,12 @@ behind tunit bs = behindUnit bs
 behind (tsum a b) bs = behindTag (behind a) (behind b) bs
 behind (tprod a b) bs = behindPair (behind a) (behind b) bs
 
+-- a value, and nothing behind it
+abbrev pub alone : Option (List ℕ) → Bool
+alone none = false
+alone (some []) = true
+alone (some (b ∷ bs)) = false
+
 -- the letter of a P line of kind k that is no variable
 abbrev pub letterFor : ℕ → ℕ
 letterFor k = cond (eqb k 0) letterU (cond (eqb k 2) (letterOf left) (cond (eqb k 3) (letterOf right) letterP))

@@ -9,7 +9,7 @@ ghost use lib.ListN.{length, drop};
 ghost use lib.Seq.{slice};
 ghost use Rattle.areas.specs.Areas.{Writes};
 ghost use Rattle.nodes.specs.Unfolding.{typeOf};
-ghost use Rattle.values.specs.Texts.{asUpto, behind, Span};
+ghost use Rattle.values.specs.Texts.{asUpto, behind, alone, Span};
 
 // Where something ends that begins at a place.
 pub enum Upto {
@@ -50,6 +50,20 @@ pub fn typed_end(t: &[u16], i: usize, s: &[u8], at: usize) -> Upto
         };
     }
     Upto::Nothing
+}
+
+// Whether the letters are exactly one closed value of T line i.
+pub fn is_value(t: &[u16], i: usize, value: &[u8]) -> bool
+    ensures { λ r. ⌜ r ≡ alone (behind (typeOf (now (t .entry)) i) (now (value .entry))) ⌝ }
+{
+    match typed_end(t, i, value, 0) {
+        Upto::Place(n) => {
+            return value.len() <= n;
+        }
+        Upto::Nothing => {
+            return false;
+        }
+    }
 }
 
 // How many letters a copy to a place takes: those of the range if they fit, and else none.

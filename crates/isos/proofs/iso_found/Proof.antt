@@ -1,14 +1,17 @@
--- `isos::iso_found` meets its contract: where no clause was refused the sides decide, else the refused clause stays.
-use Rattle.model.proofs.Refusal.{the-type}
-use denote.Enum.Declared.{tagOf}
-use mathlib.Core.Path.{refl}
+-- `isos::iso_found` meets its contract: a refused clause stays, where there is none the sides decide.
+use Rattle.model.specs.Code.{refusalView}
 use Rattle.isos.proofs.Earlier.{by-sides, stays-first}
 use borrow.Author.Needs.{needs}
 use Rattle.isos.proofs.iso_found.Statement.{statement}
 use Rattle.isos.proofs.iso_found.Tie as tie
 
-enum-told : tie.Need-enum-told
-enum-told c = search needs
+is-refused-requires : tie.Need-is-refused-requires
+is-refused-requires c κs = search needs
+
+returns : tie.Need-returns
+returns c =
+    let a = c .before .before .before .before .args .pending in
+    stays-first (a .place) _ _ (refusalView (a .refusal)) (c .before .is-refused .ensures) (c .if1 .taken)
 
 side-fault-requires : tie.Need-side-fault-requires
 side-fault-requires c κs = search needs
@@ -19,14 +22,12 @@ add-sooner c = search needs
 sooner-requires : tie.Need-sooner-requires
 sooner-requires c κs = search needs
 
-returns : tie.Need-returns
-returns c =
-    let a = c .before .before .before .before .before .before .args in
-    by-sides (a .pending .refusal) (a .pending .place) (a .n) (c .before .side-fault .result) _ (c .before .before .enum-told .given .1) (c .before .side-fault .ensures) (c .sooner .ensures)
-
 returns-2 : tie.Need-returns-2
-returns-2 c = let a = c .before .before .before .args in stays-first (tagOf the-type) refl (a .pending .place) _ _ (a .pending .refusal) (c .match .keys2)
+returns-2 c =
+    let a = c .before .before .before .before .before .before .args in
+    by-sides (a .pending .place) (a .n) (refusalView (a .pending .refusal)) _ (c .before .before .before .is-refused .ensures) (c .before .before .if1 .left) (c .before .side-fault .ensures) (c .sooner .ensures)
 
 pub iso-found-spec : {M : Type 1} → statement M
 iso-found-spec =
-    tie.close (tie.spec enum-told side-fault-requires add-sooner sooner-requires returns returns-2)
+    tie.close
+    (tie.spec is-refused-requires returns side-fault-requires add-sooner sooner-requires returns-2)

@@ -1,20 +1,22 @@
--- `isos::sooner` meets its contract: no refusal leaves what was found later, any other stays.
-use Rattle.model.proofs.Refusal.{the-type}
-use denote.Enum.Declared.{tagOf}
-use mathlib.Core.Path.{refl}
+-- `isos::sooner` meets its contract: a refusal stays, none leaves what was found later.
+use Rattle.model.specs.Code.{refusalView}
 use Rattle.isos.proofs.Earlier.{goes-on, stays}
 use borrow.Author.Needs.{needs}
 use Rattle.isos.proofs.sooner.Statement.{statement}
 use Rattle.isos.proofs.sooner.Tie as tie
 
-enum-told : tie.Need-enum-told
-enum-told c = search needs
+is-refused-requires : tie.Need-is-refused-requires
+is-refused-requires c κs = search needs
 
 returns : tie.Need-returns
-returns c = goes-on (c .before .before .args .f) (c .before .before .args .place) _ (c .enum-told .given .1)
+returns c =
+    let a = c .before .before .args in
+    stays (a .place) _ (refusalView (a .f)) (c .before .is-refused .ensures) (c .if1 .taken)
 
 returns-2 : tie.Need-returns-2
-returns-2 c = stays (tagOf the-type) refl (c .before .args .place) _ (c .before .args .f) (c .match .keys2)
+returns-2 c =
+    let a = c .before .before .args in
+    goes-on (a .place) _ (refusalView (a .f)) (c .before .is-refused .ensures) (c .if1 .left)
 
 pub sooner-spec : {M : Type 1} → statement M
-sooner-spec = tie.close (tie.spec enum-told returns returns-2)
+sooner-spec = tie.close (tie.spec is-refused-requires returns returns-2)

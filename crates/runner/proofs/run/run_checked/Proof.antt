@@ -12,7 +12,7 @@ use Rattle.reduction.proofs.apply.Reads as apply-reads
 use Rattle.ways.proofs.place.Reads as place-reads
 use Rattle.ways.proofs.side.Reads as side-reads
 use Rattle.runner.proofs.run.copy_front.Reads as copy-front-reads
-use Rattle.runner.proofs.run.is_value.Reads as is-value-reads
+use Rattle.values.proofs.is_value.Reads as is-value-reads
 use Rattle.runner.proofs.run.refused.Reads as refused-reads
 use Rattle.runner.proofs.run.used.Reads as used-reads
 

@@ -1,13 +1,13 @@
--- `checker::is_refused` meets its contract: Nothing is no refusal, and any other case is one.
+-- `model::is_refused` meets its contract: Nothing is no refusal, and any other case is one.
 use Rattle.model.specs.Tools.{isSome}
 use Rattle.model.specs.Code.{refusalView}
 use Rattle.model.proofs.Refusal.{the-type}
 use denote.Enum.Declared.{tagOf}
 use mathlib.Core.Path.{refl, sym, ap}
-use Rattle.isos.proofs.Earlier.{told-some}
+use Rattle.model.proofs.Refusing.{told-some}
 use borrow.Author.Needs.{needs}
-use Rattle.checker.proofs.is_refused.Statement.{statement}
-use Rattle.checker.proofs.is_refused.Tie as tie
+use Rattle.model.proofs.is_refused.Statement.{statement}
+use Rattle.model.proofs.is_refused.Tie as tie
 
 enum-told : tie.Need-enum-told
 enum-told c = search needs

@@ -10,19 +10,19 @@ use mathlib.Core.Option.{Option, none, some}
 use mathlib.Core.List.{List, [], _∷_, _++_, append-assoc, append-nil}
 use lib.Dec.{leb, ltb, eqb}
 use lib.ListN.{length, getD, getElem?}
 use Rattle.model.specs.Limits.{maxNodes, maxValues, resultLength}
 use Rattle.model.specs.Tools.{_>>=_, guard}
 use Rattle.model.specs.Trees.{Ty, tunit, tsum, tprod, left, right, Val, vinj, vpair, typeNodes}
 use Rattle.model.specs.Refusals.{Refusal, noIso, noValue, tooMany, tooHigh}
 use Rattle.model.specs.Lines.{Row}
 use Rattle.model.specs.Letters.{letters, inhabits}
 use Rattle.model.specs.Services.{Verdict, accepted, refused, verdict, valueIn}
 use Rattle.model.specs.Paper.{Of}
-use Rattle.model.specs.Numbering.{count, rank, unrank, before, Outcome, gives, fails, typesOf, onType, numberIn, toNumber, toSetting, numberOn, settingOn, refusalOf, numberFrom}
+use Rattle.ranking.specs.Numbering.{count, rank, unrank, before, Outcome, gives, fails, typesOf, onType, numberIn, toNumber, toSetting, numberOn, settingOn, refusalOf, numberFrom}
 use Rattle.model.proofs.Basic.{some-bind, none≢some, some-inj, not-some, true-guard, true-and, true-or-left, bool-cases, eq-eqb, not-eqb, leb-le, leb-false, ltb-lt, lt-ltb, ltb-false, not-ltb}
 use Rattle.model.proofs.Letters.{value-letters, inhabits-of}
 use Rattle.model.proofs.Runs.{accepted-good, value-in}
 use Rattle.model.proofs.Sizes.{of-small, types-small}
 
 -- ---- counts
 
@@ -217,151 +217,3 @@ thirty-two = (refl, refl)
 -- and one of 31 is far below
 pub thirty-one : count (twos 30) ≡ 2147483648
 thirty-one = refl
-
--- ---- one type: letters to number, number to letters
-
-fails≢gives : {A : Type 0} {f : Refusal} {y : A} → _≡_ {A = Outcome A} (fails f) (gives y) → ⊥
-fails≢gives e = false≢true cc
-
-to-number : (v : Val) (a : Ty) → inhabits v a ≡ true → toNumber (letters v) a ≡ gives (rank v a)
-to-number v a h =
-    ap (numberIn a)
-    (some-bind (λ u. guard (inhabits u a) >>= λ _. some u) (value-letters v) ∙ some-bind (λ _. some v) (true-guard h))
-
-of-number : (ls : List ℕ) (a : Ty) (n : ℕ) → toNumber ls a ≡ gives n → (v : Val) × (ls ≡ letters v) × (inhabits v a ≡ true) × (rank v a ≡ n)
-of-number ls a n = go (valueIn ls a) refl
-  where
-    go : (x : Option Val) → valueIn ls a ≡ x → numberIn a x ≡ gives n → (v : Val) × (ls ≡ letters v) × (inhabits v a ≡ true) × (rank v a ≡ n)
-    go none p e = absurd (fails≢gives e)
-    go (some v) p e = let r = value-in ls a v p in (v, r .0, r .1, (cc))
-
-to-setting : (n : ℕ) (a : Ty) → n < count a → toSetting n a ≡ gives (letters (unrank a n))
-to-setting n a h = ap (λ b. cond b (gives (letters (unrank a n))) (fails tooHigh)) (lt-ltb h)
-
-of-setting : (n : ℕ) (a : Ty) (ls : List ℕ) → toSetting n a ≡ gives ls → (n < count a) × (letters (unrank a n) ≡ ls)
-of-setting n a ls = go (ltb n (count a)) refl
-  where
-    go : (b : Bool) → ltb n (count a) ≡ b → cond b (gives (letters (unrank a n))) (fails tooHigh) ≡ gives ls → (n < count a) × (letters (unrank a n) ≡ ls)
-    go true p e = (ltb-lt n (count a) p, (cc))
-    go false p e = absurd (fails≢gives e)
-
--- a type there with too many values, and with few enough
-type-many : {A : Type 0} {x : Option Ty} {a : Ty} (f : Ty → Outcome A) → x ≡ some a → maxValues < count a → onType x f ≡ fails tooMany
-type-many {a = a} f e h = ap (λ x. onType x f) e ∙ ap (λ b. cond b (fails tooMany) (f a)) (lt-ltb h)
-
-type-there : {A : Type 0} {x : Option Ty} {a : Ty} (f : Ty → Outcome A) → x ≡ some a → count a ≤ maxValues → onType x f ≡ f a
-type-there {a = a} f e h = ap (λ x. onType x f) e ∙ ap (λ b. cond b (fails tooMany) (f a)) (not-ltb h)
-
-there-type : {A : Type 0} (x : Option Ty) (f : Ty → Outcome A) {y : A} → onType x f ≡ gives y
-    → (a : Ty) × (x ≡ some a) × (count a ≤ maxValues) × (f a ≡ gives y)
-there-type none f e = absurd (fails≢gives e)
-there-type {A} (some a) f {y} e = go (ltb maxValues (count a)) refl e
-  where
-    go : (b : Bool) → ltb maxValues (count a) ≡ b → cond b (fails tooMany) (f a) ≡ gives y
-        → (c : Ty) × (_≡_ {A = Option Ty} (some a) (some c)) × (count c ≤ maxValues) × (f c ≡ gives y)
-    go true p k = absurd (fails≢gives k)
-    go false p k = (a, refl, ltb-false maxValues (count a) p, k)
-
--- ---- the services: what they refuse, in order
-
-module _ (rs : List Row) (i : ℕ) where
-  -- "An absent T line is 15"
-  pub absent-type : getElem? (typesOf rs) i ≡ none → (ls : List ℕ) (n : ℕ)
-      → (numberOn (accepted rs) i ls ≡ fails noIso) × (settingOn (accepted rs) i n ≡ fails noIso)
-  absent-type e ls n = (ap (λ x. onType x (toNumber ls)) e, ap (λ x. onType x (toSetting n)) e)
-
-  module _ (a : Ty) (e : getElem? (typesOf rs) i ≡ some a) where
-    -- "18 "too many values", a count above 4,294,967,295 …, after 15 and before 16"
-    pub many-values : maxValues < count a → (ls : List ℕ) (n : ℕ)
-        → (numberOn (accepted rs) i ls ≡ fails tooMany) × (settingOn (accepted rs) i n ≡ fails tooMany)
-    many-values h ls n = (type-many (toNumber ls) e h, type-many (toSetting n) e h)
-
-    -- 18 "before 16": letters that are not exactly one closed value of the type
-    pub no-value : count a ≤ maxValues → (ls : List ℕ) → ((v : Val) → inhabits v a ≡ true → ls ≡ letters v → ⊥)
-        → numberOn (accepted rs) i ls ≡ fails noValue
-    no-value h ls k =
-        type-there (toNumber ls) e h ∙ ap (numberIn a) (not-some (valueIn ls a) (λ v p. let r = value-in ls a v p in k v (r .1) (r .0)))
-
-    -- "19 "number too high", not below the count, after 18"
-    pub high-number : count a ≤ maxValues → (n : ℕ) → count a ≤ n → settingOn (accepted rs) i n ≡ fails tooHigh
-    high-number h n k = type-there (toSetting n) e h ∙ ap (λ b. cond b (gives (letters (unrank a n))) (fails tooHigh)) (not-ltb k)
-
-    -- "Both ways are wanted for any T line of an accepted file": every value of the type has its number
-    pub number-given : count a ≤ maxValues → (v : Val) → inhabits v a ≡ true → numberOn (accepted rs) i (letters v) ≡ gives (rank v a)
-    number-given h v k = type-there (toNumber (letters v)) e h ∙ to-number v a k
-
-    -- "Both ways": and every number below the count its letters
-    pub setting-given : count a ≤ maxValues → (n : ℕ) → n < count a → settingOn (accepted rs) i n ≡ gives (letters (unrank a n))
-    setting-given h n k = type-there (toSetting n) e h ∙ to-setting n a k
-
--- "With a refusal the setting number is 0"
-pub refused-zero : (o : Outcome ℕ) → (refusalOf o ≡ 0 → ⊥) → numberFrom o ≡ 0
-refused-zero (gives n) h = absurd (h refl)
-refused-zero (fails f) h = refl
-
--- ---- the services: what they give
-
--- "each undoing the other": the number of letters gives the letters back
-pub number-setting : (w : Verdict) (i : ℕ) (ls : List ℕ) (n : ℕ) → numberOn w i ls ≡ gives n → settingOn w i n ≡ gives ls
-number-setting (refused f m) i ls n e = absurd (fails≢gives e)
-number-setting (accepted rs) i ls n e =
-    let t = there-type (getElem? (typesOf rs) i) (toNumber ls) e in
-    let r = of-number ls (t .0) n (t .3) in
-    let k = rank-below (r .0) (t .0) (r .2) in
-    setting-given rs i (t .0) (t .1) (t .2) n (subst (λ m. m < count (t .0)) (r .3) k)
-    ∙ ap gives (ap letters (ap (unrank (t .0)) (sym (r .3)) ∙ unrank-rank (r .0) (t .0) (r .2)) ∙ sym (r .1))
-
--- "each undoing the other": the letters of a number give the number back
-pub setting-number : (w : Verdict) (i : ℕ) (n : ℕ) (ls : List ℕ) → settingOn w i n ≡ gives ls → numberOn w i ls ≡ gives n
-setting-number (refused f m) i n ls e = absurd (fails≢gives e)
-setting-number (accepted rs) i n ls e =
-    let t = there-type (getElem? (typesOf rs) i) (toSetting n) e in
-    let r = of-setting n (t .0) ls (t .3) in
-    ap (numberOn (accepted rs) i) (sym (r .1))
-    ∙ number-given rs i (t .0) (t .1) (t .2) (unrank (t .0) n) (unrank-inhabits (t .0) n (r .0))
-    ∙ ap gives (rank-unrank (t .0) n (r .0))
-
--- "a count above 4,294,967,295" is refused: a number given is below, and fits 32 bits
-pub number-below : (w : Verdict) (i : ℕ) (ls : List ℕ) (n : ℕ) → numberOn w i ls ≡ gives n → n < maxValues
-number-below (refused f m) i ls n e = absurd (fails≢gives e)
-number-below (accepted rs) i ls n e =
-    let t = there-type (getElem? (typesOf rs) i) (toNumber ls) e in
-    let r = of-number ls (t .0) n (t .3) in
-    let k = rank-below (r .0) (t .0) (r .2) in
-    omega (arith, r .3, t .2)
-
--- "numbers of one type rise exactly as the letters do in byte order"
-pub number-order : (w : Verdict) (i : ℕ) (ls ms : List ℕ) (m n : ℕ) → numberOn w i ls ≡ gives m → numberOn w i ms ≡ gives n → ltb m n ≡ before ls ms
-number-order (refused f k) i ls ms m n d e = absurd (fails≢gives d)
-number-order (accepted rs) i ls ms m n d e =
-    let s = there-type (getElem? (typesOf rs) i) (toNumber ls) d in
-    let t = there-type (getElem? (typesOf rs) i) (toNumber ms) e in
-    let q = of-number ls (s .0) m (s .3) in
-    let r = of-number ms (s .0) n (subst (λ a. toNumber ms a ≡ gives n) (some-inj (sym (t .1) ∙ s .1)) (t .3)) in
-    ap₂ ltb (sym (q .3)) (sym (r .3))
-    ∙ rank-order (q .0) (r .0) (s .0) (q .2) (r .2)
-    ∙ ap₂ before (sym (q .1)) (sym (r .1))
-
--- a type that is there
-index-default : {A : Type 0} (xs : List A) (i : ℕ) {x : A} (d : A) → getElem? xs i ≡ some x → getD xs i d ≡ x
-index-default [] i d e = absurd (none≢some e)
-index-default (y ∷ xs) zero d e = some-inj e
-index-default (y ∷ xs) (suc i) d e = index-default xs i d e
-
--- the T lines of an accepted file have few nodes
-small-type : (file : List ℕ) (rs : List Row) → verdict file ≡ accepted rs → (i : ℕ) (a : Ty) → getElem? (typesOf rs) i ≡ some a → typeNodes a ≤ maxNodes
-unfolding typesOf
-small-type file rs e i a h =
-    subst (λ b. typeNodes b ≤ maxNodes) (index-default (typesOf rs) i tunit h) (types-small (accepted-good file rs e .passes) i)
-
--- "letters written into 127 lent bytes"
-pub setting-room : (file : List ℕ) (i n : ℕ) (ls : List ℕ) → settingOn (verdict file) i n ≡ gives ls → length ls ≤ resultLength
-setting-room file i n ls = go (verdict file) refl
-  where
-    go : (w : Verdict) → verdict file ≡ w → settingOn w i n ≡ gives ls → length ls ≤ resultLength
-    go (refused f m) p e = absurd (fails≢gives e)
-    go (accepted rs) p e =
-        let t = there-type (getElem? (typesOf rs) i) (toSetting n) e in
-        let r = of-setting n (t .0) ls (t .3) in
-        let b = letters-bound (unrank (t .0) n) (t .0) (unrank-inhabits (t .0) n (r .0)) in
-        subst (λ l. length l ≤ resultLength) (r .1) (le-trans b (small-type file rs p i (t .0) (t .1)))

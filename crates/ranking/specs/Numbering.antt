@@ -105,12 +105,14 @@ pub record Numbered : Type 0 where
   pub table : List ℕ
   pub work : List ℕ
 
+-- what a call answers by an outcome, and leaves in its areas by a verdict
+abbrev pub numberedBy : List ℕ → List ℕ → Verdict → Outcome ℕ → Numbered
+numberedBy table work v o = record { number = refusalOf o; setting = numberFrom o; table = tableAfter v table; work = workAfter v work }
+
 unfoldable pub numberService : List ℕ → List ℕ → List ℕ → ℕ → List ℕ → Numbered
 unfolding verdict typesOf valueOf
 numberService file table work i value =
-    let v : Verdict = unless (short table work) (verdict file) in
-    let o : Outcome ℕ = numberOn v i value in
-    record { number = refusalOf o; setting = numberFrom o; table = tableAfter v table; work = workAfter v work }
+    let v : Verdict = unless (short table work) (verdict file) in numberedBy table work v (numberOn v i value)
 
 -- number to letters, "letters written into 127 lent bytes"
 pub record Lettered : Type 0 where
@@ -120,11 +122,8 @@ pub record Lettered : Type 0 where
   pub work : List ℕ
   pub result : List ℕ
 
-unfoldable pub settingService : List ℕ → List ℕ → List ℕ → ℕ → ℕ → List ℕ → Lettered
-unfolding verdict typesOf
-settingService file table work i n result =
-    let v : Verdict = unless (short table work || ltb (length result) resultLength) (verdict file) in
-    let o : Outcome (List ℕ) = settingOn v i n in
+abbrev pub letteredBy : List ℕ → List ℕ → List ℕ → Verdict → Outcome (List ℕ) → Lettered
+letteredBy table work result v o =
     record {
       number = refusalOf o;
       length = length (lettersFrom o);
@@ -132,3 +131,8 @@ settingService file table work i n result =
       work = workAfter v work;
       result = written (lettersFrom o) result;
     }
+
+unfoldable pub settingService : List ℕ → List ℕ → List ℕ → ℕ → ℕ → List ℕ → Lettered
+unfolding verdict typesOf
+settingService file table work i n result =
+    let v : Verdict = unless (short table work || ltb (length result) resultLength) (verdict file) in letteredBy table work result v (settingOn v i n)

@@ -1,0 +1,109 @@
+//! `settings FILE`
+//!
+//! Settings as numbers. FILE has the lines of a rule file and behind them calls: `N,type,letters` asks for
+//! the number of a setting of a T line, `S,type,number` for the letters of the setting with a number. Prints
+//! `number,line` for the rule file and, if it is accepted, a line for each call: `number,setting` for N,
+//! `number,letters` for S.
+//!
+//! Exit status: 0 accepted, 1 refused, 2 the argument, FILE or a call in it cannot be read.
+
+use rulefile::{Desk, Refused};
+use std::env;
+use std::ffi::{OsStr, OsString};
+use std::fs;
+use std::process::ExitCode;
+
+/// A longer text is not read.
+const LONGEST: usize = 2 * 65_536 - 1;
+
+/// What a line behind the rule file asks.
+enum Call<'a> {
+    Number(u32, &'a str),
+    Letters(u32, u32),
+}
+
+/// A text without zero bytes that ends in a line feed; an empty one too.
+fn read_text(path: &OsStr) -> Option<String> {
+    let text = String::from_utf8(fs::read(path).ok()?).ok()?;
+    let ends = text.is_empty() || text.ends_with('\n');
+    (ends && text.len() <= LONGEST && !text.contains('\0')).then_some(text)
+}
+
+fn read_number(text: &str) -> Option<u32> {
+    text.parse().ok().filter(|_| !text.starts_with('+'))
+}
+
+fn read_call(line: &str) -> Option<Call<'_>> {
+    let fields: Vec<&str> = line.splitn(3, ',').collect();
+    let [letter, ty, last] = fields[..] else {
+        return None;
+    };
+    let ty = read_number(ty)?;
+    match letter {
+        "N" => Some(Call::Number(ty, last)),
+        "S" => Some(Call::Letters(ty, read_number(last)?)),
+        _ => None,
+    }
+}
+
+/// What stands before the first line that begins with N or S, and the calls.
+fn parts(text: &str) -> (&[u8], &str) {
+    let lines = text.split_inclusive('\n');
+    let rules = lines.take_while(|line| !line.starts_with(['N', 'S']));
+    let (rules, calls) = text.split_at(rules.map(str::len).sum());
+    (rules.as_bytes(), calls)
+}
+
+fn number(refused: Refused) -> u32 {
+    refused.refusal.number()
+}
+
+/// The line that answers a call.
+fn answer(desk: &mut Desk, rules: &[u8], call: Call) -> String {
+    match call {
+        Call::Number(ty, letters) => match desk.number_of(rules, ty, letters.as_bytes()) {
+            Ok(setting) => format!("0,{setting}"),
+            Err(refused) => format!("{},0", number(refused)),
+        },
+        Call::Letters(ty, setting) => match desk.setting_of(rules, ty, setting) {
+            Ok(letters) => format!("0,{}", String::from_utf8_lossy(&letters)),
+            Err(refused) => format!("{},", number(refused)),
+        },
+    }
+}
+
+/// Answers all calls; false where a line is none.
+fn answer_all(desk: &mut Desk, rules: &[u8], calls: &str) -> bool {
+    for line in calls.split_terminator('\n') {
+        let Some(call) = read_call(line) else {
+            return false;
+        };
+        println!("{}", answer(desk, rules, call));
+    }
+    true
+}
+
+fn main() -> ExitCode {
+    let words: Vec<OsString> = env::args_os().skip(1).collect();
+    let [path] = &words[..] else {
+        eprintln!("usage: settings FILE");
+        return ExitCode::from(2);
+    };
+    let Some(text) = read_text(path) else {
+        eprintln!("settings: cannot read {}", path.to_string_lossy());
+        return ExitCode::from(2);
+    };
+    let (rules, calls) = parts(&text);
+    let mut desk = Desk::new();
+    if let Err(refused) = desk.check(rules) {
+        println!("{},{}", number(refused), refused.line);
+        return ExitCode::FAILURE;
+    }
+    println!("0,0");
+    if !answer_all(&mut desk, rules, calls) {
+        let path = path.to_string_lossy();
+        eprintln!("settings: {path} has a line that is no call");
+        return ExitCode::from(2);
+    }
+    ExitCode::SUCCESS
+}

@@ -1,0 +1,45 @@
+-- The contracts of settings as numbers: on a checked table, and as services.
+use Prim.Native.Nat.{ℕ}
+use mathlib.Core.Path.{_≡_}
+use mathlib.Core.Bool.{cond}
+use mathlib.Core.Option.{Option, none, some}
+use mathlib.Core.List.{List}
+use lib.Dec.{leb, ltb}
+use lib.ListN.{length}
+use Rattle.model.specs.Limits.{maxValues}
+use Rattle.model.specs.Trees.{Ty}
+use Rattle.model.specs.Refusals.{Refusal, noIso, tooMany}
+use Rattle.model.specs.Services.{written}
+use Rattle.ranking.specs.Numbering.{count, Outcome, refusalOf, numberFrom, lettersFrom, numberService, settingService}
+use Rattle.model.specs.Code.{numberOf}
+use Rattle.settings.specs.declared.Numbered as N
+use Rattle.settings.specs.declared.Lettered as L
+
+-- 15, then 18, for T line i of so many, a being its type
+abbrev pub typeFault : ℕ → ℕ → Ty → Option Refusal
+typeFault types i a = cond (leb types i) (some noIso) (cond (ltb maxValues (count a)) (some tooMany) none)
+
+-- number and setting as an outcome says
+pub record NumberedAs (x : Outcome ℕ) (r : N.Numbered) : Type 0 where
+  pub number : numberOf (r .refusal) ≡ refusalOf x
+  pub setting : r .setting ≡ numberFrom x
+
+-- number, length and every byte of the result area as an outcome says; o is the area at entry, o′ at exit
+pub record LetteredAs (x : Outcome (List ℕ)) (o o′ : List ℕ) (r : L.Lettered) : Type 0 where
+  pub number : numberOf (r .refusal) ≡ refusalOf x
+  pub bytes : r .length ≡ length (lettersFrom x)
+  pub result : o′ ≡ written (lettersFrom x) o
+
+-- the services; t, w and o are the areas at entry, t′, w′ and o′ at exit
+pub record NumberSays (file t w : List ℕ) (i : ℕ) (value t′ w′ : List ℕ) (r : N.Numbered) : Type 0 where
+  pub number : numberOf (r .refusal) ≡ numberService file t w i value .number
+  pub setting : r .setting ≡ numberService file t w i value .setting
+  pub table : t′ ≡ numberService file t w i value .table
+  pub work : w′ ≡ numberService file t w i value .work
+
+pub record SettingSays (file t w : List ℕ) (i n : ℕ) (o t′ w′ o′ : List ℕ) (r : L.Lettered) : Type 0 where
+  pub number : numberOf (r .refusal) ≡ settingService file t w i n o .number
+  pub bytes : r .length ≡ settingService file t w i n o .length
+  pub table : t′ ≡ settingService file t w i n o .table
+  pub work : w′ ≡ settingService file t w i n o .work
+  pub result : o′ ≡ settingService file t w i n o .result

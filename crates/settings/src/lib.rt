@@ -1,0 +1,144 @@
+// Settings as numbers: the letters of a closed value of a T line to its number, and back, on a checked
+// table and as services.
+
+use checker::check_file;
+use model::Refusal;
+use model::is_refused;
+use numbering::count_values;
+use numbering::rank_at;
+use numbering::unrank_at;
+use values::is_value;
+ghost use mathlib.Core.Path.{_≡_};
+ghost use mathlib.Core.List.{List};
+ghost use Prim.Native.Nat.{ℕ, _≤_};
+ghost use lib.ListN.{length};
+ghost use Rattle.model.specs.Lines.{Row as RowOf};
+ghost use Rattle.model.specs.Services.{accepted};
+ghost use Rattle.ranking.specs.Numbering.{numberOn, settingOn};
+ghost use Rattle.model.specs.Code.{refusalView};
+ghost use Rattle.nodes.specs.Unfolding.{typeOf};
+ghost use Rattle.nodes.specs.Walk.{FileIn};
+ghost use Rattle.settings.specs.SettingSays.{typeFault, NumberedAs, LetteredAs, NumberSays, SettingSays};
+
+// A refusal or none, and a setting's number.
+pub struct Numbered {
+    pub refusal: Refusal,
+    pub setting: u32,
+}
+
+// A refusal or none, and the number of letters in the result area.
+pub struct Lettered {
+    pub refusal: Refusal,
+    pub length: usize,
+}
+
+fn not_numbered(f: Refusal) -> Numbered
+    ensures { λ r. ⌜ (r .refusal ≡ f) × (r .setting ≡ 0) ⌝ }
+{
+    Numbered {
+        refusal: f,
+        setting: 0,
+    }
+}
+
+fn not_lettered(f: Refusal) -> Lettered
+    ensures { λ r. ⌜ (r .refusal ≡ f) × (r .length ≡ 0) ⌝ }
+{
+    Lettered {
+        refusal: f,
+        length: 0,
+    }
+}
+
+// Refusal 15 or 18 of T line i of a table that holds so many, or nothing.
+fn type_fault(t: &[u16], types: usize, i: usize) -> Refusal
+    ensures { λ r. ⌜ refusalView r ≡ typeFault types i (typeOf (now (t .entry)) i) ⌝ }
+{
+    if types <= i {
+        return Refusal::NoIso;
+    }
+    if 4294967295 < count_values(t, i) {
+        return Refusal::TooMany;
+    }
+    Refusal::Nothing
+}
+
+// The number of a value of T line i of a table that holds a checked file with so many T lines.
+pub fn number_checked(t: &[u16], types: usize, i: usize, value: &[u8]) -> Numbered
+    ensures { λ r. ⌜ ((patterns lines : ℕ) (rs : List RowOf) → FileIn (now (t .entry)) types patterns lines rs → NumberedAs (numberOn (accepted rs) i (now (value .entry))) r) ⌝ }
+{
+    let f = type_fault(t, types, i);
+    if is_refused(f) {
+        return not_numbered(f);
+    }
+    if !is_value(t, i, value) {
+        return not_numbered(Refusal::NoValue);
+    }
+    let r = rank_at(t, i, value, 0);
+    Numbered {
+        refusal: Refusal::Nothing,
+        setting: r.number as u32,
+    }
+}
+
+// Writes the letters of the value of T line i with number n, on such a table. The result area needs 127
+// bytes; a refusal leaves it untouched.
+pub fn setting_checked(t: &[u16], types: usize, i: usize, n: usize, result: &mut [u8]) -> Lettered
+    ensures { λ r. ⌜ ((patterns lines : ℕ) (rs : List RowOf) → FileIn (now (t .entry)) types patterns lines rs → 127 ≤ length (now (result .entry)) → LetteredAs (settingOn (accepted rs) i n) (now (result .entry)) (now (result .exit)) r) ⌝ }
+{
+    let f = type_fault(t, types, i);
+    if is_refused(f) {
+        return not_lettered(f);
+    }
+    if count_values(t, i) <= n {
+        return not_lettered(Refusal::TooHigh);
+    }
+    let end = unrank_at(t, i, n, result, 0);
+    Lettered {
+        refusal: Refusal::Nothing,
+        length: end,
+    }
+}
+
+// Checks a file and gives the number of a value of its T line i.
+pub fn to_number(
+    file: &[u8],
+    table: &mut [u16],
+    work: &mut [u8],
+    i: usize,
+    value: &[u8],
+) -> Numbered
+    ensures { λ r. ⌜ NumberSays (now (file .entry)) (now (table .entry)) (now (work .entry)) i (now (value .entry)) (now (table .exit)) (now (work .exit)) r ⌝ }
+{
+    let c = check_file(file, table, work);
+    let a = c.answer;
+    let f = a.refusal;
+    if is_refused(f) {
+        return not_numbered(f);
+    }
+    number_checked(table, c.types, i, value)
+}
+
+// Checks a file and writes the letters of the value of its T line i with a number. The result area needs
+// 127 bytes; a refusal leaves it untouched.
+pub fn to_setting(
+    file: &[u8],
+    table: &mut [u16],
+    work: &mut [u8],
+    i: usize,
+    setting: u32,
+    result: &mut [u8],
+) -> Lettered
+    ensures { λ r. ⌜ SettingSays (now (file .entry)) (now (table .entry)) (now (work .entry)) i setting (now (result .entry)) (now (table .exit)) (now (work .exit)) (now (result .exit)) r ⌝ }
+{
+    if result.len() < 127 {
+        return not_lettered(Refusal::ShortArea);
+    }
+    let c = check_file(file, table, work);
+    let a = c.answer;
+    let f = a.refusal;
+    if is_refused(f) {
+        return not_lettered(f);
+    }
+    setting_checked(table, c.types, i, setting as usize, result)
+}

@@ -1,0 +1,132 @@
+/*
+ * settings FILE
+ *
+ * Settings as numbers. FILE has the lines of a rule file and behind them calls: `N,type,letters` asks for
+ * the number of a setting of a T line, `S,type,number` for the letters of the setting with a number. Prints
+ * `number,line` for the rule file and, if it is accepted, a line for each call: `number,setting` for N,
+ * `number,letters` for S.
+ *
+ * Exit status: 0 accepted, 1 refused, 2 the argument, FILE or a call in it cannot be read.
+ */
+#include "rulefile.h"
+
+#include <errno.h>
+#include <stdio.h>
+#include <stdlib.h>
+#include <string.h>
+
+static uint16_t table[RULEFILE_TABLE_LENGTH];
+static uint8_t work[RULEFILE_WORK_LENGTH];
+static char text[2 * RULEFILE_MAX_FILE_LENGTH]; /* with a zero byte behind it */
+
+struct bytes {
+    const uint8_t *start;
+    size_t length;
+};
+
+/* Reads a number that `end` follows, and steps behind both. */
+static bool read_number(char **at, char end, uint32_t *number)
+{
+    char *behind;
+    errno = 0;
+    unsigned long long n = strtoull(*at, &behind, 10);
+    if (**at < '0' || **at > '9' || *behind != end || errno != 0 || n > UINT32_MAX)
+        return false;
+    *number = (uint32_t)n;
+    *at = behind + 1;
+    return true;
+}
+
+/* Reads a text without zero bytes that ends in a line feed; an empty one is read too. */
+static bool read_text(const char *path)
+{
+    FILE *stream = fopen(path, "rb");
+    if (stream == NULL)
+        return false;
+    size_t length = fread(text, 1, sizeof text, stream);
+    bool read = ferror(stream) == 0;
+    bool closed = fclose(stream) == 0;
+    bool fits = length < sizeof text && strlen(text) == length;
+    return read && closed && fits && (length == 0 || text[length - 1] == '\n');
+}
+
+/* Where the first line that begins with N or S stands, or the end. */
+static char *first_call(void)
+{
+    char *at = text;
+    while (*at != '\0' && *at != 'N' && *at != 'S')
+        at = strchr(at, '\n') + 1;
+    return at;
+}
+
+static bool check(struct bytes rules)
+{
+    struct rulefile_check_answer answer =
+        rulefile_check(rules.start, rules.length, table, RULEFILE_TABLE_LENGTH, work, RULEFILE_WORK_LENGTH);
+    printf("%lu,%zu\n", (unsigned long)answer.number, answer.line);
+    return answer.number == RULEFILE_ACCEPTED;
+}
+
+/* The letters are all up to the line feed. */
+static void print_number(struct bytes rules, uint32_t type, char **at)
+{
+    size_t length = strcspn(*at, "\n");
+    struct rulefile_number_answer answer =
+        rulefile_number_of(rules.start, rules.length, table, RULEFILE_TABLE_LENGTH, work, RULEFILE_WORK_LENGTH,
+                           type, (const uint8_t *)*at, length);
+    printf("%lu,%lu\n", (unsigned long)answer.number, (unsigned long)answer.setting);
+    *at += length + 1;
+}
+
+static void print_letters(struct bytes rules, uint32_t type, uint32_t setting)
+{
+    uint8_t result[RULEFILE_RESULT_LENGTH];
+    struct rulefile_setting_answer answer =
+        rulefile_setting_of(rules.start, rules.length, table, RULEFILE_TABLE_LENGTH, work, RULEFILE_WORK_LENGTH,
+                            type, setting, result, sizeof result);
+    printf("%lu,%.*s\n", (unsigned long)answer.number, (int)answer.length, (const char *)result);
+}
+
+/* Answers the call that stands there, and steps behind it. */
+static bool answer_call(struct bytes rules, char **at)
+{
+    char letter = **at;
+    uint32_t type;
+    uint32_t setting;
+    if ((letter != 'N' && letter != 'S') || (*at)[1] != ',')
+        return false;
+    *at += 2;
+    if (!read_number(at, ',', &type))
+        return false;
+    if (letter == 'N') {
+        print_number(rules, type, at);
+        return true;
+    }
+    if (!read_number(at, '\n', &setting))
+        return false;
+    print_letters(rules, type, setting);
+    return true;
+}
+
+int main(int argc, char **argv)
+{
+    if (argc != 2) {
+        fprintf(stderr, "usage: settings FILE\n");
+        return 2;
+    }
+    if (!read_text(argv[1])) {
+        fprintf(stderr, "settings: cannot read %s\n", argv[1]);
+        return 2;
+    }
+    char *at = first_call();
+    struct bytes rules = {(const uint8_t *)text, (size_t)(at - text)};
+    bool accepted = check(rules);
+    bool calls = true;
+    while (accepted && calls && *at != '\0')
+        calls = answer_call(rules, &at);
+    if (!calls)
+        fprintf(stderr, "settings: %s has a line that is no call\n", argv[1]);
+    if (!calls || fflush(stdout) != 0 || ferror(stdout) != 0)
+        return 2;
+    return accepted ? 0 : 1;
+}
