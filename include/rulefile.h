@@ -22,6 +22,9 @@
  *   - any refusal of the call leaves output, result, and the numbers and letters of a sheet as they were;
  *   - whatever lies behind these lengths, and behind what was written, keeps its contents.
  *
+ * A line of a file or of a list ends with a line feed, or with a carriage return and a line feed; lengths
+ * count both bytes. What Turn writes ends with line feeds alone.
+ *
  * docs/REFUSALS.md says what each refusal means and what to ask the supplier.
  */
 #ifndef RULEFILE_H
@@ -121,7 +124,7 @@ struct rulefile_check_answer rulefile_check(
 
 /*
  * Checks a file and writes it turned: a file whose run forward is the run back of the first. The output
- * needs the file's length, and an accepted file turned is exactly as long as it was.
+ * needs the file's length, and an accepted file turned is as long as it was without its carriage returns.
  */
 struct rulefile_turn_answer rulefile_turn(
     const uint8_t *file, size_t file_length,
@@ -142,11 +145,11 @@ struct rulefile_run_answer rulefile_run(
     uint8_t *result, size_t result_length);
 
 /*
- * Checks a file once and answers a list of query lines, each `Q,iso,direction,budget,letters` and a line
- * feed, as the desk program reads them; bytes behind the last line feed are a line too. Query k, counted
+ * Checks a file once and answers a list of query lines, each `Q,iso,direction,budget,letters` and its
+ * ending, as the desk program reads them; bytes behind the last line feed are a line too. Query k, counted
  * from 0, has numbers[3 * k] its number, numbers[3 * k + 1] its count and numbers[3 * k + 2] its length,
  * equal to those of a run on its own, and its letters stand from letters[127 * k] on. A line of another
- * form, or over 200 bytes with its line feed, has number 3. A refused query leaves its 127 bytes as they
+ * form, or over 200 bytes with its ending, has number 3. A refused query leaves its 127 bytes as they
  * were, and so does every query those behind its own letters. An area too short for the queries is
  * refused with 1, more than RULEFILE_MAX_QUERIES queries with 2, both before the file is looked at; a
  * refused file refuses the call.

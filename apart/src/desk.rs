@@ -1,10 +1,11 @@
 //! The desk program: one file and its queries in, all that is printed out.
 
 use crate::areas::Query;
-use crate::lines::{numeral, split};
+use crate::lines::{numeral, split, text};
 use crate::{check, run_rules, Rules};
 
-/// "over 200 bytes with its line feed".
+/// "over 200 bytes with its line feed"; request 06: "a query's 200 bytes count
+/// both bytes of the ending".
 const QUERY_BYTES: usize = 200;
 
 /// "It prints `number,line` for the file; if refused, it stops there. Then one
@@ -54,8 +55,7 @@ pub fn query(line: &[u8]) -> Option<Query<'_>> {
     if line.len() > QUERY_BYTES {
         return None;
     }
-    let text = line.strip_suffix(b"\n")?;
-    let fields: Vec<&[u8]> = text.splitn(5, |byte| *byte == b',').collect();
+    let fields: Vec<&[u8]> = text(line)?.splitn(5, |byte| *byte == b',').collect();
     match fields[..] {
         [b"Q", iso, direction, budget, value] => Some(Query {
             iso: numeral(iso, 65_535)? as u16,

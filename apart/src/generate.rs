@@ -5,6 +5,7 @@ pub mod ceiling;
 pub mod counted;
 pub mod damage;
 pub mod draft;
+pub mod ending;
 pub mod fault;
 pub mod ground;
 pub mod life;
@@ -41,6 +42,7 @@ pub fn accepted(random: &mut Random) -> Vec<u8> {
         };
         match check(&file) {
             Ok(rules) if random.chance(15) => return crate::turn_rules(&rules),
+            Ok(_) if random.chance(25) => return ending::resaved(random, &file),
             Ok(_) => return file,
             Err(refusal) => assert!(
                 matches!(refusal.number, 2 | 7),

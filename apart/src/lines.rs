@@ -68,6 +68,13 @@ pub fn split(file: &[u8]) -> Vec<&[u8]> {
     file.split_inclusive(|byte| *byte == b'\n').collect()
 }
 
+/// Request 06: "lines with carriage return and line feed (bytes 13, 10). The
+/// line reader takes either ending on each line". What stands before the ending.
+pub fn text(line: &[u8]) -> Option<&[u8]> {
+    let fed = line.strip_suffix(b"\n")?;
+    Some(fed.strip_suffix(b"\r").unwrap_or(fed))
+}
+
 /// "Order: 1, then 2. Then all lines from the first, on each the lowest of 3
 /// to 7."
 pub fn read(file: &[u8]) -> Result<Reader, Refusal> {
@@ -104,8 +111,7 @@ pub fn numeral(digits: &[u8], highest: u64) -> Option<u64> {
 /// "Its first field is a letter; ... commas part them; there is no quoting and
 /// no blank."
 pub fn parse(line: &[u8]) -> Option<Row> {
-    let text = line.strip_suffix(b"\n")?;
-    let mut parts = text.split(|byte| *byte == b',');
+    let mut parts = text(line)?.split(|byte| *byte == b',');
     let letter = match parts.next() {
         Some([letter]) => *letter,
         _ => return None,

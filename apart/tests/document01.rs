@@ -43,7 +43,7 @@ const BAD_LINES: [&str; 33] = [
     "L,0,0",
     "L,0,0,0,0",
     "P,0,0",
-    "T,0,0,0\r",
+    "T,0,0,0\r\r",
     "T,\0,0,0",
     "T,0,0,0x",
     "T,1e1,0,0",
@@ -240,7 +240,9 @@ fn refusal_3_by_form() {
     assert_eq!(checked(b"\n"), (3, 1));
     assert_eq!(checked(b"T,0,0,0"), (3, 1));
     assert_eq!(checked(b"T,0,0,0\nT,0,0,0"), (3, 2));
-    assert_eq!(checked(b"T,0,0,0\r\n"), (3, 1));
+    assert_eq!(checked(b"T,0,0,0\r\n"), (0, 0));
+    assert_eq!(checked(b"T,0,0,0\r\r\n"), (3, 1));
+    assert_eq!(checked(b"T,0,0,0\r"), (3, 1));
     assert_eq!(checked(b"T,7,0,0\nT,0,0,0"), (5, 1));
     assert_eq!(of("T,65535,0,0"), (5, 1));
 }
@@ -632,7 +634,7 @@ fn the_desk_readings() {
         assert_eq!(printed(S, &asked), "0,0\n0,1,RU\n3,0,\n0,1,LU\n", "{query}");
     }
     let asked = "Q,0,0,4294967295,LU\nQ,0,0,1,\nQ,0,0,1,,\nQ,0,0,1,LU,\nQ,0,0,1,\0\nQ,0,0,1,LU\r\nQ,65535,1,0,\n";
-    let wanted = "0,0\n0,1,RU\n16,0,\n16,0,\n16,0,\n16,0,\n16,0,\n15,0,\n";
+    let wanted = "0,0\n0,1,RU\n16,0,\n16,0,\n16,0,\n16,0,\n0,1,RU\n15,0,\n";
     assert_eq!(printed(S, asked), wanted);
     let at = format!("Q,0,0,1,{}\n", "U".repeat(191));
     assert_eq!(at.len(), 200);

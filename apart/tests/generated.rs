@@ -16,9 +16,10 @@ fn accepted_files_turn_twice_and_run_there_and_back() {
         let file = accepted(&mut random);
         let rules = check(&file).expect("accepted");
         let turned = turn(&file).unwrap();
-        assert_eq!(turned.len(), file.len());
+        let plain: Vec<u8> = file.iter().copied().filter(|byte| *byte != b'\r').collect();
+        assert_eq!(turned.len(), plain.len());
         let back = check(&turned).expect("the turned file is accepted");
-        assert_eq!(turn(&turned).unwrap(), file);
+        assert_eq!(turn(&turned).unwrap(), plain);
         for (iso, _) in rules.isos.iter().enumerate() {
             there_and_back(&mut random, &rules, &back, iso);
         }

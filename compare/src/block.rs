@@ -5,6 +5,7 @@ use crate::calls::{fit, short, Calls};
 use crate::case::{self, Case};
 use crate::ceilings;
 use crate::desk::{difference, numbers, Program};
+use crate::endings;
 use crate::input::{self, Input};
 use crate::list;
 use crate::service::{Ask, Call, Services};
@@ -20,8 +21,8 @@ use apart::{before, turn_rules, Rules};
 use std::io;
 
 pub struct Block<P, S> {
-    program: P,
-    calls: Calls<S>,
+    pub(crate) program: P,
+    pub(crate) calls: Calls<S>,
     pub tally: Tally,
 }
 
@@ -41,6 +42,7 @@ impl<P: Program, S: Services> Block<P, S> {
         let known = Known::of(&file);
         self.promised(case, &known, wanted);
         ceilings::count(&mut self.tally, case, &known);
+        endings::count_file(&mut self.tally, &known);
         let trips = match &known.checked {
             Ok(rules) => trips(random, case, rules),
             Err(_) => Vec::new(),
@@ -57,6 +59,10 @@ impl<P: Program, S: Services> Block<P, S> {
         self.calls.settings(random, &mut self.tally, case, &known);
         if matches!(case, Case::Counted(_)) {
             self.calls.faults(random, &mut self.tally);
+        }
+        endings::count_queries(&mut self.tally, &known, &input.bytes, &list);
+        if random.chance(20) {
+            self.other_endings(random, &known, &input.bytes, &list)?;
         }
         if let Ok(rules) = &known.checked {
             for ask in input.asks() {
@@ -148,8 +154,8 @@ impl<P: Program, S: Services> Block<P, S> {
         self.calls.call(random, &mut self.tally, known, call, kinds);
     }
 
-    /// The turned file is accepted, turning it gives the first file, and runs
-    /// of both undo each other.
+    /// The turned file is accepted, turning it gives the first file with its
+    /// carriage returns taken out, and runs of both undo each other.
     fn turned(
         &mut self,
         random: &mut Random,
@@ -186,7 +192,8 @@ impl<P: Program, S: Services> Block<P, S> {
         let answer = self
             .calls
             .call(random, &mut self.tally, other, Call::Turn, kinds);
-        let same = self.calls.written(answer.length) == known.file;
+        let plain = known.file.iter().filter(|byte| **byte != b'\r');
+        let same = self.calls.written(answer.length).iter().eq(plain);
         if checked.number != 0 || !same {
             let text = format!("the turned file gives {checked:?}, turned twice the same: {same}");
             self.tally.mismatch(text, known.file.to_vec());

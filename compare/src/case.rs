@@ -4,7 +4,7 @@ use crate::settings;
 use apart::generate::ceiling::{self, Ceiling, CEILINGS};
 use apart::generate::life::SLIPS;
 use apart::generate::random::Random;
-use apart::generate::{accepted, any_file, miss, pair, query, thread, tower};
+use apart::generate::{accepted, any_file, ending, miss, pair, query, thread, tower};
 use apart::{check, Rules};
 
 #[derive(Debug, Clone, Copy, PartialEq, Eq)]
@@ -36,6 +36,13 @@ pub enum Case {
     /// An accepted file with a type of many values, by the place of their
     /// count.
     Counted(usize),
+    /// File S with a carriage return before one byte.
+    Return(usize),
+    /// As many bytes as a file may have, or one more, with a carriage return in
+    /// the last ending.
+    ReturnBytes(bool),
+    /// A file of which a chunk ends within an ending.
+    Across,
     /// An accepted file with as many queries as a sheet may have, or one more.
     Full(bool),
     Accepted,
@@ -52,6 +59,10 @@ pub fn always() -> Vec<Case> {
         cases.extend((0..SLIPS.len()).map(Case::Slip));
         cases.extend((0..CEILINGS.len()).map(|ceiling| Case::Ceiling(ceiling, over)));
         cases.extend((2..15).map(Case::Aimed));
+    }
+    cases.extend((0..=ending::S.len()).map(Case::Return));
+    for over in [false, true] {
+        cases.extend([Case::ReturnBytes(over), Case::Across]);
     }
     for pair in 0..pair::all().len() {
         cases.extend((0..3).map(|file| Case::Pair(pair, file)));
@@ -84,6 +95,12 @@ pub fn file(random: &mut Random, case: Case) -> (Vec<u8>, Option<(u8, usize)>) {
         Case::Stack => (tower::stack(random), Some((0, 0))),
         Case::Longest => (tower::longest_value(random), Some((0, 0))),
         Case::Counted(place) => (settings::file(random, place), Some((0, 0))),
+        Case::Return(place) => (
+            ending::with_return(ending::S, place),
+            Some(ending::answer(place)),
+        ),
+        Case::ReturnBytes(over) => (ending::many_bytes(random, over), None),
+        Case::Across => (ending::across(random), Some((0, 0))),
         Case::Accepted | Case::Full(_) => (accepted(random), Some((0, 0))),
         Case::Any => (any_file(random), None),
     }

@@ -5,6 +5,7 @@ use crate::trip::Trip;
 use apart::areas::Known;
 use apart::check;
 use apart::desk::{parts, query as parsed};
+use apart::generate::ending::CHUNK;
 use apart::generate::query;
 use apart::generate::random::Random;
 use apart::lines::split;
@@ -57,10 +58,12 @@ fn accepted(random: &mut Random, known: &Known, trips: &[Trip], due: usize) -> I
     let asked = split(&input.bytes[known.file.len()..]).len();
     for number in asked..due {
         let cut = number + 1 == due && random.chance(5);
-        input.bytes.extend(if cut {
-            query::cut_query(random, rules)
-        } else {
-            query::query(random, rules)
+        let left = CHUNK - input.bytes.len() % CHUNK;
+        input.bytes.extend(match left {
+            _ if cut => query::cut_query(random, rules),
+            // The chunk ends between this query's carriage return and line feed.
+            9..=199 if random.chance(20) => query::with_return_at(random, left - 1),
+            _ => query::query(random, rules),
         });
     }
     input

@@ -8,6 +8,7 @@ pub mod calls;
 pub mod case;
 pub mod ceilings;
 pub mod desk;
+pub mod endings;
 pub mod faults;
 pub mod foreign;
 pub mod grid;

@@ -73,6 +73,9 @@ fn odd(random: &mut Random, lines: &[Vec<u8>]) -> Vec<u8> {
         _ => [HEAD, b"L\0\xffU"].concat(),
     };
     line.retain(|byte| *byte != b'\n');
+    if random.chance(40) {
+        line.push(b'\r');
+    }
     whole(&line)
 }
 

@@ -1,5 +1,6 @@
 //! What was compared, what was hit, and what differed.
 
+use crate::endings;
 use crate::grid::Grid;
 use crate::settings;
 use crate::sheets;
@@ -33,6 +34,7 @@ pub const THERE_AND_BACK: usize = 2;
 pub const COUNT_ABOVE_3000: usize = 3;
 pub const COUNT_ABOVE_65535: usize = 4;
 pub const ISO_ABOVE_65535: usize = 5;
+pub const OTHER_ENDINGS: usize = 6;
 
 /// Rows of the table of ceilings behind those of `CEILINGS`.
 pub const BYTES: usize = CEILINGS.len();
@@ -64,6 +66,8 @@ pub struct Tally {
     pub ceilings: Grid,
     pub sheets: Grid,
     pub variables: Grid,
+    pub returns: Grid,
+    pub query_returns: Grid,
     /// How often each pair of faults was hit.
     pub pairs: Vec<usize>,
 }
@@ -85,11 +89,11 @@ fn number_needed(number: usize, column: usize) -> bool {
 }
 
 /// Turning is not to be had from `rules`, nor is an iso of more than 16 bits.
-/// No law is tried with sheets.
+/// Of the laws only that of other endings is tried with sheets.
 fn law_needed(law: usize, column: usize) -> bool {
     match column {
         RULES => !matches!(law, TURNED_TWICE | ISO_ABOVE_65535),
-        SHEET => matches!(law, COUNT_ABOVE_3000 | COUNT_ABOVE_65535),
+        SHEET => matches!(law, COUNT_ABOVE_3000 | COUNT_ABOVE_65535 | OTHER_ENDINGS),
         _ => true,
     }
 }
@@ -146,6 +150,7 @@ fn laws() -> Grid {
         "count above 3,000",
         "count above 65,535",
         "iso above 65,535",
+        "same with other endings",
     ]);
     let columns = &["rules", "library", "in sheet"];
     Grid::new("law or range", rows, columns, law_needed)
@@ -176,6 +181,8 @@ impl Default for Tally {
             ceilings: ceilings(),
             sheets: sheets::grid(),
             variables: variables::grid(),
+            returns: endings::file_grid(),
+            query_returns: endings::query_grid(),
             pairs: vec![0; pair::all().len()],
         }
     }
@@ -200,6 +207,8 @@ impl Tally {
         self.ceilings.add(&other.ceilings);
         self.sheets.add(&other.sheets);
         self.variables.add(&other.variables);
+        self.returns.add(&other.returns);
+        self.query_returns.add(&other.query_returns);
         for (pair, other) in self.pairs.iter_mut().zip(other.pairs) {
             *pair += other;
         }
@@ -223,8 +232,8 @@ impl Tally {
         }
     }
 
-    fn grids(&self) -> [&Grid; 7] {
-        [
+    fn grids(&self) -> Vec<&Grid> {
+        vec![
             &self.numbers,
             &self.areas,
             &self.budgets,
@@ -232,6 +241,8 @@ impl Tally {
             &self.ceilings,
             &self.sheets,
             &self.variables,
+            &self.returns,
+            &self.query_returns,
         ]
     }
 

@@ -11,8 +11,8 @@ use compare::block::Block;
 use compare::calls::Calls;
 use compare::case::Case;
 use compare::desk::{difference, Process, Program};
-use compare::service::{Answer, Ask, Call, Lent};
-use compare::tally::{Tally, CHECK};
+use compare::service::{expected, Answer, Ask, Call, Lent, Services};
+use compare::tally::{Tally, CHECK, LIBRARY, OTHER_ENDINGS, RULES, SHEET};
 use compare::trip::Trip;
 use std::io;
 
@@ -263,9 +263,72 @@ fn whole_cases_are_compared() {
     assert!(compared(|printed| printed.push(b'\n'), unspoiled) >= 4);
     assert!(compared(fine, |answer, _| answer.length += 1) > 20);
     assert!(compared(fine, |_, lent| lent.work.fill(7)) > 20);
-    // Two of the files are accepted, each with one answered sheet.
+    // Two of the files are accepted, each with one answered sheet, or with three
+    // where other endings are tried.
     let sheets: Spoil = |answer, _| answer.queries += usize::from(answer.queries > 0);
-    assert_eq!(compared(fine, sheets), 2);
+    assert!(matches!(compared(fine, sheets), 2 | 4 | 6));
+}
+
+/// The desk program of the checker written apart, which prints one line more
+/// where its input has a carriage return.
+struct Returning;
+
+impl Program for Returning {
+    fn printed(&mut self, input: &[u8]) -> io::Result<Vec<u8>> {
+        let mut printed = desk(input);
+        if input.contains(&b'\r') {
+            printed.push(b'\n');
+        }
+        Ok(printed)
+    }
+}
+
+/// The services of the checker written apart, wrong on a file or list with
+/// a carriage return.
+struct ReturningServices;
+
+impl Services for ReturningServices {
+    fn call(&mut self, file: &[u8], call: Call, lent: Lent) -> Answer {
+        let mut answer = expected(&Known::of(file), call, lent);
+        let list = if let Call::Sheet(list) = call {
+            list
+        } else {
+            b""
+        };
+        answer.line += usize::from(file.contains(&b'\r') || list.contains(&b'\r'));
+        answer
+    }
+}
+
+/// The mismatches of S, a query and a list with other endings, and how often the
+/// law was tried with the desk program, the services and sheets.
+fn other_endings<P: Program, S: Services>(program: P, services: S) -> (usize, [usize; 3]) {
+    let mut random = Random::new(7);
+    let mut block = Block::new(program, services, &mut random);
+    let list = b"Q,1,0,9,PLURU\nQ,1,0,9,PRULU\n";
+    let input = [common::S, list].concat();
+    for _ in 0..50 {
+        let known = Known::of(common::S);
+        let tried = block.other_endings(&mut random, &known, &input, list);
+        tried.expect("no program to fail");
+    }
+    let tries = [RULES, LIBRARY, SHEET].map(|column| block.tally.laws.count(OTHER_ENDINGS, column));
+    (block.tally.mismatches, tries)
+}
+
+#[test]
+fn other_endings_are_compared() {
+    assert_eq!(
+        other_endings(Desk(|_| {}), Spoiled(unspoiled)),
+        (0, [50; 3])
+    );
+    let (wrong, tries) = other_endings(Returning, Spoiled(unspoiled));
+    assert!((30..50).contains(&wrong), "{wrong}");
+    assert_eq!(tries, [50; 3]);
+    // Each wrong answer is reported as such, and once more against the first.
+    let (wrong, tries) = other_endings(Desk(|_| {}), ReturningServices);
+    assert!((180..300).contains(&wrong), "{wrong}");
+    assert_eq!(tries, [50; 3]);
 }
 
 /// A file of a pair whose check does not give what the pair promises.

@@ -344,7 +344,7 @@ static void put_rows(struct bytes file, uint16_t *row)
             field++;
         } else if (field == 0) {
             row[0] = byte;
-        } else {
+        } else if (byte != '\r') {
             row[field] = (uint16_t)(10 * row[field] + (byte - '0'));
         }
     }
@@ -488,6 +488,7 @@ static void try_call(int at, const struct setting *setting, const struct call *c
 #define S_TREES "T,0,0,0\nT,1,0,0\nT,2,1,1\nP,0,0,0\nP,2,0,0\nP,3,0,0\nP,1,0,0\nP,1,1,0\nP,4,1,3\nP,4,1,4\nP,4,2,3\n"
 #define S_TO_16 S_TREES "I,1,1\nC,1,2\nC,2,1\nI,2,2\nC,5,6\n"
 #define S S_TO_16 "L,4,0,3\nC,7,7\n"
+#define S_RETURNS S_TREES "I,1,1\r\nC,1,2\r\nC,2,1\nI,2,2\r\nC,5,6\nL,4,0,3\r\nC,7,7\r\n"
 #define S_TURNED S_TREES "I,1,1\nC,2,1\nC,1,2\nI,2,2\nC,6,5\nL,3,0,4\nC,7,7\n"
 #define SEVEN_TYPES "T,0,0,0\nT,2,0,0\nT,2,1,1\nT,2,2,2\nT,2,3,3\nT,2,4,4\nT,2,5,5\n"
 #define TWO_UNITS "T,0,0,0\nT,0,0,0\nP,0,0,0\n"
@@ -552,7 +553,14 @@ static const struct file_case file_cases[] = {
     {__LINE__, 3, 1, TEXT("T"), TEXT("")},
     {__LINE__, 3, 1, TEXT("T,0,0,0"), TEXT("")},
     {__LINE__, 3, 18, TEXT(S_TO_16 "L,4,0,3\nC,7,7"), TEXT("")},
-    {__LINE__, 3, 1, TEXT("T,0,0,0\r\n"), TEXT("")},
+    {__LINE__, 0, 0, TEXT("T,0,0,0\r\nT,1,0,0\n"), TEXT("T,0,0,0\nT,1,0,0\n")},
+    {__LINE__, 0, 0, TEXT(S_RETURNS), TEXT(S_TURNED)},
+    {__LINE__, 6, 2, TEXT("T,0,0,0\r\nT,1,0,1\r\n"), TEXT("")},
+    {__LINE__, 3, 1, TEXT("\rT,0,0,0\n"), TEXT("")},
+    {__LINE__, 3, 1, TEXT("T,0,0,0\r\r\n"), TEXT("")},
+    {__LINE__, 3, 1, TEXT("T,0,0,0\r"), TEXT("")},
+    {__LINE__, 3, 1, TEXT("T,0,0\r,0\n"), TEXT("")},
+    {__LINE__, 3, 1, TEXT("\r\n"), TEXT("")},
     {__LINE__, 3, 1, TEXT("T,0,0,0 \n"), TEXT("")},
     {__LINE__, 3, 2, TEXT("T,0,0,0\nT,1,0,65536\n"), TEXT("")},
     {__LINE__, 6, 2, TEXT("T,0,0,0\nT,1,0,65535\n"), TEXT("")},
@@ -1007,6 +1015,7 @@ static void short_areas(void)
 {
     static const struct file_case cases[] = {
         {__LINE__, 0, 0, TEXT(S), TEXT(S_TURNED)},
+        {__LINE__, 0, 0, TEXT(S_RETURNS), TEXT(S_TURNED)},
         {__LINE__, 0, 0, TEXT(""), TEXT("")},
         {__LINE__, 3, 19, TEXT(S "\n"), TEXT("")},
         {__LINE__, 11, 15, TEXT(S "C,7,7\n"), TEXT("")},
@@ -1600,7 +1609,10 @@ static const struct line_case line_cases[] = {
     {__LINE__, TEXT("Q,2,0,0,\n"), REFUSED(15)},
     {__LINE__, TEXT("Q,1,0,9,PLURUU\n"), REFUSED(16)},
     {__LINE__, TEXT("Q,1,0,9, PLURU\n"), REFUSED(16)},
-    {__LINE__, TEXT("Q,1,0,9,PLURU\r\n"), REFUSED(16)},
+    {__LINE__, TEXT("Q,1,0,9,PLURU\r\n"), GIVES(2, "PLULU")},
+    {__LINE__, TEXT("Q,1,0,9,PLURU\r\r\n"), REFUSED(16)},
+    {__LINE__, TEXT("Q,1,0,9,\rPLURU\n"), REFUSED(16)},
+    {__LINE__, TEXT("Q,1,0,9,\r\n"), REFUSED(16)},
     {__LINE__, TEXT("Q,1,0,9,PLURU,\n"), REFUSED(16)},
     {__LINE__, TEXT("Q,1,0,9,,PLURU\n"), REFUSED(16)},
     {__LINE__, TEXT("Q,1,0,9,pluru\n"), REFUSED(16)},
@@ -1651,18 +1663,21 @@ static void damaged_queries(void)
     }
 }
 
-/* A line may have 200 bytes with its line feed. */
+/* A line may have 200 bytes with its ending, which has one byte or two. */
 static void query_lengths(void)
 {
     static const size_t lengths[] = {127, 128, 199, 200, 201, 202, 255, 256, 257, 65536};
     static const struct reply no_value = REFUSED(16);
     static const struct reply bad_line = REFUSED(3);
     static uint8_t bytes[65536];
-    for (size_t i = 0; i < COUNT_OF(lengths); i++) {
-        struct line_case c = {__LINE__, {bytes, lengths[i]}, lengths[i] <= 200 ? no_value : bad_line};
+    for (size_t i = 0; i < 2 * COUNT_OF(lengths); i++) {
+        size_t length = lengths[i / 2];
+        struct line_case c = {__LINE__, {bytes, length}, length <= 200 ? no_value : bad_line};
         memset(bytes, 'U', sizeof bytes);
         memcpy(bytes, "Q,1,0,9,PLURU", strlen("Q,1,0,9,PLURU"));
-        bytes[lengths[i] - 1] = '\n';
+        if (i % 2 == 1)
+            bytes[length - 2] = '\r';
+        bytes[length - 1] = '\n';
         ask_between(&c);
         try_asked(__LINE__, file_s, (struct answer){0});
         bytes[0] = 'T';
@@ -1903,14 +1918,15 @@ static struct bytes line_at(struct bytes text, size_t at)
     return (struct bytes){start, end == NULL ? text.length - at : (size_t)(end - start) + 1};
 }
 
-/* The run that a stored query asks for. */
+/* The run that a stored query asks for. Its ending is a line feed, or a carriage return and a line feed. */
 static struct call stored_run(struct bytes file, struct bytes line)
 {
     unsigned long iso, back, budget;
     int head = 0;
     require(sscanf((const char *)line.start, "Q,%lu,%lu,%lu,%n", &iso, &back, &budget, &head) == 3 && head > 0);
     require(line.length > (size_t)head && line.start[line.length - 1] == '\n');
-    struct bytes value = {line.start + head, line.length - (size_t)head - 1};
+    size_t ending = line.length > (size_t)head + 1 && line.start[line.length - 2] == '\r' ? 2 : 1;
+    struct bytes value = {line.start + head, line.length - (size_t)head - ending};
     return (struct call){.service = SERVICE_RUN,
                          .file = file,
                          .iso = (uint32_t)iso,

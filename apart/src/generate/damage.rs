@@ -37,7 +37,7 @@ pub fn damage(random: &mut Random, file: &mut Vec<u8>) {
 /// A byte that a file could hold, or any byte.
 fn byte(random: &mut Random) -> u8 {
     if random.chance(75) {
-        *random.pick(b"TPICLQ,0123456789\n")
+        *random.pick(b"TPICLQ,0123456789\r\n")
     } else {
         random.below(256) as u8
     }
@@ -71,7 +71,7 @@ pub fn noise(random: &mut Random) -> Vec<u8> {
     }
     if random.chance(50) {
         return (0..length)
-            .map(|_| *random.pick(b"TPICLQ,,,,0123\n\n"))
+            .map(|_| *random.pick(b"TPICLQ,,,,0123\r\n\n"))
             .collect();
     }
     let mut text = String::new();

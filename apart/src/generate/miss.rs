@@ -151,7 +151,7 @@ fn bad_text(random: &mut Random, base: &[u8]) -> Vec<u8> {
         1 => text.replacen(',', ",0", 1) + "\n",
         2 => text + ",0\n",
         3 => text[..text.len() - 2].to_string() + "\n",
-        4 => text + "\r\n",
+        4 => text + "\r\r\n",
         5 => text + " \n",
         6 => text.replacen(',', ", ", 1) + "\n",
         7 => text.replacen(',', ",+", 1) + "\n",

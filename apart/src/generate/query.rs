@@ -1,5 +1,6 @@
 //! Queries for an accepted file.
 
+use super::ending::{resaved, with_return};
 use super::random::Random;
 use crate::tree::Type;
 use crate::{run_rules, Rules};
@@ -40,17 +41,38 @@ const FORMS: [&[u8]; 30] = [
     b"Q,0,10,1,LU",
     b"Q,0,0,99999999999999999999,LU",
     b"Q,0,0,1\0,LU",
-    b"Q,0,0,1,LU\r",
+    b"Q,0,0,1,LU\r\r",
 ];
 
-/// One query line, most often well formed, and with its line feed.
+/// One query line, most often well formed, with either ending, and now and then
+/// with a carriage return at any other place.
 pub fn query(random: &mut Random, rules: &Rules) -> Vec<u8> {
-    match random.below(20) {
+    let asked = match random.below(20) {
         0 => malformed(random),
         1 => no_iso(random, rules),
         _ if rules.isos.is_empty() => no_iso(random, rules),
         _ => run_query(random, rules),
+    };
+    match random.below(80) {
+        0..=23 => resaved(random, &asked),
+        24..=27 => with_return(&asked, random.below(asked.len())),
+        28 => {
+            let length = 196 + random.below(5);
+            with_return_at(random, length)
+        }
+        _ => asked,
     }
+}
+
+/// A query whose carriage return stands so many bytes behind its beginning, its
+/// line feed behind that. With at least 8 and at most 198 it is a good form.
+pub fn with_return_at(random: &mut Random, place: usize) -> Vec<u8> {
+    let mut line = b"Q,0,0,1,".to_vec();
+    while line.len() < place {
+        line.push(*random.pick(b"ULRP"));
+    }
+    line.extend_from_slice(b"\r\n");
+    line
 }
 
 /// One of the last queries of an input, with its line feed left out.
@@ -120,7 +142,7 @@ pub fn sample(random: &mut Random, ty: &Type, letters: &mut Vec<u8>) {
 /// Changes letters, of which there is at least one.
 pub fn damage(random: &mut Random, letters: &mut Vec<u8>) {
     let place = random.below(letters.len());
-    let letter = *random.pick(b"ULRPULRPlup,0 \0\xff");
+    let letter = *random.pick(b"ULRPULRPlup,0 \r\0\xff");
     match random.below(7) {
         0 => letters[place] = letter,
         1 => letters.insert(place, letter),
@@ -166,7 +188,7 @@ pub fn longest(random: &mut Random) -> u32 {
 fn malformed(random: &mut Random) -> Vec<u8> {
     let mut line = random.pick(&FORMS).to_vec();
     if random.chance(15) {
-        let length = *random.pick(&[190, 191, 192, 193, 500]);
+        let length = *random.pick(&[189, 190, 191, 192, 193, 500]);
         line = b"Q,0,0,1,".to_vec();
         line.extend((0..length).map(|_| *random.pick(b"ULRP,")));
     }

@@ -203,7 +203,8 @@ fn the_lines_of_a_sheet() {
         ("Q,0,0,0,LU\n".to_string(), Err(Refusal::Spent)),
         ("Q,0,0,0,\n".to_string(), Err(Refusal::NoValue)),
         ("Q,0,0,1\n".to_string(), Err(Refusal::BadLine)),
-        ("Q,0,0,1,LU\r\n".to_string(), Err(Refusal::NoValue)),
+        ("Q,0,0,1,LU\r\n".to_string(), reply(1, "RU")),
+        ("Q,0,0,1,LU\r\r\n".to_string(), Err(Refusal::NoValue)),
         ("T,0,0,0\n".to_string(), Err(Refusal::BadLine)),
         ("\n".to_string(), Err(Refusal::BadLine)),
         (line(200), Err(Refusal::NoValue)),
@@ -894,9 +895,12 @@ fn desks_in_threads() {
     }
 }
 
-/// The fields of a query `Q,iso,direction,budget,letters`.
+/// The fields of a query `Q,iso,direction,budget,letters`. Its ending is a line feed, or a carriage return and
+/// a line feed.
 fn query_of(line: &str) -> Query<'_> {
-    let fields: Vec<&str> = line.trim_end_matches('\n').splitn(5, ',').collect();
+    let text = line.strip_suffix('\n').unwrap();
+    let text = text.strip_suffix('\r').unwrap_or(text);
+    let fields: Vec<&str> = text.splitn(5, ',').collect();
     Query {
         iso: fields[1].parse().unwrap(),
         direction: if fields[2] == "0" { Forward } else { Back },
@@ -939,8 +943,8 @@ fn printed(answer: Result<Value, Refusal>) -> String {
     }
 }
 
-/// What the desk program prints for its input. A file turned twice is the file; all queries in one sheet are
-/// answered as each on its own.
+/// What the desk program prints for its input. A file turned twice is the file without its carriage returns; all
+/// queries in one sheet are answered as each on its own.
 fn answers(input: &str) -> String {
     let mut desk = Desk::new();
     let queries = input
@@ -953,7 +957,9 @@ fn answers(input: &str) -> String {
         return format!("{},{}\n", refused.refusal.number(), refused.line);
     }
     let turned = desk.turn(file).unwrap();
-    assert_eq!(desk.turn(&turned).unwrap(), file);
+    let mut without = file.to_vec();
+    without.retain(|byte| *byte != b'\r');
+    assert_eq!(desk.turn(&turned).unwrap(), without);
     let lines = queries.map(|line| answer(&mut desk, file, &turned, query_of(line)));
     let lines: Vec<String> = lines.collect();
     let sheet = desk.sheet(file, list).unwrap().into_iter().map(printed);

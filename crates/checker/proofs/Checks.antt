@@ -7,13 +7,13 @@ use mathlib.Core.Bool.{Bool, true, false, cond, _||_, or-true, true≢false}
 use mathlib.Core.Option.{Option, none, some}
 use mathlib.Core.List.{List, [], _∷_, _++_, map}
 use lib.Dec.{ltb, lit≤}
-use lib.ListN.{length, drop, replicate, length-append, length-drop, length-replicate, length-map}
+use lib.ListN.{length, drop, replicate, length-append, length-drop, length-replicate}
 use borrow.Author.Tests.{lt-ltb, le-ltb, lt-leb}
 use Rattle.model.specs.Limits.{maxBytes, maxLines, tableLength, workLength, rowWidth}
 use Rattle.model.specs.Tools.{concat, isSome, firstFailing, firstOf, orElse}
 use Rattle.model.specs.Trees.{left, right, Ty, Pat, Clause, Iso}
 use Rattle.model.specs.Refusals.{Kind, typeLine, patternLine, isoLine, clauseLine, letLine, Refusal, number, shortArea, tooLong, misplaced, badField, badName, ceiling, variable, letShape, badType, overlap, gap}
-use Rattle.model.specs.Lines.{Row, lines, rowOf, numbers, print}
+use Rattle.model.specs.Lines.{Row, lines, rowOf, numbers}
 use Rattle.model.specs.Judge.{Seen, start, afterAll, judge, inOrder, fieldsFit, named, withinCeilings, after, Reading, rows, faulty, withRow, onRow, onJudged, readFrom}
 use Rattle.model.specs.Unfold.{Tail, place, tailFrom, isosOf}
 use Rattle.model.specs.Clauses.{Sigs, clauseFault, variablesRule, letShapes, typed, sideFault, apart, fullWeight, lefts, rights, at, isoFault, fault, sigsOf}
@@ -22,7 +22,7 @@ use Rattle.model.specs.Code.{refusalView, numberOf, numbered}
 use Rattle.model.specs.declared.Answer as A
 use Rattle.model.specs.declared.Refusal as F
 use Rattle.model.proofs.Basic.{none≢some, some-inj, isSome-true}
-use Rattle.model.proofs.Printing.{read-rows}
+use Rattle.model.proofs.Printing.{read-count}
 use Rattle.parts.specs.Cleared.{cleared}
 use lib.Seq.{drop-append-add, drop-drop, drop-at}
 use Rattle.nodes.specs.Walk.{FileIn, isoRows, whenIso}
@@ -258,7 +258,7 @@ accepted-says s t w t₀ t′ w′ rs r ht hw hb hl e k n p e₀ et ew =
     record {
       number = ap numbered n ∙ sym (ap (λ x. x .answer .number) c);
       line = p ∙ sym (ap (λ x. x .answer .line) c);
-      table = et ∙ rows-then-zeros t t₀ rs ht (subst (λ m. m ≤ maxLines) (ap length (read-rows start 1 (lines s) rs e .0) ∙ length-map rs print) hl) e₀ ∙ sym (ap (λ x. x .table) c);
+      table = et ∙ rows-then-zeros t t₀ rs ht (subst (λ m. m ≤ maxLines) (read-count start 1 (lines s) rs e) hl) e₀ ∙ sym (ap (λ x. x .table) c);
       work = ew ∙ cleared-filled workLength w hw ∙ sym (ap (λ x. x .work) c);
     }
 

@@ -1,23 +1,25 @@
--- One byte of a line: a given one at a place, and a line's end.
-use Prim.Native.Nat.{ℕ, _+_, _<_, _≤_}
+-- One byte of a line: a given one at a place; the end of the bytes, and a line's ending.
+use Prim.Native.Nat.{ℕ, suc, _+_, _-_, _<_, _≤_}
 use native.Mathlib.Numerals.{add-one}
-use mathlib.Core.Path.{_≡_, sym, ap, _∙_}
+use native.Mathlib.Omega.{arith}
+use mathlib.Core.Path.{_≡_, refl, sym, ap, _∙_}
 use mathlib.Core.Logic.{_⊎_, inl, inr}
-use mathlib.Core.Bool.{true, false}
+use mathlib.Core.Bool.{true, false, cond}
 use mathlib.Core.Option.{Option, none, some}
-use mathlib.Core.List.{List, [], _∷_}
-use lib.Dec.{leb}
-use lib.ListN.{length, getD, drop, drop-of-length-le}
-use lib.Seq.{drop-cons}
+use mathlib.Core.List.{List, [], _∷_, _++_}
+use lib.Dec.{leb, eqb}
+use lib.ListN.{length, getD, take, drop, drop-of-length-le, take-append-drop}
+use lib.Seq.{drop-cons, take-suc}
 use borrow.Author.Tests.{eq-eqb, ne-eqb, leb-true, leb-false}
-use Rattle.model.specs.Limits.{lineFeed}
+use Rattle.model.specs.Limits.{lineFeed, carriageReturn}
 use Rattle.model.specs.Tools.{guard}
-use Rattle.model.specs.Lines.{skip, ended}
+use Rattle.model.specs.Lines.{text, skip, ended}
 use Rattle.model.proofs.Basic.{bool-cases}
+use Rattle.model.proofs.Endings.{text-none, text-last}
 use Rattle.fields.specs.declared.Cursor as C
 use Rattle.fields.specs.declared.Skipped as S
 use Rattle.fields.specs.declared.Skipped.the-variants as skips
-use Rattle.fields.specs.Views.{asSkipped}
+use Rattle.fields.specs.Views.{asSkipped, asText}
 
 -- the byte at a place and those behind it
 pub from-byte : (s : List ℕ) (at : ℕ) → at < length s → drop at s ≡ getD s at 0 ∷ drop (at + 1) s
@@ -39,28 +41,67 @@ past s r c p e = sym (ap (asSkipped s) p) ∙ e
 pub other : (s : List ℕ) {o : Option (List ℕ)} (r : S.Skipped) → r ≡ skips.Other → asSkipped s r ≡ o → none ≡ o
 other s r p e = sym (ap (asSkipped s) p) ∙ e
 
--- ---- a line's end
+-- ---- the end of the bytes
 
-at-end : (rest bs : List ℕ) → some rest ≡ skip lineFeed bs → rest ≡ [] → some tt ≡ ended bs
-at-end rest bs e n = rw (← e, n)
+pub ended-there : (s : List ℕ) (at : ℕ) → guard (leb (length s) at) ≡ ended (drop at s)
+ended-there s at = go (bool-cases (leb (length s) at))
+  where
+    go : (leb (length s) at ≡ true) ⊎ (leb (length s) at ≡ false) → guard (leb (length s) at) ≡ ended (drop at s)
+    go (inl t) = rw (t, drop-of-length-le s (leb-true (length s) at t))
+    go (inr t) = rw (t, from-byte s at (leb-false (length s) at t))
 
-not-at-end : (b : ℕ) (more rest bs : List ℕ) → some rest ≡ skip lineFeed bs → rest ≡ b ∷ more → none ≡ ended bs
-not-at-end b more rest bs e n = rw (← e, n)
+-- ---- a line's ending
 
-ended-by :
-    (s bs : List ℕ) (at : ℕ)
-    → some (drop at s) ≡ skip lineFeed bs
-    → (leb (length s) at ≡ true) ⊎ (leb (length s) at ≡ false)
-    → guard (leb (length s) at) ≡ ended bs
-ended-by s bs at e (inl t) = rw t (at-end (drop at s) bs e (drop-of-length-le s (leb-true (length s) at t)))
-ended-by s bs at e (inr t) = rw t (not-at-end (getD s at 0) (drop (at + 1) s) (drop at s) bs e (from-byte s at (leb-false (length s) at t)))
+-- the last byte, and the last two
+last-one : (s : List ℕ) (m : ℕ) → m + 1 ≡ length s → s ≡ take m s ++ (getD s m 0 ∷ [])
+last-one s m e =
+    sym (take-append-drop m s) ∙ ap (λ x. take m s ++ x) (from-byte s m (omega arith) ∙ ap (λ x. getD s m 0 ∷ x) (drop-of-length-le s {i = m + 1} (omega arith)))
 
-pub ended-past :
-    (s : List ℕ) (from : ℕ) (r : S.Skipped) (c : C.Cursor)
-    → r ≡ skips.Past c
-    → asSkipped s r ≡ skip lineFeed (drop from s)
-    → guard (leb (length s) (c .at)) ≡ ended (drop from s)
-ended-past s from r c p e = ended-by s (drop from s) (c .at) (past s r c p e) (bool-cases (leb (length s) (c .at)))
+last-two : (s : List ℕ) (m : ℕ) → m + 2 ≡ length s → s ≡ take m s ++ (getD s m 0 ∷ getD s (m + 1) 0 ∷ [])
+last-two s m e =
+    sym (take-append-drop m s)
+    ∙ ap (λ x. take m s ++ x)
+    (from-byte s m (omega arith)
+    ∙ ap (λ x. getD s m 0 ∷ x) (from-byte s (m + 1) (omega arith) ∙ ap (λ x. getD s (m + 1) 0 ∷ x) (drop-of-length-le s {i = m + 1 + 1} (omega arith))))
 
-pub ended-other : (s : List ℕ) (from : ℕ) (r : S.Skipped) → r ≡ skips.Other → asSkipped s r ≡ skip lineFeed (drop from s) → none ≡ ended (drop from s)
-ended-other s from r p e = rw (← other s r p e)
+pub no-bytes : (s : List ℕ) → length s ≡ 0 → none ≡ text s
+no-bytes [] e = refl
+no-bytes (b ∷ s) e = absurd (omega arith)
+
+pub no-feed : (s : List ℕ) → (length s ≡ 0 → ⊥) → (getD s (length s - 1) 0 ≡ 10 → ⊥) → none ≡ text s
+no-feed s h n =
+    let m : ℕ = length s - 1 in
+    sym (ap text (last-one s m (omega (arith, h))) ∙ text-none (take m s) (getD s m 0) (ne-eqb (getD s m 0) lineFeed n))
+
+pub feed-alone : (s : List ℕ) → length s ≡ 1 → getD s (length s - 1) 0 ≡ 10 → some (take 0 s) ≡ text s
+feed-alone [] e f = absurd (omega arith)
+feed-alone (b ∷ []) e f = sym (ap (λ x. text (x ∷ [])) f)
+feed-alone (b ∷ c ∷ s) e f = absurd (omega arith)
+
+module _ (s : List ℕ) (some-bytes : length s ≡ 0 → ⊥) (more : length s ≡ 1 → ⊥) (feed : getD s (length s - 1) 0 ≡ 10) where
+  abbrev m : ℕ
+  m = length s - 2
+
+  two : text s ≡ some (cond (eqb (getD s m 0) carriageReturn) (take m s) (take m s ++ (getD s m 0 ∷ [])))
+  two =
+      let place : length s - 1 ≡ m + 1 = omega (arith, some-bytes, more) in
+      let last : getD s (m + 1) 0 ≡ lineFeed = ap (λ k. getD s k 0) (sym place) ∙ feed in
+      ap text (last-two s m (omega (arith, some-bytes, more)) ∙ ap (λ x. take m s ++ (getD s m 0 ∷ x ∷ [])) last) ∙ text-last (take m s) (getD s m 0)
+
+  pub return-and-feed : getD s (length s - 2) 0 ≡ 13 → some (take (length s - 2) s) ≡ text s
+  return-and-feed e = sym (two ∙ (rw (eq-eqb (getD s m 0) carriageReturn e)))
+
+  pub feed-only : (getD s (length s - 2) 0 ≡ 13 → ⊥) → some (take (length s - 1) s) ≡ text s
+  feed-only n =
+      let place : length s - 1 ≡ suc m = omega (arith, some-bytes, more) in
+      let inside : m < length s = omega (arith, some-bytes, more) in
+      ap (λ k. some (take k s)) place
+      ∙ ap some (take-suc s m 0 inside)
+      ∙ sym (two ∙ (rw (ne-eqb (getD s m 0) carriageReturn n)))
+
+-- the text up to a cursor, or none
+pub text-past : (s : List ℕ) (r : S.Skipped) (c : C.Cursor) → r ≡ skips.Past c → asText s r ≡ text s → text s ≡ some (take (c .at) s)
+text-past s r c p e = sym e ∙ ap (asText s) p
+
+pub text-other : (s : List ℕ) (r : S.Skipped) → r ≡ skips.Other → asText s r ≡ text s → text s ≡ none
+text-other s r p e = sym e ∙ ap (asText s) p

@@ -3,7 +3,7 @@ use Prim.Native.Nat.{ℕ, _-_}
 use mathlib.Core.Bool.{Bool, cond}
 use mathlib.Core.Option.{Option, none, some}
 use mathlib.Core.List.{List}
-use lib.ListN.{drop}
+use lib.ListN.{take, drop}
 use Rattle.model.specs.Limits.{comma, digitZero}
 use Rattle.model.specs.Tools.{_>>=_, guard}
 use Rattle.model.specs.Lines.{isDigit, skip, numeral}
@@ -15,6 +15,11 @@ use Rattle.fields.specs.declared.Number.the-variants as numbers
 abbrev pub asSkipped : List ℕ → S.Skipped → Option (List ℕ)
 asSkipped s (skips.Past c) = some (drop (c .at) s)
 asSkipped s skips.Other = none
+
+-- a cursor at the end of a line's text
+abbrev pub asText : List ℕ → S.Skipped → Option (List ℕ)
+asText s (skips.Past c) = some (take (c .at) s)
+asText s skips.Other = none
 
 abbrev pub asNumber : List ℕ → N.Number → Option (ℕ × List ℕ)
 asNumber s (numbers.Value n c) = some (n, drop (c .at) s)

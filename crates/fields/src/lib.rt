@@ -4,8 +4,8 @@ use areas::byte_at;
 ghost use mathlib.Core.Path.{_≡_};
 ghost use Prim.Native.Nat.{_+_};
 ghost use lib.ListN.{getD, drop};
-ghost use Rattle.model.specs.Lines.{skip, digits, numeral, ended};
-ghost use Rattle.fields.specs.Views.{asSkipped, asNumber, digitOf, asField, asEnd};
+ghost use Rattle.model.specs.Lines.{text, skip, digits, numeral, ended};
+ghost use Rattle.fields.specs.Views.{asText, asSkipped, asNumber, digitOf, asField, asEnd};
 
 pub struct Cursor {
     pub at: usize,
@@ -88,16 +88,31 @@ impl Cursor {
         }
     }
 
-    // One line feed and nothing behind it.
+    // Nothing is left.
     pub fn ends(self, s: &[u8]) -> bool
         ensures { λ r. ⌜ asEnd r ≡ ended (drop (self .at) (now (s .entry))) ⌝ }
     {
-        match self.skip(s, 10) {
-            Skipped::Past(c) => {
-                let end = c.at;
-                s.len() <= end
-            }
-            Skipped::Other => false,
+        let at = self.at;
+        s.len() <= at
+    }
+
+    // A line's ending, a line feed or a carriage return and a line feed: the cursor stands before it, where the text ends.
+    pub fn before_ending(s: &[u8]) -> Skipped
+        ensures { λ r. ⌜ asText (now (s .entry)) r ≡ text (now (s .entry)) ⌝ }
+    {
+        let n = s.len();
+        if n == 0 {
+            return Skipped::Other;
         }
+        if s[n - 1] != 10 {
+            return Skipped::Other;
+        }
+        if n == 1 {
+            return Skipped::Past(Cursor { at: 0 });
+        }
+        if s[n - 2] == 13 {
+            return Skipped::Past(Cursor { at: n - 2 });
+        }
+        Skipped::Past(Cursor { at: n - 1 })
     }
 }

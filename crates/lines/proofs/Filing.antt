@@ -5,15 +5,15 @@ use native.Mathlib.Omega.{arith}
 use mathlib.Core.Path.{_≡_, ap, ap₂, _∙_, subst}
 use mathlib.Core.Option.{none, some}
 use mathlib.Core.List.{List, [], _∷_, _++_, map, append-assoc}
-use lib.ListN.{length, getD, getElem?, drop, length-map, List·getD-append}
+use lib.ListN.{length, getD, getElem?, drop, List·getD-append}
 use lib.Seq.{getD-append-add}
 use lib.Dec.{lit<}
 use Rattle.model.specs.Limits.{maxLines, rowWidth}
 use Rattle.model.specs.Tools.{concat}
-use Rattle.model.specs.Lines.{Row, lines, numbers, print}
+use Rattle.model.specs.Lines.{Row, lines, numbers}
 use Rattle.model.specs.Judge.{start}
 use Rattle.model.proofs.Basic.{none≢some, some-inj, index-below}
-use Rattle.model.proofs.Printing.{read-rows}
+use Rattle.model.proofs.Printing.{read-rows, read-count}
 use Rattle.nodes.specs.Unfolding.{cellOf, patternOf}
 use Rattle.nodes.specs.Walk.{FileIn}
 use Rattle.nodes.proofs.Unfolding.{cell-within}
@@ -43,7 +43,7 @@ row-number (q ∷ rs) rest (suc k) m r e h =
 module _ {s t₀ t : List ℕ} {r : R.Read} (h : Holds s t₀ t r) (few : length (lines s) ≤ maxLines) where
   pub rows-few : length (h .file) ≤ maxLines
   rows-few =
-      subst (λ n. n ≤ maxLines) (ap length (read-rows start 1 (lines s) (h .file) (h .reads) .0) ∙ length-map (h .file) print) few
+      subst (λ n. n ≤ maxLines) (read-count start 1 (lines s) (h .file) (h .reads)) few
 
   cell-of : (k m : ℕ) (row : Row) → getElem? (h .file) k ≡ some row → m < rowWidth → cellOf t k m ≡ getD (numbers row) m 0
   cell-of k m row e below =

@@ -1,5 +1,5 @@
 -- Files as bytes: Check's verdict and the judgements, and the turned file.
-use Prim.Native.Nat.{ℕ, _<_}
+use Prim.Native.Nat.{ℕ, _<_, _≤_}
 use native.Mathlib.Nat.{ne-of-gt}
 use native.Mathlib.Omega.{arith}
 use mathlib.Core.Path.{_≡_, refl, sym, ap, ap₂, _∙_, subst}
@@ -12,20 +12,21 @@ use lib.ListN.{length, length-map}
 use Rattle.model.specs.Limits.{maxBytes, maxLines}
 use Rattle.model.specs.Trees.{left, right}
 use Rattle.model.specs.Refusals.{Refusal, number, shortArea, tooLong, badLine, misplaced, badField, badName, ceiling, variable, letShape, badType, overlap, gap, noIso, noValue, spent, tooMany, tooHigh}
-use Rattle.model.specs.Lines.{Row, lines, print, printRows}
+use Rattle.model.specs.Lines.{Row, lines, withoutReturns, print, printRows}
 use Rattle.model.specs.Judge.{start, Reading, rows, faulty, readFrom}
 use Rattle.model.specs.Unfold.{isosOf, turnRows}
 use Rattle.model.specs.Clauses.{fault, sigsOf}
 use Rattle.model.specs.Services.{Verdict, accepted, refused, judged, afterReading, over, verdict, answerOf, turned, turnedOf}
 use Rattle.model.specs.Paper.{FileOk}
 use Rattle.model.specs.Answers.{FirstIso}
-use Rattle.model.proofs.Basic.{some-pair}
+use Rattle.model.proofs.Basic.{some-pair, neither, ltb-false, not-ltb}
 use Rattle.model.proofs.Formed.{Formed}
 use Rattle.model.proofs.Checking.{file-ok, file-fault}
 use Rattle.model.proofs.Inverted.{file-invert}
 use Rattle.model.proofs.Passing.{Passes, formed}
 use Rattle.model.proofs.Turning.{turn-turn, isos-turn, passes-turn}
-use Rattle.model.proofs.Printing.{WellFormed, read-rows, lines-print, reading-printed, printed-reading, length-printRows-turn, wellformed-turn, length-turnRows}
+use Rattle.model.proofs.Endings.{without-length}
+use Rattle.model.proofs.Printing.{WellFormed, read-rows, read-count, lines-print, reading-printed, printed-reading, length-printRows-turn, wellformed-turn, length-turnRows}
 
 -- ---- verdicts
 
@@ -133,19 +134,22 @@ turned-accepted-bytes : (bs : List ℕ) (rs : List Row) → verdict bs ≡ accep
 unfolding turned
 turned-accepted-bytes bs rs e = ap turnedOf e
 
--- a file in form is the printing of its rows
-pub printed : (bs : List ℕ) (rs : List Row) → InForm bs rs → bs ≡ printRows rs
-printed bs rs h = reading-printed (h .reads)
+-- a file in form, its carriage returns taken out, is the printing of its rows
+pub printed : (bs : List ℕ) (rs : List Row) → InForm bs rs → withoutReturns bs ≡ printRows rs
+printed bs rs h = reading-printed bs (h .reads)
 
 wellformed : (bs : List ℕ) (rs : List Row) → InForm bs rs → (r : Row) → List·Memᴰ r rs → WellFormed r
 wellformed bs rs h = read-rows start 1 (lines bs) rs (h .reads) .1
 
--- lengths alone decide whether a file is too long
-over-same : (bs cs : List ℕ) → length bs ≡ length cs → length (lines bs) ≡ length (lines cs) → over bs ≡ over cs
+-- a file that is shorter than one that is not too long, and has as many lines, is not too long
+over-less : (bs cs : List ℕ) → length cs ≤ length bs → length (lines cs) ≡ length (lines bs) → over bs ≡ false → over cs ≡ false
 unfolding over
-over-same bs cs p q = ap₂ (λ m n. ltb maxBytes m || ltb maxLines n) p q
+over-less bs cs p q e =
+    let (few-bytes, few-lines) = neither (ltb maxBytes (length bs)) (ltb maxLines (length (lines bs))) e in
+    let short : length bs ≤ maxBytes = ltb-false maxBytes (length bs) few-bytes in
+    ap₂ _||_ (not-ltb {m = maxBytes} {n = length cs} (omega arith)) (ap (ltb maxLines) q ∙ few-lines)
 
-turned-length-rows : (bs : List ℕ) (rs : List Row) → InForm bs rs → length (printRows (turnRows rs)) ≡ length bs
+turned-length-rows : (bs : List ℕ) (rs : List Row) → InForm bs rs → length (printRows (turnRows rs)) ≡ length (withoutReturns bs)
 turned-length-rows bs rs h = length-printRows-turn rs ∙ ap length (sym (printed bs rs h))
 
 turned-lines : (bs : List ℕ) (rs : List Row) → InForm bs rs → length (lines (printRows (turnRows rs))) ≡ length (lines bs)
@@ -153,13 +157,12 @@ turned-lines bs rs h =
     ap length (lines-print (turnRows rs))
     ∙ length-map (turnRows rs) print
     ∙ length-turnRows rs
-    ∙ sym (length-map rs print)
-    ∙ ap length (sym (read-rows start 1 (lines bs) rs (h .reads) .0))
+    ∙ sym (read-count start 1 (lines bs) rs (h .reads))
 
 pub turned-form : (bs : List ℕ) (rs : List Row) → InForm bs rs → InForm (printRows (turnRows rs)) (turnRows rs)
 turned-form bs rs h =
     record {
-      fits = over-same (printRows (turnRows rs)) bs (turned-length-rows bs rs h) (turned-lines bs rs h) ∙ h .fits;
+      fits = over-less bs (printRows (turnRows rs)) (let p = turned-length-rows bs rs h in let q = without-length bs in omega arith) (turned-lines bs rs h) (h .fits);
       reads = printed-reading (passes-turn (passes bs rs h)) (wellformed-turn rs (wellformed bs rs h));
     }
 
@@ -175,12 +178,15 @@ turned-accepted bs rs e =
     ∙ accepted-iff (printRows (turnRows rs)) (turnRows rs) .1
     (turned-form bs rs (h .0), turned-ok rs (passes bs rs (h .0)) (h .1))
 
--- the turned bytes have the file's length
-pub turned-length : (bs : List ℕ) (rs : List Row) → verdict bs ≡ accepted rs → length (turned bs) ≡ length bs
+-- the turned bytes have the length of the file with its carriage returns taken out, so that they fit where the file does
+pub turned-length : (bs : List ℕ) (rs : List Row) → verdict bs ≡ accepted rs → length (turned bs) ≡ length (withoutReturns bs)
 turned-length bs rs e = ap length (turned-accepted-bytes bs rs e) ∙ turned-length-rows bs rs (accepted-form bs rs e .0)
 
--- turning twice gives the file back
-pub turned-twice : (bs : List ℕ) (rs : List Row) → verdict bs ≡ accepted rs → turned (turned bs) ≡ bs
+pub turned-fits : (bs : List ℕ) (rs : List Row) → verdict bs ≡ accepted rs → length (turned bs) ≤ length bs
+turned-fits bs rs e = let p = turned-length bs rs e in let q = without-length bs in omega arith
+
+-- "turning twice gives the first file with its carriage returns taken out"
+pub turned-twice : (bs : List ℕ) (rs : List Row) → verdict bs ≡ accepted rs → turned (turned bs) ≡ withoutReturns bs
 turned-twice bs rs e =
     turned-accepted-bytes (turned bs) (turnRows rs) (turned-accepted bs rs e)
     ∙ ap printRows (turn-turn rs)

@@ -10,6 +10,7 @@ pub mod Numerals
 pub mod Letters
 pub mod Passing
 pub mod Turning
+pub mod Endings
 pub mod Printing
 -- environments, and patterns that match closed values
 pub mod Slots

@@ -54,7 +54,7 @@ workLength = 65536
 abbrev pub resultLength : ℕ
 resultLength = 127
 
--- a query's bytes, its line feed included
+-- a query's bytes, its ending included
 abbrev pub queryLength : ℕ
 queryLength = 200
 
@@ -68,6 +68,10 @@ maxValues = 4294967295
 
 abbrev pub lineFeed : ℕ
 lineFeed = 10
+
+-- request 06: the first byte of the other ending
+abbrev pub carriageReturn : ℕ
+carriageReturn = 13
 
 abbrev pub comma : ℕ
 comma = 44

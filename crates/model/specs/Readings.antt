@@ -53,3 +53,30 @@ retyped = bytes "T,0,0,0\nT,1,0,0\nT,2,1,0\nP,1,0,0\nP,0,0,0\nP,4,0,1\nI,1,2\nC,
 bound-again : desk retyped ≡ bytes "0,0\n0,2,PLUU\n0,2,LU\n"
 unfolding desk
 bound-again = refl
+
+-- Request 06: either ending on each line; what is written ends with a line feed alone.
+either-ending : desk (bytes "T,0,0,0\r\nP,1,0,0\nI,0,0\r\nC,0,0\nQ,0,0,1,U\r\nQ,0,0,1,U\n") ≡ bytes "0,0\n0,1,U\n0,1,U\n"
+unfolding desk
+either-ending = refl
+
+turned-ending : turned (bytes "T,0,0,0\r\nP,1,0,0\nI,0,0\r\nC,0,0\n") ≡ bytes "T,0,0,0\nP,1,0,0\nI,0,0\nC,0,0\n"
+unfolding turned
+turned-ending = refl
+
+-- A carriage return elsewhere is a wrong byte, also before another one and where no line feed follows.
+return-twice : desk (bytes "T,0,0,0\r\r\n") ≡ bytes "3,1\n"
+unfolding desk
+return-twice = refl
+
+return-last : desk (bytes "T,0,0,0\r") ≡ bytes "3,1\n"
+unfolding desk
+return-last = refl
+
+return-first : desk (bytes "\rT,0,0,0\n") ≡ bytes "3,1\n"
+unfolding desk
+return-first = refl
+
+-- In a query's letters field it is a letter, so that there is no such value; before the fourth comma it is a wrong byte.
+return-letter : desk (bytes "T,0,0,0\nP,1,0,0\nI,0,0\nC,0,0\nQ,0,0,1,U\r\r\nQ,0,0,1,\rU\nQ,0,0,1\r,U\nQ,0,0,1,U\r") ≡ bytes "0,0\n16,0,\n16,0,\n3,0,\n3,0,\n"
+unfolding desk
+return-letter = refl

@@ -1,6 +1,6 @@
 -- The desk program as a machine.
 pub mod Streaming
--- A query's line: the line feed behind its letters, and its fields.
+-- A query's line: its fields, its letters and its ending.
 pub mod Asking
 -- The lines that answer.
 pub mod Answering

@@ -1,15 +1,14 @@
 -- What a query's reading means: the fields, and the letters by their places in the line.
-use Prim.Native.Nat.{ℕ}
-use mathlib.Core.Bool.{cond}
+use Prim.Native.Nat.{ℕ, _≤_}
 use mathlib.Core.Option.{Option, none, some}
 use mathlib.Core.List.{List, [], _∷_}
-use lib.Dec.{eqb, ltb}
+use lib.Dec.{eqb}
 use lib.ListN.{length, getD}
 use lib.Seq.{slice}
 use Rattle.model.specs.Limits.{fieldBound, budgetBound, comma}
 use Rattle.model.specs.Tools.{_>>=_}
 use Rattle.model.specs.Lines.{skip, fields}
-use Rattle.model.specs.Desk.{Query, beforeEnd}
+use Rattle.model.specs.Desk.{Query}
 use Rattle.queries.specs.declared.Query as Q
 use Rattle.queries.specs.declared.Asked as A
 use Rattle.queries.specs.declared.Asked.the-variants as asked
@@ -23,14 +22,14 @@ abbrev pub asQuery : List ℕ → A.Asked → Option Query
 asQuery s (asked.Of q) = some (queryView s q)
 asQuery s asked.Bad = none
 
--- the bytes from a place up to another, which stands before the end
-abbrev pub upTo : List ℕ → ℕ → ℕ → Option (List ℕ)
-upTo s from to = cond (ltb to (length s)) (some (slice from to s)) none
+-- the letters end within some bytes
+abbrev pub Within : List ℕ → A.Asked → Type 0
+Within s (asked.Of q) = q .to ≤ length s
+Within s asked.Bad = Unit {0}
 
 -- the query of three numbers and of the bytes behind its fourth comma
 abbrev pub withLetters : ℕ → ℕ → ℕ → List ℕ → Option Query
-withLetters iso direction budget bs =
-    beforeEnd bs >>= λ ls. some (record { iso = iso; back = eqb direction 1; budget = budget; letters = ls })
+withLetters iso direction budget ls = some (record { iso = iso; back = eqb direction 1; budget = budget; letters = ls })
 
 -- the query of the bytes behind its letter
 abbrev pub behindLetter : List ℕ → Option Query

@@ -5,14 +5,15 @@ use areas::put_byte;
 use fields::Cursor;
 use fields::Number;
 use fields::Skipped;
+use parts::front;
 use printer::put_field;
 use printer::put_number;
 ghost use mathlib.Core.Path.{_≡_};
 ghost use Prim.Native.Nat.{_%_, _<_};
 ghost use lib.ListN.{drop};
-ghost use Rattle.model.specs.Desk.{beforeEnd, queryOf, queryLine, fileLine};
+ghost use Rattle.model.specs.Desk.{queryIn, queryOf, queryLine, fileLine};
 ghost use Rattle.areas.specs.Areas.{Writes};
-ghost use Rattle.queries.specs.Views.{asQuery, upTo, withLetters, behindLetter};
+ghost use Rattle.queries.specs.Views.{asQuery, Within, withLetters, behindLetter};
 
 // A query; its letters stand in its line from place `from` up to place `to`.
 pub struct Query {
@@ -29,20 +30,6 @@ pub enum Asked {
     Bad,
 }
 
-// The place of the first line feed from a place on.
-fn feed_at(s: &[u8], from: usize) -> usize
-    ensures { λ r. ⌜ upTo (now (s .entry)) from r ≡ beforeEnd (drop from (now (s .entry))) ⌝ }
-{
-    let mut at = from;
-    while at < s.len() {
-        if s[at] == 10 {
-            return at;
-        }
-        at += 1;
-    }
-    at
-}
-
 // The 32 low bits of a number.
 fn narrow(n: usize) -> u32
     ensures { λ r. ⌜ r ≡ n % 4294967296 ⌝ }
@@ -50,27 +37,22 @@ fn narrow(n: usize) -> u32
     (n % 4294967296) as u32
 }
 
-// A query of these fields, where its letters begin at a cursor.
+// The query of these numbers in a text, where its letters begin at a cursor.
 fn with_letters(iso: usize, direction: usize, budget: usize, c: Cursor, s: &[u8]) -> Asked
-    ensures { λ r. ⌜ (budget < 4294967296 → asQuery (now (s .entry)) r ≡ withLetters iso direction budget (drop (c .at) (now (s .entry)))) ⌝ }
+    ensures { λ r. ⌜ (budget < 4294967296 → asQuery (now (s .entry)) r ≡ withLetters iso direction budget (drop (c .at) (now (s .entry)))) × Within (now (s .entry)) r ⌝ }
 {
-    let from = c.at;
-    let to = feed_at(s, from);
-    if s.len() <= to {
-        return Asked::Bad;
-    }
     Asked::Of(Query {
         iso: iso,
         back: direction == 1,
         budget: narrow(budget),
-        from: from,
-        to: to,
+        from: c.at,
+        to: s.len(),
     })
 }
 
 // The three numbers of a query, from behind its letter on, and the comma behind them.
 fn after_letter(c: Cursor, s: &[u8]) -> Asked
-    ensures { λ r. ⌜ asQuery (now (s .entry)) r ≡ behindLetter (drop (c .at) (now (s .entry))) ⌝ }
+    ensures { λ r. ⌜ (asQuery (now (s .entry)) r ≡ behindLetter (drop (c .at) (now (s .entry)))) × Within (now (s .entry)) r ⌝ }
 {
     let Number::Value(iso, d) = c.field(s, 65535) else {
         return Asked::Bad;
@@ -87,6 +69,17 @@ fn after_letter(c: Cursor, s: &[u8]) -> Asked
     }
 }
 
+// The query in a text.
+fn query_in(s: &[u8]) -> Asked
+    ensures { λ r. ⌜ (asQuery (now (s .entry)) r ≡ queryIn (now (s .entry))) × Within (now (s .entry)) r ⌝ }
+{
+    let start = Cursor { at: 0 };
+    match start.skip(s, 81) {
+        Skipped::Past(c) => after_letter(c, s),
+        Skipped::Other => Asked::Bad,
+    }
+}
+
 // The query in a line.
 pub fn query_of(s: &[u8]) -> Asked
     ensures { λ r. ⌜ asQuery (now (s .entry)) r ≡ queryOf (now (s .entry)) ⌝ }
@@ -94,9 +87,8 @@ pub fn query_of(s: &[u8]) -> Asked
     if 200 < s.len() {
         return Asked::Bad;
     }
-    let start = Cursor { at: 0 };
-    match start.skip(s, 81) {
-        Skipped::Past(c) => after_letter(c, s),
+    match Cursor::before_ending(s) {
+        Skipped::Past(c) => query_in(front(s, c.at)),
         Skipped::Other => Asked::Bad,
     }
 }

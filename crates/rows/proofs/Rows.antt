@@ -1,4 +1,4 @@
--- The row of a line: its fields one by one, its end, and its letter.
+-- The row of a line: its fields one by one, its end, its letter, and its ending.
 use Prim.Native.Nat.{ℕ}
 use native.Mathlib.Omega.{arith}
 use mathlib.Core.Path.{_≡_, refl, sym, ap, _∙_}
@@ -9,10 +9,10 @@ use lib.ListN.{getD, drop}
 use Rattle.model.specs.Limits.{fieldBound}
 use Rattle.model.specs.Tools.{_>>=_}
 use Rattle.model.specs.Refusals.{Kind, typeLine, patternLine, isoLine, clauseLine, letLine}
-use Rattle.model.specs.Lines.{Row, fieldCount, kindOf, fields, fieldBounds, ended, toRow, rowOf}
+use Rattle.model.specs.Lines.{Row, fieldCount, kindOf, fields, fieldBounds, text, ended, toRow, rowIn, rowOf}
 use Rattle.model.specs.declared.Kind as K
 use Rattle.model.specs.Code.{kindView}
-use Rattle.model.proofs.Basic.{none≢some}
+use Rattle.model.proofs.Basic.{none≢some, some-bind}
 use Rattle.forms.specs.declared.Letter as L
 use Rattle.forms.specs.declared.Letter.the-variants as letters
 use Rattle.forms.specs.Views.{asLetter}
@@ -93,17 +93,26 @@ module _ (k : Kind) (bs : List ℕ) where
 
 -- ---- the letter
 
-known-row : (s : List ℕ) (k : Kind) → some k ≡ kindOf (getD s 0 0) → behindLetter k (drop 1 s) ≡ rowOf s
+known-row : (s : List ℕ) (k : Kind) → some k ≡ kindOf (getD s 0 0) → behindLetter k (drop 1 s) ≡ rowIn s
 known-row [] k e = absurd (none≢some (sym e))
 known-row (b ∷ bs) k e = ap (λ o. o >>= λ j. behindLetter j bs) e
 
-unknown-row : (s : List ℕ) → none ≡ kindOf (getD s 0 0) → none ≡ rowOf s
+unknown-row : (s : List ℕ) → none ≡ kindOf (getD s 0 0) → none ≡ rowIn s
 unknown-row [] e = refl
 unknown-row (b ∷ bs) e = ap (λ o. o >>= λ j. behindLetter j bs) e
 
 module _ (s : List ℕ) {b : ℕ} (first : b ≡ getD s 0 0) {r : L.Letter} (e : asLetter r ≡ kindOf b) where
-  pub row-known : (k : K.Kind) → r ≡ letters.Of k → behindLetter (kindView k) (drop 1 s) ≡ rowOf s
+  pub row-known : (k : K.Kind) → r ≡ letters.Of k → behindLetter (kindView k) (drop 1 s) ≡ rowIn s
   row-known k p = known-row s (kindView k) (sym (ap asLetter p) ∙ e ∙ ap kindOf first)
 
-  pub row-unknown : r ≡ letters.Unknown → none ≡ rowOf s
+  pub row-unknown : r ≡ letters.Unknown → none ≡ rowIn s
   row-unknown p = unknown-row s (sym (ap asLetter p) ∙ e ∙ ap kindOf first)
+
+-- ---- the ending
+
+-- the text of a line and its row, or none
+pub text-row : (s : List ℕ) {t : List ℕ} {o : Option Row} → text s ≡ some t → o ≡ rowIn t → o ≡ rowOf s
+text-row s e p = p ∙ sym (some-bind rowIn e)
+
+pub no-text-row : (s : List ℕ) → text s ≡ none → none ≡ rowOf s
+no-text-row s e = sym (ap (λ o. o >>= rowIn) e)

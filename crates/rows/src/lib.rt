@@ -1,16 +1,18 @@
-// The row of a line: its letter, its fields and its end.
+// The row of a line: its ending, and the letter and the fields of its text.
 
 use areas::byte_at;
 use fields::Cursor;
 use fields::Number;
+use fields::Skipped;
 use forms::Letter;
 use forms::fields_of;
 use forms::kind_of;
 use model::Kind;
 use model::Row;
+use parts::front;
 ghost use mathlib.Core.Path.{_≡_};
 ghost use lib.ListN.{drop};
-ghost use Rattle.model.specs.Lines.{rowOf};
+ghost use Rattle.model.specs.Lines.{rowIn, rowOf};
 ghost use Rattle.model.specs.Code.{kindView};
 ghost use Rattle.rows.specs.Views.{asLine, closed, behindLetter};
 
@@ -22,7 +24,7 @@ pub enum Line {
     Bad,
 }
 
-// The row of these fields, where the line ends behind them.
+// The row of these fields, where the text ends behind them.
 fn finished(k: Kind, x: usize, y: usize, z: usize, c: Cursor, s: &[u8]) -> Line
     ensures { λ r. ⌜ asLine r ≡ closed (kindView k) x y z (drop (c .at) (now (s .entry))) ⌝ }
 {
@@ -37,7 +39,7 @@ fn finished(k: Kind, x: usize, y: usize, z: usize, c: Cursor, s: &[u8]) -> Line
     Line::Bad
 }
 
-// The fields of a line whose letter is read, and its end.
+// The fields of a text whose letter is read, and its end.
 fn after_letter(k: Kind, s: &[u8]) -> Line
     ensures { λ r. ⌜ asLine r ≡ behindLetter (kindView k) (drop 1 (now (s .entry))) ⌝ }
 {
@@ -56,12 +58,22 @@ fn after_letter(k: Kind, s: &[u8]) -> Line
     finished(k, x, y, z, e, s)
 }
 
-// The row of a line that is of one of the five forms.
-pub fn row_of(s: &[u8]) -> Line
-    ensures { λ r. ⌜ asLine r ≡ rowOf (now (s .entry)) ⌝ }
+// The row of a text that is of one of the five forms.
+fn row_in(s: &[u8]) -> Line
+    ensures { λ r. ⌜ asLine r ≡ rowIn (now (s .entry)) ⌝ }
 {
     match kind_of(byte_at(s, 0)) {
         Letter::Of(k) => after_letter(k, s),
         Letter::Unknown => Line::Bad,
+    }
+}
+
+// The row of a line.
+pub fn row_of(s: &[u8]) -> Line
+    ensures { λ r. ⌜ asLine r ≡ rowOf (now (s .entry)) ⌝ }
+{
+    match Cursor::before_ending(s) {
+        Skipped::Past(c) => row_in(front(s, c.at)),
+        Skipped::Other => Line::Bad,
     }
 }

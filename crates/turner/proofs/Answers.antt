@@ -17,7 +17,7 @@ use Rattle.model.specs.Unfold.{turnRows}
 use Rattle.model.specs.Services.{Verdict, accepted, refused, verdict, written, tableAfter, workAfter, short, unless, answerOf, check, turnedOf, turned, turn}
 use Rattle.model.specs.Code.{refusalView, numberOf, numbered}
 use Rattle.model.proofs.Basic.{isSome-true}
-use Rattle.model.proofs.Files.{number-positive, turned-length}
+use Rattle.model.proofs.Files.{number-positive, turned-fits}
 use Rattle.areas.specs.Areas.{Writes}
 use Rattle.checker.specs.CheckSays.{CheckSays, Accepted}
 use Rattle.checker.proofs.Checks.{unless-accepted, flag-none}
@@ -92,9 +92,9 @@ written-all {o} {o′} {end} bs h w =
     let fits : 0 + length bs ≤ length o = omega arith in
     (w .place fits ∙ z, w .area fits ∙ sets-eq bs o 0 fits ∙ ap (λ k. bs ++ drop k o) z)
 
-turned-bytes : (s : List ℕ) (rs : List Row) → verdict s ≡ accepted rs → length (printRows (turnRows rs)) ≡ length s
+turned-bytes : (s : List ℕ) (rs : List Row) → verdict s ≡ accepted rs → length (printRows (turnRows rs)) ≤ length s
 unfolding turned
-turned-bytes s rs e = ap (λ v. length (turnedOf v)) (sym e) ∙ turned-length s rs e
+turned-bytes s rs e = subst (λ v. length (turnedOf v) ≤ length s) e (turned-fits s rs e)
 
 pub turn-accepted : (s t w o t′ w′ o′ : List ℕ) (c : C.Checked) (r : T.Turned) (b : Bool) (end : ℕ) → length s ≤ length o
     → CheckSays s t w t′ w′ (c .answer) → (refusalView (c .answer .refusal) ≡ none → Accepted s t′ c)

@@ -21,7 +21,7 @@ returns c =
     let a = c .before .before .before .before .args in
     let s = a .s .now in
     let bs = drop (a .c .at) s in
-    no-iso bs (wrong s (c .enum-told .given .1) (c .before .before .field .ensures))
+    (no-iso bs (wrong s (c .enum-told .given .1) (c .before .before .field .ensures)), tt)
 
 field-requires-2 : tie.Need-field-requires-2
 field-requires-2 c κs = search needs
@@ -38,7 +38,7 @@ returns-2 c =
     let a = x .before .before .before .before .args in
     let s = a .s .now in
     let bs = drop (a .c .at) s in
-    no-direction bs (value s (x .iso .given .1) (x .before .before .field .ensures)) (wrong s (c .enum-told2 .given .1) (c .before .before .field2 .ensures))
+    (no-direction bs (value s (x .iso .given .1) (x .before .before .field .ensures)) (wrong s (c .enum-told2 .given .1) (c .before .before .field2 .ensures)), tt)
 
 field-requires-3 : tie.Need-field-requires-3
 field-requires-3 c κs = search needs
@@ -55,12 +55,14 @@ returns-3 c =
     let x = y .before .before .before .before in
     let a = x .before .before .before .before .args in
     let s = a .s .now in
-    let bs = drop (a .c .at) s in
-    no-budget
-    bs
-    (value s (x .iso .given .1) (x .before .before .field .ensures))
-    (value s (y .direction .given .1) (y .before .before .field2 .ensures))
-    (wrong s (c .enum-told3 .given .1) (c .before .before .field3 .ensures))
+    let bs = drop (a .c .at) s in (
+      no-budget
+          bs
+          (value s (x .iso .given .1) (x .before .before .field .ensures))
+          (value s (y .direction .given .1) (y .before .before .field2 .ensures))
+          (wrong s (c .enum-told3 .given .1) (c .before .before .field3 .ensures)),
+      tt,
+    )
 
 skip-requires : tie.Need-skip-requires
 skip-requires c κs = search needs
@@ -82,14 +84,16 @@ returns-4 c =
     let x = y .before .before .before .before in
     let a = x .before .before .before .before .args in
     let s = a .s .now in
-    let bs = drop (a .c .at) s in
-    all-fields
-    bs
-    (value s (x .iso .given .1) (x .before .before .field .ensures))
-    (value s (y .direction .given .1) (y .before .before .field2 .ensures))
-    (value s (z .budget .given .1) (z .before .before .field3 .ensures))
-    (past s _ _ (g .g .given .1) (g .before .before .skip .ensures))
-    (c .with-letters .ensures)
+    let bs = drop (a .c .at) s in (
+      all-fields
+          bs
+          (value s (x .iso .given .1) (x .before .before .field .ensures))
+          (value s (y .direction .given .1) (y .before .before .field2 .ensures))
+          (value s (z .budget .given .1) (z .before .before .field3 .ensures))
+          (past s _ _ (g .g .given .1) (g .before .before .skip .ensures))
+          (c .with-letters .ensures .0),
+      c .with-letters .ensures .1,
+    )
 
 returns-5 : tie.Need-returns-5
 returns-5 c =
@@ -98,13 +102,15 @@ returns-5 c =
     let x = y .before .before .before .before in
     let a = x .before .before .before .before .args in
     let s = a .s .now in
-    let bs = drop (a .c .at) s in
-    no-comma
-    bs
-    (value s (x .iso .given .1) (x .before .before .field .ensures))
-    (value s (y .direction .given .1) (y .before .before .field2 .ensures))
-    (value s (z .budget .given .1) (z .before .before .field3 .ensures))
-    (other s _ (c .enum-told4 .given .1) (c .before .before .skip .ensures))
+    let bs = drop (a .c .at) s in (
+      no-comma
+          bs
+          (value s (x .iso .given .1) (x .before .before .field .ensures))
+          (value s (y .direction .given .1) (y .before .before .field2 .ensures))
+          (value s (z .budget .given .1) (z .before .before .field3 .ensures))
+          (other s _ (c .enum-told4 .given .1) (c .before .before .skip .ensures)),
+      tt,
+    )
 
 pub after-letter-spec : {M : Type 1} → statement M
 after-letter-spec =

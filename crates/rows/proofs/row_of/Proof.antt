@@ -1,46 +1,49 @@
-use Rattle.rows.proofs.Rows.{row-known, row-unknown}
-use mathlib.Core.Path.{_∙_}
+-- `rows::row_of` meets its contract: the text before the ending, and the row in it.
+use Rattle.rows.proofs.Rows.{text-row, no-text-row}
+use Rattle.model.specs.Lines.{rowIn}
+use Rattle.fields.proofs.Bytes.{text-past, text-other}
+use mathlib.Core.Path.{ap, _∙_}
 use borrow.Author.Needs.{needs}
 use Rattle.rows.proofs.row_of.Statement.{statement}
 use Rattle.rows.proofs.row_of.Tie as tie
 
-byte-at-requires : tie.Need-byte-at-requires
-byte-at-requires c κs = search needs
+before-ending-requires : tie.Need-before-ending-requires
+before-ending-requires c κs = search needs
 
-kind-of-requires : tie.Need-kind-of-requires
-kind-of-requires c κs = search needs
+enum-known-c : tie.Need-enum-known-c
+enum-known-c c = search needs
 
-enum-known-k : tie.Need-enum-known-k
-enum-known-k c = search needs
+front-requires : tie.Need-front-requires
+front-requires c κs = search needs
 
-after-letter-requires : tie.Need-after-letter-requires
-after-letter-requires c κs = search needs
+row-in-requires : tie.Need-row-in-requires
+row-in-requires c κs = search needs
 
 enum-told : tie.Need-enum-told
 enum-told c = search needs
 
 returns : tie.Need-returns
 returns c =
-    let read = c .before .before in
-    let kind = read .before .before in
-    let byte = kind .before in
-    c .after-letter .ensures
-    ∙ row-known (byte .before .before .args .s .now) (byte .byte-at .ensures) (kind .kind-of .ensures) _ (read .k .given .1)
+    let f = c .before in
+    let p = f .before .before in
+    let e = p .before .before in
+    let s = e .before .before .args .s .now in
+    text-row s (text-past s _ _ (p .c .given .1) (e .before-ending .ensures)) (c .row-in .ensures ∙ ap rowIn (f .front .ensures))
 
 returns-2 : tie.Need-returns-2
 returns-2 c =
-    let kind = c .before .before in
-    let byte = kind .before in
-    row-unknown (byte .before .before .args .s .now) (byte .byte-at .ensures) (kind .kind-of .ensures) (c .enum-told .given .1)
+    let e = c .before .before in
+    let s = e .before .before .args .s .now in
+    no-text-row s (text-other s _ (c .enum-told .given .1) (e .before-ending .ensures))
 
 pub row-of-spec : {M : Type 1} → statement M
 row-of-spec =
     tie.close
     (tie.spec
-    byte-at-requires
-    kind-of-requires
-    enum-known-k
-    after-letter-requires
+    before-ending-requires
+    enum-known-c
+    front-requires
+    row-in-requires
     enum-told
     returns
     returns-2)
