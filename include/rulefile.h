@@ -1,5 +1,6 @@
 /*
- * rulefile.h - Check, Turn, Run, whole sheets of queries and settings as numbers for rule files.
+ * rulefile.h - Check, Turn, Run, whole sheets of queries, settings as numbers and the overlap of two
+ * patterns for rule files.
  *
  * Link with librulefile.a (`rt staticlib rulefile` writes target/staticlib/librulefile.a). The library
  * needs memset of the C library and nothing else; it allocates nothing, keeps nothing between calls and
@@ -70,7 +71,7 @@ enum rulefile_number {
     RULEFILE_OVERLAP_RIGHT = 12, /* the same, right patterns; line of the I */
     RULEFILE_GAP_LEFT = 13,      /* the left patterns leave a value out; line of the I */
     RULEFILE_GAP_RIGHT = 14,     /* the same, right patterns; line of the I */
-    RULEFILE_NO_ISO = 15,        /* iso number, or number of a T line, not in the file; line 0 */
+    RULEFILE_NO_ISO = 15,        /* iso number, or number of a T or P line, not in the file; line 0 */
     RULEFILE_NO_VALUE = 16,      /* not exactly one closed value of the starting type or T line; line 0 */
     RULEFILE_SPENT = 17,         /* the full count would pass the budget; line 0 */
     RULEFILE_TOO_MANY = 18,      /* the T line has over 4,294,967,295 values; line 0 */
@@ -114,6 +115,14 @@ struct rulefile_number_answer {
 struct rulefile_setting_answer {
     uint32_t number; /* enum rulefile_number */
     size_t length;   /* letters written to result, 0 on refusal */
+};
+
+/* What two P lines give. */
+struct rulefile_overlap_answer {
+    uint32_t number; /* enum rulefile_number */
+    size_t line;     /* the line refused, 0 where none is named */
+    bool clash;      /* whether a left stands against a right, false on refusal */
+    uint32_t pairs;  /* node pairs compared, the clash included, 0 on refusal */
 };
 
 /* Checks a file. */
@@ -195,6 +204,22 @@ struct rulefile_setting_answer rulefile_setting_of(
     uint8_t *work, size_t work_length,
     uint32_t type, uint32_t setting,
     uint8_t *result, size_t result_length);
+
+/*
+ * Checks a file and compares its P lines number `left` and `right` (the P lines are numbered from 0) as
+ * Check compares the patterns of two clauses: node with node in prefix order, nothing below a variable,
+ * up to the first left against a right. Every two nodes laid on each other count 1, that one included;
+ * two of different shape that do not clash count 1, and what follows them is compared. So there are at
+ * least 1 and at most 127 pairs, as many with the two lines exchanged.
+ *
+ * The refusals in their order: 1, 2, those of the file, which alone name a line, and 15 where it has no
+ * such P line on either side. Table and work area are left as rulefile_check leaves them.
+ */
+struct rulefile_overlap_answer rulefile_overlap(
+    const uint8_t *file, size_t file_length,
+    uint16_t *table, size_t table_length,
+    uint8_t *work, size_t work_length,
+    uint32_t left, uint32_t right);
 
 #ifdef __cplusplus
 }

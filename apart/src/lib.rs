@@ -9,13 +9,14 @@ pub mod desk;
 pub mod generate;
 pub mod lines;
 pub mod numbering;
+pub mod overlap;
 pub mod reduce;
 pub mod sheet;
 pub mod tree;
 
 use crate::lines::{Clause, Iso, Row};
 use crate::reduce::{apply, turned, Counter};
-use crate::tree::{Type, Value};
+use crate::tree::{Pattern, Type, Value};
 use std::rc::Rc;
 
 /// A refusal by its number, with the line it names; "Where no line is named
@@ -26,11 +27,13 @@ pub struct Refusal {
     pub line: usize,
 }
 
-/// An accepted file: its lines, its T lines and isos as trees, the variables
-/// of each clause named by their bindings, and the isos of the turned file.
+/// An accepted file: its lines, its T lines, P lines and isos as trees, the
+/// variables of each clause named by their bindings, and the isos of the turned
+/// file.
 pub struct Rules {
     pub rows: Vec<Row>,
     pub types: Vec<Rc<Type>>,
+    pub patterns: Vec<Rc<Pattern>>,
     pub isos: Vec<Iso>,
     pub turned: Vec<Iso>,
 }
@@ -70,6 +73,7 @@ fn check_by(file: &[u8], rule: ClauseRule) -> Result<Rules, Refusal> {
     Ok(Rules {
         rows: reader.rows,
         types: reader.types,
+        patterns: reader.patterns,
         isos: reader.isos,
         turned,
     })

@@ -57,6 +57,10 @@ impl<P: Program, S: Services> Block<P, S> {
         let list = list::make(random, case, &known, &input.bytes[file.len()..]);
         self.calls.sheet(random, &mut self.tally, &known, &list);
         self.calls.settings(random, &mut self.tally, case, &known);
+        self.calls.overlaps(random, &mut self.tally, &known);
+        if case == Case::Longest {
+            self.calls.late_clash(random, &mut self.tally);
+        }
         if matches!(case, Case::Counted(_)) {
             self.calls.faults(random, &mut self.tally);
         }

@@ -2,6 +2,7 @@
 //! and of every element of the areas.
 
 use crate::areas::{Areas, Kind, Noise, Shape};
+use crate::overlaps;
 use crate::service::{expected, query, Answer, Ask, Call, Services};
 use crate::settings;
 use crate::sheets::{self, Given};
@@ -11,6 +12,7 @@ use apart::generate::query::line;
 use apart::generate::random::Random;
 use apart::lines::split;
 use apart::numbering::{number_of_rules, setting_of_rules};
+use apart::overlap::overlap_rules;
 use apart::run_rules;
 use apart::sheet::{NUMBERS, QUERIES};
 
@@ -69,6 +71,7 @@ impl<S: Services> Calls<S> {
         let lengths = shapes.map(|shape| shape.length);
         count(tally, known, call, lengths, &ours);
         settings::count(tally, known, call, &ours, &theirs);
+        overlaps::count(tally, known, call, &ours, &theirs);
         if let Call::Sheet(list) = call {
             let numbers = &self.ours.numbers.lent()[..ours.queries * NUMBERS];
             sheets::count(tally, list, ours.number, numbers);
@@ -113,11 +116,13 @@ fn name(call: Call) -> String {
         Call::Sheet(list) => format!("Sheet, the last {} bytes its queries", list.len()),
         Call::NumberOf(ty, _) => format!("number of a setting of T line {ty}"),
         Call::SettingOf(ty, number) => format!("setting {number} of T line {ty}"),
+        Call::Overlap(left, right) => format!("overlap of P lines {left} and {right}"),
     }
 }
 
 /// The file and the queries of a call in the form of the desk program; the
-/// calls of settings as numbers in that of the stored examples.
+/// calls of settings as numbers in that of the stored examples, one for an
+/// overlap as `O,left,right`.
 pub fn input(file: &[u8], call: Call) -> Vec<u8> {
     let mut input = file.to_vec();
     match call {
@@ -130,12 +135,13 @@ pub fn input(file: &[u8], call: Call) -> Vec<u8> {
             input.push(b'\n');
         }
         Call::SettingOf(ty, number) => input.extend(format!("S,{ty},{number}\n").into_bytes()),
+        Call::Overlap(left, right) => input.extend(format!("O,{left},{right}\n").into_bytes()),
     }
     input
 }
 
 /// Counts the number given and the kinds of the areas. Numbers that are given
-/// for settings have tables of their own.
+/// for settings and for overlaps have tables of their own.
 fn count(tally: &mut Tally, known: &Known, call: Call, lengths: [usize; 4], ours: &Answer) {
     tally.calls += 1;
     let (column, rows) = match call {
@@ -145,6 +151,7 @@ fn count(tally: &mut Tally, known: &Known, call: Call, lengths: [usize; 4], ours
         Call::Sheet(_) => (Some(BY_SHEET), &[4, 5, 6, 7][..]),
         Call::NumberOf(..) => (None, &[8, 9][..]),
         Call::SettingOf(..) => (None, &[10, 11, 12][..]),
+        Call::Overlap(..) => (None, &[13, 14][..]),
     };
     if let Some(column) = column {
         tally.numbers.hit(ours.number as usize, column);
@@ -188,6 +195,7 @@ pub fn otherwise(known: &Known, call: Call) -> usize {
         }
         Call::NumberOf(ty, letters) => number_of_rules(rules, ty, letters).err(),
         Call::SettingOf(ty, setting) => setting_of_rules(rules, ty, setting).err(),
+        Call::Overlap(left, right) => overlap_rules(rules, left, right).err(),
     };
     refused.map_or(0, |refusal| refusal.number.into())
 }

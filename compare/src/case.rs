@@ -43,6 +43,8 @@ pub enum Case {
     ReturnBytes(bool),
     /// A file of which a chunk ends within an ending.
     Across,
+    /// A near miss of a refusal with a carriage return in every ending.
+    Returns(u8),
     /// An accepted file with as many queries as a sheet may have, or one more.
     Full(bool),
     Accepted,
@@ -64,6 +66,7 @@ pub fn always() -> Vec<Case> {
     for over in [false, true] {
         cases.extend([Case::ReturnBytes(over), Case::Across]);
     }
+    cases.extend((3..15).map(Case::Returns));
     for pair in 0..pair::all().len() {
         cases.extend((0..3).map(|file| Case::Pair(pair, file)));
     }
@@ -101,6 +104,7 @@ pub fn file(random: &mut Random, case: Case) -> (Vec<u8>, Option<(u8, usize)>) {
         ),
         Case::ReturnBytes(over) => (ending::many_bytes(random, over), None),
         Case::Across => (ending::across(random), Some((0, 0))),
+        Case::Returns(number) => (ending::all_resaved(&miss::aimed(random, number)), None),
         Case::Accepted | Case::Full(_) => (accepted(random), Some((0, 0))),
         Case::Any => (any_file(random), None),
     }

@@ -1,6 +1,6 @@
 //! The exported functions of the library, as `include/rulefile.h` declares
-//! them: unlike the Rust wrapper they give count, length, queries and setting
-//! on refusal too. This module has all `unsafe` of the package.
+//! them: unlike the Rust wrapper they give count, length, queries, setting,
+//! clash and pairs on refusal too. This module has all `unsafe` of the package.
 
 use crate::service::{Answer, Ask, Call, Lent};
 use std::ptr::{null, null_mut};
@@ -42,6 +42,14 @@ struct NumberAnswer {
 struct SettingAnswer {
     number: u32,
     length: usize,
+}
+
+#[repr(C)]
+struct OverlapAnswer {
+    number: u32,
+    line: usize,
+    clash: bool,
+    pairs: u32,
 }
 
 extern "C" {
@@ -120,6 +128,17 @@ extern "C" {
         result: *mut u8,
         result_length: usize,
     ) -> SettingAnswer;
+
+    fn rulefile_overlap(
+        file: *const u8,
+        file_length: usize,
+        table: *mut u16,
+        table_length: usize,
+        work: *mut u8,
+        work_length: usize,
+        left: u32,
+        right: u32,
+    ) -> OverlapAnswer;
 }
 
 /// Where bytes that are only read begin; null where there are none.
@@ -148,6 +167,7 @@ pub fn call(file: &[u8], call: Call, lent: Lent) -> Answer {
         Call::Sheet(list) => sheet(file, list, lent),
         Call::NumberOf(ty, letters) => number_of(file, ty, letters, lent),
         Call::SettingOf(ty, setting) => setting_of(file, ty, setting, lent),
+        Call::Overlap(left, right) => overlap(file, left, right, lent),
     }
 }
 
@@ -304,6 +324,30 @@ fn setting_of(file: &[u8], ty: u32, setting: u32, lent: Lent) -> Answer {
     Answer {
         number: given.number,
         length: given.length,
+        ..Answer::default()
+    }
+}
+
+fn overlap(file: &[u8], left: u32, right: u32, lent: Lent) -> Answer {
+    let Lent { table, work, .. } = lent;
+    // SAFETY: as for `check`.
+    let given = unsafe {
+        rulefile_overlap(
+            begin(file),
+            file.len(),
+            start(table),
+            table.len(),
+            start(work),
+            work.len(),
+            left,
+            right,
+        )
+    };
+    Answer {
+        number: given.number,
+        line: given.line,
+        clash: given.clash,
+        pairs: given.pairs,
         ..Answer::default()
     }
 }

@@ -15,6 +15,7 @@ pub mod grid;
 pub mod input;
 pub mod library;
 pub mod list;
+pub mod overlaps;
 pub mod service;
 pub mod settings;
 pub mod sheets;

@@ -63,6 +63,14 @@ fn wrapped(file: &[u8], call: Call, lent: Lent) -> Answer {
             let given = rulefile::setting_of(file, table, work, ty, setting, out);
             given.map(|length| Answer { length, ..none })
         }
+        Call::Overlap(left, right) => {
+            let given = rulefile::overlap(file, table, work, left, right);
+            given.map(|given| Answer {
+                clash: given.clash,
+                pairs: given.pairs,
+                ..none
+            })
+        }
     };
     given.unwrap_or_else(|Refused { refusal, line }| Answer {
         number: refusal.number(),

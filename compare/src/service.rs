@@ -4,6 +4,7 @@
 use apart::areas::{Known, Query, RESULT, TABLE, WORK};
 use apart::lines::split;
 use apart::numbering;
+use apart::overlap;
 use apart::sheet::{self, NUMBERS};
 
 /// What Run is asked. The library takes an iso of 32 bits.
@@ -26,6 +27,8 @@ pub enum Call<'a> {
     NumberOf(u32, &'a [u8]),
     /// The setting of a number: the number of the T line, and that number.
     SettingOf(u32, u32),
+    /// The overlap of two P lines.
+    Overlap(u32, u32),
 }
 
 /// All that an answer holds; what the service does not give is 0.
@@ -39,6 +42,9 @@ pub struct Answer {
     pub queries: usize,
     /// The number of a setting.
     pub setting: u32,
+    /// Whether two patterns clash, and the node pairs compared.
+    pub clash: bool,
+    pub pairs: u32,
 }
 
 /// The lent areas; `out` is Turn's output, Run's result, a sheet's letters or
@@ -59,7 +65,7 @@ impl Call<'_> {
     /// How many areas it is lent, in the order of `least`.
     pub fn areas(&self) -> usize {
         match self {
-            Call::Check | Call::NumberOf(..) => 2,
+            Call::Check | Call::NumberOf(..) | Call::Overlap(..) => 2,
             Call::Turn | Call::Run(_) | Call::SettingOf(..) => 3,
             Call::Sheet(_) => 4,
         }
@@ -68,7 +74,7 @@ impl Call<'_> {
     /// The least lengths of table, work, out and numbers.
     pub fn least(&self, file: &[u8]) -> [usize; 4] {
         let (out, numbers) = match self {
-            Call::Check | Call::NumberOf(..) => (0, 0),
+            Call::Check | Call::NumberOf(..) | Call::Overlap(..) => (0, 0),
             Call::Turn => (file.len(), 0),
             Call::Run(_) | Call::SettingOf(..) => (RESULT, 0),
             Call::Sheet(list) => {
@@ -112,6 +118,7 @@ pub fn expected(known: &Known, call: Call, lent: Lent) -> Answer {
         Call::Sheet(list) => sheet(known, list, lent),
         Call::NumberOf(ty, letters) => number_of(known, ty, letters, lent),
         Call::SettingOf(ty, setting) => setting_of(known, ty, setting, lent),
+        Call::Overlap(left, right) => overlap(known, left, right, lent),
     }
 }
 
@@ -146,6 +153,17 @@ fn setting_of(known: &Known, ty: u32, setting: u32, lent: Lent) -> Answer {
     Answer {
         number: given.number.into(),
         length: given.length,
+        ..Answer::default()
+    }
+}
+
+fn overlap(known: &Known, left: u32, right: u32, lent: Lent) -> Answer {
+    let given = overlap::overlap(known, lent.table, lent.work, left, right);
+    Answer {
+        number: given.number.into(),
+        line: given.line,
+        clash: given.clash,
+        pairs: given.pairs,
         ..Answer::default()
     }
 }

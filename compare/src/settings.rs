@@ -22,7 +22,7 @@ pub const HERE: usize = 0;
 pub const THERE: usize = 1;
 pub const SHORT: usize = 2;
 
-const GIVEN: &[&str] = &["here", "there", "if short"];
+pub const GIVEN: &[&str] = &["here", "there", "if short"];
 
 /// What was hit.
 pub struct Grids {

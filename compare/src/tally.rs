@@ -2,6 +2,7 @@
 
 use crate::endings;
 use crate::grid::Grid;
+use crate::overlaps;
 use crate::settings;
 use crate::sheets;
 use crate::variables;
@@ -63,6 +64,7 @@ pub struct Tally {
     pub budgets: Grid,
     pub laws: Grid,
     pub settings: settings::Grids,
+    pub overlaps: overlaps::Grids,
     pub ceilings: Grid,
     pub sheets: Grid,
     pub variables: Grid,
@@ -126,6 +128,8 @@ fn areas() -> Grid {
         "table of setting_of",
         "work of setting_of",
         "result of setting_of",
+        "table of overlap",
+        "work of overlap",
     ]);
     let columns = &["exact", "longer", "one short", "empty"];
     Grid::new("area", rows, columns, |_, _| true)
@@ -178,6 +182,7 @@ impl Default for Tally {
             budgets: budgets(),
             laws: laws(),
             settings: settings::Grids::default(),
+            overlaps: overlaps::Grids::default(),
             ceilings: ceilings(),
             sheets: sheets::grid(),
             variables: variables::grid(),
@@ -204,6 +209,7 @@ impl Tally {
         self.budgets.add(&other.budgets);
         self.laws.add(&other.laws);
         self.settings.add(&other.settings);
+        self.overlaps.add(&other.overlaps);
         self.ceilings.add(&other.ceilings);
         self.sheets.add(&other.sheets);
         self.variables.add(&other.variables);
@@ -233,7 +239,7 @@ impl Tally {
     }
 
     fn grids(&self) -> Vec<&Grid> {
-        vec![
+        let own = [
             &self.numbers,
             &self.areas,
             &self.budgets,
@@ -243,13 +249,15 @@ impl Tally {
             &self.variables,
             &self.returns,
             &self.query_returns,
-        ]
+        ];
+        let others = self.settings.all().into_iter().chain(self.overlaps.all());
+        own.into_iter().chain(others).collect()
     }
 
     /// All that has to be hit and was not.
     pub fn missing(&self) -> Vec<String> {
-        let grids = self.grids().into_iter().chain(self.settings.all());
-        let mut missing: Vec<String> = grids.flat_map(|grid| grid.missing()).collect();
+        let grids = self.grids();
+        let mut missing: Vec<String> = grids.iter().flat_map(|grid| grid.missing()).collect();
         for (pair, count) in pair::all().iter().zip(&self.pairs) {
             if *count == 0 {
                 missing.push(format!("{pair:?}"));
@@ -269,7 +277,7 @@ impl Tally {
         for report in &self.reports {
             println!("mismatch: {}", report.text);
         }
-        for grid in self.grids().into_iter().chain(self.settings.all()) {
+        for grid in self.grids() {
             println!("{}", grid.text());
         }
         let hit = self.pairs.iter().filter(|count| **count > 0).count();

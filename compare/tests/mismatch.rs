@@ -263,10 +263,10 @@ fn whole_cases_are_compared() {
     assert!(compared(|printed| printed.push(b'\n'), unspoiled) >= 4);
     assert!(compared(fine, |answer, _| answer.length += 1) > 20);
     assert!(compared(fine, |_, lent| lent.work.fill(7)) > 20);
-    // Two of the files are accepted, each with one answered sheet, or with three
-    // where other endings are tried.
+    // Two of the files are accepted, each with one answered sheet, and with more
+    // where other endings or another order of the clauses are tried.
     let sheets: Spoil = |answer, _| answer.queries += usize::from(answer.queries > 0);
-    assert!(matches!(compared(fine, sheets), 2 | 4 | 6));
+    assert!(compared(fine, sheets) >= 2);
 }
 
 /// The desk program of the checker written apart, which prints one line more

@@ -165,10 +165,12 @@ enum service {
     SERVICE_SHEET,
     SERVICE_NUMBER_OF,
     SERVICE_SETTING_OF,
+    SERVICE_OVERLAP,
     SERVICES
 };
 
-static const char *const service_names[SERVICES] = {"Check", "Turn", "Run", "Sheet", "Number of", "Setting of"};
+static const char *const service_names[SERVICES] = {"Check",     "Turn",       "Run",    "Sheet",
+                                                    "Number of", "Setting of", "Overlap"};
 
 /* What a query of a sheet is to give. */
 struct reply {
@@ -195,6 +197,8 @@ struct call {
     struct sheet sheet;
     uint32_t type;
     uint32_t setting;
+    uint32_t left; /* P lines to compare */
+    uint32_t right;
 };
 
 struct answer {
@@ -204,6 +208,8 @@ struct answer {
     size_t length;
     size_t queries;
     uint32_t setting;
+    bool clash;
+    uint32_t pairs;
 };
 
 /*
@@ -299,9 +305,19 @@ static struct answer call_settings(const struct call *call, const struct area *f
     return (struct answer){.number = a.number, .length = a.length};
 }
 
+static struct answer call_overlap(const struct call *call, const struct area *file, const struct lent *lent)
+{
+    struct rulefile_overlap_answer a =
+        rulefile_overlap(file->start, file->length, rows_of(lent->table.start), lent->table.length / 2,
+                         lent->work.start, lent->work.length, call->left, call->right);
+    return (struct answer){.number = a.number, .line = a.line, .clash = a.clash, .pairs = a.pairs};
+}
+
 static struct answer make_call(const struct call *call, const struct area *file, const struct area *input,
                                const struct lent *lent)
 {
+    if (call->service == SERVICE_OVERLAP)
+        return call_overlap(call, file, lent);
     if (call->service == SERVICE_NUMBER_OF || call->service == SERVICE_SETTING_OF)
         return call_settings(call, file, input, lent);
     uint16_t *table = rows_of(lent->table.start);
@@ -410,13 +426,14 @@ static struct outcome perform(enum place place, struct lent *lent, const struct 
 static bool same_answer(struct answer a, struct answer b)
 {
     return a.number == b.number && a.line == b.line && a.count == b.count && a.length == b.length &&
-           a.queries == b.queries && a.setting == b.setting;
+           a.queries == b.queries && a.setting == b.setting && a.clash == b.clash && a.pairs == b.pairs;
 }
 
 static void print_answer(const char *label, struct answer a)
 {
-    printf("    %s: number %lu, line %zu, count %lu, length %zu, queries %zu, setting %lu\n", label,
-           (unsigned long)a.number, a.line, (unsigned long)a.count, a.length, a.queries, (unsigned long)a.setting);
+    printf("    %s: number %lu, line %zu, count %lu, length %zu, queries %zu, setting %lu, clash %d, pairs %lu\n",
+           label, (unsigned long)a.number, a.line, (unsigned long)a.count, a.length, a.queries,
+           (unsigned long)a.setting, a.clash, (unsigned long)a.pairs);
 }
 
 static void mark(bool *numbers, uint32_t number)
@@ -833,6 +850,55 @@ static const struct unnumbered_case unnumbered_cases[] = {
     {__LINE__, TEXT(S "C,7,7\n"), 3, TEXT(""), 4294967295, 11, 11},
 };
 
+/* 3: left, right; 4: right, left; 5: left, left; 6: a variable; 7: it, right; 8 and 9: a unit, a pair, first. */
+#define COMPARED "P,0,0,0\nP,2,0,0\nP,3,0,0\nP,4,1,2\nP,4,2,1\nP,4,1,1\nP,1,0,0\nP,4,6,2\nP,4,0,1\nP,4,3,2\n"
+/* 6 has 127 nodes. */
+#define SEVEN_PATTERNS "P,0,0,0\nP,4,0,0\nP,4,1,1\nP,4,2,2\nP,4,3,3\nP,4,4,4\nP,4,5,5\n"
+
+/* Two P lines, and what both orders give. */
+struct overlap_case {
+    int at;
+    struct bytes file;
+    uint32_t left;
+    uint32_t right;
+    uint32_t number; /* 0, or refused */
+    bool clash;
+    uint32_t pairs;
+};
+
+static const struct overlap_case overlap_cases[] = {
+    {__LINE__, TEXT(S), 0, 0, 0, false, 1},
+    {__LINE__, TEXT(S), 1, 1, 0, false, 2},
+    {__LINE__, TEXT(S), 1, 2, 0, true, 1},
+    {__LINE__, TEXT(S), 3, 4, 0, false, 1},
+    {__LINE__, TEXT(S), 0, 3, 0, false, 1},
+    {__LINE__, TEXT(S), 2, 3, 0, false, 1},
+    {__LINE__, TEXT(S), 3, 7, 0, false, 1},
+    {__LINE__, TEXT(S), 0, 1, 0, false, 1},
+    {__LINE__, TEXT(S), 0, 5, 0, false, 1},
+    {__LINE__, TEXT(S), 1, 5, 0, false, 1},
+    {__LINE__, TEXT(S), 5, 6, 0, false, 4},
+    {__LINE__, TEXT(S), 5, 7, 0, true, 2},
+    {__LINE__, TEXT(STEPS), 3, 4, 0, true, 2},
+    {__LINE__, TEXT(COMPARED), 3, 4, 0, true, 2},
+    {__LINE__, TEXT(COMPARED), 3, 5, 0, true, 4},
+    {__LINE__, TEXT(COMPARED), 5, 7, 0, true, 3},
+    {__LINE__, TEXT(COMPARED), 3, 7, 0, false, 4},
+    {__LINE__, TEXT(COMPARED), 8, 9, 0, true, 3},
+    {__LINE__, TEXT(COMPARED), 3, 9, 0, false, 4},
+    {__LINE__, TEXT(SEVEN_PATTERNS), 6, 6, 0, false, 127},
+    {__LINE__, TEXT(SEVEN_PATTERNS), 6, 5, 0, false, 63},
+    {__LINE__, TEXT(S), 7, 8, 15, false, 0},
+    {__LINE__, TEXT(S), 8, 8, 15, false, 0},
+    {__LINE__, TEXT(S), 0, 256, 15, false, 0},
+    {__LINE__, TEXT(S), 1, 65536, 15, false, 0},
+    {__LINE__, TEXT(S), 1, 65538, 15, false, 0},
+    {__LINE__, TEXT(S), 1, UINT32_C(1) << 31, 15, false, 0},
+    {__LINE__, TEXT(S), 0, UINT32_MAX, 15, false, 0},
+    {__LINE__, TEXT(SEVEN_TYPES), 0, 0, 15, false, 0},
+    {__LINE__, TEXT(""), 0, 0, 15, false, 0},
+};
+
 static struct call run_call(const struct query_case *c)
 {
     return (struct call){.service = SERVICE_RUN,
@@ -848,19 +914,22 @@ static struct call sheet_call(const struct sheet_case *c)
     return (struct call){.service = SERVICE_SHEET, .file = c->file, .sheet = {c->list, c->queries, c->replies}};
 }
 
-/* A file through every service; of an accepted one an iso and a T line are asked for that are not there. */
+/* A file through every service; of an accepted one an iso, a T line and a P line are asked for that are not there. */
 static void try_file(const struct setting *setting, const struct file_case *c)
 {
-    struct call call = {.service = SERVICE_CHECK, .file = c->file, .iso = UINT32_MAX, .type = UINT32_MAX};
+    struct call call = {
+        .service = SERVICE_CHECK, .file = c->file, .iso = UINT32_MAX, .type = UINT32_MAX, .right = UINT32_MAX};
     struct answer answer = {.number = c->number, .line = c->line};
     try_call(c->at, setting, &call, answer, nothing);
     call.service = SERVICE_TURN;
     try_call(c->at, setting, &call, answer, c->number == RULEFILE_ACCEPTED ? c->turned : nothing);
     struct call sheet = {.service = SERVICE_SHEET, .file = c->file, .sheet = unanswered_sheet};
     try_call(c->at, setting, &sheet, answer, nothing);
-    answer.line = 0;
     if (answer.number == RULEFILE_ACCEPTED)
         answer.number = RULEFILE_NO_ISO;
+    call.service = SERVICE_OVERLAP;
+    try_call(c->at, setting, &call, answer, nothing);
+    answer.line = 0;
     call.service = SERVICE_RUN;
     try_call(c->at, setting, &call, answer, nothing);
     call.service = SERVICE_NUMBER_OF;
@@ -906,6 +975,26 @@ static void try_unnumbered(const struct setting *setting, const struct unnumbere
         try_call(c->at, setting, &call, (struct answer){.number = c->of_number}, nothing);
 }
 
+static struct call overlap_call(const struct overlap_case *c)
+{
+    return (struct call){.service = SERVICE_OVERLAP, .file = c->file, .left = c->left, .right = c->right};
+}
+
+static struct answer overlap_answer(const struct overlap_case *c)
+{
+    return (struct answer){.number = c->number, .clash = c->clash, .pairs = c->pairs};
+}
+
+/* Two P lines, and the same exchanged. */
+static void try_overlap(const struct setting *setting, const struct overlap_case *c)
+{
+    struct call call = overlap_call(c);
+    try_call(c->at, setting, &call, overlap_answer(c), nothing);
+    call.left = c->right;
+    call.right = c->left;
+    try_call(c->at, setting, &call, overlap_answer(c), nothing);
+}
+
 static void try_cases(const struct setting *setting)
 {
     for (size_t i = 0; i < COUNT_OF(file_cases); i++)
@@ -918,6 +1007,8 @@ static void try_cases(const struct setting *setting)
         try_setting(setting, &setting_cases[i]);
     for (size_t i = 0; i < COUNT_OF(unnumbered_cases); i++)
         try_unnumbered(setting, &unnumbered_cases[i]);
+    for (size_t i = 0; i < COUNT_OF(overlap_cases); i++)
+        try_overlap(setting, &overlap_cases[i]);
 }
 
 /* Groups */
@@ -945,6 +1036,10 @@ static void header_numbers(void)
     CHECK(offsetof(struct rulefile_number_answer, setting) == 4);
     CHECK(sizeof(struct rulefile_setting_answer) == 2 * sizeof(size_t));
     CHECK(offsetof(struct rulefile_setting_answer, length) == sizeof(size_t));
+    CHECK(sizeof(struct rulefile_overlap_answer) == 3 * sizeof(size_t));
+    CHECK(offsetof(struct rulefile_overlap_answer, line) == sizeof(size_t));
+    CHECK(offsetof(struct rulefile_overlap_answer, clash) == 2 * sizeof(size_t));
+    CHECK(offsetof(struct rulefile_overlap_answer, pairs) == 2 * sizeof(size_t) + 4);
 }
 
 static void exact_areas(void)
@@ -992,7 +1087,7 @@ static size_t chosen_length(size_t exact, size_t choice)
 static void try_lengths(int at, enum place place, const struct call *call, struct answer usual, struct bytes text)
 {
     static const struct answer short_area = {.number = RULEFILE_SHORT_AREA};
-    static const size_t choices[SERVICES] = {16, 64, 64, 256, 16, 64};
+    static const size_t choices[SERVICES] = {16, 64, 64, 256, 16, 64, 16, 16};
     struct lengths exact = exact_lengths(call);
     usual = with_lengths(usual, call, text);
     for (size_t choice = 0; choice < choices[call->service]; choice++) {
@@ -1025,15 +1120,17 @@ static void short_areas(void)
     for (size_t i = 0; i < COUNT_OF(places) * COUNT_OF(cases); i++) {
         const struct file_case *c = &cases[i / COUNT_OF(places)];
         enum place place = places[i % COUNT_OF(places)];
-        struct call call = {.service = SERVICE_CHECK, .file = c->file, .iso = 2, .type = 3};
+        struct call call = {.service = SERVICE_CHECK, .file = c->file, .iso = 2, .type = 3, .left = 8};
         struct answer answer = {.number = c->number, .line = c->line};
         try_lengths(c->at, place, &call, answer, nothing);
         call.service = SERVICE_TURN;
         try_lengths(c->at, place, &call, answer, c->turned);
         struct call sheet = {.service = SERVICE_SHEET, .file = c->file, .sheet = unanswered_sheet};
         try_lengths(c->at, place, &sheet, answer, nothing);
-        answer.line = 0;
         answer.number = c->number == RULEFILE_ACCEPTED ? RULEFILE_NO_ISO : c->number;
+        call.service = SERVICE_OVERLAP;
+        try_lengths(c->at, place, &call, answer, nothing);
+        answer.line = 0;
         call.service = SERVICE_RUN;
         try_lengths(c->at, place, &call, answer, nothing);
         call.service = SERVICE_NUMBER_OF;
@@ -1078,6 +1175,15 @@ static void short_areas_of_settings(void)
     }
 }
 
+/* Two P lines that clash, with every choice of lengths. */
+static void short_areas_of_overlaps(void)
+{
+    struct overlap_case c = {__LINE__, TEXT(S), 5, 7, 0, true, 2};
+    struct call call = overlap_call(&c);
+    try_lengths(__LINE__, NULL_IF_EMPTY, &call, overlap_answer(&c), nothing);
+    try_lengths(__LINE__, BEFORE_GUARD, &call, overlap_answer(&c), nothing);
+}
+
 /* Sheets that are answered, one of them without a query, with every choice of lengths. */
 static void short_areas_of_sheets(void)
 {
@@ -1120,6 +1226,18 @@ static void null_areas_of_settings(void)
     CHECK(s.number == RULEFILE_SHORT_AREA && s.length == 0);
     s = rulefile_setting_of(NULL, 0, NULL, 0, NULL, 0, 0, 0, NULL, 0);
     CHECK(s.number == RULEFILE_SHORT_AREA && s.length == 0);
+    give_back(&lent);
+}
+
+/* The same for two P lines. */
+static void null_areas_of_overlaps(void)
+{
+    struct lent lent = lend(HEAP, sheet_lengths(0));
+    struct rulefile_overlap_answer a = rulefile_overlap(NULL, 0, rows_of(lent.table.start), RULEFILE_TABLE_LENGTH,
+                                                        lent.work.start, RULEFILE_WORK_LENGTH, 0, 0);
+    CHECK(a.number == RULEFILE_NO_ISO && a.line == 0 && !a.clash && a.pairs == 0);
+    a = rulefile_overlap(NULL, 0, NULL, 0, NULL, 0, 0, 0);
+    CHECK(a.number == RULEFILE_SHORT_AREA && a.line == 0 && !a.clash && a.pairs == 0);
     give_back(&lent);
 }
 
@@ -2039,6 +2157,10 @@ static void uninitialized_areas(void)
     try_uninitialized(__LINE__, &call, (struct answer){.number = RULEFILE_TOO_MANY}, nothing);
     call = (struct call){.service = SERVICE_SETTING_OF, .file = TEXT(S), .type = 2, .setting = 4};
     try_uninitialized(__LINE__, &call, (struct answer){.number = RULEFILE_TOO_HIGH}, nothing);
+    for (size_t i = 0; i < COUNT_OF(overlap_cases); i++) {
+        call = overlap_call(&overlap_cases[i]);
+        try_uninitialized(overlap_cases[i].at, &call, overlap_answer(&overlap_cases[i]), nothing);
+    }
 }
 
 /* Threads */
@@ -2088,6 +2210,9 @@ static void *work_through(void *argument)
         struct call letters = {.service = SERVICE_SETTING_OF, .file = c->file, .type = c->type, .setting = c->setting};
         try_quietly(worker, &number, (struct answer){.setting = c->setting}, nothing);
         try_quietly(worker, &letters, (struct answer){0}, c->letters);
+        const struct overlap_case *o = &overlap_cases[(worker->first_sheet + i) % COUNT_OF(overlap_cases)];
+        struct call overlap = overlap_call(o);
+        try_quietly(worker, &overlap, overlap_answer(o), nothing);
     }
     return NULL;
 }
@@ -2114,7 +2239,7 @@ static void threads_at_once(void)
     }
     for (size_t i = 0; i < THREADS; i++) {
         require(pthread_join(threads[i], NULL) == 0);
-        CHECK_AT(queries[i].at, workers[i].calls == 7 * workers[i].rounds);
+        CHECK_AT(queries[i].at, workers[i].calls == 9 * workers[i].rounds);
         CHECK_AT(queries[i].at, workers[i].wrong == 0);
         give_back(&workers[i].lent);
     }
@@ -2129,6 +2254,8 @@ static bool can_give(size_t service, size_t number)
         return true;
     if (service == SERVICE_RUN)
         return number <= RULEFILE_SPENT;
+    if (service == SERVICE_OVERLAP)
+        return number == RULEFILE_NO_ISO;
     bool of_type = number == RULEFILE_NO_ISO || number == RULEFILE_TOO_MANY;
     return (service == SERVICE_NUMBER_OF && (of_type || number == RULEFILE_NO_VALUE)) ||
            (service == SERVICE_SETTING_OF && (of_type || number == RULEFILE_TOO_HIGH));
@@ -2163,9 +2290,11 @@ static const struct group groups[] = {
     {"short_areas", short_areas},
     {"short_areas_of_runs", short_areas_of_runs},
     {"short_areas_of_settings", short_areas_of_settings},
+    {"short_areas_of_overlaps", short_areas_of_overlaps},
     {"short_areas_of_sheets", short_areas_of_sheets},
     {"null_areas", null_areas},
     {"null_areas_of_settings", null_areas_of_settings},
+    {"null_areas_of_overlaps", null_areas_of_overlaps},
     {"file_lengths", file_lengths},
     {"longest_file", longest_file},
     {"ceilings", ceilings},

@@ -33,6 +33,16 @@ pub fn resaved(random: &mut Random, bytes: &[u8]) -> Vec<u8> {
     saved
 }
 
+/// The bytes with a carriage return before every line feed.
+pub fn all_resaved(bytes: &[u8]) -> Vec<u8> {
+    let lines = bytes.split_inclusive(|byte| *byte == b'\n');
+    let resaved = lines.map(|line| match line.strip_suffix(b"\n") {
+        Some(text) => [text, b"\r\n"].concat(),
+        None => line.to_vec(),
+    });
+    resaved.collect::<Vec<_>>().concat()
+}
+
 /// The bytes with a carriage return put in before one of them.
 pub fn with_return(bytes: &[u8], place: usize) -> Vec<u8> {
     [&bytes[..place], b"\r", &bytes[place..]].concat()

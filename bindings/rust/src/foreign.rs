@@ -41,6 +41,14 @@ pub struct SettingAnswer {
     pub length: usize,
 }
 
+#[repr(C)]
+pub struct OverlapAnswer {
+    pub number: u32,
+    pub line: usize,
+    pub clash: bool,
+    pub pairs: u32,
+}
+
 extern "C" {
     fn rulefile_check(
         file: *const u8,
@@ -117,6 +125,17 @@ extern "C" {
         result: *mut u8,
         result_length: usize,
     ) -> SettingAnswer;
+
+    fn rulefile_overlap(
+        file: *const u8,
+        file_length: usize,
+        table: *mut u16,
+        table_length: usize,
+        work: *mut u8,
+        work_length: usize,
+        left: u32,
+        right: u32,
+    ) -> OverlapAnswer;
 }
 
 pub fn check(file: &[u8], table: &mut [u16], work: &mut [u8]) -> CheckAnswer {
@@ -247,6 +266,28 @@ pub fn setting_of(
             setting,
             result.as_mut_ptr(),
             result.len(),
+        )
+    }
+}
+
+pub fn overlap(
+    file: &[u8],
+    table: &mut [u16],
+    work: &mut [u8],
+    left: u32,
+    right: u32,
+) -> OverlapAnswer {
+    // SAFETY: as for `check`.
+    unsafe {
+        rulefile_overlap(
+            file.as_ptr(),
+            file.len(),
+            table.as_mut_ptr(),
+            table.len(),
+            work.as_mut_ptr(),
+            work.len(),
+            left,
+            right,
         )
     }
 }

@@ -1,9 +1,9 @@
-//! Check, Turn, Run, whole sheets of queries and settings as numbers for rule files, over the proved static
-//! library.
+//! Check, Turn, Run, whole sheets of queries, settings as numbers and the overlap of two patterns for rule
+//! files, over the proved static library.
 //!
-//! Callers who keep their own areas lend them to [`check`], [`turn`], [`run`], [`sheet`], [`number_of`] and
-//! [`setting_of`]; areas of any length are safe, and what each then holds is said in `include/rulefile.h`.
-//! Callers who do not want to make one [`Desk`], which owns the areas:
+//! Callers who keep their own areas lend them to [`check`], [`turn`], [`run`], [`sheet`], [`number_of`],
+//! [`setting_of`] and [`overlap`]; areas of any length are safe, and what each then holds is said in
+//! `include/rulefile.h`. Callers who do not want to make one [`Desk`], which owns the areas:
 //!
 //! ```
 //! let mut desk = rulefile::Desk::new();
@@ -14,6 +14,9 @@
 //! // T line 1 has two settings, with the numbers 0 and 1.
 //! assert_eq!(desk.number_of(file, 1, b"RU")?, 1);
 //! assert_eq!(desk.setting_of(file, 1, 1)?, b"RU");
+//! // P lines 1 and 2, a left and a right, clash at once.
+//! let overlap = desk.overlap(file, 1, 2)?;
+//! assert_eq!((overlap.clash, overlap.pairs), (true, 1));
 //! # Ok::<(), rulefile::Refused>(())
 //! ```
 
@@ -53,6 +56,14 @@ pub struct Ran {
 pub struct Value {
     pub count: u32,
     pub letters: Vec<u8>,
+}
+
+/// Two patterns compared: whether a left stands against a right, and the node pairs compared, that one
+/// included.
+#[derive(Clone, Copy, Debug, PartialEq, Eq)]
+pub struct Overlap {
+    pub clash: bool,
+    pub pairs: u32,
 }
 
 /// Checks a file.
@@ -144,6 +155,25 @@ pub fn setting_of(
     Refused::unless_0(answer.number, 0).map(|()| answer.length)
 }
 
+/// Checks a file and compares its P lines number `left` and `right`, counted from 0, node with node in prefix
+/// order, nothing below a variable, up to the first left against a right.
+///
+/// Refused, in this order: what [`check`] refuses, a P line that is absent on either side (15).
+pub fn overlap(
+    file: &[u8],
+    table: &mut [u16],
+    work: &mut [u8],
+    left: u32,
+    right: u32,
+) -> Result<Overlap, Refused> {
+    let answer = foreign::overlap(file, table, work, left, right);
+    let overlap = Overlap {
+        clash: answer.clash,
+        pairs: answer.pairs,
+    };
+    Refused::unless_0(answer.number, answer.line).map(|()| overlap)
+}
+
 /// The areas of the services, for callers who do not keep their own.
 #[derive(Clone, Debug)]
 pub struct Desk {
@@ -229,6 +259,11 @@ impl Desk {
         let (table, work) = (&mut self.table, &mut self.work);
         let length = setting_of(file, table, work, ty, setting, &mut result)?;
         Ok(result[..length].to_vec())
+    }
+
+    /// P lines number `left` and `right` of the file compared.
+    pub fn overlap(&mut self, file: &[u8], left: u32, right: u32) -> Result<Overlap, Refused> {
+        overlap(file, &mut self.table, &mut self.work, left, right)
     }
 
     /// The table as the last call left it: four numbers a line of the file that was accepted.

@@ -2,8 +2,9 @@
 //! length, the stored examples, and the header.
 
 use rulefile::{
-    check, number_of, run, setting_of, sheet, turn, Desk, Direction, Query, Ran, Refusal, Refused,
-    Value, MAX_QUERIES, NUMBERS_A_QUERY, RESULT_LENGTH, TABLE_LENGTH, WORK_LENGTH,
+    check, number_of, overlap, run, setting_of, sheet, turn, Desk, Direction, Overlap, Query, Ran,
+    Refusal, Refused, Value, MAX_QUERIES, NUMBERS_A_QUERY, RESULT_LENGTH, TABLE_LENGTH,
+    WORK_LENGTH,
 };
 use std::error::Error;
 use std::fs;
@@ -95,6 +96,10 @@ fn expect_refused(file: &[u8], refusal: Refusal, line: usize) {
         desk.run(file, 0, Forward, 9, b"U"),
         Err(refused(refusal, 0))
     );
+    for (left, right) in [(0, 0), (0, u32::MAX), (65_536, 1)] {
+        let answer = desk.overlap(file, left, right);
+        assert_eq!(answer, Err(refused(refusal, line)));
+    }
     for ty in [0, 256, u32::MAX] {
         let answer = desk.number_of(file, ty, b"");
         assert_eq!(answer, Err(refused(refusal, 0)));
@@ -354,6 +359,60 @@ fn settings_of_document_01_as_numbers() {
     expect_number(&mut desk, &six, 3, 5, "PRRURU");
 }
 
+/// Two P lines, in both orders.
+fn expect_overlap(desk: &mut Desk, file: &[u8], lines: [u32; 2], clash: bool, pairs: u32) {
+    let [one, two] = lines;
+    let given = Ok(Overlap { clash, pairs });
+    assert_eq!(desk.overlap(file, one, two), given, "{one} {two}");
+    assert_eq!(desk.overlap(file, two, one), given, "{two} {one}");
+}
+
+#[test]
+fn patterns_of_document_01_compared() {
+    let mut desk = Desk::new();
+    let s = file(S);
+    expect_overlap(&mut desk, &s, [0, 0], false, 1);
+    expect_overlap(&mut desk, &s, [1, 1], false, 2);
+    expect_overlap(&mut desk, &s, [1, 2], true, 1);
+    expect_overlap(&mut desk, &s, [1, 3], false, 1);
+    expect_overlap(&mut desk, &s, [3, 5], false, 1);
+    expect_overlap(&mut desk, &s, [1, 5], false, 1);
+    expect_overlap(&mut desk, &s, [5, 6], false, 4);
+    expect_overlap(&mut desk, &s, [5, 7], true, 2);
+    assert_eq!(desk.table(), rows(S));
+}
+
+#[test]
+fn the_first_clash_ends_a_comparison() {
+    let mut desk = Desk::new();
+    // 3: left, right; 4: right, left; 5: left, left; 6: a variable, right; 8 to 13: pairs up to 127 nodes.
+    let lines = "P,0,0,0 P,2,0,0 P,3,0,0 P,4,1,2 P,4,2,1 P,4,1,1 P,1,0,0 P,4,6,2 \
+        P,4,0,0 P,4,8,8 P,4,9,9 P,4,10,10 P,4,11,11 P,4,12,12 P,4,0,1 P,4,8,2";
+    let lines = file(lines);
+    expect_overlap(&mut desk, &lines, [3, 4], true, 2);
+    expect_overlap(&mut desk, &lines, [3, 5], true, 4);
+    expect_overlap(&mut desk, &lines, [5, 7], true, 3);
+    expect_overlap(&mut desk, &lines, [3, 7], false, 4);
+    expect_overlap(&mut desk, &lines, [13, 13], false, 127);
+    expect_overlap(&mut desk, &lines, [13, 12], false, 63);
+    // A unit against a pair, and what follows.
+    expect_overlap(&mut desk, &lines, [14, 15], true, 3);
+}
+
+#[test]
+fn refusals_of_overlaps() {
+    let mut desk = Desk::new();
+    let s = file(S);
+    let absent = Err(refused(Refusal::NoIso, 0));
+    for line in [8, 17, 256, 65_536, 65_541, 1 << 31, u32::MAX] {
+        for (left, right) in [(line, 5), (5, line), (line, line)] {
+            assert_eq!(desk.overlap(&s, left, right), absent);
+            assert_eq!(desk.table(), rows(S));
+        }
+    }
+    assert_eq!(desk.overlap(b"", 0, 0), absent);
+}
+
 /// So many two-valued types as one chain of products; T line `count` is the last.
 fn bits(count: u32) -> String {
     let chain = (1..count).map(|above| format!(" T,2,1,{above}"));
@@ -541,6 +600,10 @@ impl Lent {
         setting_of(file, table, work, ty, setting, &mut self.out)
     }
 
+    fn overlap(&mut self, file: &[u8], left: u32, right: u32) -> Result<Overlap, Refused> {
+        overlap(file, &mut self.table, &mut self.work, left, right)
+    }
+
     /// The table begins as stated, the work area with zeros, the output with the text; all else is kept.
     fn expect(&self, table: &[u16], text: &[u8]) {
         self.expect_sheet(table, &[], text);
@@ -706,6 +769,38 @@ fn short_and_empty_areas_of_settings() {
             }
             areas.expect_unchanged();
         }
+    }
+}
+
+#[test]
+fn areas_of_overlaps() {
+    let s = file(S);
+    let wrong = file(&format!("{S} C,7,7"));
+    for extra in [0, 1, 1000] {
+        for (file, right, answer, table) in [
+            (&s, 7, Ok((true, 2)), rows(S)),
+            (&s, 8, Err(refused(Refusal::NoIso, 0)), rows(S)),
+            (&wrong, 7, Err(refused(Refusal::OverlapLeft, 15)), rows("")),
+        ] {
+            let mut areas = Lent::new(TABLE_LENGTH + extra, WORK_LENGTH + extra, 0);
+            let given = areas.overlap(file, 5, right);
+            assert_eq!(given.map(|given| (given.clash, given.pairs)), answer);
+            areas.expect(&table, b"");
+        }
+    }
+    for (table, work) in [
+        (TABLE_LENGTH - 1, WORK_LENGTH),
+        (TABLE_LENGTH, WORK_LENGTH - 1),
+        (0, WORK_LENGTH),
+        (TABLE_LENGTH, 0),
+    ] {
+        let mut areas = Lent::new(table, work, 0);
+        for file in [&s, &wrong, &vec![b'T'; 65_537]] {
+            let short = Err(refused(Refusal::ShortArea, 0));
+            assert_eq!(areas.overlap(file, 5, 7), short);
+            assert_eq!(areas.overlap(file, 5, 8), short);
+        }
+        areas.expect_unchanged();
     }
 }
 

@@ -16,6 +16,7 @@ ghost use mathlib.Core.List.{List};
 ghost use mathlib.Core.Option.{none as nothing};
 ghost use Prim.Native.Nat.{ℕ, suc, _+_, _≤_, _<_};
 ghost use lib.ListN.{length, take, set};
+ghost use Rattle.model.specs.Limits.{tableLength};
 ghost use Rattle.model.specs.Lines.{Row as RowOf};
 ghost use Rattle.model.specs.Tools.{orElse};
 ghost use Rattle.model.specs.Code.{refusalView};
@@ -170,7 +171,7 @@ fn iso_found(
     pending: Answer,
     found: Answer,
 ) -> Answer
-    requires { ⌜ (length (now rows) ≤ 32) × (n < 4096) ⌝ }
+    requires { ⌜ (tableLength ≤ length (now t)) × (length (now rows) ≤ 32) × (n < 4096) ⌝ }
     ensures { λ r. ⌜ asFault r ≡ orElse (orElse (asFault pending) (at (suc n) (sidesFault (patternsAt (now (t .entry)) base 1 (now (rows .entry))) (patternsAt (now (t .entry)) base 2 (now (rows .entry)))))) (asFault found) ⌝ }
 {
     let f = pending.refusal;
@@ -182,6 +183,7 @@ fn iso_found(
 
 // The walk with the I row n.
 fn with_iso(t: &[u16], base: usize, w: Walk, n: usize) -> Walk
+    requires { ⌜ tableLength ≤ length (now t) ⌝ }
     ensures { λ r. ⌜ ((rs : List RowOf) (patterns lines : ℕ) → FileIn (now (t .entry)) base patterns lines rs → n < lines → cellOf (now (t .entry)) n 0 ≡ 73 → Walked (now (t .entry)) base rs (suc n) w → Walked (now (t .entry)) base rs n r) ⌝ }
 {
     let i = w.iso;
@@ -206,6 +208,7 @@ fn with_iso(t: &[u16], base: usize, w: Walk, n: usize) -> Walk
 
 // The walk with row n. An L row leaves it as it is.
 fn with_row(t: &[u16], base: usize, starts: &[u16], w: Walk, n: usize) -> Walk
+    requires { ⌜ tableLength ≤ length (now t) ⌝ }
     ensures { λ r. ⌜ ((rs : List RowOf) (patterns lines : ℕ) → FileIn (now (t .entry)) base patterns lines rs → now (starts .entry) ≡ isoRows 0 rs → n < lines → base + patterns ≤ n → Walked (now (t .entry)) base rs (suc n) w → Walked (now (t .entry)) base rs n r) ⌝ }
 {
     let letter = cell(t, n, 0);
@@ -221,6 +224,7 @@ fn with_row(t: &[u16], base: usize, starts: &[u16], w: Walk, n: usize) -> Walk
 // The first refusal of the isos of a table of `lines` rows, of which `types` are T lines and then
 // `patterns` P lines.
 pub fn isos_fault(t: &[u16], types: usize, patterns: usize, lines: usize) -> Answer
+    requires { ⌜ tableLength ≤ length (now t) ⌝ }
     ensures { λ r. ⌜ ((rs : List RowOf) → FileIn (now (t .entry)) types patterns lines rs → asFault r ≡ fault (isosOf rs)) ⌝ }
 {
     if 4096 < types {
@@ -241,6 +245,7 @@ pub fn isos_fault(t: &[u16], types: usize, patterns: usize, lines: usize) -> Ans
 
 // The first refusal that the walk from the last row up to row `stop` finds.
 fn walk_up(t: &[u16], base: usize, starts: &[u16], stop: usize, lines: usize, isos: usize) -> Answer
+    requires { ⌜ tableLength ≤ length (now t) ⌝ }
     ensures { λ r. ⌜ ((rs : List RowOf) (patterns : ℕ) → FileIn (now (t .entry)) base patterns lines rs → now (starts .entry) ≡ isoRows 0 rs → isos ≡ length (isoRows 0 rs) → stop ≡ base + patterns → asFault r ≡ fault (isosOf rs)) ⌝ }
 {
     let clean = none();

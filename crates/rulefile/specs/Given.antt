@@ -7,12 +7,14 @@ use mathlib.Core.List.{List}
 use Rattle.model.specs.Services.{check, turn, runService}
 use Rattle.model.specs.Sheet.{sheet}
 use Rattle.ranking.specs.Numbering.{numberService, settingService}
+use Rattle.comparison.specs.Overlap.{overlapService}
 use Rattle.rulefile.specs.declared.CheckAnswer as C
 use Rattle.rulefile.specs.declared.TurnAnswer as T
 use Rattle.rulefile.specs.declared.RunAnswer as R
 use Rattle.rulefile.specs.declared.SheetAnswer as S
 use Rattle.rulefile.specs.declared.NumberAnswer as N
 use Rattle.rulefile.specs.declared.SettingAnswer as L
+use Rattle.rulefile.specs.declared.OverlapAnswer as O
 
 -- "Check gives a number and a line"
 pub record CheckGiven (file t w t′ w′ : List ℕ) (r : C.CheckAnswer) : Type 0 where
@@ -63,3 +65,12 @@ pub record SettingGiven (file t w : List ℕ) (i n : ℕ) (o t′ w′ o′ : Li
   pub table : t′ ≡ settingService file t w i n o .table
   pub work : w′ ≡ settingService file t w i n o .work
   pub result : o′ ≡ settingService file t w i n o .result
+
+-- request 04
+pub record OverlapGiven (file t w : List ℕ) (i j : ℕ) (t′ w′ : List ℕ) (r : O.OverlapAnswer) : Type 0 where
+  pub number : r .number ≡ overlapService file t w i j .number
+  pub line : r .line ≡ overlapService file t w i j .line
+  pub clash : r .clash ≡ overlapService file t w i j .clash
+  pub pairs : r .pairs ≡ overlapService file t w i j .pairs
+  pub table : t′ ≡ overlapService file t w i j .table
+  pub work : w′ ≡ overlapService file t w i j .work

@@ -1,15 +1,16 @@
-// The interface for callers in C and in Rust: Check, Turn, Run, a whole sheet and settings as numbers
-// under document 01's numbers. Each slice passes as a pointer and a length, each answer as a struct;
-// `include/rulefile.h` declares them.
+// The interface for callers in C and in Rust: Check, Turn, Run, a whole sheet, settings as numbers and the
+// overlap of two P lines under document 01's numbers. Each slice passes as a pointer and a length, each
+// answer as a struct; `include/rulefile.h` declares them.
 
 use checker::check;
 use model::number_of;
+use overlaps::overlap;
 use runner::run::run;
 use settings::to_number;
 use settings::to_setting;
 use sheets::sheet;
 use turner::turn;
-ghost use Rattle.rulefile.specs.Given.{CheckGiven, TurnGiven, RunGiven, SheetGiven, NumberGiven, SettingGiven};
+ghost use Rattle.rulefile.specs.Given.{CheckGiven, TurnGiven, RunGiven, SheetGiven, NumberGiven, SettingGiven, OverlapGiven};
 
 // Check's number and line.
 #[repr(C)]
@@ -54,6 +55,15 @@ pub struct NumberAnswer {
 pub struct SettingAnswer {
     pub number: u32,
     pub length: usize,
+}
+
+// The number and line of a call for two P lines, whether they clash, and the node pairs compared.
+#[repr(C)]
+pub struct OverlapAnswer {
+    pub number: u32,
+    pub line: usize,
+    pub clash: bool,
+    pub pairs: u32,
 }
 
 // Checks a file.
@@ -170,5 +180,27 @@ pub extern "C" fn rulefile_setting_of(
     SettingAnswer {
         number: number_of(f) as u32,
         length: told.length,
+    }
+}
+
+// Checks a file and compares its P lines `left` and `right` node with node, up to the first clash.
+#[no_mangle]
+pub extern "C" fn rulefile_overlap(
+    file: &[u8],
+    table: &mut [u16],
+    work: &mut [u8],
+    left: u32,
+    right: u32,
+) -> OverlapAnswer
+    ensures { λ r. ⌜ OverlapGiven (now (file .entry)) (now (table .entry)) (now (work .entry)) left right (now (table .exit)) (now (work .exit)) r ⌝ }
+{
+    let told = overlap(file, table, work, left as usize, right as usize);
+    let judged = told.answer;
+    let f = judged.refusal;
+    OverlapAnswer {
+        number: number_of(f) as u32,
+        line: judged.place,
+        clash: told.clash,
+        pairs: told.pairs,
     }
 }

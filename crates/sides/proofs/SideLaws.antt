@@ -19,6 +19,8 @@ use Rattle.model.specs.Refusals.{Refusal, overlap, gap}
 use Rattle.model.specs.Clauses.{clash, apart, weight, fullWeight}
 use Rattle.nodes.specs.Unfolding.{cellOf, patternOf}
 use Rattle.nodes.specs.InTable.{patternsAt, weightAt, sidesFault}
+use Rattle.comparison.specs.Comparison.{compare}
+use Rattle.comparison.proofs.Comparing.{compare-clash}
 
 -- the patterns in field k of the clause rows from place i on
 abbrev from : List ℕ → ℕ → ℕ → List ℕ → ℕ → List Pat
@@ -48,12 +50,12 @@ pub clashing-all : (t : List ℕ) (base p k : ℕ) (rows : List ℕ) (a i : ℕ)
 clashing-all t base p k rows a i w h = sym (w .rest ∙ ap (all (clash (patternOf t base p))) (from-end t base k rows i h))
 
 module _ (t : List ℕ) (base p k : ℕ) (rows : List ℕ) (a i : ℕ) {r q : ℕ} {b : Bool} (w : Clashing t base p k rows a i) (below : i < length rows)
-    (row : r ≡ getD rows i 0) (field : q ≡ cellOf t r k) (test : b ≡ clash (patternOf t base p) (patternOf t base q)) where
+    (row : r ≡ getD rows i 0) (field : q ≡ cellOf t r k) (test : b ≡ compare (patternOf t base p) (patternOf t base q) .clash) where
   clashing-next : all (clash (patternOf t base p)) (from t base k rows a) ≡ (b && all (clash (patternOf t base p)) (from t base k rows (suc i)))
   clashing-next =
       w .rest
       ∙ ap (all (clash (patternOf t base p))) (from-next t base k rows i below row field)
-      ∙ ap (λ x. x && all (clash (patternOf t base p)) (from t base k rows (suc i))) (sym test)
+      ∙ ap (λ x. x && all (clash (patternOf t base p)) (from t base k rows (suc i))) (sym (test ∙ compare-clash (patternOf t base p) (patternOf t base q)))
 
   pub clashing-step : b ≡ true → Clashing t base p k rows a (i + 1)
   clashing-step e = record {

@@ -1,16 +1,17 @@
 // Refusals 11 to 14 of an iso, over the rows of its clauses. Field 1 of a C row is its left pattern,
 // field 2 its right one.
 
+use comparison::compare;
 use model::Refusal;
 use model::Side;
 use nodes::cell;
 use nodes::pattern_tags;
-use trees::clash;
 use words::wide;
 ghost use mathlib.Core.Path.{_≡_};
 ghost use Prim.Native.Nat.{_≤_};
 ghost use mathlib.Core.List.{map};
 ghost use lib.ListN.{length, drop};
+ghost use Rattle.model.specs.Limits.{tableLength};
 ghost use Rattle.model.specs.Tools.{all, total};
 ghost use Rattle.model.specs.Code.{refusalView};
 ghost use Rattle.model.specs.Clauses.{clash as clashes, apart as apartAll, weight as weightOf};
@@ -19,12 +20,14 @@ ghost use Rattle.nodes.specs.InTable.{patternsAt, weightAt, sidesFault};
 
 // Whether P line p clashes with field k of each clause row from place `from` on.
 fn clashes_with(t: &[u16], base: usize, p: usize, k: usize, rows: &[u16], from: usize) -> bool
+    requires { ⌜ tableLength ≤ length (now t) ⌝ }
     ensures { λ r. ⌜ r ≡ all (clashes (patternOf (now (t .entry)) base p)) (patternsAt (now (t .entry)) base k (drop from (now (rows .entry)))) ⌝ }
 {
     let mut i = from;
     while i < rows.len() {
         let q = cell(t, wide(rows[i]), k);
-        if clash(t, base, p, q) {
+        let c = compare(t, base, p, q);
+        if c.clash {
             i += 1;
         } else {
             return false;
@@ -35,6 +38,7 @@ fn clashes_with(t: &[u16], base: usize, p: usize, k: usize, rows: &[u16], from: 
 
 // Whether the patterns in field k of the clause rows are orthogonal, two by two.
 pub fn apart(t: &[u16], base: usize, k: usize, rows: &[u16]) -> bool
+    requires { ⌜ tableLength ≤ length (now t) ⌝ }
     ensures { λ r. ⌜ r ≡ apartAll (patternsAt (now (t .entry)) base k (now (rows .entry))) ⌝ }
 {
     let mut i: usize = 0;
@@ -123,7 +127,7 @@ pub fn weigh(t: &[u16], base: usize, k: usize, rows: &[u16]) -> u64
 
 // The lowest of 11 to 14, or nothing.
 pub fn side_fault(t: &[u16], base: usize, rows: &[u16]) -> Refusal
-    requires { ⌜ length (now rows) ≤ 32 ⌝ }
+    requires { ⌜ (tableLength ≤ length (now t)) × (length (now rows) ≤ 32) ⌝ }
     ensures { λ r. ⌜ refusalView r ≡ sidesFault (patternsAt (now (t .entry)) base 1 (now (rows .entry))) (patternsAt (now (t .entry)) base 2 (now (rows .entry))) ⌝ }
 {
     if apart(t, base, 1, rows) {

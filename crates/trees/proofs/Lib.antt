@@ -1,3 +1,3 @@
--- Laws about the trees that the table's lines unfold to: same type, clash and let shapes.
+-- Laws about the trees that the table's lines unfold to: same type and let shapes.
 pub mod Sameness
-pub mod Clashing
+pub mod Plainness

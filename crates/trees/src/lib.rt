@@ -1,5 +1,5 @@
-// Types and patterns of the table as trees: same type, clash of two patterns, let shapes. Each recurses
-// over T and P lines whose numbers fall.
+// Types and patterns of the table as trees: same type, let shapes. Each recurses over T and P lines whose
+// numbers fall.
 
 use children::pattern_part;
 use children::type_part;
@@ -9,7 +9,7 @@ ghost use mathlib.Core.Path.{_≡_};
 ghost use mathlib.Core.Bool.{cond, not};
 ghost use lib.Dec.{eqb};
 ghost use Rattle.model.specs.Trees.{sameType};
-ghost use Rattle.model.specs.Clauses.{clash as clashes, plain};
+ghost use Rattle.model.specs.Clauses.{plain};
 ghost use Rattle.nodes.specs.Unfolding.{typeOf, patternOf};
 
 // Whether two kinds of a T line that are no unit are both sums or both products.
@@ -45,40 +45,6 @@ pub fn same_type(t: &[u16], a: usize, b: usize) -> bool
         return false;
     }
     false
-}
-
-// Whether P lines p and q clash, in prefix order, up to the first clash.
-pub fn clash(t: &[u16], base: usize, p: usize, q: usize) -> bool
-    ensures { λ r. ⌜ r ≡ clashes (patternOf (now (t .entry)) base p) (patternOf (now (t .entry)) base q) ⌝ }
-{
-    let kp = pattern_cell(t, base, p, 1);
-    if kp < 2 {
-        return false;
-    }
-    let kq = pattern_cell(t, base, q, 1);
-    if kq < 2 {
-        return false;
-    }
-    let a = pattern_part(t, base, p, 2);
-    let b = pattern_part(t, base, q, 2);
-    if kp < 4 {
-        if kq < 4 {
-            if kp == kq {
-                return clash(t, base, a, b);
-            }
-            return true;
-        }
-        return false;
-    }
-    if kq < 4 {
-        return false;
-    }
-    if clash(t, base, a, b) {
-        return true;
-    }
-    let c = pattern_part(t, base, p, 3);
-    let d = pattern_part(t, base, q, 3);
-    clash(t, base, c, d)
 }
 
 // Whether P line p holds only unit, variables and pairs.

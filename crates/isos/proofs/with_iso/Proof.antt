@@ -32,7 +32,7 @@ part-iso-found-end c = let s = c .before .before .before .before .before .before
 iso-found-requires : tie.Need-iso-found-requires
 iso-found-requires c κs =
     let k = c .before .before .before .before .before .before .before .is-inside .ensures .0 (c .before .before .before .before .before .before .if1 .taken) in
-    (search needs, k .2)
+    (search needs, search needs, k .2)
 
 returns : tie.Need-returns
 returns c rs patterns lines f h e s = let w = c .before .before .before in walked-iso f h s e (w .none .result) (c .iso-found .result) (w .none .ensures) (c .iso-found .ensures)

@@ -27,8 +27,8 @@ wide-requires c κs = search needs
 cell-requires : tie.Need-cell-requires Inv-loop μ-loop
 cell-requires c κs = search needs
 
-clash-requires : tie.Need-clash-requires Inv-loop μ-loop
-clash-requires c κs = search needs
+compare-requires : tie.Need-compare-requires Inv-loop μ-loop
+compare-requires c κs = search needs
 
 add-i : tie.Need-add-i Inv-loop μ-loop
 add-i c = search needs
@@ -37,10 +37,10 @@ loop-less : tie.Need-loop-less Inv-loop μ-loop
 loop-less c = search needs
 
 loop-again : tie.Need-loop-again Inv-loop μ-loop
-loop-again c = clashing-step _ _ _ _ _ _ _ (c .before .before .before .before .before .before .loop .inv) (c .before .before .before .before .before .loop-test .taken) (c .before .before .before .wide .ensures .0) (c .before .before .cell .ensures .0) (c .before .clash .ensures) (c .if1 .taken)
+loop-again c = clashing-step _ _ _ _ _ _ _ (c .before .before .before .before .before .before .loop .inv) (c .before .before .before .before .before .loop-test .taken) (c .before .before .before .wide .ensures .0) (c .before .before .cell .ensures .0) (c .before .compare .ensures .0) (c .if1 .taken)
 
 returns : tie.Need-returns Inv-loop μ-loop
-returns c = clashing-not _ _ _ _ _ _ _ (c .before .before .before .before .before .before .loop .inv) (c .before .before .before .before .before .loop-test .taken) (c .before .before .before .wide .ensures .0) (c .before .before .cell .ensures .0) (c .before .clash .ensures) (c .if1 .left)
+returns c = clashing-not _ _ _ _ _ _ _ (c .before .before .before .before .before .before .loop .inv) (c .before .before .before .before .before .loop-test .taken) (c .before .before .before .wide .ensures .0) (c .before .before .cell .ensures .0) (c .before .compare .ensures .0) (c .if1 .left)
 
 returns-2 : tie.Need-returns-2 Inv-loop μ-loop
 returns-2 c = clashing-all _ _ _ _ _ _ _ (c .before .loop .inv) (c .loop-test .left)
@@ -56,7 +56,7 @@ clashes-with-spec =
     shared-slice-read-wide
     wide-requires
     cell-requires
-    clash-requires
+    compare-requires
     add-i
     loop-less
     loop-again

@@ -1,7 +1,7 @@
 -- The recursion of `trees::is_plain` meets its contract. The measure is the line's rank.
 use Rattle.nodes.proofs.Unfolding.{rank}
 use Rattle.nodes.proofs.Counts.{pattern-call}
-use Rattle.trees.proofs.Clashing.{plain-end, plain-not, plain-first, plain-second}
+use Rattle.trees.proofs.Plainness.{plain-end, plain-not, plain-first, plain-second}
 use borrow.Author.Needs.{needs}
 use Prim.Native.Nat.{ℕ, _<_}
 use borrow.Fn.Kinds.{In}

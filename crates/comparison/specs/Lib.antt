@@ -1,0 +1,4 @@
+pub mod Comparison
+pub mod Overlap
+pub mod Walking
+pub mod Examples

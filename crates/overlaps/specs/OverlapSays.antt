@@ -1,0 +1,23 @@
+-- The contracts of the overlap of two P lines: on a checked table, and as a service.
+use Prim.Native.Nat.{ℕ}
+use mathlib.Core.Path.{_≡_}
+use mathlib.Core.List.{List}
+use Rattle.model.specs.Code.{numberOf}
+use Rattle.comparison.specs.Overlap.{Outcome, refusalOf, lineOf, clashOf, pairsOf, overlapService}
+use Rattle.overlaps.specs.declared.Overlapped as O
+
+-- all that is answered, as an outcome says
+pub record OverlapAs (x : Outcome) (r : O.Overlapped) : Type 0 where
+  pub number : numberOf (r .answer .refusal) ≡ refusalOf x
+  pub line : r .answer .place ≡ lineOf x
+  pub clash : r .clash ≡ clashOf x
+  pub pairs : r .pairs ≡ pairsOf x
+
+-- the service; t and w are the areas at entry, t′ and w′ at exit
+pub record OverlapSays (file t w : List ℕ) (i j : ℕ) (t′ w′ : List ℕ) (r : O.Overlapped) : Type 0 where
+  pub number : numberOf (r .answer .refusal) ≡ overlapService file t w i j .number
+  pub line : r .answer .place ≡ overlapService file t w i j .line
+  pub clash : r .clash ≡ overlapService file t w i j .clash
+  pub pairs : r .pairs ≡ overlapService file t w i j .pairs
+  pub table : t′ ≡ overlapService file t w i j .table
+  pub work : w′ ≡ overlapService file t w i j .work
