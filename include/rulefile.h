@@ -1,6 +1,6 @@
 /*
- * rulefile.h - Check, Turn, Run, whole sheets of queries, settings as numbers and the overlap of two
- * patterns for rule files.
+ * rulefile.h - Check, Turn, Run, whole sheets of queries, settings as numbers, the overlap of two patterns
+ * and steps known beforehand for rule files.
  *
  * Link with librulefile.a (`rt staticlib rulefile` writes target/staticlib/librulefile.a). The library
  * needs memset of the C library and nothing else; it allocates nothing, keeps nothing between calls and
@@ -125,6 +125,15 @@ struct rulefile_overlap_answer {
     uint32_t pairs;  /* node pairs compared, the clash included, 0 on refusal */
 };
 
+/* What the bounds of an iso are. */
+struct rulefile_bounds_answer {
+    uint32_t number;    /* enum rulefile_number */
+    uint32_t least;     /* no run counts less; 0 on refusal */
+    uint32_t greatest;  /* no run counts more, unless flagged; 0 on refusal */
+    bool least_over;    /* the least is above 4,294,967,295, which is then given; false on refusal */
+    bool greatest_over; /* the same of the greatest */
+};
+
 /* Checks a file. */
 struct rulefile_check_answer rulefile_check(
     const uint8_t *file, size_t file_length,
@@ -220,6 +229,19 @@ struct rulefile_overlap_answer rulefile_overlap(
     uint16_t *table, size_t table_length,
     uint8_t *work, size_t work_length,
     uint32_t left, uint32_t right);
+
+/*
+ * Checks a file and bounds the count of any run of its iso number `iso`, there and back, without a run. A
+ * clause needs 1 and what the isos of its let steps need; an iso takes the least and the greatest over its
+ * clauses. No run that is not refused counts less than the least, nor more than a greatest that is not
+ * flagged, and with a budget of at least that greatest no run is refused with 17. Refused as Check, then
+ * with 15 where the file has no such iso.
+ */
+struct rulefile_bounds_answer rulefile_bounds(
+    const uint8_t *file, size_t file_length,
+    uint16_t *table, size_t table_length,
+    uint8_t *work, size_t work_length,
+    uint32_t iso);
 
 #ifdef __cplusplus
 }

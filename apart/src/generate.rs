@@ -1,6 +1,7 @@
 //! Files and queries made from a seed: accepted files of many shapes, near
 //! misses of each refusal, damaged bytes, and queries.
 
+pub mod bounded;
 pub mod ceiling;
 pub mod counted;
 pub mod damage;

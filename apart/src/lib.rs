@@ -3,6 +3,7 @@
 
 pub mod areas;
 pub mod before;
+pub mod bounds;
 pub mod clause;
 pub mod cover;
 pub mod desk;

@@ -1,7 +1,8 @@
 //! One call of a service, made by either implementation, and the answer it has to give.
 
 use apart::areas::{check_areas, run_areas, turn_areas, Known};
-use rulefile::{Direction, Refused, MAX_QUERIES, NUMBERS_A_QUERY, RESULT_LENGTH};
+use apart::bounds::{bounds, bounds_rules, Bounded};
+use rulefile::{Bounds, Direction, Refused, MAX_QUERIES, NUMBERS_A_QUERY, RESULT_LENGTH};
 
 #[derive(Clone, Copy, PartialEq, Eq, Debug)]
 pub enum Implementation {
@@ -64,6 +65,7 @@ pub struct Answer {
     pub count: u64,
     pub length: usize,
     pub queries: usize,
+    pub bounds: Option<Bounds>,
 }
 
 impl Answer {
@@ -100,6 +102,8 @@ pub enum Service {
     Sheet(Vec<u8>),
     /// The same queries, each by a run of its own.
     Runs(Vec<Asked>),
+    /// The bounds of an iso.
+    Bounds(u32),
 }
 
 /// A call, its answer, and what it writes to its output area and to its numbers.
@@ -161,6 +165,17 @@ impl Call {
             },
             written,
             numbers: Vec::new(),
+        }
+    }
+
+    /// The bounds of an iso of an accepted file.
+    pub fn bounds(file: Vec<u8>, iso: u32) -> Self {
+        let rules = apart::check(&file).expect("the file is accepted");
+        let told = bounds_rules(&rules, iso).expect("the iso is there");
+        Call {
+            service: Service::Bounds(iso),
+            answer: bounds_answer(told),
+            ..Call::check(file)
         }
     }
 
@@ -258,6 +273,13 @@ impl Call {
                 })
             }
             Service::Runs(_) => unreachable!("made one by one"),
+            Service::Bounds(iso) => {
+                let told = rulefile::bounds(&self.file, table, work, *iso);
+                told.map(|bounds| Answer {
+                    bounds: Some(bounds),
+                    ..Answer::default()
+                })
+            }
         };
         given.unwrap_or_else(Answer::refused)
     }
@@ -290,6 +312,9 @@ impl Call {
             Service::Run(asked) => run_by_apart(&self.file, asked, table, work, output),
             Service::Sheet(queries) => sheet_by_apart(&self.file, queries, areas),
             Service::Runs(_) => unreachable!("made one by one"),
+            Service::Bounds(iso) => {
+                bounds_answer(bounds(&Known::of(&self.file), table, work, *iso))
+            }
         }
     }
 
@@ -357,6 +382,21 @@ fn run_by_apart(
     }
 }
 
+/// What the checker written apart tells of an iso.
+fn bounds_answer(told: Bounded) -> Answer {
+    let bounds = Bounds {
+        least: told.least,
+        greatest: told.greatest,
+        least_over: told.least_over,
+        greatest_over: told.greatest_over,
+    };
+    Answer {
+        number: told.number.into(),
+        bounds: (told.number == 0).then_some(bounds),
+        ..Answer::default()
+    }
+}
+
 fn sheet_by_apart(file: &[u8], queries: &[u8], areas: &mut Areas) -> Answer {
     let lent = apart::sheet::Lent {
         table: &mut areas.table,
@@ -388,6 +428,15 @@ mod tests {
     #[should_panic(expected = "Apart")]
     fn a_wrong_answer_of_the_checker_apart_is_noticed() {
         Call::refused(inputs::s(), 13, 15).make(Apart, &mut Areas::new());
+    }
+
+    #[test]
+    #[should_panic(expected = "Proved")]
+    fn wrong_bounds_are_noticed() {
+        let mut call = Call::bounds(inputs::s(), 1);
+        let bounds = call.answer.bounds.as_mut();
+        bounds.expect("the iso is there").greatest_over = true;
+        call.make(Proved, &mut Areas::new());
     }
 
     #[test]

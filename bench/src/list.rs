@@ -94,6 +94,7 @@ pub fn rows(worst: Point, quick: bool) -> Vec<Row> {
         call("Check, 32 isos of 32 closed clauses", Series::Isos, 32),
         call(&label, Series::Worst, worst.size),
         call("Turn, 4,096 lines", Series::Turn, 4_096),
+        call("Bounds, 4,096 lines", Series::Bounds, 4_096),
         runs(
             "Run, tower of isos on one bit",
             Series::Applications,

@@ -15,6 +15,7 @@ pub enum Series {
     Nodes,
     Worst,
     Turn,
+    Bounds,
     Applications,
     Swap,
     Swaps,
@@ -25,10 +26,10 @@ pub enum Series {
     Desk,
 }
 
-use Series::{Applications, Clauses, Isos, Lines, Nodes, Swap, Swaps, Turn, Worst, S};
+use Series::{Applications, Bounds, Clauses, Isos, Lines, Nodes, Swap, Swaps, Turn, Worst, S};
 use Series::{LongRuns, LongSheet, Runs, Sheet};
 
-const NAMES: [(Series, &str); 15] = [
+const NAMES: [(Series, &str); 16] = [
     (S, "s"),
     (Lines, "lines"),
     (Clauses, "clauses"),
@@ -36,6 +37,7 @@ const NAMES: [(Series, &str); 15] = [
     (Nodes, "nodes"),
     (Worst, "worst"),
     (Turn, "turn"),
+    (Bounds, "bounds"),
     (Applications, "applications"),
     (Swap, "swap"),
     (Swaps, "swaps"),
@@ -82,6 +84,7 @@ impl Point {
             Nodes => Call::check(inputs::nodes(size)),
             Worst => (CANDIDATES[size - 1].call)(),
             Turn => Call::turn(inputs::long(size)),
+            Bounds => Call::bounds(inputs::long(size), 31),
             Applications => {
                 let value = b"LU".to_vec();
                 Call::run(
@@ -166,5 +169,6 @@ mod tests {
             }
         }
         Point::new(Sheet, 600).call().agree();
+        Point::new(Bounds, 4_096).call().agree();
     }
 }

@@ -61,6 +61,7 @@ impl<P: Program, S: Services> Block<P, S> {
         if case == Case::Longest {
             self.calls.late_clash(random, &mut self.tally);
         }
+        self.calls.bounds(random, &mut self.tally, case, &known);
         if matches!(case, Case::Counted(_)) {
             self.calls.faults(random, &mut self.tally);
         }
@@ -169,6 +170,8 @@ impl<P: Program, S: Services> Block<P, S> {
     ) -> io::Result<()> {
         let other = Known::of(turned);
         self.turned_twice(random, known, &other);
+        self.calls
+            .turned_alike(random, &mut self.tally, known, &other);
         let input = input::turned(turned, trips);
         self.desk(&input)?;
         self.tally.turned += 1;

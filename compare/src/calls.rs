@@ -2,12 +2,14 @@
 //! and of every element of the areas.
 
 use crate::areas::{Areas, Kind, Noise, Shape};
+use crate::bounds;
 use crate::overlaps;
 use crate::service::{expected, query, Answer, Ask, Call, Services};
 use crate::settings;
 use crate::sheets::{self, Given};
 use crate::tally::{Tally, BY_SHEET, CHECK, ISO_ABOVE_65535, LETTERS, LIBRARY, RUN, SHORT, TURN};
 use apart::areas::{Known, RESULT};
+use apart::bounds::bounds_rules;
 use apart::generate::query::line;
 use apart::generate::random::Random;
 use apart::lines::split;
@@ -72,6 +74,7 @@ impl<S: Services> Calls<S> {
         count(tally, known, call, lengths, &ours);
         settings::count(tally, known, call, &ours, &theirs);
         overlaps::count(tally, known, call, &ours, &theirs);
+        bounds::count(tally, known, call, &ours, &theirs);
         if let Call::Sheet(list) = call {
             let numbers = &self.ours.numbers.lent()[..ours.queries * NUMBERS];
             sheets::count(tally, list, ours.number, numbers);
@@ -117,12 +120,13 @@ fn name(call: Call) -> String {
         Call::NumberOf(ty, _) => format!("number of a setting of T line {ty}"),
         Call::SettingOf(ty, number) => format!("setting {number} of T line {ty}"),
         Call::Overlap(left, right) => format!("overlap of P lines {left} and {right}"),
+        Call::Bounds(iso) => format!("bounds of iso {iso}"),
     }
 }
 
 /// The file and the queries of a call in the form of the desk program; the
 /// calls of settings as numbers in that of the stored examples, one for an
-/// overlap as `O,left,right`.
+/// overlap as `O,left,right`, one for bounds as `B,iso`.
 pub fn input(file: &[u8], call: Call) -> Vec<u8> {
     let mut input = file.to_vec();
     match call {
@@ -136,12 +140,13 @@ pub fn input(file: &[u8], call: Call) -> Vec<u8> {
         }
         Call::SettingOf(ty, number) => input.extend(format!("S,{ty},{number}\n").into_bytes()),
         Call::Overlap(left, right) => input.extend(format!("O,{left},{right}\n").into_bytes()),
+        Call::Bounds(iso) => input.extend(format!("B,{iso}\n").into_bytes()),
     }
     input
 }
 
 /// Counts the number given and the kinds of the areas. Numbers that are given
-/// for settings and for overlaps have tables of their own.
+/// for settings, overlaps and bounds have tables of their own.
 fn count(tally: &mut Tally, known: &Known, call: Call, lengths: [usize; 4], ours: &Answer) {
     tally.calls += 1;
     let (column, rows) = match call {
@@ -152,6 +157,7 @@ fn count(tally: &mut Tally, known: &Known, call: Call, lengths: [usize; 4], ours
         Call::NumberOf(..) => (None, &[8, 9][..]),
         Call::SettingOf(..) => (None, &[10, 11, 12][..]),
         Call::Overlap(..) => (None, &[13, 14][..]),
+        Call::Bounds(_) => (None, &[15, 16][..]),
     };
     if let Some(column) = column {
         tally.numbers.hit(ours.number as usize, column);
@@ -196,6 +202,7 @@ pub fn otherwise(known: &Known, call: Call) -> usize {
         Call::NumberOf(ty, letters) => number_of_rules(rules, ty, letters).err(),
         Call::SettingOf(ty, setting) => setting_of_rules(rules, ty, setting).err(),
         Call::Overlap(left, right) => overlap_rules(rules, left, right).err(),
+        Call::Bounds(iso) => bounds_rules(rules, iso).err(),
     };
     refused.map_or(0, |refusal| refusal.number.into())
 }

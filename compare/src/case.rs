@@ -1,6 +1,6 @@
 //! Which files are made.
 
-use crate::settings;
+use crate::{bounds, settings};
 use apart::generate::ceiling::{self, Ceiling, CEILINGS};
 use apart::generate::life::SLIPS;
 use apart::generate::random::Random;
@@ -45,6 +45,11 @@ pub enum Case {
     Across,
     /// A near miss of a refusal with a carriage return in every ending.
     Returns(u8),
+    /// An accepted file whose last iso needs a number around the limit, by its
+    /// place, at the most alone or at the least too.
+    Bounded(usize, bool),
+    /// Eight calls of the iso below in each of 32 isos.
+    Deep,
     /// An accepted file with as many queries as a sheet may have, or one more.
     Full(bool),
     Accepted,
@@ -55,6 +60,7 @@ pub enum Case {
 pub fn always() -> Vec<Case> {
     let mut cases = vec![Case::Long; 3];
     cases.extend(settings::cases());
+    cases.extend(bounds::cases());
     for over in [false, true].repeat(5) {
         cases.extend([Case::Stack, Case::Longest, Case::Bytes(over)]);
         cases.extend([Case::Full(over), Case::Again, Case::Crowded, Case::Mistyped]);
@@ -105,6 +111,7 @@ pub fn file(random: &mut Random, case: Case) -> (Vec<u8>, Option<(u8, usize)>) {
         Case::ReturnBytes(over) => (ending::many_bytes(random, over), None),
         Case::Across => (ending::across(random), Some((0, 0))),
         Case::Returns(number) => (ending::all_resaved(&miss::aimed(random, number)), None),
+        Case::Bounded(..) | Case::Deep => (bounds::file(random, case), Some((0, 0))),
         Case::Accepted | Case::Full(_) => (accepted(random), Some((0, 0))),
         Case::Any => (any_file(random), None),
     }

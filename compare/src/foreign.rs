@@ -1,6 +1,7 @@
 //! The exported functions of the library, as `include/rulefile.h` declares
 //! them: unlike the Rust wrapper they give count, length, queries, setting,
-//! clash and pairs on refusal too. This module has all `unsafe` of the package.
+//! clash and pairs, and bounds on refusal too. This module has all `unsafe` of
+//! the package.
 
 use crate::service::{Answer, Ask, Call, Lent};
 use std::ptr::{null, null_mut};
@@ -50,6 +51,15 @@ struct OverlapAnswer {
     line: usize,
     clash: bool,
     pairs: u32,
+}
+
+#[repr(C)]
+struct BoundsAnswer {
+    number: u32,
+    least: u32,
+    greatest: u32,
+    least_over: bool,
+    greatest_over: bool,
 }
 
 extern "C" {
@@ -139,6 +149,16 @@ extern "C" {
         left: u32,
         right: u32,
     ) -> OverlapAnswer;
+
+    fn rulefile_bounds(
+        file: *const u8,
+        file_length: usize,
+        table: *mut u16,
+        table_length: usize,
+        work: *mut u8,
+        work_length: usize,
+        iso: u32,
+    ) -> BoundsAnswer;
 }
 
 /// Where bytes that are only read begin; null where there are none.
@@ -168,6 +188,7 @@ pub fn call(file: &[u8], call: Call, lent: Lent) -> Answer {
         Call::NumberOf(ty, letters) => number_of(file, ty, letters, lent),
         Call::SettingOf(ty, setting) => setting_of(file, ty, setting, lent),
         Call::Overlap(left, right) => overlap(file, left, right, lent),
+        Call::Bounds(iso) => bounds(file, iso, lent),
     }
 }
 
@@ -348,6 +369,30 @@ fn overlap(file: &[u8], left: u32, right: u32, lent: Lent) -> Answer {
         line: given.line,
         clash: given.clash,
         pairs: given.pairs,
+        ..Answer::default()
+    }
+}
+
+fn bounds(file: &[u8], iso: u32, lent: Lent) -> Answer {
+    let Lent { table, work, .. } = lent;
+    // SAFETY: as for `check`.
+    let given = unsafe {
+        rulefile_bounds(
+            begin(file),
+            file.len(),
+            start(table),
+            table.len(),
+            start(work),
+            work.len(),
+            iso,
+        )
+    };
+    Answer {
+        number: given.number,
+        least: given.least,
+        greatest: given.greatest,
+        least_over: given.least_over,
+        greatest_over: given.greatest_over,
         ..Answer::default()
     }
 }

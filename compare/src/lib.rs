@@ -4,6 +4,7 @@
 pub mod areas;
 pub mod arguments;
 pub mod block;
+pub mod bounds;
 pub mod calls;
 pub mod case;
 pub mod ceilings;

@@ -71,6 +71,16 @@ fn wrapped(file: &[u8], call: Call, lent: Lent) -> Answer {
                 ..none
             })
         }
+        Call::Bounds(iso) => {
+            let given = rulefile::bounds(file, table, work, iso);
+            given.map(|bounds| Answer {
+                least: bounds.least,
+                greatest: bounds.greatest,
+                least_over: bounds.least_over,
+                greatest_over: bounds.greatest_over,
+                ..none
+            })
+        }
     };
     given.unwrap_or_else(|Refused { refusal, line }| Answer {
         number: refusal.number(),

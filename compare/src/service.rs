@@ -2,6 +2,7 @@
 //! both offer them.
 
 use apart::areas::{Known, Query, RESULT, TABLE, WORK};
+use apart::bounds;
 use apart::lines::split;
 use apart::numbering;
 use apart::overlap;
@@ -29,6 +30,8 @@ pub enum Call<'a> {
     SettingOf(u32, u32),
     /// The overlap of two P lines.
     Overlap(u32, u32),
+    /// The bounds of an iso.
+    Bounds(u32),
 }
 
 /// All that an answer holds; what the service does not give is 0.
@@ -45,6 +48,11 @@ pub struct Answer {
     /// Whether two patterns clash, and the node pairs compared.
     pub clash: bool,
     pub pairs: u32,
+    /// The bounds of an iso and their flags.
+    pub least: u32,
+    pub greatest: u32,
+    pub least_over: bool,
+    pub greatest_over: bool,
 }
 
 /// The lent areas; `out` is Turn's output, Run's result, a sheet's letters or
@@ -65,7 +73,7 @@ impl Call<'_> {
     /// How many areas it is lent, in the order of `least`.
     pub fn areas(&self) -> usize {
         match self {
-            Call::Check | Call::NumberOf(..) | Call::Overlap(..) => 2,
+            Call::Check | Call::NumberOf(..) | Call::Overlap(..) | Call::Bounds(_) => 2,
             Call::Turn | Call::Run(_) | Call::SettingOf(..) => 3,
             Call::Sheet(_) => 4,
         }
@@ -74,7 +82,7 @@ impl Call<'_> {
     /// The least lengths of table, work, out and numbers.
     pub fn least(&self, file: &[u8]) -> [usize; 4] {
         let (out, numbers) = match self {
-            Call::Check | Call::NumberOf(..) | Call::Overlap(..) => (0, 0),
+            Call::Check | Call::NumberOf(..) | Call::Overlap(..) | Call::Bounds(_) => (0, 0),
             Call::Turn => (file.len(), 0),
             Call::Run(_) | Call::SettingOf(..) => (RESULT, 0),
             Call::Sheet(list) => {
@@ -119,6 +127,7 @@ pub fn expected(known: &Known, call: Call, lent: Lent) -> Answer {
         Call::NumberOf(ty, letters) => number_of(known, ty, letters, lent),
         Call::SettingOf(ty, setting) => setting_of(known, ty, setting, lent),
         Call::Overlap(left, right) => overlap(known, left, right, lent),
+        Call::Bounds(iso) => bounds(known, iso, lent),
     }
 }
 
@@ -164,6 +173,18 @@ fn overlap(known: &Known, left: u32, right: u32, lent: Lent) -> Answer {
         line: given.line,
         clash: given.clash,
         pairs: given.pairs,
+        ..Answer::default()
+    }
+}
+
+fn bounds(known: &Known, iso: u32, lent: Lent) -> Answer {
+    let told = bounds::bounds(known, lent.table, lent.work, iso);
+    Answer {
+        number: told.number.into(),
+        least: told.least,
+        greatest: told.greatest,
+        least_over: told.least_over,
+        greatest_over: told.greatest_over,
         ..Answer::default()
     }
 }

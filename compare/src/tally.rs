@@ -1,5 +1,6 @@
 //! What was compared, what was hit, and what differed.
 
+use crate::bounds;
 use crate::endings;
 use crate::grid::Grid;
 use crate::overlaps;
@@ -65,6 +66,7 @@ pub struct Tally {
     pub laws: Grid,
     pub settings: settings::Grids,
     pub overlaps: overlaps::Grids,
+    pub bounds: bounds::Grids,
     pub ceilings: Grid,
     pub sheets: Grid,
     pub variables: Grid,
@@ -130,6 +132,8 @@ fn areas() -> Grid {
         "result of setting_of",
         "table of overlap",
         "work of overlap",
+        "table of bounds",
+        "work of bounds",
     ]);
     let columns = &["exact", "longer", "one short", "empty"];
     Grid::new("area", rows, columns, |_, _| true)
@@ -183,6 +187,7 @@ impl Default for Tally {
             laws: laws(),
             settings: settings::Grids::default(),
             overlaps: overlaps::Grids::default(),
+            bounds: bounds::Grids::default(),
             ceilings: ceilings(),
             sheets: sheets::grid(),
             variables: variables::grid(),
@@ -210,6 +215,7 @@ impl Tally {
         self.laws.add(&other.laws);
         self.settings.add(&other.settings);
         self.overlaps.add(&other.overlaps);
+        self.bounds.add(&other.bounds);
         self.ceilings.add(&other.ceilings);
         self.sheets.add(&other.sheets);
         self.variables.add(&other.variables);
@@ -250,7 +256,8 @@ impl Tally {
             &self.returns,
             &self.query_returns,
         ];
-        let others = self.settings.all().into_iter().chain(self.overlaps.all());
+        let others = self.settings.all().into_iter();
+        let others = others.chain(self.overlaps.all()).chain(self.bounds.all());
         own.into_iter().chain(others).collect()
     }
 

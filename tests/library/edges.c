@@ -166,11 +166,12 @@ enum service {
     SERVICE_NUMBER_OF,
     SERVICE_SETTING_OF,
     SERVICE_OVERLAP,
+    SERVICE_BOUNDS,
     SERVICES
 };
 
-static const char *const service_names[SERVICES] = {"Check",     "Turn",       "Run",    "Sheet",
-                                                    "Number of", "Setting of", "Overlap"};
+static const char *const service_names[SERVICES] = {"Check",     "Turn",       "Run",     "Sheet",
+                                                    "Number of", "Setting of", "Overlap", "Bounds"};
 
 /* What a query of a sheet is to give. */
 struct reply {
@@ -210,6 +211,10 @@ struct answer {
     uint32_t setting;
     bool clash;
     uint32_t pairs;
+    uint32_t least;
+    uint32_t greatest;
+    bool least_over;
+    bool greatest_over;
 };
 
 /*
@@ -313,11 +318,25 @@ static struct answer call_overlap(const struct call *call, const struct area *fi
     return (struct answer){.number = a.number, .line = a.line, .clash = a.clash, .pairs = a.pairs};
 }
 
+static struct answer call_bounds(const struct call *call, const struct area *file, const struct lent *lent)
+{
+    struct rulefile_bounds_answer a =
+        rulefile_bounds(file->start, file->length, rows_of(lent->table.start), lent->table.length / 2,
+                        lent->work.start, lent->work.length, call->iso);
+    return (struct answer){.number = a.number,
+                           .least = a.least,
+                           .greatest = a.greatest,
+                           .least_over = a.least_over,
+                           .greatest_over = a.greatest_over};
+}
+
 static struct answer make_call(const struct call *call, const struct area *file, const struct area *input,
                                const struct lent *lent)
 {
     if (call->service == SERVICE_OVERLAP)
         return call_overlap(call, file, lent);
+    if (call->service == SERVICE_BOUNDS)
+        return call_bounds(call, file, lent);
     if (call->service == SERVICE_NUMBER_OF || call->service == SERVICE_SETTING_OF)
         return call_settings(call, file, input, lent);
     uint16_t *table = rows_of(lent->table.start);
@@ -426,7 +445,9 @@ static struct outcome perform(enum place place, struct lent *lent, const struct 
 static bool same_answer(struct answer a, struct answer b)
 {
     return a.number == b.number && a.line == b.line && a.count == b.count && a.length == b.length &&
-           a.queries == b.queries && a.setting == b.setting && a.clash == b.clash && a.pairs == b.pairs;
+           a.queries == b.queries && a.setting == b.setting && a.clash == b.clash && a.pairs == b.pairs &&
+           a.least == b.least && a.greatest == b.greatest && a.least_over == b.least_over &&
+           a.greatest_over == b.greatest_over;
 }
 
 static void print_answer(const char *label, struct answer a)
@@ -434,6 +455,8 @@ static void print_answer(const char *label, struct answer a)
     printf("    %s: number %lu, line %zu, count %lu, length %zu, queries %zu, setting %lu, clash %d, pairs %lu\n",
            label, (unsigned long)a.number, a.line, (unsigned long)a.count, a.length, a.queries,
            (unsigned long)a.setting, a.clash, (unsigned long)a.pairs);
+    printf("    %s: least %lu, greatest %lu, over %d and %d\n", label, (unsigned long)a.least,
+           (unsigned long)a.greatest, a.least_over, a.greatest_over);
 }
 
 static void mark(bool *numbers, uint32_t number)
@@ -899,6 +922,50 @@ static const struct overlap_case overlap_cases[] = {
     {__LINE__, TEXT(""), 0, 0, 15, false, 0},
 };
 
+/* Of the isos on a bit, iso 1 needs 1 or 2, iso 2 calls it twice, iso 3 both; iso 4 exchanges and needs 1 or 2. */
+#define COSTS                                                                                                \
+    BIT "P,1,0,0\nP,1,1,0\nP,1,2,0\nI,0,0\nC,0,0\nI,1,1\nC,1,1\nL,0,0,0\nC,2,2\n"                             \
+        "I,1,1\nC,3,5\nL,4,1,3\nL,5,1,4\nI,1,1\nC,3,5\nL,4,2,3\nL,5,1,4\n"                                   \
+        "I,1,1\nC,1,2\nC,2,1\nL,0,0,0\nI,1,1\nC,3,5\nL,4,4,3\nL,5,4,4\n"
+
+/* The bounds of an iso, or the number that the call is refused with. */
+struct bounds_case {
+    int at;
+    struct bytes file;
+    uint32_t iso;
+    uint32_t number;
+    uint32_t least;
+    uint32_t greatest;
+};
+
+static const struct bounds_case bounds_cases[] = {
+    {__LINE__, TEXT(S), 0, 0, 1, 1},
+    {__LINE__, TEXT(S), 1, 0, 1, 2},
+    {__LINE__, TEXT(S_TURNED), 1, 0, 1, 2},
+    {__LINE__, TEXT(STEPS), 1, 0, 1, 1},
+    {__LINE__, TEXT(STEPS), 2, 0, 3, 3},
+    {__LINE__, TEXT(STEPS_TURNED), 3, 0, 3, 3},
+    {__LINE__, TEXT(WIDER), 0, 0, 1, 1},
+    {__LINE__, TEXT(COSTS), 0, 0, 1, 1},
+    {__LINE__, TEXT(COSTS), 1, 0, 1, 2},
+    {__LINE__, TEXT(COSTS), 2, 0, 3, 5},
+    {__LINE__, TEXT(COSTS), 3, 0, 5, 8},
+    /* all runs count 4, but clauses are reckoned whether they can be reached together or not */
+    {__LINE__, TEXT(COSTS), 5, 0, 3, 5},
+    /* isos that are absent; numbers that would be one with fewer bits */
+    {__LINE__, TEXT(S), 2, 15, 0, 0},
+    {__LINE__, TEXT(S), 256, 15, 0, 0},
+    {__LINE__, TEXT(S), 65536, 15, 0, 0},
+    {__LINE__, TEXT(S), 65537, 15, 0, 0},
+    {__LINE__, TEXT(S), 2147483648, 15, 0, 0},
+    {__LINE__, TEXT(S), 4294967295, 15, 0, 0},
+    {__LINE__, TEXT(""), 0, 15, 0, 0},
+    /* the file's refusal comes first */
+    {__LINE__, TEXT(S "C,7,7\n"), 0, 11, 0, 0},
+    {__LINE__, TEXT(S "C,7,7\n"), 2, 11, 0, 0},
+    {__LINE__, TEXT(S "\n"), 4294967295, 3, 0, 0},
+};
+
 static struct call run_call(const struct query_case *c)
 {
     return (struct call){.service = SERVICE_RUN,
@@ -935,6 +1002,8 @@ static void try_file(const struct setting *setting, const struct file_case *c)
     call.service = SERVICE_NUMBER_OF;
     try_call(c->at, setting, &call, answer, nothing);
     call.service = SERVICE_SETTING_OF;
+    try_call(c->at, setting, &call, answer, nothing);
+    call.service = SERVICE_BOUNDS;
     try_call(c->at, setting, &call, answer, nothing);
 }
 
@@ -995,6 +1064,13 @@ static void try_overlap(const struct setting *setting, const struct overlap_case
     try_call(c->at, setting, &call, overlap_answer(c), nothing);
 }
 
+static void try_bounds(const struct setting *setting, const struct bounds_case *c)
+{
+    struct call call = {.service = SERVICE_BOUNDS, .file = c->file, .iso = c->iso};
+    struct answer answer = {.number = c->number, .least = c->least, .greatest = c->greatest};
+    try_call(c->at, setting, &call, answer, nothing);
+}
+
 static void try_cases(const struct setting *setting)
 {
     for (size_t i = 0; i < COUNT_OF(file_cases); i++)
@@ -1009,6 +1085,8 @@ static void try_cases(const struct setting *setting)
         try_unnumbered(setting, &unnumbered_cases[i]);
     for (size_t i = 0; i < COUNT_OF(overlap_cases); i++)
         try_overlap(setting, &overlap_cases[i]);
+    for (size_t i = 0; i < COUNT_OF(bounds_cases); i++)
+        try_bounds(setting, &bounds_cases[i]);
 }
 
 /* Groups */
@@ -1040,6 +1118,11 @@ static void header_numbers(void)
     CHECK(offsetof(struct rulefile_overlap_answer, line) == sizeof(size_t));
     CHECK(offsetof(struct rulefile_overlap_answer, clash) == 2 * sizeof(size_t));
     CHECK(offsetof(struct rulefile_overlap_answer, pairs) == 2 * sizeof(size_t) + 4);
+    CHECK(sizeof(struct rulefile_bounds_answer) == 16);
+    CHECK(offsetof(struct rulefile_bounds_answer, least) == 4);
+    CHECK(offsetof(struct rulefile_bounds_answer, greatest) == 8);
+    CHECK(offsetof(struct rulefile_bounds_answer, least_over) == 12);
+    CHECK(offsetof(struct rulefile_bounds_answer, greatest_over) == 13);
 }
 
 static void exact_areas(void)
@@ -1137,6 +1220,8 @@ static void short_areas(void)
         try_lengths(c->at, place, &call, answer, nothing);
         call.service = SERVICE_SETTING_OF;
         try_lengths(c->at, place, &call, answer, nothing);
+        call.service = SERVICE_BOUNDS;
+        try_lengths(c->at, place, &call, answer, nothing);
     }
 }
 
@@ -1182,6 +1267,16 @@ static void short_areas_of_overlaps(void)
     struct call call = overlap_call(&c);
     try_lengths(__LINE__, NULL_IF_EMPTY, &call, overlap_answer(&c), nothing);
     try_lengths(__LINE__, BEFORE_GUARD, &call, overlap_answer(&c), nothing);
+}
+
+/* Bounds that are given, with every choice of lengths. */
+static void short_areas_of_bounds(void)
+{
+    static const struct bytes file = TEXT(COSTS);
+    struct call call = {.service = SERVICE_BOUNDS, .file = file, .iso = 3};
+    struct answer answer = {.least = 5, .greatest = 8};
+    try_lengths(__LINE__, NULL_IF_EMPTY, &call, answer, nothing);
+    try_lengths(__LINE__, BEFORE_GUARD, &call, answer, nothing);
 }
 
 /* Sheets that are answered, one of them without a query, with every choice of lengths. */
@@ -1238,6 +1333,18 @@ static void null_areas_of_overlaps(void)
     CHECK(a.number == RULEFILE_NO_ISO && a.line == 0 && !a.clash && a.pairs == 0);
     a = rulefile_overlap(NULL, 0, NULL, 0, NULL, 0, 0, 0);
     CHECK(a.number == RULEFILE_SHORT_AREA && a.line == 0 && !a.clash && a.pairs == 0);
+    give_back(&lent);
+}
+
+/* The same for bounds. */
+static void null_areas_of_bounds(void)
+{
+    struct lent lent = lend(HEAP, sheet_lengths(0));
+    struct rulefile_bounds_answer b = rulefile_bounds(NULL, 0, rows_of(lent.table.start), RULEFILE_TABLE_LENGTH,
+                                                      lent.work.start, RULEFILE_WORK_LENGTH, 0);
+    CHECK(b.number == RULEFILE_NO_ISO && b.least == 0 && b.greatest == 0 && !b.least_over && !b.greatest_over);
+    b = rulefile_bounds(NULL, 0, NULL, 0, NULL, 0, 0);
+    CHECK(b.number == RULEFILE_SHORT_AREA && b.least == 0 && b.greatest == 0 && !b.least_over && !b.greatest_over);
     give_back(&lent);
 }
 
@@ -1546,6 +1653,86 @@ static void counts_and_budgets(void)
     }
     try_built_run(__LINE__, 31, false, 65536, left, spent, nothing);
     try_built_run(__LINE__, 31, true, 65536, right, spent, nothing);
+}
+
+/* The bounds of an iso of the built file, which are no refusal. */
+static void try_built_bounds(int at, uint32_t iso, struct answer answer)
+{
+    static const struct setting settings[] = {{HEAP, 0, NULL}, {BEFORE_GUARD, 0, NULL}};
+    struct call call = {.service = SERVICE_BOUNDS, .file = built_file(), .iso = iso};
+    for (size_t i = 0; i < COUNT_OF(settings); i++)
+        try_call(at, &settings[i], &call, answer, nothing);
+}
+
+/* Iso n of the tower needs 2^(n+1) - 1; so many are made, where they are not too many, and the last is not flagged. */
+static void bounds_of_towers(void)
+{
+    static const struct bytes left = TEXT("LU");
+    static const struct bytes right = TEXT("RU");
+    build_tower();
+    for (uint32_t iso = 0; iso < 32; iso++) {
+        uint32_t count = UINT32_MAX >> (31 - iso);
+        try_built_bounds(__LINE__, iso, (struct answer){.least = count, .greatest = count});
+        if (iso < (quick ? 9 : 17))
+            try_built_run(__LINE__, iso, false, count, left, (struct answer){.count = count},
+                          iso == 0 ? right : left);
+    }
+}
+
+/* 31 isos on a unit as in the tower, then one of which a clause calls these and, where asked, another none. */
+static void build_limit(const int *calls, size_t count, bool other)
+{
+    begin();
+    add(BIT "I,0,0\nC,0,0\n");
+    for (int iso = 0; iso < 30; iso++) {
+        add("I,0,0\nC,0,0\n");
+        add_line('L', 0, iso, 0);
+        add_line('L', 0, iso, 0);
+    }
+    add(other ? "I,1,1\nC,2,2\nC,1,1\n" : "I,0,0\nC,0,0\n");
+    for (size_t i = 0; i < count; i++)
+        add_line('L', 0, calls[i], 0);
+}
+
+/* One below 4,294,967,295, exactly that, one above and two above. */
+static void bounds_at_the_limit(void)
+{
+    static const int calls[][4] = {{30, 29, 29, 0}, {30, 30, 0, 0}, {30, 30, 0, 0}, {30, 30, 0, 0}};
+    static const size_t counts[] = {3, 2, 3, 4};
+    for (size_t i = 0; i < COUNT_OF(counts); i++) {
+        uint32_t number = i == 0 ? UINT32_MAX - 1 : UINT32_MAX;
+        bool over = i > 1;
+        build_limit(calls[i], counts[i], false);
+        struct answer both = {.least = number, .greatest = number, .least_over = over, .greatest_over = over};
+        try_built_bounds(__LINE__, 31, both);
+        try_built_run(__LINE__, 31, i % 2 == 0, 65536, (struct bytes)TEXT("U"),
+                      (struct answer){.number = RULEFILE_SPENT}, nothing);
+        build_limit(calls[i], counts[i], true);
+        try_built_bounds(__LINE__, 31, (struct answer){.least = 1, .greatest = number, .greatest_over = over});
+        try_built_run(__LINE__, 31, i % 2 == 0, 1, (struct bytes)TEXT("RU"), (struct answer){.count = 1},
+                      (struct bytes)TEXT("RU"));
+    }
+}
+
+/* 32 isos, each of which calls the one below it eight times; iso 10 is the last that is not flagged. */
+static void bounds_of_deep_isos(void)
+{
+    uint64_t needs = 0;
+    begin();
+    add("T,0,0,0\nP,0,0,0\nI,0,0\nC,0,0\n");
+    for (int iso = 0; iso < 31; iso++) {
+        add("I,0,0\nC,0,0\n");
+        for (int step = 0; step < 8; step++)
+            add_line('L', 0, iso, 0);
+    }
+    for (uint32_t iso = 0; iso < 32; iso++) {
+        needs = needs > UINT32_MAX ? needs : 1 + 8 * needs;
+        bool over = needs > UINT32_MAX;
+        uint32_t told = over ? UINT32_MAX : (uint32_t)needs;
+        CHECK(over == (iso > 10));
+        try_built_bounds(__LINE__, iso,
+                         (struct answer){.least = told, .greatest = told, .least_over = over, .greatest_over = over});
+    }
 }
 
 /* T line 255 of the built file, the last that a file can have: a chain of sums of so many values. */
@@ -2213,6 +2400,10 @@ static void *work_through(void *argument)
         const struct overlap_case *o = &overlap_cases[(worker->first_sheet + i) % COUNT_OF(overlap_cases)];
         struct call overlap = overlap_call(o);
         try_quietly(worker, &overlap, overlap_answer(o), nothing);
+        const struct bounds_case *b = &bounds_cases[(worker->first_sheet + i) % COUNT_OF(bounds_cases)];
+        struct call bounds = {.service = SERVICE_BOUNDS, .file = b->file, .iso = b->iso};
+        struct answer told = {.number = b->number, .least = b->least, .greatest = b->greatest};
+        try_quietly(worker, &bounds, told, nothing);
     }
     return NULL;
 }
@@ -2254,7 +2445,7 @@ static bool can_give(size_t service, size_t number)
         return true;
     if (service == SERVICE_RUN)
         return number <= RULEFILE_SPENT;
-    if (service == SERVICE_OVERLAP)
+    if (service == SERVICE_OVERLAP || service == SERVICE_BOUNDS)
         return number == RULEFILE_NO_ISO;
     bool of_type = number == RULEFILE_NO_ISO || number == RULEFILE_TOO_MANY;
     return (service == SERVICE_NUMBER_OF && (of_type || number == RULEFILE_NO_VALUE)) ||
@@ -2291,10 +2482,12 @@ static const struct group groups[] = {
     {"short_areas_of_runs", short_areas_of_runs},
     {"short_areas_of_settings", short_areas_of_settings},
     {"short_areas_of_overlaps", short_areas_of_overlaps},
+    {"short_areas_of_bounds", short_areas_of_bounds},
     {"short_areas_of_sheets", short_areas_of_sheets},
     {"null_areas", null_areas},
     {"null_areas_of_settings", null_areas_of_settings},
     {"null_areas_of_overlaps", null_areas_of_overlaps},
+    {"null_areas_of_bounds", null_areas_of_bounds},
     {"file_lengths", file_lengths},
     {"longest_file", longest_file},
     {"ceilings", ceilings},
@@ -2302,6 +2495,9 @@ static const struct group groups[] = {
     {"damaged_files", damaged_files},
     {"single_bytes", single_bytes},
     {"counts_and_budgets", counts_and_budgets},
+    {"bounds_of_towers", bounds_of_towers},
+    {"bounds_at_the_limit", bounds_at_the_limit},
+    {"bounds_of_deep_isos", bounds_of_deep_isos},
     {"steps_in_order", steps_in_order},
     {"setting_lengths", setting_lengths},
     {"query_lines", query_lines},

@@ -49,6 +49,15 @@ pub struct OverlapAnswer {
     pub pairs: u32,
 }
 
+#[repr(C)]
+pub struct BoundsAnswer {
+    pub number: u32,
+    pub least: u32,
+    pub greatest: u32,
+    pub least_over: bool,
+    pub greatest_over: bool,
+}
+
 extern "C" {
     fn rulefile_check(
         file: *const u8,
@@ -136,6 +145,16 @@ extern "C" {
         left: u32,
         right: u32,
     ) -> OverlapAnswer;
+
+    fn rulefile_bounds(
+        file: *const u8,
+        file_length: usize,
+        table: *mut u16,
+        table_length: usize,
+        work: *mut u8,
+        work_length: usize,
+        iso: u32,
+    ) -> BoundsAnswer;
 }
 
 pub fn check(file: &[u8], table: &mut [u16], work: &mut [u8]) -> CheckAnswer {
@@ -288,6 +307,21 @@ pub fn overlap(
             work.len(),
             left,
             right,
+        )
+    }
+}
+
+pub fn bounds(file: &[u8], table: &mut [u16], work: &mut [u8], iso: u32) -> BoundsAnswer {
+    // SAFETY: as for `check`.
+    unsafe {
+        rulefile_bounds(
+            file.as_ptr(),
+            file.len(),
+            table.as_mut_ptr(),
+            table.len(),
+            work.as_mut_ptr(),
+            work.len(),
+            iso,
         )
     }
 }

@@ -1,8 +1,8 @@
-//! Check, Turn, Run, whole sheets of queries, settings as numbers and the overlap of two patterns for rule
-//! files, over the proved static library.
+//! Check, Turn, Run, whole sheets of queries, settings as numbers, the overlap of two patterns and steps known
+//! beforehand for rule files, over the proved static library.
 //!
 //! Callers who keep their own areas lend them to [`check`], [`turn`], [`run`], [`sheet`], [`number_of`],
-//! [`setting_of`] and [`overlap`]; areas of any length are safe, and what each then holds is said in
+//! [`setting_of`], [`overlap`] and [`bounds`]; areas of any length are safe, and what each then holds is said in
 //! `include/rulefile.h`. Callers who do not want to make one [`Desk`], which owns the areas:
 //!
 //! ```
@@ -17,6 +17,9 @@
 //! // P lines 1 and 2, a left and a right, clash at once.
 //! let overlap = desk.overlap(file, 1, 2)?;
 //! assert_eq!((overlap.clash, overlap.pairs), (true, 1));
+//! // Every run of iso 0 makes one application.
+//! let bounds = desk.bounds(file, 0)?;
+//! assert_eq!((bounds.least, bounds.greatest, bounds.greatest_over), (1, 1, false));
 //! # Ok::<(), rulefile::Refused>(())
 //! ```
 
@@ -64,6 +67,16 @@ pub struct Value {
 pub struct Overlap {
     pub clash: bool,
     pub pairs: u32,
+}
+
+/// What the runs of an iso count: at least `least` and, where `greatest_over` is false, at most `greatest`. Of a
+/// number above 4,294,967,295 that is given, with its flag set.
+#[derive(Clone, Copy, Debug, PartialEq, Eq)]
+pub struct Bounds {
+    pub least: u32,
+    pub greatest: u32,
+    pub least_over: bool,
+    pub greatest_over: bool,
 }
 
 /// Checks a file.
@@ -174,6 +187,25 @@ pub fn overlap(
     Refused::unless_0(answer.number, answer.line).map(|()| overlap)
 }
 
+/// Checks a file and bounds the count of any run of its iso number `iso`, there and back, without a run. A run
+/// with a budget of at least a greatest that is not flagged is never refused 17.
+///
+/// Refused, in this order: what [`check`] refuses, an absent iso (15).
+pub fn bounds(
+    file: &[u8],
+    table: &mut [u16],
+    work: &mut [u8],
+    iso: u32,
+) -> Result<Bounds, Refused> {
+    let answer = foreign::bounds(file, table, work, iso);
+    Refused::unless_0(answer.number, 0).map(|()| Bounds {
+        least: answer.least,
+        greatest: answer.greatest,
+        least_over: answer.least_over,
+        greatest_over: answer.greatest_over,
+    })
+}
+
 /// The areas of the services, for callers who do not keep their own.
 #[derive(Clone, Debug)]
 pub struct Desk {
@@ -264,6 +296,11 @@ impl Desk {
     /// P lines number `left` and `right` of the file compared.
     pub fn overlap(&mut self, file: &[u8], left: u32, right: u32) -> Result<Overlap, Refused> {
         overlap(file, &mut self.table, &mut self.work, left, right)
+    }
+
+    /// What the runs of iso number `iso` of the file count, at the least and at the most.
+    pub fn bounds(&mut self, file: &[u8], iso: u32) -> Result<Bounds, Refused> {
+        bounds(file, &mut self.table, &mut self.work, iso)
     }
 
     /// The table as the last call left it: four numbers a line of the file that was accepted.

@@ -8,6 +8,7 @@ use Rattle.model.specs.Services.{check, turn, runService}
 use Rattle.model.specs.Sheet.{sheet}
 use Rattle.ranking.specs.Numbering.{numberService, settingService}
 use Rattle.comparison.specs.Overlap.{overlapService}
+use Rattle.costs.specs.Bounds.{boundsService}
 use Rattle.rulefile.specs.declared.CheckAnswer as C
 use Rattle.rulefile.specs.declared.TurnAnswer as T
 use Rattle.rulefile.specs.declared.RunAnswer as R
@@ -15,6 +16,7 @@ use Rattle.rulefile.specs.declared.SheetAnswer as S
 use Rattle.rulefile.specs.declared.NumberAnswer as N
 use Rattle.rulefile.specs.declared.SettingAnswer as L
 use Rattle.rulefile.specs.declared.OverlapAnswer as O
+use Rattle.rulefile.specs.declared.BoundsAnswer as B
 
 -- "Check gives a number and a line"
 pub record CheckGiven (file t w t′ w′ : List ℕ) (r : C.CheckAnswer) : Type 0 where
@@ -74,3 +76,13 @@ pub record OverlapGiven (file t w : List ℕ) (i j : ℕ) (t′ w′ : List ℕ)
   pub pairs : r .pairs ≡ overlapService file t w i j .pairs
   pub table : t′ ≡ overlapService file t w i j .table
   pub work : w′ ≡ overlapService file t w i j .work
+
+-- request 05
+pub record BoundsGiven (file t w : List ℕ) (i : ℕ) (t′ w′ : List ℕ) (r : B.BoundsAnswer) : Type 0 where
+  pub number : r .number ≡ boundsService file t w i .bounds .number
+  pub least : r .least ≡ boundsService file t w i .bounds .least
+  pub greatest : r .greatest ≡ boundsService file t w i .bounds .greatest
+  pub leastOver : r .«least_over» ≡ boundsService file t w i .bounds .leastOver
+  pub greatestOver : r .«greatest_over» ≡ boundsService file t w i .bounds .greatestOver
+  pub table : t′ ≡ boundsService file t w i .table
+  pub work : w′ ≡ boundsService file t w i .work

@@ -1,7 +1,8 @@
-// The interface for callers in C and in Rust: Check, Turn, Run, a whole sheet, settings as numbers and the
-// overlap of two P lines under document 01's numbers. Each slice passes as a pointer and a length, each
-// answer as a struct; `include/rulefile.h` declares them.
+// The interface for callers in C and in Rust: Check, Turn, Run, a whole sheet, settings as numbers, the
+// overlap of two P lines and steps known beforehand under document 01's numbers. Each slice passes as a
+// pointer and a length, each answer as a struct; `include/rulefile.h` declares them.
 
+use bounds::bounds;
 use checker::check;
 use model::number_of;
 use overlaps::overlap;
@@ -10,7 +11,7 @@ use settings::to_number;
 use settings::to_setting;
 use sheets::sheet;
 use turner::turn;
-ghost use Rattle.rulefile.specs.Given.{CheckGiven, TurnGiven, RunGiven, SheetGiven, NumberGiven, SettingGiven, OverlapGiven};
+ghost use Rattle.rulefile.specs.Given.{CheckGiven, TurnGiven, RunGiven, SheetGiven, NumberGiven, SettingGiven, OverlapGiven, BoundsGiven};
 
 // Check's number and line.
 #[repr(C)]
@@ -64,6 +65,17 @@ pub struct OverlapAnswer {
     pub line: usize,
     pub clash: bool,
     pub pairs: u32,
+}
+
+// The number of a call for the bounds of an iso, the bounds, and for each whether what was reckoned is above
+// 4,294,967,295.
+#[repr(C)]
+pub struct BoundsAnswer {
+    pub number: u32,
+    pub least: u32,
+    pub greatest: u32,
+    pub least_over: bool,
+    pub greatest_over: bool,
 }
 
 // Checks a file.
@@ -202,5 +214,26 @@ pub extern "C" fn rulefile_overlap(
         line: judged.place,
         clash: told.clash,
         pairs: told.pairs,
+    }
+}
+
+// Checks a file and bounds the count of any run of its iso number `iso`, without a run.
+#[no_mangle]
+pub extern "C" fn rulefile_bounds(
+    file: &[u8],
+    table: &mut [u16],
+    work: &mut [u8],
+    iso: u32,
+) -> BoundsAnswer
+    ensures { λ r. ⌜ BoundsGiven (now (file .entry)) (now (table .entry)) (now (work .entry)) iso (now (table .exit)) (now (work .exit)) r ⌝ }
+{
+    let told = bounds(file, table, work, iso as usize);
+    let f = told.refusal;
+    BoundsAnswer {
+        number: number_of(f) as u32,
+        least: told.least,
+        greatest: told.greatest,
+        least_over: told.least_over,
+        greatest_over: told.greatest_over,
     }
 }

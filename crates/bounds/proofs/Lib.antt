@@ -1,0 +1,2 @@
+-- What the bounds on a checked table, and the service, tell.
+pub mod Telling

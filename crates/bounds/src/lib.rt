@@ -1,0 +1,100 @@
+// Steps known beforehand: a lower and an upper bound on the count of any run of an iso, without a run.
+
+use checker::Checked;
+use checker::check_file;
+use costing::number_at;
+use costing::reckon;
+use model::Refusal;
+use model::is_refused;
+use runner::run::prepare;
+ghost use mathlib.Core.Path.{_≡_};
+ghost use mathlib.Core.Bool.{false};
+ghost use mathlib.Core.List.{List};
+ghost use Prim.Native.Nat.{ℕ, min};
+ghost use lib.Dec.{ltb};
+ghost use Rattle.model.specs.Lines.{Row as RowOf};
+ghost use Rattle.model.specs.Services.{accepted};
+ghost use Rattle.costs.specs.Bounds.{maxCount, boundsOf};
+ghost use Rattle.runner.specs.RunSays.{Prepared};
+ghost use Rattle.checker.specs.CheckSays.{Accepted};
+ghost use Rattle.bounds.specs.BoundsSays.{Told, BoundsSays};
+
+// A refusal or none, the two bounds, and for each whether the number reckoned is above 4,294,967,295.
+pub struct Bounded {
+    pub refusal: Refusal,
+    pub least: u32,
+    pub greatest: u32,
+    pub least_over: bool,
+    pub greatest_over: bool,
+}
+
+fn refused(f: Refusal) -> Bounded
+    ensures { λ r. ⌜ (r .refusal ≡ f) × (r .least ≡ 0) × (r .greatest ≡ 0) × (r .«least_over» ≡ false) × (r .«greatest_over» ≡ false) ⌝ }
+{
+    Bounded {
+        refusal: f,
+        least: 0,
+        greatest: 0,
+        least_over: false,
+        greatest_over: false,
+    }
+}
+
+// A number as it is told.
+fn stopped(n: u64) -> u32
+    ensures { λ r. ⌜ r ≡ min n maxCount ⌝ }
+{
+    if n < 4294967295 {
+        return n as u32;
+    }
+    4294967295
+}
+
+fn is_over(n: u64) -> bool
+    ensures { λ r. ⌜ r ≡ ltb maxCount n ⌝ }
+{
+    4294967295 < n
+}
+
+// The bounds of iso i of a table that holds a checked file, whose isos the index finds.
+pub fn bounds_checked(t: &[u16], index: &[u16], isos: usize, i: usize) -> Bounded
+    ensures { λ r. ⌜ ((base : ℕ) (rs : List RowOf) → Prepared (now (t .entry)) base (now (index .entry)) isos rs → Told (boundsOf (accepted rs) i) r) ⌝ }
+{
+    if isos <= i {
+        return refused(Refusal::NoIso);
+    }
+    let mut least = [0u64; 32];
+    let mut greatest = [0u64; 32];
+    reckon(t, index, isos, &mut least, &mut greatest);
+    let l = number_at(&least, i);
+    let g = number_at(&greatest, i);
+    Bounded {
+        refusal: Refusal::Nothing,
+        least: stopped(l),
+        greatest: stopped(g),
+        least_over: is_over(l),
+        greatest_over: is_over(g),
+    }
+}
+
+// Indexes the isos of an accepted file and tells the bounds of one.
+fn bounds_accepted(table: &[u16], c: Checked, i: usize) -> Bounded
+    ensures { λ r. ⌜ ((s : List ℕ) (a : Accepted s (now (table .entry)) c) → Told (boundsOf (accepted (a .file)) i) r) ⌝ }
+{
+    let mut index = [0u16; 1090];
+    prepare(table, c, &mut index);
+    bounds_checked(table, &index, c.isos, i)
+}
+
+// Checks a file and tells the bounds of its iso i.
+pub fn bounds(file: &[u8], table: &mut [u16], work: &mut [u8], i: usize) -> Bounded
+    ensures { λ r. ⌜ BoundsSays (now (file .entry)) (now (table .entry)) (now (work .entry)) i (now (table .exit)) (now (work .exit)) r ⌝ }
+{
+    let c = check_file(file, table, work);
+    let a = c.answer;
+    let f = a.refusal;
+    if is_refused(f) {
+        return refused(f);
+    }
+    bounds_accepted(table, c, i)
+}

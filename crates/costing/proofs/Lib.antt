@@ -1,0 +1,2 @@
+-- What the loops of the crate have reckoned so far.
+pub mod Reckoning

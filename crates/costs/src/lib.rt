@@ -1,0 +1,1 @@
+// Request 05's definitions (specs/) and laws (proofs/); its code stands in `costing` and `bounds`.
