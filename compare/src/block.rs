@@ -23,6 +23,8 @@ use std::io;
 pub struct Block<P, S> {
     pub(crate) program: P,
     pub(crate) calls: Calls<S>,
+    /// What the desk program has printed for the case.
+    pub(crate) printed: Vec<u8>,
     pub tally: Tally,
 }
 
@@ -31,6 +33,7 @@ impl<P: Program, S: Services> Block<P, S> {
         Block {
             program,
             calls: Calls::new(services, random),
+            printed: Vec::new(),
             tally: Tally::default(),
         }
     }
@@ -69,6 +72,7 @@ impl<P: Program, S: Services> Block<P, S> {
         if random.chance(20) {
             self.other_endings(random, &known, &input.bytes, &list)?;
         }
+        self.shuffled(random, &known, &input, &trips, &list)?;
         if let Ok(rules) = &known.checked {
             for ask in input.asks() {
                 self.run(random, &known, ask);
@@ -129,6 +133,7 @@ impl<P: Program, S: Services> Block<P, S> {
         if let Some(what) = differs {
             self.tally.mismatch(what, input.bytes.clone());
         }
+        self.printed = theirs;
         Ok(answered)
     }
 

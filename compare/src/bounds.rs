@@ -187,7 +187,7 @@ fn count_kinds(grids: &mut Grids, Exact { least, greatest }: Exact) {
 }
 
 /// An iso that may be far above all.
-fn any_iso(random: &mut Random, known: &Known) -> u32 {
+pub fn any_iso(random: &mut Random, known: &Known) -> u32 {
     let isos = known.checked.as_ref().map_or(1, |rules| rules.isos.len()) as u32;
     let near = random.below(isos as usize + 1) as u32;
     let above = [near + 256, near + 65_536, near + (1 << 31), u32::MAX];

@@ -1,6 +1,6 @@
 //! Which files are made.
 
-use crate::{bounds, settings};
+use crate::{bounds, settings, shuffle};
 use apart::generate::ceiling::{self, Ceiling, CEILINGS};
 use apart::generate::life::SLIPS;
 use apart::generate::random::Random;
@@ -50,6 +50,8 @@ pub enum Case {
     Bounded(usize, bool),
     /// Eight calls of the iso below in each of 32 isos.
     Deep,
+    /// Clauses of one iso at fault in different ways, 3 to 7 or 8 to 10.
+    Several(bool),
     /// An accepted file with as many queries as a sheet may have, or one more.
     Full(bool),
     Accepted,
@@ -63,6 +65,7 @@ pub fn always() -> Vec<Case> {
     cases.extend(bounds::cases());
     for over in [false, true].repeat(5) {
         cases.extend([Case::Stack, Case::Longest, Case::Bytes(over)]);
+        cases.extend([Case::Several(over); 3]);
         cases.extend([Case::Full(over), Case::Again, Case::Crowded, Case::Mistyped]);
         cases.extend((0..SLIPS.len()).map(Case::Slip));
         cases.extend((0..CEILINGS.len()).map(|ceiling| Case::Ceiling(ceiling, over)));
@@ -112,6 +115,7 @@ pub fn file(random: &mut Random, case: Case) -> (Vec<u8>, Option<(u8, usize)>) {
         Case::Across => (ending::across(random), Some((0, 0))),
         Case::Returns(number) => (ending::all_resaved(&miss::aimed(random, number)), None),
         Case::Bounded(..) | Case::Deep => (bounds::file(random, case), Some((0, 0))),
+        Case::Several(form) => (shuffle::several(random, form), None),
         Case::Accepted | Case::Full(_) => (accepted(random), Some((0, 0))),
         Case::Any => (any_file(random), None),
     }

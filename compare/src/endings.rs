@@ -262,7 +262,7 @@ impl<P: Program, S: Services> Block<P, S> {
 }
 
 /// The three numbers and the letters of each query that was answered.
-fn answered(given: &Given, queries: usize) -> Vec<(Vec<u32>, Vec<u8>)> {
+pub fn answered(given: &Given, queries: usize) -> Vec<(Vec<u32>, Vec<u8>)> {
     let numbers = given.numbers.chunks(NUMBERS);
     let letters = given.letters.chunks(RESULT);
     let answer = |(numbers, letters): (&[u32], &[u8])| {

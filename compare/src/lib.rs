@@ -20,6 +20,7 @@ pub mod overlaps;
 pub mod service;
 pub mod settings;
 pub mod sheets;
+pub mod shuffle;
 pub mod tally;
 pub mod trip;
 pub mod variables;

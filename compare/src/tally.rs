@@ -6,6 +6,7 @@ use crate::grid::Grid;
 use crate::overlaps;
 use crate::settings;
 use crate::sheets;
+use crate::shuffle;
 use crate::variables;
 use apart::generate::ceiling::CEILINGS;
 use apart::generate::pair;
@@ -72,6 +73,7 @@ pub struct Tally {
     pub variables: Grid,
     pub returns: Grid,
     pub query_returns: Grid,
+    pub shuffled: Grid,
     /// How often each pair of faults was hit.
     pub pairs: Vec<usize>,
 }
@@ -193,6 +195,7 @@ impl Default for Tally {
             variables: variables::grid(),
             returns: endings::file_grid(),
             query_returns: endings::query_grid(),
+            shuffled: shuffle::grid(),
             pairs: vec![0; pair::all().len()],
         }
     }
@@ -221,6 +224,7 @@ impl Tally {
         self.variables.add(&other.variables);
         self.returns.add(&other.returns);
         self.query_returns.add(&other.query_returns);
+        self.shuffled.add(&other.shuffled);
         for (pair, other) in self.pairs.iter_mut().zip(other.pairs) {
             *pair += other;
         }
@@ -255,6 +259,7 @@ impl Tally {
             &self.variables,
             &self.returns,
             &self.query_returns,
+            &self.shuffled,
         ];
         let others = self.settings.all().into_iter();
         let others = others.chain(self.overlaps.all()).chain(self.bounds.all());

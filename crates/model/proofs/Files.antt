@@ -78,7 +78,7 @@ accepted-iff bs rs = (
   (λ h. verdict-in-form bs rs (h .0) ∙ ap (judged rs) (file-ok (isosOf rs) (formed-of bs rs (h .0)) .1 (h .1))),
 )
 
-judged-refused : (rs : List Row) (x : Option (Refusal × ℕ)) (f : Refusal) (n : ℕ) → judged rs x ≡ refused f n → x ≡ some (f, n)
+pub judged-refused : (rs : List Row) (x : Option (Refusal × ℕ)) (f : Refusal) (n : ℕ) → judged rs x ≡ refused f n → x ≡ some (f, n)
 judged-refused rs none f n e = absurd (refused≢accepted (sym e))
 judged-refused rs (some g) f n e =
     let p : g .0 ≡ f = cc in
@@ -130,7 +130,7 @@ answer-iff bs = (
 
 -- ---- the turned file
 
-turned-accepted-bytes : (bs : List ℕ) (rs : List Row) → verdict bs ≡ accepted rs → turned bs ≡ printRows (turnRows rs)
+pub turned-accepted-bytes : (bs : List ℕ) (rs : List Row) → verdict bs ≡ accepted rs → turned bs ≡ printRows (turnRows rs)
 unfolding turned
 turned-accepted-bytes bs rs e = ap turnedOf e
 

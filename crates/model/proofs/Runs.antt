@@ -200,7 +200,7 @@ toward-turn : (back : Bool) (rs : List Row) → toward back (turnRows rs) ≡ tu
 toward-turn true rs = refl
 toward-turn false rs = refl
 
-run-accepted : (file : List ℕ) (rs : List Row) → verdict file ≡ accepted rs → (i : ℕ) (back : Bool) (budget : ℕ) (bs : List ℕ)
+pub run-accepted : (file : List ℕ) (rs : List Row) → verdict file ≡ accepted rs → (i : ℕ) (back : Bool) (budget : ℕ) (bs : List ℕ)
     → run file i back budget bs ≡ runRows (toward back rs) i budget bs
 unfolding run
 run-accepted file rs e i back budget bs = ap (λ v. runOf v i back budget bs) e

@@ -23,7 +23,7 @@ row k a b c = record { kind = k; x = a; y = b; z = c }
 -- ---- the L lines in front
 
 -- only L lines
-abbrev AllLets : List Row → Type 0
+abbrev pub AllLets : List Row → Type 0
 AllLets [] = Unit {0}
 AllLets (r ∷ rs) = (r .kind ≡ letLine) × AllLets rs
 
@@ -31,7 +31,7 @@ snoc-lets : (ls : List Row) (l : Row) → AllLets ls → l .kind ≡ letLine →
 snoc-lets [] l u e = (e, tt)
 snoc-lets (h ∷ ls) l u e = (u .0, snoc-lets ls l (u .1) e)
 
-held-lets : (rs : List Row) → AllLets (turnFrom rs .held)
+pub held-lets : (rs : List Row) → AllLets (turnFrom rs .held)
 held-lets [] = tt
 held-lets (r ∷ rs) = step (r .kind) (r .x) (r .y) (r .z) (held-lets rs)
   where
@@ -90,10 +90,10 @@ turn-turn rs = turn-back rs (back rs)
 -- ---- what the turned rows tell
 
 -- what the rows tell with one L line more
-abbrev withLet : Seen → Seen
+abbrev pub withLet : Seen → Seen
 withLet s = record { above = some letLine; types = s .types; patterns = s .patterns; isos = s .isos; clauses = s .clauses; lets = suc (s .lets) }
 
-after-let : (s : Seen) (l : Row) → l .kind ≡ letLine → after s l ≡ withLet s
+pub after-let : (s : Seen) (l : Row) → l .kind ≡ letLine → after s l ≡ withLet s
 after-let s l e = ap (λ k. afterKind k s l) e
 
 -- an L line behind other L lines tells as much as one before them
@@ -233,10 +233,10 @@ exchange-fit s letLine r f =
     let e = and-true (ltb (r .x) n) (ltb (r .z) n) (d .0) in
     record { order = f .order; fields = refl; names = true-and (true-and (e .1) (e .0)) (d .1); ceilings = f .ceilings }
 
-judge-let : (s : Seen) (l : Row) → l .kind ≡ letLine → judge s l ≡ none → Fit s letLine l
+pub judge-let : (s : Seen) (l : Row) → l .kind ≡ letLine → judge s l ≡ none → Fit s letLine l
 judge-let s l e j = subst (λ k. Fit s k l) e (judge-fit s l j)
 
-let-judge : (s : Seen) (l : Row) → l .kind ≡ letLine → Fit s letLine l → judge s l ≡ none
+pub let-judge : (s : Seen) (l : Row) → l .kind ≡ letLine → Fit s letLine l → judge s l ≡ none
 let-judge s l e f = fit-judge s l (subst (λ k. Fit s k l) (sym e) f)
 
 -- of two L lines the second passes in front of the first
@@ -249,7 +249,7 @@ sooner-fit s l h f g =
 later-fit : (s : Seen) (l h : Row) → Fit s letLine l → Fit (withLet s) letLine h → Fit (withLet s) letLine l
 later-fit s l h f g = record { order = refl; fields = refl; names = f .names; ceilings = g .ceilings }
 
-passes-next : {s : Seen} {r : Row} {rs : List Row} → Passes s (r ∷ rs) → (judge s r ≡ none) × Passes (after s r) rs
+pub passes-next : {s : Seen} {r : Row} {rs : List Row} → Passes s (r ∷ rs) → (judge s r ≡ none) × Passes (after s r) rs
 passes-next (next j d) = (j, d)
 
 -- an L line that passes before other L lines passes behind them
