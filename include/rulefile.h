@@ -2,7 +2,8 @@
  * rulefile.h - Check, Turn, Run, whole sheets of queries, settings as numbers, the overlap of two patterns
  * and steps known beforehand for rule files.
  *
- * Link with librulefile.a (`rt staticlib rulefile` writes target/staticlib/librulefile.a). The library
+ * `bin/install PREFIX` puts librulefile.a, librulefile.so and this header in place, with a file for pkg-config;
+ * `rt staticlib rulefile` writes target/staticlib/librulefile.a alone. The platform is x86-64 Linux. The library
  * needs memset of the C library and nothing else; it allocates nothing, keeps nothing between calls and
  * may be called from several threads at once, each with areas of its own.
  *
@@ -26,6 +27,9 @@
  * A line of a file or of a list ends with a line feed, or with a carriage return and a line feed; lengths
  * count both bytes. What Turn writes ends with line feeds alone.
  *
+ * A call needs at most 48 KB of stack. Measured by painting it, over the deepest files (32 nested isos, types and
+ * patterns of 127 nodes): rulefile_run, rulefile_sheet and rulefile_bounds 35 KB, the others 32 KB.
+ *
  * docs/REFUSALS.md says what each refusal means and what to ask the supplier.
  */
 #ifndef RULEFILE_H
@@ -38,6 +42,9 @@
 #ifdef __cplusplus
 extern "C" {
 #endif
+
+/* The version of this header; rulefile_version() gives that of the library. */
+#define RULEFILE_VERSION "0.2.0"
 
 /* Lengths of the areas: at least so many elements, otherwise refusal 1. */
 #define RULEFILE_TABLE_LENGTH 16384 /* numbers of 16 bits */
@@ -133,6 +140,14 @@ struct rulefile_bounds_answer {
     bool least_over;    /* the least is above 4,294,967,295, which is then given; false on refusal */
     bool greatest_over; /* the same of the greatest */
 };
+
+/*
+ * The version of the library, to be held against RULEFILE_VERSION; and the word of a number, as docs/REFUSALS.md has
+ * it: `accepted` for 0, `unknown` for a number that no answer has. Both are texts that stay. They are in the library
+ * that bin/install puts in place; the archive that `rt staticlib rulefile` writes has all functions but these two.
+ */
+const char *rulefile_version(void);
+const char *rulefile_word(uint32_t number);
 
 /* Checks a file. */
 struct rulefile_check_answer rulefile_check(

@@ -2240,10 +2240,30 @@ static struct call stored_run(struct bytes file, struct bytes line)
                          .value = value};
 }
 
+/* What the desk program reads: a stored input, or a rule file and the queries beside it. */
+static struct bytes read_example(const char *path)
+{
+    struct bytes file = read_file(path);
+    char beside[256];
+    size_t stem = strlen(path) - strlen(".rules");
+    require(strlen(path) > strlen(".rules") && stem < sizeof beside - sizeof ".queries");
+    memcpy(beside, path, stem);
+    strcpy(beside + stem, ".queries");
+    if (strcmp(path + stem, ".rules") != 0 || access(beside, R_OK) != 0)
+        return file;
+    struct bytes queries = read_file(beside);
+    uint8_t *both = allocate(file.length + queries.length + 1);
+    memcpy(both, file.start, file.length);
+    memcpy(both + file.length, queries.start, queries.length + 1);
+    free((void *)file.start);
+    free((void *)queries.start);
+    return (struct bytes){both, file.length + queries.length};
+}
+
 /* A stored input, its queries in one sheet. */
 static void try_stored(const char *path)
 {
-    struct bytes input = read_file(path);
+    struct bytes input = read_example(path);
     size_t at = 0;
     while (at < input.length && input.start[at] != 'Q')
         at += line_at(input, at).length;
@@ -2266,7 +2286,8 @@ static void stored_examples(void)
 {
     glob_t paths;
     size_t queries = 0;
-    require(glob("examples/*.in", 0, NULL, &paths) == 0);
+    require(glob("examples/*.rules", 0, NULL, &paths) == 0);
+    require(glob("examples/*/*.rules", GLOB_APPEND, NULL, &paths) == 0);
     require(glob("examples/*/*.in", GLOB_APPEND, NULL, &paths) == 0);
     for (size_t i = 0; i < paths.gl_pathc; i++) {
         try_stored(paths.gl_pathv[i]);

@@ -6,7 +6,7 @@
 //!
 //! Exit status: 0 came back, 1 refused, 2 the arguments or the file cannot be read.
 
-use rulefile::{Desk, Direction, Refused, Value};
+use rulefile::{Desk, Direction, Query, Refused, Value};
 use std::env;
 use std::ffi::{OsStr, OsString};
 use std::fs::File;
@@ -72,15 +72,8 @@ fn run(
     request: &Request,
     letters: &[u8],
 ) -> Result<Value, Refused> {
-    let value = desk
-        .run(
-            rules,
-            request.iso,
-            Direction::Forward,
-            request.budget,
-            letters,
-        )
-        .map_err(refused(step))?;
+    let query = Query::new(request.iso, Direction::Forward, request.budget, letters);
+    let value = desk.run(rules, query).map_err(refused(step))?;
     let from = String::from_utf8_lossy(letters);
     let to = String::from_utf8_lossy(&value.letters);
     println!("{step}: {from} becomes {to}, count {}", value.count);

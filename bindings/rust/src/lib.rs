@@ -6,10 +6,12 @@
 //! `include/rulefile.h`. Callers who do not want to make one [`Desk`], which owns the areas:
 //!
 //! ```
-//! let mut desk = rulefile::Desk::new();
+//! use rulefile::{Desk, Direction, Query};
+//!
+//! let mut desk = Desk::new();
 //! let file = b"T,0,0,0\nT,1,0,0\nP,0,0,0\nP,2,0,0\nP,3,0,0\nI,1,1\nC,1,2\nC,2,1\n";
 //! desk.check(file)?;
-//! let there = desk.run(file, 0, rulefile::Direction::Forward, 9, b"LU")?;
+//! let there = desk.run(file, Query::new(0, Direction::Forward, 9, b"LU"))?;
 //! assert_eq!((there.letters.as_slice(), there.count), (b"RU".as_slice(), 1));
 //! // T line 1 has two settings, with the numbers 0 and 1.
 //! assert_eq!(desk.number_of(file, 1, b"RU")?, 1);
@@ -23,10 +25,17 @@
 //! # Ok::<(), rulefile::Refused>(())
 //! ```
 
+#![deny(missing_docs)]
+
 mod foreign;
+mod query;
 mod refusal;
 
+pub use query::{Direction, Query};
 pub use refusal::{Refusal, Refused};
+
+/// The version of this crate, which is that of the library.
+pub const VERSION: &str = env!("CARGO_PKG_VERSION");
 
 /// The least length of a table area, in numbers of 16 bits.
 pub const TABLE_LENGTH: usize = 16_384;
@@ -40,32 +49,30 @@ pub const NUMBERS_A_QUERY: usize = 3;
 /// The most queries of a sheet.
 pub const MAX_QUERIES: usize = 600;
 
-/// Which way an iso is run.
-#[derive(Clone, Copy, Debug, PartialEq, Eq)]
-pub enum Direction {
-    Forward,
-    Back,
-}
-
-/// A run that was not refused: the applications made, and the letters written to the result area.
+/// A run that was not refused, its letters in the result area.
 #[derive(Clone, Copy, Debug, PartialEq, Eq)]
 pub struct Ran {
+    /// The applications made.
     pub count: u32,
+    /// The letters written to the result area.
     pub length: usize,
 }
 
 /// A run that was not refused, with its letters.
 #[derive(Clone, Debug, PartialEq, Eq)]
 pub struct Value {
+    /// The applications made.
     pub count: u32,
+    /// The letters of what came out.
     pub letters: Vec<u8>,
 }
 
-/// Two patterns compared: whether a left stands against a right, and the node pairs compared, that one
-/// included.
+/// Two patterns compared.
 #[derive(Clone, Copy, Debug, PartialEq, Eq)]
 pub struct Overlap {
+    /// Whether a left stands against a right.
     pub clash: bool,
+    /// The node pairs compared, the clash included.
     pub pairs: u32,
 }
 
@@ -73,9 +80,13 @@ pub struct Overlap {
 /// number above 4,294,967,295 that is given, with its flag set.
 #[derive(Clone, Copy, Debug, PartialEq, Eq)]
 pub struct Bounds {
+    /// No run counts less.
     pub least: u32,
+    /// No run counts more, unless flagged.
     pub greatest: u32,
+    /// Whether the least is above 4,294,967,295.
     pub least_over: bool,
+    /// Whether the greatest is.
     pub greatest_over: bool,
 }
 
@@ -94,15 +105,6 @@ pub fn turn(
 ) -> Result<usize, Refused> {
     let answer = foreign::turn(file, table, work, output);
     Refused::unless_0(answer.number, answer.line).map(|()| answer.length)
-}
-
-/// What a run is asked: the iso's number, the direction, the budget and the value's letters.
-#[derive(Clone, Copy, Debug, PartialEq, Eq)]
-pub struct Query<'a> {
-    pub iso: u32,
-    pub direction: Direction,
-    pub budget: u32,
-    pub letters: &'a [u8],
 }
 
 /// Checks a file and runs one of its isos.
@@ -220,6 +222,7 @@ impl Default for Desk {
 }
 
 impl Desk {
+    /// Areas of the lengths that every service needs.
     pub fn new() -> Self {
         Desk {
             table: vec![0; TABLE_LENGTH],
@@ -240,22 +243,9 @@ impl Desk {
         Ok(output)
     }
 
-    /// What iso number `iso` of the file makes of a value.
-    pub fn run(
-        &mut self,
-        file: &[u8],
-        iso: u32,
-        direction: Direction,
-        budget: u32,
-        letters: &[u8],
-    ) -> Result<Value, Refused> {
+    /// What an iso of the file makes of a value.
+    pub fn run(&mut self, file: &[u8], query: Query) -> Result<Value, Refused> {
         let mut result = [0; RESULT_LENGTH];
-        let query = Query {
-            iso,
-            direction,
-            budget,
-            letters,
-        };
         let ran = run(file, &mut self.table, &mut self.work, query, &mut result)?;
         Ok(Value {
             count: ran.count,
@@ -274,10 +264,17 @@ impl Desk {
         let mut letters = vec![0; most * RESULT_LENGTH];
         let (table, work) = (&mut self.table, &mut self.work);
         let answered = sheet(file, table, work, queries, &mut numbers, &mut letters)?;
-        let threes = numbers
-            .chunks(NUMBERS_A_QUERY)
-            .zip(letters.chunks(RESULT_LENGTH));
-        Ok(threes.take(answered).map(answer_of).collect())
+        Ok(query::answers(&numbers, &letters, answered))
+    }
+
+    /// What each of these queries is answered: what [`Desk::run`] answers to it alone, with the file checked once.
+    pub fn sheet_of(
+        &mut self,
+        file: &[u8],
+        queries: &[Query],
+    ) -> Result<Vec<Result<Value, Refusal>>, Refused> {
+        let lines: Vec<u8> = queries.iter().flat_map(Query::line).collect();
+        self.sheet(file, &lines)
     }
 
     /// The number of a setting, a value of T line number `ty` of the file.
@@ -307,14 +304,4 @@ impl Desk {
     pub fn table(&self) -> &[u16] {
         &self.table
     }
-}
-
-/// A query's answer, from its three numbers and its 127 bytes.
-fn answer_of((numbers, letters): (&[u32], &[u8])) -> Result<Value, Refusal> {
-    let refused = |refused: Refused| refused.refusal;
-    Refused::unless_0(numbers[0], 0).map_err(refused)?;
-    Ok(Value {
-        count: numbers[1],
-        letters: letters[..numbers[2] as usize].to_vec(),
-    })
 }

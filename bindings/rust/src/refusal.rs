@@ -3,34 +3,58 @@
 use std::error::Error;
 use std::fmt;
 
-/// Why a file or a call is refused; the discriminants are the numbers of the documents.
+/// Why a file or a call is refused; the discriminants are the numbers of the documents. `docs/REFUSALS.md` says
+/// what each means and what to ask the supplier.
 #[derive(Clone, Copy, Debug, PartialEq, Eq, Hash)]
+#[non_exhaustive]
 #[repr(u32)]
 pub enum Refusal {
+    /// A lent area is shorter than stated.
     ShortArea = 1,
+    /// Over 65,536 bytes or 4,096 lines; of a sheet, over 600 queries.
     TooLong = 2,
+    /// Not one of the five line forms, or no line feed at the end; of a query, another form.
     BadLine = 3,
+    /// A line against the stated order.
     Misplaced = 4,
+    /// A kind that is not listed, an idle field that is not 0, a variable above 31.
     BadField = 5,
+    /// A named line does not stand earlier, or an L line names its own iso.
     BadName = 6,
+    /// Any other ceiling passed.
     Ceiling = 7,
+    /// A variable bound while live, used while not, or live at the end of its clause.
     Variable = 8,
+    /// Left or right in a let pattern.
     LetShape = 9,
+    /// No assignment of types fits the clause.
     Type = 10,
+    /// Two left patterns match one value.
     OverlapLeft = 11,
+    /// Two right patterns match one value.
     OverlapRight = 12,
+    /// The left patterns leave a value out.
     GapLeft = 13,
+    /// The right patterns leave a value out.
     GapRight = 14,
+    /// The file has no iso, or no T or P line, of that number.
     NoIso = 15,
+    /// The letters are not exactly one closed value of the type.
     NoValue = 16,
+    /// The full count would pass the budget.
     Spent = 17,
+    /// The T line has over 4,294,967,295 values.
     TooMany = 18,
+    /// The setting's number is not below the T line's count of values.
     TooHigh = 19,
+    /// A number that this crate has no name for: the library that is linked is of a later version.
+    Unknown(u32),
 }
 
 use Refusal::*;
 
-const ALL: [(Refusal, &str); 19] = [
+/// Every refusal that has a name, in the order of their numbers, with its word.
+const ALL: &[(Refusal, &str)] = &[
     (ShortArea, "short area"),
     (TooLong, "too long"),
     (BadLine, "bad line"),
@@ -55,12 +79,15 @@ const ALL: [(Refusal, &str); 19] = [
 impl Refusal {
     /// The number of the documents.
     pub fn number(self) -> u32 {
-        self as u32
+        match self {
+            Unknown(number) => number,
+            named => named.place() as u32 + 1,
+        }
     }
 
-    /// The word of the documents.
+    /// The word of the documents; `unknown` for a number that this crate has no name for.
     pub fn word(self) -> &'static str {
-        ALL[self as usize - 1].1
+        ALL.get(self.place()).map_or("unknown", |entry| entry.1)
     }
 
     /// The refusal of a number, if there is one.
@@ -68,34 +95,45 @@ impl Refusal {
         let place = (number as usize).checked_sub(1)?;
         ALL.get(place).map(|entry| entry.0)
     }
+
+    /// Where the refusal stands among those that have a name; behind them, where it has none.
+    fn place(self) -> usize {
+        let same = |entry: &(Refusal, &str)| entry.0 == self;
+        ALL.iter().position(same).unwrap_or(ALL.len())
+    }
 }
 
-/// A refusal and the line that it names, counted from 1; 0 where none is named.
+impl fmt::Display for Refusal {
+    fn fmt(&self, f: &mut fmt::Formatter) -> fmt::Result {
+        write!(f, "{}, {}", self.number(), self.word())
+    }
+}
+
+impl Error for Refusal {}
+
+/// A refusal and the line that it names.
 #[derive(Clone, Copy, Debug, PartialEq, Eq, Hash)]
 pub struct Refused {
+    /// Why the file or the call is refused.
     pub refusal: Refusal,
+    /// The file's line, counted from 1; 0 where none is named.
     pub line: usize,
 }
 
 impl Refused {
-    /// The library's contract rules out every number above 19.
+    /// What a number and a line of the library say.
     pub(crate) fn unless_0(number: u32, line: usize) -> Result<(), Refused> {
-        match (number, Refusal::of(number)) {
-            (0, _) => Ok(()),
-            (_, Some(refusal)) => Err(Refused { refusal, line }),
-            (_, None) => unreachable!("librulefile.a and this crate are of different versions"),
+        if number == 0 {
+            return Ok(());
         }
+        let refusal = Refusal::of(number).unwrap_or(Unknown(number));
+        Err(Refused { refusal, line })
     }
 }
 
 impl fmt::Display for Refused {
     fn fmt(&self, f: &mut fmt::Formatter) -> fmt::Result {
-        write!(
-            f,
-            "refused with {}, {}",
-            self.refusal.number(),
-            self.refusal.word()
-        )?;
+        write!(f, "refused with {}", self.refusal)?;
         match self.line {
             0 => Ok(()),
             line => write!(f, ", at line {line}"),
@@ -104,3 +142,31 @@ impl fmt::Display for Refused {
 }
 
 impl Error for Refused {}
+
+#[cfg(test)]
+mod tests {
+    use super::{Refusal, Refused, ALL};
+
+    #[test]
+    fn a_number_without_a_name_is_an_error_value() {
+        for number in [ALL.len() as u32 + 1, 65_536, u32::MAX] {
+            let refusal = Refusal::Unknown(number);
+            assert_eq!(
+                Refused::unless_0(number, 7),
+                Err(Refused { refusal, line: 7 })
+            );
+            assert_eq!((refusal.number(), refusal.word()), (number, "unknown"));
+            assert_eq!(refusal.to_string(), format!("{number}, unknown"));
+        }
+        assert_eq!(Refused::unless_0(0, 7), Ok(()));
+    }
+
+    #[test]
+    fn every_name_has_its_discriminant() {
+        for (place, (refusal, word)) in ALL.iter().enumerate() {
+            let number = place as u32 + 1;
+            assert_eq!((refusal.number(), refusal.word()), (number, *word));
+            assert_eq!(Refusal::of(number), Some(*refusal));
+        }
+    }
+}

@@ -1,7 +1,9 @@
 //! Steps known beforehand, through the wrapper: bounds of document 01's file, at the limit, held to runs;
 //! refusals and lent areas.
 
-use rulefile::{bounds, Bounds, Desk, Direction, Refusal, Refused, TABLE_LENGTH, WORK_LENGTH};
+use rulefile::{
+    bounds, Bounds, Desk, Direction, Query, Refusal, Refused, TABLE_LENGTH, WORK_LENGTH,
+};
 use Direction::{Back, Forward};
 
 /// Document 01's file S, its lines parted by blanks.
@@ -99,7 +101,7 @@ fn bounds_hold_of_runs() {
         } = desk.bounds(&file, iso).unwrap();
         for way in [Forward, Back] {
             let mut count = |budget| {
-                let ran = desk.run(&file, iso, way, budget, b"U");
+                let ran = desk.run(&file, Query::new(iso, way, budget, b"U"));
                 ran.map(|value| value.count)
                     .map_err(|refused| refused.refusal)
             };
@@ -109,7 +111,9 @@ fn bounds_hold_of_runs() {
     let s = file(S);
     for (letters, count) in [("PLULU", 2), ("PLURU", 2), ("PRULU", 1), ("PRURU", 1)] {
         for way in [Forward, Back] {
-            let ran = desk.run(&s, 1, way, 2, letters.as_bytes()).unwrap();
+            let ran = desk
+                .run(&s, Query::new(1, way, 2, letters.as_bytes()))
+                .unwrap();
             assert_eq!(ran.count, count);
         }
     }

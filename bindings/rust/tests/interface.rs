@@ -93,7 +93,7 @@ fn expect_refused(file: &[u8], refusal: Refusal, line: usize) {
         assert_eq!(answer, Err(refused(refusal, line)));
     }
     assert_eq!(
-        desk.run(file, 0, Forward, 9, b"U"),
+        desk.run(file, Query::new(0, Forward, 9, b"U")),
         Err(refused(refusal, 0))
     );
     for (left, right) in [(0, 0), (0, u32::MAX), (65_536, 1)] {
@@ -133,20 +133,32 @@ fn types_of_127_and_255_nodes() {
 fn queries_of_document_01() {
     let mut desk = Desk::new();
     let s = file(S);
-    assert_eq!(desk.run(&s, 1, Forward, 9, b"PLURU"), value(2, "PLULU"));
-    assert_eq!(desk.run(&s, 1, Back, 9, b"PLULU"), value(2, "PLURU"));
-    assert_eq!(desk.run(&s, 1, Forward, 2, b"PRULU"), value(1, "PRULU"));
-    assert_eq!(desk.run(&s, 1, Forward, 2, b"PLURU"), value(2, "PLULU"));
     assert_eq!(
-        desk.run(&s, 1, Forward, 1, b"PLURU"),
+        desk.run(&s, Query::new(1, Forward, 9, b"PLURU")),
+        value(2, "PLULU")
+    );
+    assert_eq!(
+        desk.run(&s, Query::new(1, Back, 9, b"PLULU")),
+        value(2, "PLURU")
+    );
+    assert_eq!(
+        desk.run(&s, Query::new(1, Forward, 2, b"PRULU")),
+        value(1, "PRULU")
+    );
+    assert_eq!(
+        desk.run(&s, Query::new(1, Forward, 2, b"PLURU")),
+        value(2, "PLULU")
+    );
+    assert_eq!(
+        desk.run(&s, Query::new(1, Forward, 1, b"PLURU")),
         Err(refused(Refusal::Spent, 0))
     );
     assert_eq!(
-        desk.run(&s, 2, Forward, 9, b"U"),
+        desk.run(&s, Query::new(2, Forward, 9, b"U")),
         Err(refused(Refusal::NoIso, 0))
     );
     assert_eq!(
-        desk.run(&s, 1, Forward, 9, b"PLU"),
+        desk.run(&s, Query::new(1, Forward, 9, b"PLU")),
         Err(refused(Refusal::NoValue, 0))
     );
 }
@@ -170,6 +182,39 @@ fn queries_of_document_01_in_one_sheet() {
     let mut desk = Desk::new();
     assert_eq!(desk.sheet(&file(S), QUERIES.as_bytes()), Ok(replies));
     assert_eq!(desk.table(), rows(S));
+}
+
+/// Queries in one sheet are answered as each on its own, also those that no line of a sheet can say.
+#[test]
+fn queries_as_values_in_one_sheet() {
+    let values: [&'static [u8]; 11] = [
+        b"PLURU",
+        b"LU",
+        b"",
+        b"PLURU\n",
+        b"PLURU\r",
+        b"plURU",
+        b"PLURU,",
+        b"\xff",
+        b"\0",
+        b"\r\nQ,1,0,9,PLURU",
+        &[b'U'; 128],
+    ];
+    let mut desk = Desk::new();
+    let s = file(S);
+    for iso in [0, 1, 2, 65_535, 65_536, u32::MAX] {
+        for (direction, budget) in [(Forward, 9), (Back, 2), (Back, 1), (Forward, u32::MAX)] {
+            let ask = |letters: &&'static [u8]| Query::new(iso, direction, budget, letters);
+            let asked: Vec<Query> = values.iter().map(ask).collect();
+            let mut run = |query: &Query| desk.run(&s, *query).map_err(|refused| refused.refusal);
+            let alone: Vec<_> = asked.iter().map(&mut run).collect();
+            assert_eq!(desk.sheet_of(&s, &asked), Ok(alone));
+        }
+    }
+    assert_eq!(desk.sheet_of(&s, &[]), Ok(vec![]));
+    let many = vec![Query::new(0, Forward, 1, b"LU"); MAX_QUERIES + 1];
+    assert_eq!(desk.sheet_of(&s, &many), Err(refused(Refusal::TooLong, 0)));
+    assert_eq!(many[0].to_string(), "Q,0,0,1,LU");
 }
 
 #[test]
@@ -231,11 +276,16 @@ fn turned_and_there_and_back() {
     assert_eq!(desk.turn(&turned), Ok(s.clone()));
     assert_eq!(desk.turn(b""), Ok(vec![]));
     for letters in [b"PLULU", b"PLURU", b"PRULU", b"PRURU"] {
-        let there = desk.run(&s, 1, Forward, 9, letters).unwrap();
-        let back = desk.run(&turned, 1, Forward, 9, &there.letters).unwrap();
+        let there = desk.run(&s, Query::new(1, Forward, 9, letters)).unwrap();
+        let back = desk
+            .run(&turned, Query::new(1, Forward, 9, &there.letters))
+            .unwrap();
         assert_eq!(back.letters, letters);
         assert_eq!(back.count, there.count);
-        assert_eq!(desk.run(&s, 1, Back, 9, &there.letters), Ok(back));
+        assert_eq!(
+            desk.run(&s, Query::new(1, Back, 9, &there.letters)),
+            Ok(back)
+        );
     }
 }
 
@@ -286,16 +336,19 @@ fn the_limits_of_a_query() {
     let s = file(S);
     for iso in [2, 256, 65_535, 65_536, 65_537, u32::MAX] {
         assert_eq!(
-            desk.run(&s, iso, Forward, 9, b"LU"),
+            desk.run(&s, Query::new(iso, Forward, 9, b"LU")),
             Err(refused(Refusal::NoIso, 0))
         );
     }
     for budget in [1, 65_536, u32::MAX] {
-        assert_eq!(desk.run(&s, 0, Forward, budget, b"LU"), value(1, "RU"));
+        assert_eq!(
+            desk.run(&s, Query::new(0, Forward, budget, b"LU")),
+            value(1, "RU")
+        );
     }
-    assert_eq!(desk.run(&s, 0, Back, 1, b"LU"), value(1, "RU"));
+    assert_eq!(desk.run(&s, Query::new(0, Back, 1, b"LU")), value(1, "RU"));
     assert_eq!(
-        desk.run(&s, 0, Forward, 0, b"LU"),
+        desk.run(&s, Query::new(0, Forward, 0, b"LU")),
         Err(refused(Refusal::Spent, 0))
     );
     for letters in [
@@ -307,7 +360,7 @@ fn the_limits_of_a_query() {
         &vec![b'U'; 1_000_000],
     ] {
         assert_eq!(
-            desk.run(&s, 0, Forward, 9, letters),
+            desk.run(&s, Query::new(0, Forward, 9, letters)),
             Err(refused(Refusal::NoValue, 0))
         );
     }
@@ -324,11 +377,11 @@ fn a_value_of_127_letters() {
     let mut desk = Desk::new();
     let lines = file(lines);
     assert_eq!(
-        desk.run(&lines, 0, Forward, 1, letters.as_bytes()),
+        desk.run(&lines, Query::new(0, Forward, 1, letters.as_bytes())),
         value(1, &letters)
     );
     for wrong in [&letters[..126], &format!("{letters}U")] {
-        let answer = desk.run(&lines, 0, Forward, 1, wrong.as_bytes());
+        let answer = desk.run(&lines, Query::new(0, Forward, 1, wrong.as_bytes()));
         assert_eq!(answer, Err(refused(Refusal::NoValue, 0)));
     }
 }
@@ -944,7 +997,7 @@ fn a_desk_is_used_again() {
         assert_eq!(desk.check(&s), Ok(()));
         assert_eq!(desk.table(), rows(S));
         assert_eq!(
-            desk.clone().run(&s, 1, Forward, 9, b"PLURU"),
+            desk.clone().run(&s, Query::new(1, Forward, 9, b"PLURU")),
             value(2, "PLULU")
         );
         assert_eq!(desk.check(b"T"), Err(refused(Refusal::BadLine, 1)));
@@ -972,7 +1025,8 @@ fn desks_in_threads() {
             (0..200).all(|_| {
                 let number = desk.number_of(&file(S), 2, letters.as_bytes()).unwrap();
                 desk.setting_of(&file(S), 2, number) == Ok(letters.as_bytes().to_vec())
-                    && desk.run(&file(S), 1, Forward, 2, letters.as_bytes()) == value(count, given)
+                    && desk.run(&file(S), Query::new(1, Forward, 2, letters.as_bytes()))
+                        == value(count, given)
                     && desk.sheet(&file(S), list.as_bytes()) == Ok(replies.to_vec())
             })
         })
@@ -1004,25 +1058,15 @@ fn query_of(line: &str) -> Query<'_> {
     }
 }
 
-fn ask(desk: &mut Desk, file: &[u8], query: Query) -> Result<Value, Refused> {
-    desk.run(
-        file,
-        query.iso,
-        query.direction,
-        query.budget,
-        query.letters,
-    )
-}
-
 /// What the desk program prints for a query. A run of the file is a run of the turned file the other way.
 fn answer(desk: &mut Desk, file: &[u8], turned: &[u8], query: Query) -> String {
-    let answer = ask(desk, file, query);
+    let answer = desk.run(file, query);
     let direction = if query.direction == Forward {
         Back
     } else {
         Forward
     };
-    assert_eq!(ask(desk, turned, Query { direction, ..query }), answer);
+    assert_eq!(desk.run(turned, Query { direction, ..query }), answer);
     printed(answer.map_err(|refused| refused.refusal))
 }
 
@@ -1081,18 +1125,23 @@ fn examples(ending: &str) -> Vec<PathBuf> {
     below(&folder, ending)
 }
 
+/// What the desk program reads: a stored input, or a rule file and the queries beside it.
+fn read_example(path: &Path) -> String {
+    let mut text = fs::read_to_string(path).unwrap();
+    if path.extension().is_some_and(|end| end == "rules") {
+        text += &fs::read_to_string(path.with_extension("queries")).unwrap_or_default();
+    }
+    text
+}
+
 #[test]
 fn stored_examples() {
-    let inputs = examples("in");
-    assert!(inputs.len() > 20, "{} examples", inputs.len());
-    for input in inputs {
+    let inputs = [examples("in"), examples("rules")];
+    assert!(inputs.iter().all(|inputs| inputs.len() > 5));
+    for input in inputs.concat() {
         let expected = fs::read_to_string(input.with_extension("out")).unwrap();
-        assert_eq!(
-            answers(&fs::read_to_string(&input).unwrap()),
-            expected,
-            "{}",
-            input.display()
-        );
+        let found = answers(&read_example(&input));
+        assert_eq!(found, expected, "{}", input.display());
     }
 }
 
@@ -1173,6 +1222,7 @@ fn header_numbers() -> Vec<(String, u32)> {
             .filter(|word| !word.is_empty())
             .collect();
         let (name, number) = match words[..] {
+            ["#define", "RULEFILE_VERSION", ..] => continue,
             ["#define", name, number, ..] | [name, "=", number, ..] => (name, number),
             _ => continue,
         };

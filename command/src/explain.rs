@@ -1,0 +1,105 @@
+//! What a refusal means, in the words of `docs/REFUSALS.md`.
+
+use crate::form;
+use rulefile::{Refusal, Refused};
+
+/// The one source of the words.
+const REFUSALS: &str = include_str!("../../docs/REFUSALS.md");
+
+/// What stands in the table for one refusal.
+#[derive(Clone, Copy)]
+pub struct Meaning {
+    /// What happened.
+    pub happened: &'static str,
+    /// What to do, or to ask the supplier.
+    pub ask: &'static str,
+}
+
+/// The row of a refusal.
+pub fn meaning(refusal: Refusal) -> Meaning {
+    let number = refusal.number().to_string();
+    let rows = REFUSALS.lines().filter(|line| line.starts_with('|'));
+    let mut cells = rows.map(|row| row.split('|').map(str::trim).skip(1).collect::<Vec<_>>());
+    match cells.find(|cells| cells.first() == Some(&number.as_str())) {
+        Some(cells) if cells.len() >= 4 => Meaning {
+            happened: cells[2],
+            ask: cells[3],
+        },
+        _ => Meaning {
+            happened: "this version of the command has no words for the number",
+            ask: "build the command again, over the library of the same version",
+        },
+    }
+}
+
+/// What accepted means.
+pub const ACCEPTED: &str =
+    "every setting of a from-type goes to exactly one setting of its to-type, \
+    every setting of the to-type is reached, and the way back leads to the setting it came from";
+
+/// A warning about an accepted file in which there is nothing to use.
+pub fn warning(bytes: &[u8]) -> Option<&'static str> {
+    let isos = bytes.split(|byte| *byte == b'\n');
+    if bytes.is_empty() {
+        Some("the file is empty: it is accepted, and has no conversion; was it sent whole?")
+    } else if !isos.clone().any(|line| line.first() == Some(&b'I')) {
+        Some("the file has no I line, so no conversion; was it sent whole?")
+    } else {
+        None
+    }
+}
+
+/// The word of a verdict.
+pub fn word(verdict: Result<(), Refused>) -> &'static str {
+    verdict.map_or_else(|refused| refused.refusal.word(), |()| "accepted")
+}
+
+/// `number,line` of a verdict.
+pub fn numbers(verdict: Result<(), Refused>) -> (u32, usize) {
+    verdict.map_or_else(
+        |refused| (refused.refusal.number(), refused.line),
+        |()| (0, 0),
+    )
+}
+
+/// What a refused line of the file says, and what is wrong with its form where that is the fault; each with its label.
+pub fn line(file: &[u8], refused: Refused) -> Vec<(String, String)> {
+    let Some(bytes) = form::line(file, refused.line) else {
+        return Vec::new();
+    };
+    let mut said = vec![(format!("line {}", refused.line), form::shown(bytes))];
+    if refused.refusal == Refusal::BadLine {
+        said.push(("look here".to_string(), form::fault(file, refused.line)));
+    }
+    said
+}
+
+/// A text under its label, in lines of at most 100 characters.
+pub fn entry(label: &str, text: &str) -> String {
+    let mut lines = vec![format!("  {label}:")];
+    for word in text.split(' ') {
+        let last = lines.last_mut().expect("there is a first line");
+        if last.chars().count() + 1 + word.chars().count() <= 100 {
+            last.push(' ');
+            last.push_str(word);
+        } else {
+            lines.push(format!("    {word}"));
+        }
+    }
+    lines.join("\n") + "\n"
+}
+
+/// A refusal in lines: what it is, the line, what happened, what to do.
+pub fn refusal(name: &str, file: &[u8], refused: Refused) -> String {
+    let (number, word) = (refused.refusal.number(), refused.refusal.word());
+    let place = match refused.line {
+        0 => String::new(),
+        line => format!(", at line {line}"),
+    };
+    let mut text = format!("{name} is refused: {number}, {word}{place}.\n");
+    for (label, said) in line(file, refused) {
+        text += &entry(&label, &said);
+    }
+    let meaning = meaning(refused.refusal);
+    text + &entry("what happened", meaning.happened) + &entry("what to do", meaning.ask)
+}

@@ -1,0 +1,32 @@
+//! `turn`: the turned file, alone.
+
+use crate::arguments::Given;
+use crate::{check, output, Failure, Outcome, Status};
+use rulefile::Desk;
+use std::ffi::OsStr;
+use std::fs;
+
+/// The turned file must not take the place of the one that the supplier sent.
+pub fn require_other(file: &OsStr, out: Option<&OsStr>) -> Result<(), Failure> {
+    let place = |path: &OsStr| fs::canonicalize(path).ok();
+    let there = out.and_then(place);
+    if file != "-" && there.is_some() && place(file) == there {
+        let why = "-o names FILE itself; keep the file as the supplier sent it";
+        return Err(Failure(why.to_string()));
+    }
+    Ok(())
+}
+
+/// Turns a file.
+pub fn turn(given: &Given) -> Outcome {
+    let out = given.value("-o");
+    require_other(given.word(0), out)?;
+    let mut desk = Desk::new();
+    let Some(file) = check::read_accepted(&mut desk, given)? else {
+        return Ok(Status::Refused);
+    };
+    match desk.turn(&file.bytes) {
+        Ok(turned) => output::give(out, &turned).map(|()| Status::Done),
+        Err(refused) => Ok(check::say_refused(refused)),
+    }
+}

@@ -1,0 +1,36 @@
+"""Every command that a document shows, with what it prints: in blocks marked `console`, a line that begins with `$ ` is a command, and what
+follows up to the next one is what it prints and says."""
+
+import re
+
+from person import TREE
+
+# what differs from day to day and from kit to kit
+VARIES = [(re.compile(r"^date: \d{4}-\d\d-\d\d$", re.M), "date: DAY"), (re.compile(r"^kit: .+$", re.M), "kit: KIT")]
+
+
+def plain(text):
+    for varies, constant in VARIES:
+        text = varies.sub(constant, text)
+    return text
+
+
+def commands(document):
+    """The commands of a document, each with what it prints."""
+    for block in re.findall(r"^```console\n(.*?)^```$", document.read_text(), re.M | re.S):
+        for call in re.split(r"^\$ ", block, flags=re.M)[1:]:
+            line, _, printed = call.partition("\n")
+            yield line, printed
+
+
+def run(p):
+    shown = []
+    for document in [TREE / "README.md", *sorted((TREE / "examples").glob("*.md"))]:
+        p.renew()
+        for line, printed in commands(document):
+            shown.append(line)
+            found = p.shell(line)[1]
+            p.same(f"{document.relative_to(TREE)}: {line}", plain(printed), plain(found))
+    for command in ("check", "verdict", "show", "turn", "run", "sheet"):
+        known = any(f"bin/rulefile {command} " in line for line in shown)
+        p.expect(f"{command} is shown in a document", known, "no document shows it")

@@ -1,0 +1,133 @@
+"""What cannot be read or written, and what never ends."""
+
+import os
+import subprocess
+import threading
+import time
+
+from person import PROGRAM
+
+H = "examples/heating-curve.rules"
+S = ["check", "show", "turn", "verdict"]
+
+
+def run(p):
+    unreadable(p)
+    rights(p)
+    closed(p)
+    endless(p)
+    full(p)
+    at_once(p)
+
+
+def unreadable(p):
+    more = {"run": [0, "LU"], "sheet": ["examples/heating-curve.queries"], "number": [0, "U"], "setting": [0, 0], "bounds": [0], "overlap": [0, 0]}
+    for command in (*S, *more):
+        rest = more.get(command, [])
+        p.gives(f"{command} of a missing file", [command, "missing.rules", *rest], 2, "", said="there is no file missing.rules")
+        p.gives(f"{command} of a folder", [command, "examples", *rest], 2, "", said="examples is")
+    p.gives("turn into a folder", ["turn", H, "-o", "examples"], 2, "", said="examples is a folder")
+    p.gives("turn into a folder that is missing", ["turn", H, "-o", "no/such/file"], 2, "", said="there is no file no/such/file")
+    p.gives("a name with a line feed", ["check", "a\nb\x1b[2J"], 2, "", said="there is no file a?b?[2J")
+
+
+def rights(p):
+    """Without the right to read or to write; as root, through a user who has none."""
+    file = p.file("secret.rules", (p.folder / H).read_bytes())
+    file.chmod(0o000)
+    kept = p.file("kept.rules", "kept\n")
+    kept.chmod(0o444)
+    locked = p.folder / "locked"
+    locked.mkdir()
+    locked.chmod(0o555)
+    p.folder.chmod(0o755)
+    if os.geteuid() == 0:
+        # the program itself must be within reach of the user
+        program = p.folder / "rulefile"
+        program.write_bytes(PROGRAM.read_bytes())
+        program.chmod(0o755)
+        who = ["setpriv", "--reuid=65534", "--regid=65534", "--clear-groups"]
+    else:
+        program, who = PROGRAM, []
+
+    def call(*words):
+        done = subprocess.run([*who, program, *words], cwd=p.folder, capture_output=True, text=True, timeout=60)
+        return done.returncode, done.stdout, done.stderr
+
+    p.same("no right to read", (2, "", "rulefile: no right to read secret.rules\n"), call("check", "secret.rules"))
+    p.same("no right to write", (2, "", "rulefile: no right to write kept.rules\n"), call("turn", H, "-o", "kept.rules"))
+    p.same("no right to write: kept", "kept\n", kept.read_text())
+    p.same("no right to the folder", (2, "", "rulefile: no right to write locked/out\n"), call("turn", H, "-o", "locked/out"))
+    p.same("no right to the folder: empty", [], list(locked.iterdir()))
+    (locked / "in.rules").write_bytes((p.folder / H).read_bytes())
+    status, out, said = call("verdict", "locked/in.rules")
+    p.same("no right to file the verdict", (2, "", "rulefile: no right to write locked/in.rules.verdict\n"), (status, out, said))
+    locked.chmod(0o755)
+
+
+def closed(p):
+    shell = lambda line: p.shell(line.replace("rulefile", str(PROGRAM), 1))
+    p.same("standard input closed", (2, "rulefile: standard input is closed\n"), shell("rulefile check - <&-"))
+    p.same("standard output closed", (2, "rulefile: standard output is closed\n"), shell(f"rulefile turn {H} >&-"))
+    p.same("standard error closed", 1, shell("rulefile run examples/heating-curve.rules 0 x 2>&-")[0])
+    p.same("standard error and output closed", 2, shell(f"rulefile turn {H} >&- 2>&-")[0])
+    p.same("all three closed", 2, shell("rulefile check - <&- >&- 2>&-")[0])
+    p.same("by bin/rulefile", (2, "rulefile: standard input is closed\n"), p.shell("bin/rulefile check - <&-"))
+    p.same("by bin/rulefile, output closed", (2, "rulefile: standard output is closed\n"), p.shell(f"bin/rulefile turn {H} >&-"))
+    p.same("a folder as standard input", (2, "rulefile: standard input is a folder, not a file\n"), shell("rulefile check - <examples"))
+    p.expect("nothing as standard input", shell("rulefile check - </dev/null")[1].startswith("0,0\nstandard input is accepted"))
+    status, text = shell(f"rulefile check - <{H}")
+    p.expect("a file as standard input", status == 0 and "standard input is accepted" in text, text)
+    status, text = p.shell(f"cat {H} | {PROGRAM} check -")
+    p.expect("a pipe as standard input", status == 0 and "standard input is accepted" in text, text)
+    done = subprocess.run(["script", "-qec", f"{PROGRAM} check -", "/dev/null"], input=b"T,0,0,0\n\x04", capture_output=True, timeout=60)
+    p.expect("a terminal", b"Ctrl-D ends it" in done.stdout and b"0,0" in done.stdout, done.stdout)
+
+
+def endless(p):
+    for command, rest in (("check", ""), ("show", ""), ("turn", ""), ("run", " 0 LU"), ("number", " 0 U")):
+        start = time.monotonic()
+        status, text = p.shell(f"head -c 4294967296 /dev/zero | {PROGRAM} {command} -{rest}")
+        p.expect(f"{command} of 4 GB of zeros", status == 1 and "2,0\n" in text, text)
+        p.expect(f"{command} of 4 GB of zeros: at once", time.monotonic() - start < 2)
+        p.expect(f"{command} of zeros without end", p.call(command, "/dev/zero", *rest.split())[0] == 1)
+    p.gives("queries without end", ["sheet", H, "/dev/zero"], 2, said="its line 1 has over 65,536 bytes")
+    p.gives("a verdict without end", ["verdict", "/dev/zero"], 2, "", said="is not a file beside which")
+    # a fifo whose other end says nothing yet
+    os.mkfifo(p.folder / "fifo")
+    write = threading.Thread(target=lambda: (p.folder / "fifo").write_bytes((p.folder / H).read_bytes()))
+    write.start()
+    p.expect("a fifo", p.call("check", "fifo")[0] == 0)
+    write.join()
+
+
+def full(p):
+    for words in (["check", H], ["turn", H], ["show", H], ["run", H, 0, "LU"], ["sheet", H, "examples/heating-curve.queries"], ["--help"]):
+        with open("/dev/full", "wb") as device:
+            p.gives(f"{words[0]} on a full device", words, 2, said="cannot write to standard output: No space left", stdout=device)
+    p.gives("turn into a full device", ["turn", H, "-o", "/dev/full"], 2, "", said="cannot write /dev/full: No space left")
+    p.expect("the device is still one", not os.path.isfile("/dev/full"))
+    # a file that cannot grow: what was there stays, and nothing is left beside it
+    kept = p.file("grown.rules", "kept\n")
+    status, text = p.shell(f"trap '' XFSZ; ulimit -f 0; {PROGRAM} turn {H} -o grown.rules")
+    p.expect("no room for the file", status == 2 and "cannot write grown.rules" in text, text)
+    p.same("no room for the file: kept", "kept\n", kept.read_text())
+    p.same("no room for the file: nothing left", [], [n.name for n in p.folder.iterdir() if n.name.endswith(".new")])
+    # a reader that leaves
+    p.same("a reader that leaves", (0, "0,0\n"), p.shell(f"{PROGRAM} show {H} | head -n 1"))
+
+
+def at_once(p):
+    """Several at once, into the same file: each time one of them whole."""
+    wanted = p.call("turn", H)[1]
+    calls = [subprocess.Popen([PROGRAM, "turn", H, "-o", "shared.rules"], cwd=p.folder) for _ in range(8)]
+    p.same("eight at once: statuses", [0] * 8, [call.wait(60) for call in calls])
+    p.same("eight at once: whole", wanted, (p.folder / "shared.rules").read_text())
+    calls = [subprocess.Popen(["bin/rulefile", "check", H], cwd=p.folder, stdout=subprocess.PIPE) for _ in range(2)]
+    outs = [call.communicate(timeout=60)[0] for call in calls]
+    p.expect("two at once", outs[0] == outs[1] and outs[0].startswith(b"0,0\n"), outs)
+    file = p.file("both.rules", (p.folder / H).read_bytes())
+    calls = [subprocess.Popen([PROGRAM, "verdict", file], stdout=subprocess.PIPE) for _ in range(4)]
+    p.same("four verdicts at once", [0] * 4, [call.wait(60) for call in calls])
+    for call in calls:
+        call.stdout.close()
