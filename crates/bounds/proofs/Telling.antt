@@ -1,5 +1,5 @@
 -- The bounds on a checked table and as a service, case by case, against the model's.
-use Prim.Native.Nat.{ℕ, zero, suc, _+_, _≤_, _<_, min}
+use Prim.Native.Nat.{ℕ, zero, suc, _≤_, _<_, min}
 use native.Mathlib.Omega.{arith}
 use mathlib.Core.Path.{_≡_, refl, sym, ap, _∙_, subst}
 use mathlib.Core.Bool.{Bool, true, false}
@@ -9,47 +9,35 @@ use lib.Dec.{ltb}
 use lib.ListN.{length, getD, getElem?, replicate}
 use Rattle.model.specs.Limits.{maxIsos}
 use Rattle.model.specs.Tools.{isSome}
-use Rattle.model.specs.Trees.{Iso}
 use Rattle.model.specs.Refusals.{number, noIso}
 use Rattle.model.specs.Lines.{Row}
-use Rattle.model.specs.Judge.{start}
 use Rattle.model.specs.Unfold.{isosOf}
-use Rattle.model.specs.Services.{Verdict, accepted, refused, verdict, tableAfter, workAfter, short, unless, answerOf, check}
+use Rattle.model.specs.Services.{accepted, verdict, short, unless, check}
 use Rattle.costs.specs.Costs.{leastOf, greatestOf, costsFrom, leastCosts, greatestCosts}
-use Rattle.costs.specs.Bounds.{maxCount, Bounds, onIso, boundsOf, boundsService}
+use Rattle.costs.specs.Bounds.{maxCount, onIso, boundsOf, boundsService}
 use Rattle.model.specs.Code.{refusalView, numberOf, numbered}
 use Rattle.model.specs.declared.Answer as A
 use Rattle.model.specs.declared.Refusal as F
 use Rattle.model.proofs.Basic.{isSome-true, ltb-lt, ltb-false, lt-ltb, not-ltb}
-use Rattle.model.proofs.Passing.{Passes}
 use Rattle.model.proofs.Files.{number-positive}
-use Rattle.nodes.proofs.Tails.{isos-few}
-use Rattle.nodes.proofs.Rows.{isos-told}
 use Rattle.index.specs.Index.{isosAt}
 use Rattle.checker.specs.CheckSays.{CheckSays, Accepted}
 use Rattle.checker.specs.declared.Checked as C
-use Rattle.checker.proofs.Checks.{isos-counted, unless-accepted, flag-none}
+use Rattle.checker.proofs.Checks.{unless-accepted, flag-none}
 use Rattle.runner.specs.RunSays.{Prepared}
 use Rattle.costs.proofs.Served.{as-check, refused-first}
 use Rattle.costing.specs.Held.{cap, Holds}
 use Rattle.bounds.specs.declared.Bounded as B
 use Rattle.bounds.specs.BoundsSays.{Told, BoundsSays}
+use Rattle.runner.proofs.Running.{isos-small}
+use Rattle.reduction.proofs.Laying.{inside}
 
 -- ---- on a checked table
-
-isos-small : (rs : List Row) → Passes start rs → length (isosOf rs) ≤ maxIsos
-unfolding start
-isos-small rs ps = let a = isos-counted rs in let b = isos-told 0 start rs in let c = isos-few ps in omega (arith, a, b, c)
 
 past : {A : Type 0} (xs : List A) (i : ℕ) → length xs ≤ i → getElem? xs i ≡ none
 past [] i h = refl
 past (x ∷ xs) zero h = absurd (omega arith)
 past (x ∷ xs) (suc i) h = past xs i (omega arith)
-
-there : {A : Type 0} (xs : List A) (i : ℕ) → i < length xs → (x : A) × (getElem? xs i ≡ some x)
-there [] i h = absurd (omega arith)
-there (x ∷ xs) zero h = (x, refl)
-there (x ∷ xs) (suc i) h = there xs i (omega arith)
 
 -- what `refused` gives
 abbrev pub Refused : F.Refusal → B.Bounded → Type 0
@@ -90,7 +78,7 @@ told t index least greatest isos i l g r h hl hg el eg n tl tg ol og base rs p =
     let k = p .count in
     let few = isos-small rs (p .good .passes) in
     let room : isos ≤ maxIsos = omega (arith, k, few) in
-    let o = there (isosOf rs) i (omega (arith, h, k)) in
+    let o = inside (isosOf rs) i (omega (arith, h, k)) in
     let x = el ∙ hl base room i ∙ ap (λ os. min (getD (costsFrom leastOf [] os) i 0) cap) (sym (p .indexed)) in
     let y = eg ∙ hg base room i ∙ ap (λ os. min (getD (costsFrom greatestOf [] os) i 0) cap) (sym (p .indexed)) in
     let low : ℕ = getD (costsFrom leastOf [] (isosOf rs)) i 0 in

@@ -4,6 +4,8 @@ use checker::Checked;
 use checker::check_file;
 use costing::number_at;
 use costing::reckon;
+use limits::INDEX_LENGTH;
+use limits::MAX_ISOS;
 use model::Refusal;
 use model::is_refused;
 use runner::run::prepare;
@@ -63,8 +65,8 @@ pub fn bounds_checked(t: &[u16], index: &[u16], isos: usize, i: usize) -> Bounde
     if isos <= i {
         return refused(Refusal::NoIso);
     }
-    let mut least = [0u64; 32];
-    let mut greatest = [0u64; 32];
+    let mut least = [0u64; MAX_ISOS];
+    let mut greatest = [0u64; MAX_ISOS];
     reckon(t, index, isos, &mut least, &mut greatest);
     let l = number_at(&least, i);
     let g = number_at(&greatest, i);
@@ -81,7 +83,7 @@ pub fn bounds_checked(t: &[u16], index: &[u16], isos: usize, i: usize) -> Bounde
 fn bounds_accepted(table: &[u16], c: Checked, i: usize) -> Bounded
     ensures { λ r. ⌜ ((s : List ℕ) (a : Accepted s (now (table .entry)) c) → Told (boundsOf (accepted (a .file)) i) r) ⌝ }
 {
-    let mut index = [0u16; 1090];
+    let mut index = [0u16; INDEX_LENGTH];
     prepare(table, c, &mut index);
     bounds_checked(table, &index, c.isos, i)
 }

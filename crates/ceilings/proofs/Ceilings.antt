@@ -17,7 +17,7 @@ use Rattle.model.specs.declared.Row as R
 use Rattle.model.specs.Code.{kindView, rowView}
 use Rattle.model.proofs.Basic.{bool-cases, and-true}
 use Rattle.nodes.specs.Unfolding.{typeOf, patternOf}
-use Rattle.nodes.proofs.Counts.{type-count, leaf-count, inj-count, pair-count, leaf-tags, inj-tags, pair-tags}
+use Rattle.nodes.proofs.Counts.{type-count, leaf-count, inj-count, pair-count, leaf-tags, inj-tags, pair-tags, above-two, above-one, both, one-more}
 use Rattle.counts.specs.declared.Seen as C
 use Rattle.counts.specs.Told.{TypesAt, PatternsAt, nextType, nextPattern, Told}
 
@@ -42,18 +42,6 @@ pair-named n (suc (suc (suc zero))) a b h e = absurd (omega arith)
 pair-named n (suc (suc (suc (suc k)))) a b h e = let d = and-true (ltb a n) (ltb b n) e in (ltb-true a n (d .0), ltb-true b n (d .1))
 
 -- ---- counts that stop at a ceiling
-
-above-two : {m n r : ℕ} (x y z : ℕ) → m ≡ min 128 x → n ≡ min 128 y → r ≡ min 128 (1 + m + n) → z ≡ 1 + x + y → r ≡ min 128 z
-above-two x y z p q e f = omega arith
-
-above-one : {m r : ℕ} (x z : ℕ) → m ≡ min 128 x → r ≡ min 128 (1 + m + 0) → z ≡ 1 + x → r ≡ min 128 z
-above-one x z p e f = omega arith
-
-both : {m n r : ℕ} (x y z : ℕ) → m ≡ min 41 x → n ≡ min 41 y → r ≡ min 41 (m + n) → z ≡ x + y → r ≡ min 41 z
-both x y z p q e f = omega arith
-
-one-more : {m r : ℕ} (x z : ℕ) → m ≡ min 41 x → r ≡ min 41 (1 + m) → z ≡ 1 + x → r ≡ min 41 z
-one-more x z p e f = omega arith
 
 -- a count that stops behind a ceiling says whether the ceiling is kept
 pub stops : (top : ℕ) {r : ℕ} (x : ℕ) → r ≡ min (suc top) x → leb r top ≡ leb x top

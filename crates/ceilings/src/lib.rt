@@ -1,6 +1,15 @@
 // The ceilings of a row whose names stand, by the rows above it.
 
+use codes::LEFT;
+use codes::PAIR;
 use counts::Seen;
+use limits::MAX_CLAUSES;
+use limits::MAX_ISOS;
+use limits::MAX_LETS;
+use limits::MAX_NODES;
+use limits::MAX_PATTERNS;
+use limits::MAX_TAGS;
+use limits::MAX_TYPES;
 use model::Kind;
 use model::Row;
 use nodes::above;
@@ -33,10 +42,10 @@ fn type_nodes(t: &[u16], kind: usize, a: usize, b: usize) -> usize
 fn pattern_nodes(t: &[u16], base: usize, kind: usize, a: usize, b: usize) -> usize
     ensures { λ r. ⌜ ((ps : List Pat) → PatternsAt (now (t .entry)) base ps → patternNames (length ps) kind a b ≡ true → r ≡ min 128 (nodes (nextPattern ps kind a b))) ⌝ }
 {
-    if kind < 2 {
+    if kind < LEFT {
         return 1;
     }
-    if kind < 4 {
+    if kind < PAIR {
         return above(pattern_size(t, base, a), 0);
     }
     above(pattern_size(t, base, a), pattern_size(t, base, b))
@@ -46,10 +55,10 @@ fn pattern_nodes(t: &[u16], base: usize, kind: usize, a: usize, b: usize) -> usi
 fn next_tags(t: &[u16], base: usize, kind: usize, a: usize, b: usize) -> usize
     ensures { λ r. ⌜ ((ps : List Pat) → PatternsAt (now (t .entry)) base ps → patternNames (length ps) kind a b ≡ true → r ≡ min 41 (tags (nextPattern ps kind a b))) ⌝ }
 {
-    if kind < 2 {
+    if kind < LEFT {
         return 0;
     }
-    if kind < 4 {
+    if kind < PAIR {
         return together(1, pattern_tags(t, base, a));
     }
     together(pattern_tags(t, base, a), pattern_tags(t, base, b))
@@ -59,8 +68,8 @@ fn next_tags(t: &[u16], base: usize, kind: usize, a: usize, b: usize) -> usize
 fn type_within(c: Seen, t: &[u16], r: Row) -> bool
     ensures { λ b. ⌜ ((s : SeenOf) → Told (now (t .entry)) c s → named s typeLine (rowView r) ≡ true → b ≡ withinCeilings s typeLine (rowView r)) ⌝ }
 {
-    if c.types < 256 {
-        return type_nodes(t, r.x, r.y, r.z) <= 127;
+    if c.types < MAX_TYPES {
+        return type_nodes(t, r.x, r.y, r.z) <= MAX_NODES;
     }
     false
 }
@@ -69,10 +78,10 @@ fn type_within(c: Seen, t: &[u16], r: Row) -> bool
 fn pattern_within(c: Seen, t: &[u16], r: Row) -> bool
     ensures { λ b. ⌜ ((s : SeenOf) → Told (now (t .entry)) c s → named s patternLine (rowView r) ≡ true → b ≡ withinCeilings s patternLine (rowView r)) ⌝ }
 {
-    if c.patterns < 1024 {
+    if c.patterns < MAX_PATTERNS {
         let base = c.types;
-        if pattern_nodes(t, base, r.x, r.y, r.z) <= 127 {
-            return next_tags(t, base, r.x, r.y, r.z) <= 40;
+        if pattern_nodes(t, base, r.x, r.y, r.z) <= MAX_NODES {
+            return next_tags(t, base, r.x, r.y, r.z) <= MAX_TAGS;
         }
         return false;
     }
@@ -87,8 +96,8 @@ pub fn within_ceilings(c: Seen, t: &[u16], r: Row) -> bool
     match k {
         Kind::Type => type_within(c, t, r),
         Kind::Pattern => pattern_within(c, t, r),
-        Kind::Iso => c.isos < 32,
-        Kind::Clause => c.clauses < 32,
-        Kind::Let => c.lets < 8,
+        Kind::Iso => c.isos < MAX_ISOS,
+        Kind::Clause => c.clauses < MAX_CLAUSES,
+        Kind::Let => c.lets < MAX_LETS,
     }
 }

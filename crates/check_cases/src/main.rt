@@ -2,6 +2,9 @@
 // `number,line` for each.
 
 use checker::check;
+use limits::MAX_BYTES;
+use limits::TABLE_LENGTH;
+use limits::WORK_LENGTH;
 ghost use Prim.Native.Nat.{_≤_};
 ghost use lib.ListN.{length};
 
@@ -28,8 +31,8 @@ fn print_answer(number: u8, line: usize) {
 
 // Checks one file in areas of its own, which hold sevens before the call.
 fn check_one(file: &[u8]) {
-    let mut table = [7u16; 16384];
-    let mut work = [7u8; 65536];
+    let mut table = [7u16; TABLE_LENGTH];
+    let mut work = [7u8; WORK_LENGTH];
     let a = check(file, &mut table, &mut work);
     let f = a.refusal;
     print_answer(model::number_of(f), a.place);
@@ -49,7 +52,7 @@ fn check_each(s: &[u8]) {
 }
 
 fn main() {
-    let mut input = [0u8; 65536];
+    let mut input = [0u8; MAX_BYTES];
     let n = io::read_full(0, &mut input);
     check_each(&input[..n]);
 }

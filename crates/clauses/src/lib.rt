@@ -1,6 +1,15 @@
 // Refusals 8 to 10 of a clause: its C row, and its L rows up to `end`. `starts` holds the rows of the I
 // lines. Of a C row past the table's 4096 rows nothing is said.
 
+use codes::CLAUSE_LEFT;
+use codes::CLAUSE_RIGHT;
+use codes::ISO_FROM;
+use codes::ISO_TO;
+use codes::LET_ISO;
+use codes::LET_P;
+use codes::LET_Q;
+use limits::MAX_LINES;
+use limits::VARIABLES;
 use marks::Marks;
 use marks::mark;
 use marks::settled;
@@ -30,7 +39,9 @@ ghost use Rattle.nodes.specs.InTable.{letAt, letsIn, clauseIn, sigsIn};
 fn no_marks() -> Marks
     ensures { λ r. ⌜ r .state ≡ replicate variables 0 ⌝ }
 {
-    Marks { state: [0u8; 32] }
+    Marks {
+        state: [0u8; VARIABLES],
+    }
 }
 
 // The marks after the L rows from `from` up to `to`: each uses the variables of q, then binds those of p.
@@ -40,8 +51,8 @@ fn mark_lets(t: &[u16], base: usize, from: usize, to: usize, m: Marks) -> Marks
     let mut n = from;
     let mut now = m;
     while n < to {
-        let used = mark(t, base, cell(t, n, 3), false, now);
-        now = mark(t, base, cell(t, n, 1), true, used);
+        let used = mark(t, base, cell(t, n, LET_Q), false, now);
+        now = mark(t, base, cell(t, n, LET_P), true, used);
         n += 1;
     }
     now
@@ -51,10 +62,10 @@ fn mark_lets(t: &[u16], base: usize, from: usize, to: usize, m: Marks) -> Marks
 fn variables_kept(t: &[u16], base: usize, row: usize, end: usize) -> bool
     ensures { λ r. ⌜ (row < maxLines → r ≡ marked (clauseIn (now (t .entry)) base row end)) ⌝ }
 {
-    if row < 4096 {
-        let bound = mark(t, base, cell(t, row, 1), true, no_marks());
+    if row < MAX_LINES {
+        let bound = mark(t, base, cell(t, row, CLAUSE_LEFT), true, no_marks());
         let stepped = mark_lets(t, base, row + 1, end, bound);
-        return settled(mark(t, base, cell(t, row, 2), false, stepped));
+        return settled(mark(t, base, cell(t, row, CLAUSE_RIGHT), false, stepped));
     }
     true
 }
@@ -65,8 +76,8 @@ fn shapes_kept(t: &[u16], base: usize, from: usize, to: usize) -> bool
 {
     let mut n = from;
     while n < to {
-        if is_plain(t, base, cell(t, n, 1)) {
-            if is_plain(t, base, cell(t, n, 3)) {
+        if is_plain(t, base, cell(t, n, LET_P)) {
+            if is_plain(t, base, cell(t, n, LET_Q)) {
                 n += 1;
             } else {
                 return false;
@@ -91,11 +102,25 @@ fn misfit(e: Env) -> Env
 fn fit_let(t: &[u16], base: usize, starts: &[u16], n: usize, e: Env) -> Env
     ensures { λ r. ⌜ envView (now (t .entry)) r ≡ fitLet (getElem? (sigsIn (now (t .entry)) (now (starts .entry))) (cellOf (now (t .entry)) n 2)) (letAt (now (t .entry)) base n) (envView (now (t .entry)) e) ⌝ }
 {
-    let i = cell(t, n, 2);
+    let i = cell(t, n, LET_ISO);
     if i < starts.len() {
         let head = wide(starts[i]);
-        let used = fit(t, base, cell(t, n, 3), cell(t, head, 1), false, e);
-        return fit(t, base, cell(t, n, 1), cell(t, head, 2), true, used);
+        let used = fit(
+            t,
+            base,
+            cell(t, n, LET_Q),
+            cell(t, head, ISO_FROM),
+            false,
+            e,
+        );
+        return fit(
+            t,
+            base,
+            cell(t, n, LET_P),
+            cell(t, head, ISO_TO),
+            true,
+            used,
+        );
     }
     misfit(e)
 }
@@ -125,10 +150,10 @@ fn types_fit(
 ) -> bool
     ensures { λ r. ⌜ (row < maxLines → r ≡ fitted (sigsIn (now (t .entry)) (now (starts .entry))) (typeOf (now (t .entry)) a) (typeOf (now (t .entry)) b) (clauseIn (now (t .entry)) base row end)) ⌝ }
 {
-    if row < 4096 {
-        let bound = fit(t, base, cell(t, row, 1), a, true, no_types());
+    if row < MAX_LINES {
+        let bound = fit(t, base, cell(t, row, CLAUSE_LEFT), a, true, no_types());
         let stepped = fit_lets(t, base, starts, row + 1, end, bound);
-        let done = fit(t, base, cell(t, row, 2), b, false, stepped);
+        let done = fit(t, base, cell(t, row, CLAUSE_RIGHT), b, false, stepped);
         return all_used(done);
     }
     false
@@ -146,7 +171,7 @@ pub fn clause_fault(
 ) -> Refusal
     ensures { λ r. ⌜ (row < maxLines → Slotted (clauseIn (now (t .entry)) base row end) → refusalView r ≡ clauseFault (sigsIn (now (t .entry)) (now (starts .entry))) (typeOf (now (t .entry)) a) (typeOf (now (t .entry)) b) (clauseIn (now (t .entry)) base row end)) ⌝ }
 {
-    if 4096 <= row {
+    if MAX_LINES <= row {
         return Refusal::Nothing;
     }
     if variables_kept(t, base, row, end) {

@@ -1,6 +1,9 @@
 // Two patterns of the table compared node with node, in prefix order, up to the first clash. The walk keeps
 // one number: 2 for each node pair, and 1 for a clash, which ends it.
 
+use codes::LEFT;
+use codes::PAIR;
+use limits::ROW_WIDTH;
 use nodes::ROWS;
 use std::num::wrapping_add_usize;
 use words::wide;
@@ -25,7 +28,7 @@ fn number(t: &[u16], row: usize, k: usize) -> usize
     requires { ⌜ (tableLength ≤ length (now t)) × (row < maxLines) × (k < rowWidth) ⌝ }
     ensures { λ r. ⌜ r ≡ cellOf (now (t .entry)) row k ⌝ }
 {
-    wide(t[row * 4 + k])
+    wide(t[row * ROW_WIDTH + k])
 }
 
 // How nodes of two kinds meet: 0 where nothing below them is compared, 1 where they clash, else the field
@@ -33,25 +36,25 @@ fn number(t: &[u16], row: usize, k: usize) -> usize
 fn meet(k: usize, j: usize) -> usize
     ensures { λ r. ⌜ Meets k j r ⌝ }
 {
-    if k < 2 {
+    if k < LEFT {
         return 0;
     }
     if k == j {
-        if k < 4 {
+        if k < PAIR {
             return 2;
         }
         return 3;
     }
-    if j < 2 {
+    if j < LEFT {
         return 0;
     }
-    if 4 <= k {
-        if 4 <= j {
+    if PAIR <= k {
+        if PAIR <= j {
             return 3;
         }
         return 0;
     }
-    if 4 <= j {
+    if PAIR <= j {
         return 0;
     }
     1
@@ -90,7 +93,7 @@ fn compare_first(t: &[u16], base: usize, p: usize, q: usize, m: usize, n: usize)
         return wrapping_add_usize(next, 2);
     }
     let k = meeting(t, base, a, b);
-    if k < 2 {
+    if k < LEFT {
         return wrapping_add_usize(next, 2 + k);
     }
     compare_below(t, base, a, b, k, next)

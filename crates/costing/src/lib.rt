@@ -2,6 +2,7 @@
 // isos in order, each from the numbers of the earlier ones. A number is held up to 4,294,967,296, which
 // stands for all above 4,294,967,295.
 
+use codes::LET_ISO;
 use nodes::cell;
 use ways::place;
 ghost use mathlib.Core.Path.{_≡_};
@@ -78,7 +79,7 @@ fn let_sum(t: &[u16], known: &[u64], row: usize, end: usize) -> u64
     let mut sum: u64 = 0;
     while row < n {
         n -= 1;
-        sum = plus(number_at(known, cell(t, n, 2)), sum);
+        sum = plus(number_at(known, cell(t, n, LET_ISO)), sum);
     }
     sum
 }

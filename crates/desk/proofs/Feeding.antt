@@ -15,7 +15,7 @@ use Rattle.model.specs.Limits.{lineFeed, letterQ, workLength}
 use Rattle.model.specs.Refusals.{Refusal}
 use Rattle.model.specs.Tools.{isSome}
 use Rattle.model.specs.Lines.{Row}
-use Rattle.model.specs.Services.{accepted, refused, verdict, answerOf}
+use Rattle.model.specs.Services.{verdict, answerOf}
 use Rattle.model.specs.Desk.{fileLine}
 use Rattle.model.specs.Code.{refusalView}
 use Rattle.model.proofs.Basic.{bool-cases, isSome-true, not-both}
@@ -23,8 +23,8 @@ use Rattle.areas.proofs.Writing.{sets-append}
 use Rattle.checker.specs.CheckSays.{Accepted}
 use Rattle.checker.specs.declared.Checked as C
 use Rattle.runner.specs.RunSays.{Prepared}
-use Rattle.queries.specs.Stream.{State, collecting, asking, stopped, Step, opens, begun, close, answered, step, finish, behind, steps}
-use Rattle.queries.proofs.Streaming.{steps-more, opens-append}
+use Rattle.queries.specs.Stream.{State, collecting, asking, Step, opens, begun, close, answered, step, finish, steps}
+use Rattle.queries.proofs.Streaming.{steps-more, opens-append, and-false}
 use Rattle.desk.specs.declared.Desk as D
 use Rattle.desk.specs.declared.Phase.the-variants as phases
 use Rattle.desk.specs.declared.Next as N
@@ -41,11 +41,6 @@ room at n h = go (bool-cases (leb at (n - 160)))
     go : (leb at (n - 160) ≡ true) ⊎ (leb at (n - 160) ≡ false) → leb at (n - 160) ≡ leb (at + answerRoom) n
     go (inl t) = t ∙ sym (le-leb (at + answerRoom) n (omega (arith, leb-true at (n - 160) t)))
     go (inr t) = t ∙ sym (lt-leb (at + answerRoom) n (omega (arith, leb-false at (n - 160) t)))
-
--- a second test that fails
-and-false : (x : Bool) → (x && false) ≡ false
-and-false true = refl
-and-false false = refl
 
 module _ (taken bytes at n : ℕ) where
   -- an area of fewer than 160 bytes has no room

@@ -5,6 +5,11 @@ use answers::answer_line;
 use areas::put_byte;
 use checker::Checked;
 use checker::check_file;
+use codes::LETTER_Q;
+use codes::LINE_FEED;
+use limits::MAX_BYTES;
+use limits::RESULT_LENGTH;
+use limits::WORK_LENGTH;
 use model::is_refused;
 use model::number_of;
 use parts::front;
@@ -123,7 +128,7 @@ fn begins(fresh: bool, b: u8) -> bool
     ensures { λ r. ⌜ r ≡ (fresh && eqb b letterQ) ⌝ }
 {
     if fresh {
-        return b == 81;
+        return b == LETTER_Q;
     }
     false
 }
@@ -159,7 +164,7 @@ fn settle(c: Checked, line: &mut [u8], table: &[u16], index: &mut [u16], end: us
         };
     }
     prepare(table, c, index);
-    let held = put_byte(line, 0, 81);
+    let held = put_byte(line, 0, LETTER_Q);
     Next {
         desk: ready(c.types, c.isos, held),
         end: end,
@@ -190,7 +195,7 @@ fn file_byte(held: usize, b: u8, file: &mut [u8], at: usize) -> Next
 {
     let more = hold(file, held, b, 65537);
     Next {
-        desk: state(Phase::File, b == 10, more),
+        desk: state(Phase::File, b == LINE_FEED, more),
         end: at,
     }
 }
@@ -234,10 +239,10 @@ fn answer(
 ) -> usize
     ensures { λ r. ⌜ ((rs : List RowOf) → Prepared (now (table .entry)) (d .types) (now (index .entry)) (d .isos) rs → workLength ≤ length (now (work .entry)) → at + answerRoom ≤ length (now (out .entry)) → Printed (now (out .entry)) (now (out .exit)) at r (answered rs (now (line .entry)))) ⌝ }
 {
-    if work.len() < 65536 {
+    if work.len() < WORK_LENGTH {
         return at;
     }
-    let mut result = [0u8; 127];
+    let mut result = [0u8; RESULT_LENGTH];
     let r = answer_with(
         d.types,
         d.isos,
@@ -245,7 +250,7 @@ fn answer(
         table,
         index,
         work,
-        65536,
+        WORK_LENGTH,
         &mut result,
     );
     put_ran(out, at, r, &result)
@@ -265,7 +270,7 @@ fn query_byte(
     ensures { λ r. ⌜ ((file : List ℕ) (rs : List RowOf) (l : List ℕ) → DeskAt d file (now (line .entry)) (now (table .entry)) (now (index .entry)) (asking rs l) → Roomy file (now (line .entry)) (now (table .entry)) (now (work .entry)) (now (index .entry)) → at + answerRoom ≤ length (now (out .entry)) → Reaches (step (asking rs l) b) file (now (line .exit)) (now (table .entry)) (now (index .entry)) (now (out .entry)) (now (out .exit)) at r) ⌝ }
 {
     let held = hold(line, d.held, b, 201);
-    if b == 10 {
+    if b == LINE_FEED {
         let end = answer(d, front(line, held), table, index, work, out, at);
         return Next {
             desk: ready(d.types, d.isos, 0),
@@ -348,7 +353,7 @@ pub fn settled(d: Desk) -> bool
 {
     let phase = d.phase;
     match phase {
-        Phase::File => d.held > 65536,
+        Phase::File => d.held > MAX_BYTES,
         Phase::Queries => false,
         Phase::Stopped => true,
     }

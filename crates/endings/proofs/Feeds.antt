@@ -18,7 +18,7 @@ use Rattle.model.proofs.Basic.{some-inj, not-ltb, not-some, not-both}
 use Rattle.model.proofs.Turning.{turn-turn}
 use Rattle.model.proofs.Endings.{feed, both, Ended, by-feed, by-both, Returnless, text-ended, without-concat, without-line}
 use Rattle.model.proofs.Printing.{returnless-body, read-print, read-each, concat-lines}
-use Rattle.model.proofs.Files.{refused≢accepted, accepted-form, answer-zero, printed, turned-accepted, turned-length, turned-fits, turned-twice}
+use Rattle.model.proofs.Files.{refused≢accepted, accepted-form, answer-zero, printed, turned-accepted, turned-length, turned-fits, turned-twice, turned-accepted-bytes}
 use Rattle.endings.specs.Resaved.{feedsAlone}
 
 -- ---- carriage returns before line feeds, and all of them
@@ -64,10 +64,6 @@ return-in-text l t e m =
 
 -- ---- accepted files
 
-turned-rows : (bs : List ℕ) (rs : List Row) → verdict bs ≡ accepted rs → turned bs ≡ printRows (turnRows rs)
-unfolding turned
-turned-rows bs rs e = ap turnedOf e
-
 module _ (bs : List ℕ) (rs : List Row) (e : verdict bs ≡ accepted rs) where
   -- an accepted file with its carriage returns taken out is the printing of its rows
   pub accepted-printed : feedsAlone bs ≡ printRows rs
@@ -79,7 +75,7 @@ module _ (bs : List ℕ) (rs : List Row) (e : verdict bs ≡ accepted rs) where
 
   -- "Turned files are written with line feed alone": there is no carriage return in them
   pub turned-returnless : withoutReturns (turned bs) ≡ turned bs
-  turned-returnless = printed (turned bs) (turnRows rs) (accepted-form (turned bs) (turnRows rs) (turned-accepted bs rs e) .0) ∙ sym (turned-rows bs rs e)
+  turned-returnless = printed (turned bs) (turnRows rs) (accepted-form (turned bs) (turnRows rs) (turned-accepted bs rs e) .0) ∙ sym (turned-accepted-bytes bs rs e)
 
   -- "turning twice gives the first file with its carriage returns taken out"
   pub turned-back : turned (turned bs) ≡ feedsAlone bs

@@ -5,7 +5,7 @@ use mathlib.Core.Path.{_≡_, refl, sym, ap, ap₂, _∙_, subst}
 use mathlib.Core.Logic.{_⊎_, inl, inr}
 use mathlib.Core.Bool.{Bool, true, false, _&&_, _||_}
 use mathlib.Core.Option.{Option, none, some}
-use mathlib.Core.List.{List, [], _∷_, _++_, List·Memᴰ, List·Memᴰ·head, List·Memᴰ·tail, append-assoc, append-nil}
+use mathlib.Core.List.{List, [], _∷_, _++_, List·Memᴰ·head, List·Memᴰ·tail, append-assoc, append-nil}
 use lib.Dec.{eqb}
 use lib.ListN.{length, drop}
 use Rattle.model.specs.Limits.{lineFeed, carriageReturn}
@@ -14,8 +14,8 @@ use Rattle.model.specs.Lines.{Row, ontoFirst, lines, isEnding, text, rowIn, row
 use Rattle.model.specs.Judge.{Seen, judge, after, onRow, onJudged, withRow, readFrom}
 use Rattle.model.specs.Desk.{isQuery, fileLines, queryLines}
 use Rattle.model.proofs.Basic.{bind-some, bool-cases, eqb-eq, not-both, neither, some-inj, each-nil, each-cons, each-append}
-use Rattle.model.proofs.Endings.{feed, both, Ended, by-feed, by-both, text-both, text-ended}
-use Rattle.model.proofs.Printing.{NoFeed, Feedless, lines-feed, concat-lines}
+use Rattle.model.proofs.Endings.{feed, both, Ended, by-feed, by-both, text-both, text-ended, onto-text}
+use Rattle.model.proofs.Printing.{NoFeed, Feedless, lines-feed, concat-lines, lines-last}
 use Rattle.endings.specs.Resaved.{endsInReturn, withEnding, lineWith, resaveLines, resave, SameLine, same, ended, SameLines, done, next, Resaved}
 
 -- ---- reading
@@ -102,10 +102,6 @@ lines-split (b ∷ bs) = go (bool-cases (eqb b lineFeed)) (lines-split bs)
     go (inr t) s = rw t (onto-split b t s)
 
 -- and such lines are those of the bytes that they make up
-lines-last : (b : ℕ) (bs : List ℕ) → Feedless (b ∷ bs) → lines (b ∷ bs) ≡ (b ∷ bs) ∷ []
-lines-last b [] h = rw (h b (List·Memᴰ·head refl))
-lines-last b (c ∷ bs) h = rw (h b (List·Memᴰ·head refl)) (ap (ontoFirst b) (lines-last c bs (λ d m. h d (List·Memᴰ·tail m))))
-
 pub split-lines : {ls : List (List ℕ)} → Split ls → lines (concat ls) ≡ ls
 split-lines no-line = refl
 split-lines (last {l} b bs e h) = ap (λ x. lines (x ++ [])) e ∙ ap lines (append-nil (b ∷ bs)) ∙ lines-last b bs h ∙ ap (λ x. x ∷ []) (sym e)
@@ -135,9 +131,6 @@ file-split (more {l} {ls} u e h s) = go (bool-cases (isQuery l)) (file-split s)
 no-ending : (b c : ℕ) (t : List ℕ) → isEnding (b ∷ (c ∷ (t ++ feed))) ≡ false
 no-ending b c [] = refl
 no-ending b c (d ∷ t) = refl
-
-onto-text : (b : ℕ) (bs : List ℕ) {t : List ℕ} → isEnding (b ∷ bs) ≡ false → text bs ≡ some t → text (b ∷ bs) ≡ some (b ∷ t)
-onto-text b bs n e = rw (n, e)
 
 -- a line feed alone ends a text that does not end in a carriage return
 pub text-alone : (t : List ℕ) → endsInReturn t ≡ false → text (t ++ feed) ≡ some t

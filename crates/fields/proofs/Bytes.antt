@@ -1,6 +1,5 @@
 -- One byte of a line: a given one at a place; the end of the bytes, and a line's ending.
 use Prim.Native.Nat.{ℕ, suc, _+_, _-_, _<_, _≤_}
-use native.Mathlib.Numerals.{add-one}
 use native.Mathlib.Omega.{arith}
 use mathlib.Core.Path.{_≡_, refl, sym, ap, _∙_}
 use mathlib.Core.Logic.{_⊎_, inl, inr}
@@ -9,21 +8,17 @@ use mathlib.Core.Option.{Option, none, some}
 use mathlib.Core.List.{List, [], _∷_, _++_}
 use lib.Dec.{leb, eqb}
 use lib.ListN.{length, getD, take, drop, drop-of-length-le, take-append-drop}
-use lib.Seq.{drop-cons, take-suc}
+use lib.Seq.{take-suc}
 use borrow.Author.Tests.{eq-eqb, ne-eqb, leb-true, leb-false}
 use Rattle.model.specs.Limits.{lineFeed, carriageReturn}
 use Rattle.model.specs.Tools.{guard}
 use Rattle.model.specs.Lines.{text, skip, ended}
-use Rattle.model.proofs.Basic.{bool-cases}
+use Rattle.model.proofs.Basic.{bool-cases, from-byte}
 use Rattle.model.proofs.Endings.{text-none, text-last}
 use Rattle.fields.specs.declared.Cursor as C
 use Rattle.fields.specs.declared.Skipped as S
 use Rattle.fields.specs.declared.Skipped.the-variants as skips
 use Rattle.fields.specs.Views.{asSkipped, asText}
-
--- the byte at a place and those behind it
-pub from-byte : (s : List ℕ) (at : ℕ) → at < length s → drop at s ≡ getD s at 0 ∷ drop (at + 1) s
-from-byte s at h = rw (add-one, drop-cons s at 0 h)
 
 pub skip-past : (c : ℕ) (s : List ℕ) (at : ℕ) → at < length s → getD s at 0 ≡ c → some (drop (at + 1) s) ≡ skip c (drop at s)
 skip-past c s at h e = rw (from-byte s at h, eq-eqb (getD s at 0) c e)

@@ -1,6 +1,9 @@
 // The text of a line: a cursor whose methods take a field or the line's end and hand the cursor back.
 
 use areas::byte_at;
+use codes::CARRIAGE_RETURN;
+use codes::COMMA;
+use codes::LINE_FEED;
 ghost use mathlib.Core.Path.{_≡_};
 ghost use Prim.Native.Nat.{_+_};
 ghost use lib.ListN.{getD, drop};
@@ -82,7 +85,7 @@ impl Cursor {
     pub fn field(self, s: &[u8], most: u32) -> Number
         ensures { λ r. ⌜ asNumber (now (s .entry)) r ≡ asField (most + 1) (drop (self .at) (now (s .entry))) ⌝ }
     {
-        match self.skip(s, 44) {
+        match self.skip(s, COMMA) {
             Skipped::Past(c) => c.number(s, most),
             Skipped::Other => Number::Wrong,
         }
@@ -104,13 +107,13 @@ impl Cursor {
         if n == 0 {
             return Skipped::Other;
         }
-        if s[n - 1] != 10 {
+        if s[n - 1] != LINE_FEED {
             return Skipped::Other;
         }
         if n == 1 {
             return Skipped::Past(Cursor { at: 0 });
         }
-        if s[n - 2] == 13 {
+        if s[n - 2] == CARRIAGE_RETURN {
             return Skipped::Past(Cursor { at: n - 2 });
         }
         Skipped::Past(Cursor { at: n - 1 })

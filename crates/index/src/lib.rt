@@ -3,6 +3,9 @@
 // iso i's row, and behind the last iso's stands 1,089. So an index has 1,090 numbers: 33 places of
 // isos, 1,056 rows, and the number of rows.
 
+use codes::CLAUSE_LINE;
+use codes::ISO_LINE;
+use codes::ROW_LETTER;
 use nodes::cell;
 use words::narrow;
 use words::store_word;
@@ -66,11 +69,11 @@ fn with_iso(index: &mut [u16], l: Left, n: usize) -> Left
 fn with_row(t: &[u16], index: &mut [u16], l: Left, n: usize) -> Left
     ensures { λ r. ⌜ ((rs : List RowOf) (types patterns lines : ℕ) → FileIn (now (t .entry)) types patterns lines rs → n < lines → types + patterns ≤ n → Indexed (now (t .entry)) types rs (suc n) (now (index .entry)) (l .first) (l .isos) → Indexed (now (t .entry)) types rs n (now (index .exit)) (r .first) (r .isos)) ⌝ }
 {
-    let letter = cell(t, n, 0);
-    if letter == 67 {
+    let letter = cell(t, n, ROW_LETTER);
+    if letter == CLAUSE_LINE {
         return with_clause(index, l, n);
     }
-    if letter == 73 {
+    if letter == ISO_LINE {
         return with_iso(index, l, n);
     }
     l

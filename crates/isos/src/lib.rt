@@ -2,6 +2,14 @@
 // their C row and C rows before their I row; an earlier refusal replaces a later one.
 
 use clauses::clause_fault;
+use codes::CLAUSE_LINE;
+use codes::ISO_FROM;
+use codes::ISO_LINE;
+use codes::ISO_TO;
+use codes::ROW_LETTER;
+use limits::MAX_CLAUSES;
+use limits::MAX_ISOS;
+use limits::MAX_LINES;
 use model::Answer;
 use model::Refusal;
 use model::is_refused;
@@ -30,7 +38,7 @@ ghost use Rattle.isos.specs.Walked.{StartsOf, Walked};
 
 // The rows of the I lines.
 pub struct Starts {
-    pub rows: [u16; 32],
+    pub rows: [u16; MAX_ISOS],
     pub count: usize,
 }
 
@@ -39,7 +47,7 @@ fn with_start(s: Starts, n: usize) -> Starts
     ensures { λ r. ⌜ (s .count < 32 → n < 65536 → (r .rows ≡ set (s .rows) (s .count) n) × (r .count ≡ s .count + 1)) ⌝ }
 {
     let count = s.count;
-    if count < 32 {
+    if count < MAX_ISOS {
         let mut r = s;
         r.rows[count] = narrow(n);
         r.count = count + 1;
@@ -52,7 +60,7 @@ fn with_start(s: Starts, n: usize) -> Starts
 fn with_line(t: &[u16], s: Starts, n: usize) -> Starts
     ensures { λ r. ⌜ ((rs : List RowOf) (types patterns lines : ℕ) → FileIn (now (t .entry)) types patterns lines rs → n < lines → StartsOf (take n rs) s → StartsOf (take (suc n) rs) r) ⌝ }
 {
-    if cell(t, n, 0) == 73 {
+    if cell(t, n, ROW_LETTER) == ISO_LINE {
         return with_start(s, n);
     }
     s
@@ -64,7 +72,7 @@ fn iso_rows(t: &[u16], from: usize, to: usize) -> Starts
 {
     let mut n = from;
     let mut s = Starts {
-        rows: [0u16; 32],
+        rows: [0u16; MAX_ISOS],
         count: 0,
     };
     while n < to {
@@ -78,7 +86,7 @@ fn iso_rows(t: &[u16], from: usize, to: usize) -> Starts
 // `first` of `clauses` on; the row where the L lines of the next C line above end; how many I lines
 // stand above; the first refusal of those clauses; the first refusal of the isos further down.
 pub struct Walk {
-    pub clauses: [u16; 32],
+    pub clauses: [u16; MAX_CLAUSES],
     pub first: usize,
     pub below: usize,
     pub iso: usize,
@@ -113,8 +121,8 @@ fn own_fault(t: &[u16], base: usize, starts: &[u16], own: usize, n: usize, below
     ensures { λ r. ⌜ OwnFault (now (t .entry)) base (now (starts .entry)) own n below (refusalView r) ⌝ }
 {
     let head = wide(word_at(starts, own));
-    let a = cell(t, head, 1);
-    let b = cell(t, head, 2);
+    let a = cell(t, head, ISO_FROM);
+    let b = cell(t, head, ISO_TO);
     clause_fault(t, base, starts, a, b, n, below)
 }
 
@@ -125,10 +133,10 @@ fn is_inside(i: usize, first: usize, n: usize) -> bool
     if i == 0 {
         return false;
     }
-    if 32 < first {
+    if MAX_CLAUSES < first {
         return false;
     }
-    if 4096 <= n {
+    if MAX_LINES <= n {
         return false;
     }
     true
@@ -196,11 +204,11 @@ fn with_iso(t: &[u16], base: usize, w: Walk, n: usize) -> Walk
         let above = i - 1;
         return Walk {
             clauses: clauses,
-            first: 32,
+            first: MAX_CLAUSES,
             below: n,
             iso: above,
             pending: clear,
-            found: iso_found(t, base, &clauses[first..32], n, pending, found),
+            found: iso_found(t, base, &clauses[first..MAX_CLAUSES], n, pending, found),
         };
     }
     w
@@ -211,11 +219,11 @@ fn with_row(t: &[u16], base: usize, starts: &[u16], w: Walk, n: usize) -> Walk
     requires { ⌜ tableLength ≤ length (now t) ⌝ }
     ensures { λ r. ⌜ ((rs : List RowOf) (patterns lines : ℕ) → FileIn (now (t .entry)) base patterns lines rs → now (starts .entry) ≡ isoRows 0 rs → n < lines → base + patterns ≤ n → Walked (now (t .entry)) base rs (suc n) w → Walked (now (t .entry)) base rs n r) ⌝ }
 {
-    let letter = cell(t, n, 0);
-    if letter == 67 {
+    let letter = cell(t, n, ROW_LETTER);
+    if letter == CLAUSE_LINE {
         return with_clause(t, base, starts, w, n);
     }
-    if letter == 73 {
+    if letter == ISO_LINE {
         return with_iso(t, base, w, n);
     }
     w
@@ -227,17 +235,17 @@ pub fn isos_fault(t: &[u16], types: usize, patterns: usize, lines: usize) -> Ans
     requires { ⌜ tableLength ≤ length (now t) ⌝ }
     ensures { λ r. ⌜ ((rs : List RowOf) → FileIn (now (t .entry)) types patterns lines rs → asFault r ≡ fault (isosOf rs)) ⌝ }
 {
-    if 4096 < types {
+    if MAX_LINES < types {
         return none();
     }
-    if 4096 < patterns {
+    if MAX_LINES < patterns {
         return none();
     }
     let stop = types + patterns;
     let s = iso_rows(t, stop, lines);
     let rows = s.rows;
     let count = s.count;
-    if 32 < count {
+    if MAX_ISOS < count {
         return none();
     }
     walk_up(t, types, &rows[0..count], stop, lines, count)
@@ -251,8 +259,8 @@ fn walk_up(t: &[u16], base: usize, starts: &[u16], stop: usize, lines: usize, is
     let clean = none();
     let mut n = lines;
     let mut w = Walk {
-        clauses: [0u16; 32],
-        first: 32,
+        clauses: [0u16; MAX_CLAUSES],
+        first: MAX_CLAUSES,
         below: lines,
         iso: isos,
         pending: clean,

@@ -1,7 +1,10 @@
 // Refusals 4 to 7 of a row, by the rows above it.
 
 use ceilings::within_ceilings;
+use codes::PAIR;
+use codes::PRODUCT;
 use counts::Seen;
+use limits::VARIABLES;
 use model::Kind;
 use model::Refusal;
 use model::Row;
@@ -37,7 +40,7 @@ fn type_fields(kind: usize, a: usize, b: usize) -> bool
         }
         return false;
     }
-    kind <= 2
+    kind <= PRODUCT
 }
 
 fn pattern_fields(kind: usize, a: usize, b: usize) -> bool
@@ -50,15 +53,15 @@ fn pattern_fields(kind: usize, a: usize, b: usize) -> bool
         return false;
     }
     if kind == 1 {
-        if a < 32 {
+        if a < VARIABLES {
             return b == 0;
         }
         return false;
     }
-    if kind < 4 {
+    if kind < PAIR {
         return b == 0;
     }
-    kind == 4
+    kind == PAIR
 }
 
 // A listed kind, idle fields 0, a variable below 32.
@@ -100,7 +103,7 @@ fn pattern_names(n: usize, kind: usize, a: usize, b: usize) -> bool
     if kind < 2 {
         return true;
     }
-    if kind < 4 {
+    if kind < PAIR {
         return a < n;
     }
     both_below(a, b, n)

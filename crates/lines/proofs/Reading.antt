@@ -4,13 +4,12 @@ use native.Mathlib.Numerals.{add-one}
 use native.Mathlib.Omega.{arith}
 use mathlib.Core.Path.{_≡_, refl, sym, ap, ap₂, _∙_, subst}
 use mathlib.Core.Option.{Option, none, some}
-use mathlib.Core.List.{List, [], _∷_, _++_, map, append-assoc}
+use mathlib.Core.List.{List, [], _∷_, _++_}
 use lib.ListN.{length, take, drop, length-append, drop-of-length-le}
 use lib.Seq.{sets, sets-eq, length-sets, take-at, drop-append-add, drop-drop}
 use Rattle.model.specs.Limits.{tableLength, maxLines, rowWidth}
-use Rattle.model.specs.Tools.{concat}
 use Rattle.model.specs.Refusals.{Refusal, badLine}
-use Rattle.model.specs.Lines.{Row, rowOf, lines, numbers}
+use Rattle.model.specs.Lines.{Row, rowOf, lines, numbers, tableOf}
 use Rattle.model.specs.Judge.{Seen, start, judge, after, afterAll, Reading, rows, faulty, withRow, readFrom}
 use Rattle.model.specs.declared.Row as R
 use Rattle.model.specs.declared.Refusal as F
@@ -18,6 +17,7 @@ use Rattle.model.specs.declared.Refusal.the-variants as refusals
 use Rattle.model.specs.Code.{kindView, rowView, refusalView}
 use Rattle.model.proofs.Basic.{none≢some, some-inj}
 use Rattle.model.proofs.Printing.{WellFormed, read-print}
+use Rattle.model.proofs.Tables.{length-table, table-snoc}
 use Rattle.counts.specs.declared.Seen as C
 use Rattle.lines.specs.declared.read.Judged as J
 use Rattle.lines.specs.declared.read.Judged.the-variants as judged
@@ -48,15 +48,6 @@ front-faulty (r ∷ rs) f n = ap (withRow r) (front-faulty rs f n)
 after-snoc : (s : Seen) (rs : List Row) (r : Row) → afterAll s (rs ++ (r ∷ [])) ≡ after (afterAll s rs) r
 after-snoc s [] r = refl
 after-snoc s (q ∷ rs) r = after-snoc (after s q) rs r
-
-numbers-snoc : (rs : List Row) (r : Row) → concat (map numbers (rs ++ (r ∷ []))) ≡ concat (map numbers rs) ++ numbers r
-numbers-snoc [] r = refl
-numbers-snoc (q ∷ rs) r =
-    ap (λ l. numbers q ++ l) (numbers-snoc rs r) ∙ sym (append-assoc (numbers q) (concat (map numbers rs)) (numbers r))
-
-length-numbers : (rs : List Row) → length (concat (map numbers rs)) ≡ length rs * rowWidth
-length-numbers [] = refl
-length-numbers (r ∷ rs) = omega (arith, length-append (numbers r) (concat (map numbers rs)), length-numbers rs)
 
 length-snoc : (rs : List Row) (r : Row) → length (rs ++ (r ∷ [])) ≡ length rs + 1
 length-snoc rs r = length-append rs (r ∷ [])
@@ -125,7 +116,7 @@ pub record SoFar (s t₀ t : List ℕ) (at n : ℕ) (c : C.Seen) : Type 0 where
   pub within : at ≤ length s
   pub reads : readFrom start 1 (lines s) ≡ inFront file (readFrom (afterAll start file) (suc n) (lines (drop at s)))
   pub left : n + length (lines (drop at s)) ≤ maxLines
-  pub table : t ≡ concat (map numbers file) ++ drop (n * rowWidth) t₀
+  pub table : t ≡ tableOf file ++ drop (n * rowWidth) t₀
   pub wide : length t ≡ length t₀
   pub told : Told t c (afterAll start file)
   pub stands : Stands n (afterAll start file)
@@ -145,8 +136,8 @@ so-far-start s t₀ {c} e h =
     }
 
 module _ {s t₀ t : List ℕ} {at n : ℕ} {c : C.Seen} (d : SoFar s t₀ t at n c) where
-  filled : length (concat (map numbers (d .file))) ≡ n * rowWidth
-  filled = length-numbers (d .file) ∙ ap (λ k. k * rowWidth) (sym (d .count))
+  filled : length (tableOf (d .file)) ≡ n * rowWidth
+  filled = length-table (d .file) ∙ ap (λ k. k * rowWidth) (sym (d .count))
 
   -- at the end of the file
   pub so-far-end : length s ≤ at → ReadSays s t₀ t (record { refusal = refusals.Nothing; place = 0; seen = c; lines = n })
@@ -159,7 +150,7 @@ module _ {s t₀ t : List ℕ} {at n : ℕ} {c : C.Seen} (d : SoFar s t₀ t at 
                   d .reads
                   ∙ ap (λ bs. inFront (d .file) (readFrom (afterAll start (d .file)) (suc n) (lines bs))) (drop-of-length-le s h)
                   ∙ front-rows (d .file);
-              table = d .table ∙ ap (λ k. concat (map numbers (d .file)) ++ drop (k * rowWidth) t₀) (d .count);
+              table = d .table ∙ ap (λ k. tableOf (d .file) ++ drop (k * rowWidth) t₀) (d .count);
               told = d .told;
               count = d .count;
             };
@@ -217,8 +208,8 @@ module _ {s t₀ t : List ℕ} {at n : ℕ} {c : C.Seen} (d : SoFar s t₀ t at 
                 ∙ ap₂ (λ u k. inFront (d .file ++ (row ∷ [])) (readFrom u (suc k) (lines (drop end s)))) (sym (after-snoc start (d .file) row)) (sym (add-one n));
             left = omega (arith, d .left);
             table =
-                table-more (concat (map numbers (d .file))) t₀ n filled row (d .table) w p
-                ∙ ap (λ u. u ++ drop ((n + 1) * rowWidth) t₀) (sym (numbers-snoc (d .file) row));
+                table-more (tableOf (d .file)) t₀ n filled row (d .table) w p
+                ∙ ap (λ u. u ++ drop ((n + 1) * rowWidth) t₀) (sym (table-snoc (d .file) row));
             wide = ap length p ∙ length-sets t (n * rowWidth) (numbers row) ∙ d .wide;
             told =
                 subst (λ u. Told t′ c′ u) (sym (after-snoc start (d .file) row))
@@ -244,6 +235,6 @@ module _ {s t₀ t : List ℕ} {at n : ℕ} {c : C.Seen} (d : SoFar s t₀ t at 
                     ∙ front-faulty (d .file) g (suc n)
                     ∙ ap₂ faulty (some-inj (sym p ∙ e)) (sym (add-one n));
                 wide = d .wide;
-                behind = table-behind (concat (map numbers (d .file))) t₀ n filled (d .table) (omega (arith, d .left));
+                behind = table-behind (tableOf (d .file)) t₀ n filled (d .table) (omega (arith, d .left));
               };
         }

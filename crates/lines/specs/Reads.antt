@@ -2,12 +2,11 @@
 use Prim.Native.Nat.{ℕ, _*_}
 use mathlib.Core.Path.{_≡_}
 use mathlib.Core.Option.{Option, none, some}
-use mathlib.Core.List.{List, _++_, map}
+use mathlib.Core.List.{List, _++_}
 use lib.ListN.{length, drop}
 use Rattle.model.specs.Limits.{tableLength, rowWidth}
-use Rattle.model.specs.Tools.{concat}
 use Rattle.model.specs.Refusals.{Refusal, badLine}
-use Rattle.model.specs.Lines.{Row, rowOf, lines, numbers}
+use Rattle.model.specs.Lines.{Row, rowOf, lines, tableOf}
 use Rattle.model.specs.Judge.{Seen, start, judge, afterAll, readFrom, rows, faulty}
 use Rattle.model.specs.Code.{rowView, refusalView}
 use Rattle.counts.specs.Told.{Told}
@@ -40,7 +39,7 @@ judgedLine s l = judgedForm s (rowOf l)
 pub record Holds (s t₀ t : List ℕ) (r : R.Read) : Type 0 where
   pub file : List Row
   pub reads : readFrom start 1 (lines s) ≡ rows file
-  pub table : t ≡ concat (map numbers file) ++ drop (length file * rowWidth) t₀
+  pub table : t ≡ tableOf file ++ drop (length file * rowWidth) t₀
   pub told : Told t (r .seen) (afterAll start file)
   pub count : r .lines ≡ length file
 

@@ -5,6 +5,7 @@ use counts::nothing_seen;
 use counts::seen_after;
 use forms::letter_of;
 use judge::judge;
+use limits::ROW_WIDTH;
 use model::Refusal;
 use model::Row;
 use model::is_refused;
@@ -76,7 +77,7 @@ fn put_row(t: &mut [u16], n: usize, r: Row)
     requires { ⌜ (n < maxLines) × (r .x < 65536) × (r .y < 65536) × (r .z < 65536) ⌝ }
     ensures { λ u. ⌜ now (t .exit) ≡ sets (now (t .entry)) (n * rowWidth) (numbers (rowView r)) ⌝ }
 {
-    let b = n * 4;
+    let b = n * ROW_WIDTH;
     let k = r.kind;
     store_word(t, b, widen(letter_of(k)));
     store_word(t, b + 1, narrow(r.x));

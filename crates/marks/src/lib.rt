@@ -1,6 +1,13 @@
 // The variables that a pattern of the table binds or uses, marked one by one.
 
 use children::pattern_part;
+use codes::FIRST;
+use codes::KIND;
+use codes::PAIR;
+use codes::SECOND;
+use codes::UNIT;
+use codes::VARIABLE;
+use limits::VARIABLES;
 use nodes::pattern_cell;
 ghost use mathlib.Core.Path.{_≡_};
 ghost use Rattle.model.specs.Trees.{vars};
@@ -9,7 +16,7 @@ ghost use Rattle.marks.specs.Marks.{deedView, nextState, markOne, markAl
 
 // How each variable of a clause stands: 0 not live, 1 live, 2 out of order.
 pub struct Marks {
-    pub state: [u8; 32],
+    pub state: [u8; VARIABLES],
 }
 
 // The state after one more deed, a binding or a use.
@@ -32,7 +39,7 @@ fn next_state(binds: bool, s: u8) -> u8
 fn mark_one(binds: bool, n: usize, m: Marks) -> Marks
     ensures { λ r. ⌜ r .state ≡ markOne (deedView binds) n (m .state) ⌝ }
 {
-    if n < 32 {
+    if n < VARIABLES {
         let mut next = m;
         next.state[n] = next_state(binds, m.state[n]);
         return next;
@@ -44,19 +51,19 @@ fn mark_one(binds: bool, n: usize, m: Marks) -> Marks
 pub fn mark(t: &[u16], base: usize, p: usize, binds: bool, m: Marks) -> Marks
     ensures { λ r. ⌜ r .state ≡ markAll (deedView binds) (vars (patternOf (now (t .entry)) base p)) (m .state) ⌝ }
 {
-    let kind = pattern_cell(t, base, p, 1);
-    if kind == 0 {
+    let kind = pattern_cell(t, base, p, KIND);
+    if kind == UNIT {
         return m;
     }
-    if kind == 1 {
-        return mark_one(binds, pattern_cell(t, base, p, 2), m);
+    if kind == VARIABLE {
+        return mark_one(binds, pattern_cell(t, base, p, FIRST), m);
     }
-    let a = pattern_part(t, base, p, 2);
+    let a = pattern_part(t, base, p, FIRST);
     let first = mark(t, base, a, binds, m);
-    if kind < 4 {
+    if kind < PAIR {
         return first;
     }
-    let b = pattern_part(t, base, p, 3);
+    let b = pattern_part(t, base, p, SECOND);
     mark(t, base, b, binds, first)
 }
 
@@ -66,7 +73,7 @@ pub fn settled(m: Marks) -> bool
 {
     let state = m.state;
     let mut i: usize = 0;
-    while i < 32 {
+    while i < VARIABLES {
         if state[i] != 0 {
             return false;
         }

@@ -1,15 +1,17 @@
 -- Facts about options, tests and lists that every law uses.
-use Prim.Native.Nat.{ℕ, zero, suc, _<_, _≤_}
+use Prim.Native.Nat.{ℕ, zero, suc, _+_, _<_, _≤_}
 use native.Mathlib.Nat.{lt-irrefl, lt-of-lt-of-le}
+use native.Mathlib.Numerals.{add-one}
 use native.Mathlib.Omega.{arith}
 use mathlib.Core.Path.{_≡_, refl, sym, ap, ap₂, _∙_, subst}
-use mathlib.Core.Logic.{_⊎_, inl, inr}
+use mathlib.Core.Logic.{_⊎_, inl, inr, ⊎-elim}
 use mathlib.Core.Bool.{Bool, true, false, not, cond, _&&_, _||_, true≢false, false≢true}
 use mathlib.Core.Option.{Option, none, some, Option·some-injective, Option·none-ne-some}
 use mathlib.Core.List.{List, [], _∷_, _++_, map, reverse, reverseAux, reverse-cons, List·Memᴰ, List·Memᴰ·head, List·Memᴰ·tail}
 use mathlib.Core.List.{List·Memᴰ·not-nil, List·Memᴰ·append-cases, List·Memᴰ·eq-of-singleton, Memᴰ·append-left, Memᴰ·append-right, Memᴰ·of-map, Memᴰ·cast}
 use lib.Dec.{T, leb, ltb, eqb, eqb→eq, eqb-refl, leb→le, le→leb, ltb→lt, lt→ltb, nleb→lt, nltb→le}
-use lib.ListN.{getElem?, length}
+use lib.ListN.{getElem?, length, getD, drop}
+use lib.Seq.{drop-cons}
 use Rattle.model.specs.Tools.{_>>=_, guard, isSome, all, select, orElse, firstOf}
 use Rattle.model.specs.Trees.{Ty, tunit, tsum, tprod, Tag, left, right, sameTag, sameType}
 use Rattle.model.specs.Paper.{Distinct, nobody, another}
@@ -312,3 +314,16 @@ distinct-right (x ∷ xs) ys (another f d) = distinct-right xs ys d
 pub distinct-across : {n : ℕ} (xs ys : List ℕ) → Distinct (xs ++ ys) → List·Memᴰ n xs → List·Memᴰ n ys → ⊥
 distinct-across (x ∷ xs) ys (another f d) (List·Memᴰ·head e) k = f (Memᴰ·append-right xs (Memᴰ·cast (sym e) k))
 distinct-across (x ∷ xs) ys (another f d) (List·Memᴰ·tail m) k = distinct-across xs ys d m k
+
+-- what comes out of a search, handed on as it is
+pub same-bind : {A : Type 0} (o : Option A) → o ≡ (o >>= λ a. some a)
+same-bind none = refl
+same-bind (some a) = refl
+
+-- the one or the other
+pub le-or-lt : (m n : ℕ) → (m ≤ n) ⊎ (n < m)
+le-or-lt m n = ⊎-elim (λ e. inl (leb-le m n e)) (λ e. inr (leb-false m n e)) (bool-cases (leb m n))
+
+-- the byte at a place and those behind it
+pub from-byte : (s : List ℕ) (at : ℕ) → at < length s → drop at s ≡ getD s at 0 ∷ drop (at + 1) s
+from-byte s at h = rw (add-one, drop-cons s at 0 h)

@@ -12,7 +12,7 @@ use Rattle.model.specs.Trees.{Ty, left, right, Pat, punit, pvar, pinj, p
 use Rattle.model.specs.Slots.{Slots}
 use Rattle.model.specs.Refusals.{Refusal, variable, letShape, badType, overlap, gap}
 use Rattle.model.specs.Clauses.{Sigs, variablesRule, letShapes, typed, clauseFault, clash, apart, fullWeight, lefts, rights, sideFault, at, isoFault, fault, sigsOf}
-use Rattle.model.specs.Paper.{LetProducts, Linear, Fits, Chain, Orth, leftRight, rightLeft, under, fst, snd, Apart, alone, beside, Distinct, Covers, ClauseOk, IsoOk, FileOk}
+use Rattle.model.specs.Paper.{Fits, Chain, Orth, leftRight, rightLeft, under, fst, snd, Apart, alone, beside, Distinct, Covers, ClauseOk, IsoOk, FileOk}
 use Rattle.model.specs.Answers.{ClauseFault, SideFault, overlapLeft, overlapRight, gapLeft, gapRight, FirstClause, IsoFault, inClause, inSides, FirstIso}
 use Rattle.model.proofs.Basic.{none≢some, some-inj, orElse-cases, orElse-none, not-both, is-false, and-true, true-and, or-true, true-or-left, true-or-right}
 use Rattle.model.proofs.Basic.{none-failing, each-map, all-mem, mem-all, firstOf-none, none-firstOf, mem-index}
@@ -185,7 +185,7 @@ ok-side sigs o light h =
 
 -- ---- an iso, and the isos in order
 
-at-none : (n : ℕ) (x : Option Refusal) → at n x ≡ none → x ≡ none
+pub at-none : (n : ℕ) (x : Option Refusal) → at n x ≡ none → x ≡ none
 at-none n none e = refl
 at-none n (some f) e = absurd (none≢some (sym e))
 

@@ -29,7 +29,7 @@ long y (z ∷ []) x c = refl
 long y (z ∷ w ∷ u) x c = refl
 
 -- a byte before an ending goes to the text
-onto-text : (y : ℕ) (bs : List ℕ) {t : List ℕ} → isEnding (y ∷ bs) ≡ false → text bs ≡ some t → text (y ∷ bs) ≡ some (y ∷ t)
+pub onto-text : (y : ℕ) (bs : List ℕ) {t : List ℕ} → isEnding (y ∷ bs) ≡ false → text bs ≡ some t → text (y ∷ bs) ≡ some (y ∷ t)
 onto-text y bs n e = rw (n, e)
 
 -- the bytes before a line feed are the text, but for one carriage return directly before it

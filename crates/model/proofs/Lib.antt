@@ -12,6 +12,7 @@ pub mod Passing
 pub mod Turning
 pub mod Endings
 pub mod Printing
+pub mod Tables
 -- environments, and patterns that match closed values
 pub mod Slots
 pub mod Orthogonal

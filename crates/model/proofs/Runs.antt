@@ -36,7 +36,7 @@ pub record Good (os : List Iso) : Type 0 where
   pub form : Formed os
   pub ok : FileOk os
 
-sound : (os : List Iso) → Good os → Sound os
+pub sound : (os : List Iso) → Good os → Sound os
 sound os g =
     record {
       linear = λ o m c k. g .ok o m .clauses c k .types;

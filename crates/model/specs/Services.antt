@@ -2,14 +2,14 @@
 use Prim.Native.Nat.{ℕ, _-_}
 use mathlib.Core.Bool.{Bool, cond, _||_}
 use mathlib.Core.Option.{Option, none, some}
-use mathlib.Core.List.{List, [], _++_, map}
+use mathlib.Core.List.{List, [], _++_}
 use lib.Dec.{leb, ltb}
 use lib.ListN.{length, drop, replicate, getElem?}
 use Rattle.model.specs.Limits.{maxBytes, maxLines, tableLength, workLength, resultLength}
-use Rattle.model.specs.Tools.{_>>=_, guard, concat}
+use Rattle.model.specs.Tools.{_>>=_, guard}
 use Rattle.model.specs.Trees.{Ty, Val, Iso}
 use Rattle.model.specs.Refusals.{Refusal, number, shortArea, tooLong, noIso, noValue, spent}
-use Rattle.model.specs.Lines.{Row, lines, numbers, printRows}
+use Rattle.model.specs.Lines.{Row, lines, tableOf, printRows}
 use Rattle.model.specs.Judge.{start, judge, Reading, rows, faulty, readFrom}
 use Rattle.model.specs.Unfold.{isosOf, turnRows}
 use Rattle.model.specs.Clauses.{fault}
@@ -48,7 +48,7 @@ written bs area = bs ++ drop (length bs) area
 
 -- the table and the work area after a call with enough room
 abbrev pub tableAfter : Verdict → List ℕ → List ℕ
-tableAfter (accepted rs) table = filled tableLength (concat (map numbers rs)) table
+tableAfter (accepted rs) table = filled tableLength (tableOf rs) table
 tableAfter (refused f n) table = cond (leb (number f) 2) table (filled tableLength [] table)
 
 abbrev pub workAfter : Verdict → List ℕ → List ℕ

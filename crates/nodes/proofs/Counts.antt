@@ -57,16 +57,16 @@ pair-tags (suc (suc (suc (suc k)))) n p q h = refl
 -- ---- counts that stop at a ceiling
 
 -- one node above two trees
-above-two : {m n r : ℕ} (x y z : ℕ) → m ≡ min 128 x → n ≡ min 128 y → r ≡ min 128 (1 + m + n) → z ≡ 1 + x + y → r ≡ min 128 z
+pub above-two : {m n r : ℕ} (x y z : ℕ) → m ≡ min 128 x → n ≡ min 128 y → r ≡ min 128 (1 + m + n) → z ≡ 1 + x + y → r ≡ min 128 z
 above-two x y z p q e f = omega arith
 
-above-one : {m r : ℕ} (x z : ℕ) → m ≡ min 128 x → r ≡ min 128 (1 + m + 0) → z ≡ 1 + x → r ≡ min 128 z
+pub above-one : {m r : ℕ} (x z : ℕ) → m ≡ min 128 x → r ≡ min 128 (1 + m + 0) → z ≡ 1 + x → r ≡ min 128 z
 above-one x z p e f = omega arith
 
-both : {m n r : ℕ} (x y z : ℕ) → m ≡ min 41 x → n ≡ min 41 y → r ≡ min 41 (m + n) → z ≡ x + y → r ≡ min 41 z
+pub both : {m n r : ℕ} (x y z : ℕ) → m ≡ min 41 x → n ≡ min 41 y → r ≡ min 41 (m + n) → z ≡ x + y → r ≡ min 41 z
 both x y z p q e f = omega arith
 
-one-more : {m r : ℕ} (x z : ℕ) → m ≡ min 41 x → r ≡ min 41 (1 + m) → z ≡ 1 + x → r ≡ min 41 z
+pub one-more : {m r : ℕ} (x z : ℕ) → m ≡ min 41 x → r ≡ min 41 (1 + m) → z ≡ 1 + x → r ≡ min 41 z
 one-more x z p e f = omega arith
 
 -- ---- T lines: k is the kind, a and b are the lines that line i names, m and n what was counted there

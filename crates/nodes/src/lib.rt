@@ -2,6 +2,15 @@
 // count, by recursion over lines whose numbers fall. P lines are numbered from `base`, the row of the
 // first one.
 
+use codes::FIRST;
+use codes::KIND;
+use codes::LEFT;
+use codes::PAIR;
+use codes::SECOND;
+use codes::TYPE_UNIT;
+use limits::MAX_LINES;
+use limits::MAX_NODES;
+use limits::ROW_WIDTH;
 use words::wide;
 use words::word_at;
 ghost use mathlib.Core.Path.{_≡_};
@@ -10,7 +19,7 @@ ghost use Rattle.model.specs.Trees.{typeNodes, nodes, tags};
 ghost use Rattle.nodes.specs.Unfolding.{cellOf, smallerOf, typeOf, patternOf};
 
 // The rows of the table, and the line that unfolds to a unit for want of a row.
-pub const ROWS: usize = 4096;
+pub const ROWS: usize = MAX_LINES;
 
 // Number k of a row: 0 the letter, then the fields; 0 where there is no such row.
 pub fn cell(t: &[u16], row: usize, k: usize) -> usize
@@ -19,10 +28,10 @@ pub fn cell(t: &[u16], row: usize, k: usize) -> usize
     if ROWS <= row {
         return 0;
     }
-    if 4 <= k {
+    if ROW_WIDTH <= k {
         return 0;
     }
-    wide(word_at(t, row * 4 + k))
+    wide(word_at(t, row * ROW_WIDTH + k))
 }
 
 // A named line if it stands earlier than the line that names it; else one that unfolds to a unit.
@@ -52,13 +61,13 @@ pub fn pattern_cell(t: &[u16], base: usize, j: usize, k: usize) -> usize
 pub fn above(m: usize, n: usize) -> usize
     ensures { λ r. ⌜ r ≡ min 128 (1 + m + n) ⌝ }
 {
-    if 127 <= m {
+    if MAX_NODES <= m {
         return 128;
     }
-    if 127 <= n {
+    if MAX_NODES <= n {
         return 128;
     }
-    if 127 <= m + n {
+    if MAX_NODES <= m + n {
         return 128;
     }
     1 + m + n
@@ -68,11 +77,11 @@ pub fn above(m: usize, n: usize) -> usize
 pub fn type_size(t: &[u16], i: usize) -> usize
     ensures { λ r. ⌜ r ≡ min 128 (typeNodes (typeOf (now (t .entry)) i)) ⌝ }
 {
-    if cell(t, i, 1) == 0 {
+    if cell(t, i, KIND) == TYPE_UNIT {
         return 1;
     }
-    let a = smaller(cell(t, i, 2), i);
-    let b = smaller(cell(t, i, 3), i);
+    let a = smaller(cell(t, i, FIRST), i);
+    let b = smaller(cell(t, i, SECOND), i);
     above(type_size(t, a), type_size(t, b))
 }
 
@@ -80,16 +89,16 @@ pub fn type_size(t: &[u16], i: usize) -> usize
 pub fn pattern_size(t: &[u16], base: usize, j: usize) -> usize
     ensures { λ r. ⌜ r ≡ min 128 (nodes (patternOf (now (t .entry)) base j)) ⌝ }
 {
-    let kind = pattern_cell(t, base, j, 1);
-    if kind < 2 {
+    let kind = pattern_cell(t, base, j, KIND);
+    if kind < LEFT {
         return 1;
     }
-    let a = smaller(pattern_cell(t, base, j, 2), j);
+    let a = smaller(pattern_cell(t, base, j, FIRST), j);
     let m = pattern_size(t, base, a);
-    if kind < 4 {
+    if kind < PAIR {
         return above(m, 0);
     }
-    let b = smaller(pattern_cell(t, base, j, 3), j);
+    let b = smaller(pattern_cell(t, base, j, SECOND), j);
     above(m, pattern_size(t, base, b))
 }
 
@@ -113,15 +122,15 @@ pub fn together(m: usize, n: usize) -> usize
 pub fn pattern_tags(t: &[u16], base: usize, j: usize) -> usize
     ensures { λ r. ⌜ r ≡ min 41 (tags (patternOf (now (t .entry)) base j)) ⌝ }
 {
-    let kind = pattern_cell(t, base, j, 1);
-    if kind < 2 {
+    let kind = pattern_cell(t, base, j, KIND);
+    if kind < LEFT {
         return 0;
     }
-    let a = smaller(pattern_cell(t, base, j, 2), j);
+    let a = smaller(pattern_cell(t, base, j, FIRST), j);
     let m = pattern_tags(t, base, a);
-    if kind < 4 {
+    if kind < PAIR {
         return together(1, m);
     }
-    let b = smaller(pattern_cell(t, base, j, 3), j);
+    let b = smaller(pattern_cell(t, base, j, SECOND), j);
     together(m, pattern_tags(t, base, b))
 }

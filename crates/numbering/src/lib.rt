@@ -2,6 +2,15 @@
 // letters of the one with a number.
 
 use areas::byte_at;
+use codes::FIRST;
+use codes::KIND;
+use codes::LETTER_LEFT;
+use codes::LETTER_PAIR;
+use codes::LETTER_RIGHT;
+use codes::LETTER_UNIT;
+use codes::SECOND;
+use codes::SUM;
+use codes::TYPE_UNIT;
 use nodes::cell;
 use nodes::smaller;
 ghost use mathlib.Core.Path.{_≡_};
@@ -67,7 +76,7 @@ fn count_node(kind: usize, a: usize, b: usize) -> usize
     requires { ⌜ (a ≤ 4294967296) × (b ≤ 4294967296) ⌝ }
     ensures { λ r. ⌜ ((x y : Ty) → (kind ≡ 0 → ⊥) → Counts x a → Counts y b → Counts (typeNode kind x y) r) ⌝ }
 {
-    if kind == 1 {
+    if kind == SUM {
         return capped(a + b);
     }
     pairs(a, b)
@@ -77,12 +86,12 @@ fn count_node(kind: usize, a: usize, b: usize) -> usize
 pub fn count_values(t: &[u16], i: usize) -> usize
     ensures { λ r. ⌜ r ≡ min (count (typeOf (now (t .entry)) i)) 4294967296 ⌝ }
 {
-    let kind = cell(t, i, 1);
-    if kind == 0 {
+    let kind = cell(t, i, KIND);
+    if kind == TYPE_UNIT {
         return 1;
     }
-    let a = count_values(t, smaller(cell(t, i, 2), i));
-    let b = count_values(t, smaller(cell(t, i, 3), i));
+    let a = count_values(t, smaller(cell(t, i, FIRST), i));
+    let b = count_values(t, smaller(cell(t, i, SECOND), i));
     count_node(kind, a, b)
 }
 
@@ -101,9 +110,9 @@ fn behind(s: &[u8], at: usize) -> usize
 pub fn rank_at(t: &[u16], i: usize, s: &[u8], at: usize) -> Ranked
     ensures { λ r. ⌜ ((v : Val) → At (now (s .entry)) at v → inhabits v (typeOf (now (t .entry)) i) ≡ true → count (typeOf (now (t .entry)) i) ≤ maxValues → (r .number ≡ rank v (typeOf (now (t .entry)) i)) × (r .end ≡ at + length (letters v))) ⌝ }
 {
-    let left = smaller(cell(t, i, 2), i);
-    let right = smaller(cell(t, i, 3), i);
-    match cell(t, i, 1) {
+    let left = smaller(cell(t, i, FIRST), i);
+    let right = smaller(cell(t, i, SECOND), i);
+    match cell(t, i, KIND) {
         0 => Ranked {
             number: 0,
             end: behind(s, at),
@@ -118,7 +127,7 @@ fn rank_tag(t: &[u16], left: usize, right: usize, s: &[u8], at: usize) -> Ranked
     ensures { λ r. ⌜ Ranks (tsum (typeOf (now (t .entry)) left) (typeOf (now (t .entry)) right)) (now (s .entry)) at (r .number) (r .end) ⌝ }
 {
     let next = behind(s, at);
-    if byte_at(s, at) == 76 {
+    if byte_at(s, at) == LETTER_LEFT {
         return rank_at(t, left, s, next);
     }
     let r = rank_at(t, right, s, next);
@@ -148,11 +157,11 @@ pub fn unrank_at(t: &[u16], i: usize, n: usize, out: &mut [u8], at: usize) -> us
     if out.len() <= at {
         return at;
     }
-    let left = smaller(cell(t, i, 2), i);
-    let right = smaller(cell(t, i, 3), i);
-    match cell(t, i, 1) {
+    let left = smaller(cell(t, i, FIRST), i);
+    let right = smaller(cell(t, i, SECOND), i);
+    match cell(t, i, KIND) {
         0 => {
-            out[at] = 85;
+            out[at] = LETTER_UNIT;
             at + 1
         }
         1 => unrank_tag(t, left, right, n, out, at),
@@ -167,10 +176,10 @@ fn unrank_tag(t: &[u16], left: usize, right: usize, n: usize, out: &mut [u8], at
 {
     let c = count_values(t, left);
     if n < c {
-        out[at] = 76;
+        out[at] = LETTER_LEFT;
         return unrank_at(t, left, n, out, at + 1);
     }
-    out[at] = 82;
+    out[at] = LETTER_RIGHT;
     unrank_at(t, right, n - c, out, at + 1)
 }
 
@@ -180,7 +189,7 @@ fn unrank_pair(t: &[u16], left: usize, right: usize, n: usize, out: &mut [u8], a
     ensures { λ r. ⌜ Unranks (tprod (typeOf (now (t .entry)) left) (typeOf (now (t .entry)) right)) n (now (out .entry)) (now (out .exit)) at r ⌝ }
 {
     let c = count_values(t, right);
-    out[at] = 80;
+    out[at] = LETTER_PAIR;
     let middle = unrank_at(t, left, n / c, out, at + 1);
     unrank_at(t, right, n % c, out, middle)
 }

@@ -3,6 +3,18 @@
 // before `vars[32 + n]`.
 
 use areas::put_byte;
+use codes::FIRST;
+use codes::KIND;
+use codes::LEFT;
+use codes::LETTER_LEFT;
+use codes::LETTER_PAIR;
+use codes::LETTER_RIGHT;
+use codes::LETTER_UNIT;
+use codes::PAIR;
+use codes::RIGHT;
+use codes::UNIT;
+use codes::VARIABLE;
+use limits::VARIABLES;
 use nodes::pattern_cell;
 use nodes::smaller;
 use values::Upto;
@@ -27,13 +39,13 @@ fn more_after(b: u8, more: usize) -> usize
     requires { ⌜ more < 18446744073709551615 ⌝ }
     ensures { λ r. ⌜ r ≡ cond (eqb b 85) (more - 1) (cond (eqb b 80) (more + 1) more) ⌝ }
 {
-    if b == 85 {
+    if b == LETTER_UNIT {
         if 0 < more {
             return more - 1;
         }
         return 0;
     }
-    if b == 80 {
+    if b == LETTER_PAIR {
         return more + 1;
     }
     more
@@ -47,7 +59,7 @@ fn value_end(s: &[u8], at: usize) -> usize
     let mut more: usize = 0;
     while i < s.len() {
         let b = s[i];
-        if b == 85 {
+        if b == LETTER_UNIT {
             if more == 0 {
                 return i + 1;
             }
@@ -62,9 +74,9 @@ fn value_end(s: &[u8], at: usize) -> usize
 fn put_range(vars: &mut [u16], n: usize, from: usize, to: usize)
     ensures { λ r. ⌜ now (vars .exit) ≡ putRange (now (vars .entry)) n from to ⌝ }
 {
-    if n < 32 {
+    if n < VARIABLES {
         store_word(vars, n, narrow(from));
-        store_word(vars, 32 + n, narrow(to));
+        store_word(vars, VARIABLES + n, narrow(to));
     }
 }
 
@@ -92,16 +104,16 @@ fn match_var(s: &[u8], at: usize, end: usize, n: usize, vars: &mut [u16]) -> Upt
 fn letter(kind: usize) -> u8
     ensures { λ r. ⌜ r ≡ letterFor kind ⌝ }
 {
-    if kind == 0 {
-        return 85;
+    if kind == UNIT {
+        return LETTER_UNIT;
     }
-    if kind == 2 {
-        return 76;
+    if kind == LEFT {
+        return LETTER_LEFT;
     }
-    if kind == 3 {
-        return 82;
+    if kind == RIGHT {
+        return LETTER_RIGHT;
     }
-    80
+    LETTER_PAIR
 }
 
 // The place behind a letter, if it stands at a place.
@@ -137,18 +149,18 @@ pub fn match_at(
     ensures { λ r. ⌜ ((v : Val) → At (now (s .entry)) at v → Ends end at v → r ≡ matched (alike (patternOf (now (t .entry)) base j) v) (at + length (letters v))) ⌝ }
     ensures { λ r. ⌜ ((v : Val) → At (now (s .entry)) at v → Ends end at v → now (vars .exit) ≡ ranges (patternOf (now (t .entry)) base j) v at (now (vars .entry))) ⌝ }
 {
-    let kind = pattern_cell(t, base, j, 1);
-    if kind == 1 {
-        return match_var(s, at, end, pattern_cell(t, base, j, 2), vars);
+    let kind = pattern_cell(t, base, j, KIND);
+    if kind == VARIABLE {
+        return match_var(s, at, end, pattern_cell(t, base, j, FIRST), vars);
     }
     let Upto::Place(next) = letter_end(s, at, letter(kind)) else {
         return Upto::Nothing;
     };
-    if kind == 0 {
+    if kind == UNIT {
         return Upto::Place(next);
     }
     let first = part(t, base, j, 2);
-    if kind < 4 {
+    if kind < PAIR {
         return match_at(t, base, first, s, next, end, vars);
     }
     match match_at(t, base, first, s, next, 0, vars) {
@@ -163,23 +175,23 @@ fn build_var(n: usize, vars: &[u16], work: &mut [u8], at: usize) -> usize
     ensures { λ r. ⌜ ((top : ℕ) → Below (now (vars .entry)) top → top ≤ at → Writes (now (work .entry)) (now (work .exit)) at r (rangeOf (take top (now (work .entry))) (now (vars .entry)) n)) ⌝ }
 {
     let from = wide(word_at(vars, n));
-    copy_range(work, from, wide(word_at(vars, 32 + n)), at)
+    copy_range(work, from, wide(word_at(vars, VARIABLES + n)), at)
 }
 
 // Writes P line j with its variables' values put in; gives where it ends.
 pub fn build_at(t: &[u16], base: usize, j: usize, vars: &[u16], work: &mut [u8], at: usize) -> usize
     ensures { λ r. ⌜ ((top : ℕ) → Below (now (vars .entry)) top → top ≤ at → Writes (now (work .entry)) (now (work .exit)) at r (built (patternOf (now (t .entry)) base j) (take top (now (work .entry))) (now (vars .entry)))) ⌝ }
 {
-    let kind = pattern_cell(t, base, j, 1);
-    if kind == 1 {
-        return build_var(pattern_cell(t, base, j, 2), vars, work, at);
+    let kind = pattern_cell(t, base, j, KIND);
+    if kind == VARIABLE {
+        return build_var(pattern_cell(t, base, j, FIRST), vars, work, at);
     }
     let next = put_byte(work, at, letter(kind));
-    if kind == 0 {
+    if kind == UNIT {
         return next;
     }
     let middle = build_at(t, base, part(t, base, j, 2), vars, work, next);
-    if kind < 4 {
+    if kind < PAIR {
         return middle;
     }
     build_at(t, base, part(t, base, j, 3), vars, work, middle)

@@ -1,6 +1,8 @@
 // Numbers and rows as text in an output area.
 
 use areas::put_byte;
+use codes::COMMA;
+use codes::LINE_FEED;
 use forms::fields_of;
 use forms::letter_of;
 use model::Row;
@@ -32,7 +34,7 @@ pub fn put_number(out: &mut [u8], at: usize, n: usize) -> usize
 pub fn put_field(out: &mut [u8], at: usize, n: usize) -> usize
     ensures { λ r. ⌜ (n < 10000000000 → Writes (now (out .entry)) (now (out .exit)) at r (printField n)) ⌝ }
 {
-    let next = put_byte(out, at, 44);
+    let next = put_byte(out, at, COMMA);
     put_number(out, next, n)
 }
 
@@ -45,8 +47,8 @@ pub fn put_row(out: &mut [u8], at: usize, r: Row) -> usize
     let y = put_field(out, x, r.x);
     let z = put_field(out, y, r.y);
     if fields_of(k) == 2 {
-        return put_byte(out, z, 10);
+        return put_byte(out, z, LINE_FEED);
     }
     let end = put_field(out, z, r.z);
-    put_byte(out, end, 10)
+    put_byte(out, end, LINE_FEED)
 }

@@ -15,7 +15,7 @@ use Rattle.model.specs.Lines.{Row, lines, ontoFirst}
 use Rattle.model.specs.Services.{Verdict, accepted, refused, verdict, over, answerOf, answerOfRun}
 use Rattle.model.specs.Desk.{isQuery, fileLines, queryLines, queryOf, answerTo, queryAnswers, queryLine, fileLine, desk}
 use Rattle.model.proofs.Basic.{bool-cases, not-both, and-true, eqb-eq, each-nil, each-cons, each-append, not-leb, lt-ltb, ltb-lt}
-use Rattle.model.proofs.Printing.{NoFeed, Feedless, lines-feed}
+use Rattle.model.proofs.Printing.{NoFeed, Feedless, lines-feed, lines-last}
 use Rattle.queries.specs.Stream.{State, collecting, asking, stopped, Step, opensFrom, opens, begun, close, answered, step, finish, behind, steps, output, settled}
 
 -- ---- cutting
@@ -82,11 +82,6 @@ pub answered-cap : (rs : List Row) (l m : List ℕ) → 200 < length l → 200 <
 answered-cap rs l m h k = ap (λ q. queryLine (answerOfRun (answerTo (accepted rs) q))) (query-cap l h ∙ sym (query-cap m k))
 
 -- ---- the queries
-
--- a last line without a line feed
-lines-last : (b : ℕ) (l : List ℕ) → Feedless (b ∷ l) → lines (b ∷ l) ≡ (b ∷ l) ∷ []
-lines-last b [] h = rw (h b (List·Memᴰ·head refl))
-lines-last b (c ∷ l) h = rw (h b (List·Memᴰ·head refl)) (ap (ontoFirst b) (lines-last c l (λ d m. h d (List·Memᴰ·tail m))))
 
 -- one byte more that is no line feed
 feedless-more : (l : List ℕ) (b : ℕ) → Feedless l → eqb b lineFeed ≡ false → Feedless (l ++ (b ∷ []))
@@ -180,7 +175,7 @@ collect-query pre cs o =
     ∙ sym (from-query pre (lines cs)))
 
 -- a test and a false one
-and-false : (a : Bool) → (a && false) ≡ false
+pub and-false : (a : Bool) → (a && false) ≡ false
 and-false true = refl
 and-false false = refl
 

@@ -2,9 +2,13 @@
 
 use areas::byte_at;
 use areas::put_byte;
+use codes::COMMA;
+use codes::LETTER_Q;
+use codes::LINE_FEED;
 use fields::Cursor;
 use fields::Number;
 use fields::Skipped;
+use limits::QUERY_LENGTH;
 use parts::front;
 use printer::put_field;
 use printer::put_number;
@@ -63,7 +67,7 @@ fn after_letter(c: Cursor, s: &[u8]) -> Asked
     let Number::Value(budget, f) = e.field(s, 4294967295) else {
         return Asked::Bad;
     };
-    match f.skip(s, 44) {
+    match f.skip(s, COMMA) {
         Skipped::Past(g) => with_letters(iso, direction, budget, g, s),
         Skipped::Other => Asked::Bad,
     }
@@ -74,7 +78,7 @@ fn query_in(s: &[u8]) -> Asked
     ensures { λ r. ⌜ (asQuery (now (s .entry)) r ≡ queryIn (now (s .entry))) × Within (now (s .entry)) r ⌝ }
 {
     let start = Cursor { at: 0 };
-    match start.skip(s, 81) {
+    match start.skip(s, LETTER_Q) {
         Skipped::Past(c) => after_letter(c, s),
         Skipped::Other => Asked::Bad,
     }
@@ -84,7 +88,7 @@ fn query_in(s: &[u8]) -> Asked
 pub fn query_of(s: &[u8]) -> Asked
     ensures { λ r. ⌜ asQuery (now (s .entry)) r ≡ queryOf (now (s .entry)) ⌝ }
 {
-    if 200 < s.len() {
+    if QUERY_LENGTH < s.len() {
         return Asked::Bad;
     }
     match Cursor::before_ending(s) {
@@ -129,7 +133,7 @@ pub fn put_verdict(out: &mut [u8], at: usize, number: u8, line: usize) -> usize
     let n = wide(number);
     let a = put_number(out, at, n);
     let b = put_field(out, a, line);
-    put_byte(out, b, 10)
+    put_byte(out, b, LINE_FEED)
 }
 
 // The line that answers a query: its number, count and letters.
@@ -140,7 +144,7 @@ pub fn put_answer(out: &mut [u8], at: usize, number: u8, count: u32, letters: &[
     let k = widen(count);
     let a = put_number(out, at, n);
     let b = put_field(out, a, k);
-    let c = put_byte(out, b, 44);
+    let c = put_byte(out, b, COMMA);
     let d = put_bytes(out, c, letters);
-    put_byte(out, d, 10)
+    put_byte(out, d, LINE_FEED)
 }

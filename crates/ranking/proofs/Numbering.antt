@@ -1,28 +1,22 @@
 -- Request 02, settings as numbers: a type's closed values and the numbers below its count stand for each other, in the letters' order.
 use Prim.Native.Nat.{ℕ, zero, suc, _+_, _-_, _*_, _/_, _%_, _≤_, _<_}
-use native.Mathlib.Nat.{zero-add, suc-mul, mul-comm, mul-pos, add-sub-cancel-left, add-sub-of-le, ne-of-gt, eq-or-lt-of-le, le-of-eq, le-of-lt, le-trans, le-add-right}
+use native.Mathlib.Nat.{zero-add, suc-mul, mul-comm, mul-pos, add-sub-cancel-left, add-sub-of-le, ne-of-gt, eq-or-lt-of-le, le-of-eq, le-of-lt, le-add-right}
 use native.Mathlib.Nat.{mul-le-mul-right, le-mul-of-pos-right, mod-lt, mod-eq-of-lt, div-eq-of-lt, div-add-mod', div-lt-iff-lt-mul, mul-add-div-right, mul-add-mod-self-right}
 use native.Mathlib.Omega.{arith}
 use mathlib.Core.Path.{_≡_, refl, sym, ap, ap₂, _∙_, subst}
-use mathlib.Core.Logic.{_⊎_, inl, inr, ⊎-elim}
-use mathlib.Core.Bool.{Bool, true, false, cond, _||_, false≢true}
-use mathlib.Core.Option.{Option, none, some}
-use mathlib.Core.List.{List, [], _∷_, _++_, append-assoc, append-nil}
-use lib.Dec.{leb, ltb, eqb}
-use lib.ListN.{length, getD, getElem?}
-use Rattle.model.specs.Limits.{maxNodes, maxValues, resultLength}
-use Rattle.model.specs.Tools.{_>>=_, guard}
+use mathlib.Core.Logic.{_⊎_, ⊎-elim}
+use mathlib.Core.Bool.{Bool, true, false, cond, _||_}
+use mathlib.Core.List.{List, [], _++_, append-assoc, append-nil}
+use lib.Dec.{ltb, eqb}
+use lib.ListN.{length}
+use Rattle.model.specs.Limits.{maxNodes, maxValues}
 use Rattle.model.specs.Trees.{Ty, tunit, tsum, tprod, left, right, Val, vinj, vpair, typeNodes}
-use Rattle.model.specs.Refusals.{Refusal, noIso, noValue, tooMany, tooHigh}
-use Rattle.model.specs.Lines.{Row}
 use Rattle.model.specs.Letters.{letters, inhabits}
-use Rattle.model.specs.Services.{Verdict, accepted, refused, verdict, valueIn}
 use Rattle.model.specs.Paper.{Of}
-use Rattle.ranking.specs.Numbering.{count, rank, unrank, before, Outcome, gives, fails, typesOf, onType, numberIn, toNumber, toSetting, numberOn, settingOn, refusalOf, numberFrom}
-use Rattle.model.proofs.Basic.{some-bind, none≢some, some-inj, not-some, true-guard, true-and, true-or-left, bool-cases, eq-eqb, not-eqb, leb-le, leb-false, ltb-lt, lt-ltb, ltb-false, not-ltb}
-use Rattle.model.proofs.Letters.{value-letters, inhabits-of}
-use Rattle.model.proofs.Runs.{accepted-good, value-in}
-use Rattle.model.proofs.Sizes.{of-small, types-small}
+use Rattle.ranking.specs.Numbering.{count, rank, unrank, before}
+use Rattle.model.proofs.Basic.{true-and, true-or-left, eq-eqb, not-eqb, lt-ltb, not-ltb, le-or-lt}
+use Rattle.model.proofs.Letters.{inhabits-of}
+use Rattle.model.proofs.Sizes.{of-small}
 
 -- ---- counts
 
@@ -44,10 +38,6 @@ count-first a b = le-mul-of-pos-right (count a) (count-positive b)
 
 pub count-second : (a b : Ty) → count b ≤ count (tprod a b)
 count-second a b = omega (arith, le-mul-of-pos-right (count b) (count-positive a), mul-comm (count a) (count b))
-
--- the one or the other
-le-or-lt : (m n : ℕ) → (m ≤ n) ⊎ (n < m)
-le-or-lt m n = ⊎-elim (λ e. inl (leb-le m n e)) (λ e. inr (leb-false m n e)) (bool-cases (leb m n))
 
 -- a pair's number is below the product
 pair-below : {p q r k : ℕ} → p < q → r < k → p * k + r < q * k

@@ -7,7 +7,6 @@ use mathlib.Core.Bool.{Bool, true, false, cond, true≢false}
 use mathlib.Core.Option.{some}
 use mathlib.Core.Logic.{_⊎_, inl, inr}
 use mathlib.Core.List.{List, [], _∷_, _++_, append-assoc}
-use lib.Dec.{ltb}
 use lib.ListN.{length, getD, getElem?, take, drop, replicate, length-append, drop-of-length-le, take-append-drop}
 use lib.Seq.{sets, slice, sets-eq, length-take-le, take-at, drop-at, take-take}
 use Rattle.model.specs.Limits.{variables, maxLets}
@@ -15,7 +14,7 @@ use Rattle.model.specs.Trees.{Pat, Val, Let, Clause, Iso}
 use Rattle.model.specs.Slots.{Slots, empty}
 use Rattle.model.specs.Letters.{letters}
 use Rattle.model.specs.Reduction.{bind, build}
-use Rattle.model.proofs.Basic.{bool-cases, ltb-lt, ltb-false, not-both, index-below}
+use Rattle.model.proofs.Basic.{not-both, index-below, le-or-lt}
 use Rattle.model.proofs.Binding.{bind-length, build-length}
 use Rattle.areas.specs.Areas.{Writes}
 use Rattle.nodes.specs.Unfolding.{cellOf, patternOf}
@@ -57,14 +56,6 @@ done≢spent e = true≢false (ap isDone e)
     isDone (reduced.Done x y) = true
     isDone reduced.Spent = false
 
--- within a budget or not
-pub either : (m n : ℕ) → (m ≤ n) ⊎ (n < m)
-either m n = go (bool-cases (ltb n m))
-  where
-    go : (ltb n m ≡ true) ⊎ (ltb n m ≡ false) → (m ≤ n) ⊎ (n < m)
-    go (inl t) = inr (ltb-lt n m t)
-    go (inr f) = inl (ltb-false n m f)
-
 -- ---- the choice of a clause
 
 -- the pattern that is read for the clause at place m
@@ -101,7 +92,7 @@ choosing-next {S} {work} {at} {end} {from} {stop} {vars₀} {vars} {vars′} {m}
     }
   where
     further : (x y : ℕ) → x ≤ y → (x ≡ y → ⊥) → x < y
-    further x y h k = go (either y x)
+    further x y h k = go (le-or-lt y x)
       where
         go : (y ≤ x) ⊎ (x < y) → x < y
         go (inl b) = absurd (k (omega arith))
@@ -115,7 +106,7 @@ pub choosing-found : {S : ℕ → Pat} {work : List ℕ} {at end from stop : ℕ
 choosing-found {S} {work} {at} {end} {from} {stop} {vars₀} {vars} {vars′} {m} q c e took range v n a z b h hit miss =
     let r = c .notYet v n a z b h hit miss in
     let hits : alike (S m) v ≡ true = subst (λ p. alike p v ≡ true) e (place-alike _ _ _ (took v a (λ _. z)) .0) in
-    let same : m ≡ from + n = here (either (from + n) m) (r .0) (c .onward) hits in
+    let same : m ≡ from + n = here (le-or-lt (from + n) m) (r .0) (c .onward) hits in
     record {
       place = same;
       earlier = vars;
@@ -405,7 +396,7 @@ letting-next {t} {base} {index} {back} {i} {from} {n} {end} {budget} {w₀} {var
   where
     onward : (os : List Iso) (d : ℕ) (ls : List Let) (g : Slots Val) (m : ℕ) → OneStep (Runs d os) i ls g m budget end w₀ k top left work work′ vars vars′ (reduced.Done x y)
         → LetsAt (Runs d os) i ls g m budget end w₀ (k + 1) x y work′ vars′
-    onward os d ls g m o = go (either (o .first .count) left)
+    onward os d ls g m o = go (le-or-lt (o .first .count) left)
       where
         go : (o .first .count ≤ left) ⊎ (left < o .first .count) → LetsAt (Runs d os) i ls g m budget end w₀ (k + 1) x y work′ vars′
         go (inr h) = absurd (done≢spent (o .says .spent h))
@@ -643,7 +634,7 @@ applied-done : {t : List ℕ} {base : ℕ} {back : Bool} {os : List Iso} {i row 
     → ((k : ℕ) → Below vars′ k → k ≤ top → Writes w₁ w₂ top last (built q (take k w₁) vars′))
     → (at ≤ top → last ≤ length w₂ → Writes w₂ w₃ at after (slice top last w₂))
     → Applied w₀ w₃ at left w m (reduced.Done after x)
-applied-done {i = i} {end = end} {left = left} {rest = rest} {top = top} {after = after} {last = last} {x = x} {w₀ = w₀} {w₁ = w₁} {w₂ = w₂} {w₃ = w₃} {vars′ = vars′} {w = w} {m = m} {n = n} at v q p l is e few small ends room wide same build′ copy = go (either (p .count) rest)
+applied-done {i = i} {end = end} {left = left} {rest = rest} {top = top} {after = after} {last = last} {x = x} {w₀ = w₀} {w₁ = w₁} {w₂ = w₂} {w₃ = w₃} {vars′ = vars′} {w = w} {m = m} {n = n} at v q p l is e few small ends room wide same build′ copy = go (le-or-lt (p .count) rest)
   where
     go : (p .count ≤ rest) ⊎ (rest < p .count) → Applied w₀ w₃ at left w m (reduced.Done after x)
     go (inr h) = absurd (done≢spent (sym is ∙ l .spent h))

@@ -1,6 +1,11 @@
 // The reduction over a checked table. Letters made on the way live in the work area, each
 // application's behind those of the one that called it; its result takes the place of its argument.
 
+use codes::CLAUSE_LEFT;
+use codes::CLAUSE_RIGHT;
+use codes::LET_ISO;
+use codes::LET_P;
+use codes::LET_Q;
 use nodes::cell;
 use patterns::build_at;
 use patterns::match_at;
@@ -121,7 +126,14 @@ fn put_result(
 ) -> usize
     ensures { λ r. ⌜ Moved (patternOf (now (t .entry)) base (cellOf (now (t .entry)) row (cond back 1 2))) (now (vars .entry)) (now (work .entry)) (now (work .exit)) top at r ⌝ }
 {
-    let last = build_at(t, base, line(t, row, back, 2, 1), vars, work, top);
+    let last = build_at(
+        t,
+        base,
+        line(t, row, back, CLAUSE_RIGHT, CLAUSE_LEFT),
+        vars,
+        work,
+        top,
+    );
     copy_range(work, top, last, at)
 }
 
@@ -140,14 +152,22 @@ fn let_step(
 ) -> Reduced
     ensures { λ r. ⌜ ((os : List Iso) (d : ℕ) (l : Let) (e f g : Slots Val) (u w : Val) (m : ℕ) → Laid (now (t .entry)) base (now (index .entry)) back os → l ≡ sidedLet back (letAt (now (t .entry)) base row) → l .iso < i → build (l .q) e ≡ some (u, f) → Small u → Runs d os (l .iso) u w m → Small w → bind (l .p) w f ≡ some g → EnvAt (now (work .entry)) top (now (vars .entry)) e → top + i * frame ≤ length (now (work .entry)) → length (now (work .entry)) ≤ 65536 → Stepped (now (work .entry)) (now (work .exit)) (now (vars .exit)) top left w g m r) ⌝ }
 {
-    let j = cell(t, row, 2);
+    let j = cell(t, row, LET_ISO);
     if i <= j {
         return Reduced::Spent;
     }
-    let end = build_at(t, base, line(t, row, back, 3, 1), vars, work, top);
+    let end = build_at(t, base, line(t, row, back, LET_Q, LET_P), vars, work, top);
     match apply(t, base, index, back, j, work, top, end, left) {
         Reduced::Done(e, l) => {
-            match_at(t, base, line(t, row, back, 1, 3), work, top, e, vars);
+            match_at(
+                t,
+                base,
+                line(t, row, back, LET_P, LET_Q),
+                work,
+                top,
+                e,
+                vars,
+            );
             Reduced::Done(e, l)
         }
         Reduced::Spent => Reduced::Spent,

@@ -18,6 +18,7 @@ use Rattle.reordering.specs.Reordered.{Permuted, empty, keep, swap, then
 use Rattle.reordering.specs.Answers.{FaultsAgree}
 use Rattle.model.proofs.Basic.{none≢some, some-inj, orElse-cases, orElse-none, firstOf-none, none-firstOf}
 use Rattle.model.proofs.Inverse.{reduce-unfold}
+use Rattle.model.proofs.Checking.{at-none}
 
 -- ---- permuted lists
 
@@ -197,10 +198,6 @@ bare-fault sigs a b c = refl
 pub alike-sigs : {os ns : List Iso} → Alike os ns → sigsOf os ≡ sigsOf ns
 alike-sigs Alike.none = refl
 alike-sigs (more a h) = λ i. (a .from i, a .to i) ∷ alike-sigs h i
-
-at-none : (n : ℕ) (x : Option Refusal) → at n x ≡ none → x ≡ none
-at-none n none e = refl
-at-none n (some f) e = absurd (none≢some (sym e))
 
 module _ (sigs : Sigs) {o n : Iso} (a : AlikeIso o n) where
   -- the fault of a clause of the one is the fault of a clause of the other

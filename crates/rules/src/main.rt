@@ -7,6 +7,9 @@ use desk::feed;
 use desk::finished;
 use desk::opened;
 use desk::settled;
+use limits::INDEX_LENGTH;
+use limits::TABLE_LENGTH;
+use limits::WORK_LENGTH;
 use parts::front;
 use parts::tail;
 use stdio::Input;
@@ -135,9 +138,9 @@ fn answer_all(
 fn main() {
     let mut file = [0u8; 65537];
     let mut line = [0u8; 201];
-    let mut table = [0u16; 16384];
-    let mut work = [0u8; 65536];
-    let mut index = [0u16; 1090];
+    let mut table = [0u16; TABLE_LENGTH];
+    let mut work = [0u8; WORK_LENGTH];
+    let mut index = [0u16; INDEX_LENGTH];
     let mut out = [0u8; 8192];
     answer_all(
         &mut file,

@@ -1,12 +1,12 @@
 -- A run on a checked table, case by case, against the model's run of the file's rows.
-use Prim.Native.Nat.{ℕ, zero, suc, _+_, _-_, _≤_, _<_}
+use Prim.Native.Nat.{ℕ, _+_, _-_, _≤_, _<_}
 use native.Mathlib.Nat.{zero-add}
 use native.Mathlib.Omega.{arith}
 use mathlib.Core.Path.{_≡_, refl, sym, ap, ap₂, _∙_}
 use mathlib.Core.Bool.{Bool, true, false, cond}
 use mathlib.Core.Option.{none, some}
 use mathlib.Core.Logic.{_⊎_, inl, inr}
-use mathlib.Core.List.{List, [], _∷_, _++_}
+use mathlib.Core.List.{List, _++_}
 use lib.ListN.{length, getElem?, take, drop, length-map}
 use lib.Seq.{paste}
 use Rattle.model.specs.Limits.{maxIsos}
@@ -18,7 +18,7 @@ use Rattle.model.specs.Unfold.{isosOf}
 use Rattle.model.specs.Letters.{letters}
 use Rattle.model.specs.Services.{Ran, gives, failed, within, argument, from, onIso, runRows, toward, RunAnswer, answerOfRun, written}
 use Rattle.model.specs.Code.{refusalView, numbered}
-use Rattle.model.proofs.Basic.{le-leb, not-leb}
+use Rattle.model.proofs.Basic.{le-leb, not-leb, le-or-lt}
 use Rattle.model.proofs.Passing.{Passes}
 use Rattle.model.proofs.Turning.{isos-turn}
 use Rattle.model.proofs.Runs.{good-toward, accepted-good}
@@ -39,7 +39,7 @@ use Rattle.reduction.specs.declared.Reduced as D
 use Rattle.reduction.specs.declared.Reduced.the-variants as reduced
 use Rattle.reduction.specs.Frames.{Laid, Applied}
 use Rattle.reduction.proofs.Laying.{inside, laid, from-at}
-use Rattle.reduction.proofs.Framing.{ApplySays, either, done-place, done-left, done≢spent}
+use Rattle.reduction.proofs.Framing.{ApplySays, done-place, done-left, done≢spent}
 use Rattle.runner.specs.declared.run.Ran as R
 use Rattle.runner.specs.RunSays.{Prepared, answerFor, RanAs}
 use Rattle.runner.proofs.Copying.{value-front, paste-front}
@@ -47,7 +47,7 @@ use Rattle.runner.proofs.Copying.{value-front, paste-front}
 -- ---- the isos of a direction
 
 -- at most 32 isos
-isos-small : (rs : List Row) → Passes start rs → length (isosOf rs) ≤ maxIsos
+pub isos-small : (rs : List Row) → Passes start rs → length (isosOf rs) ≤ maxIsos
 unfolding start
 isos-small rs ps =
     let a = isos-counted rs in let b = isos-told 0 start rs in let c = isos-few ps in omega (arith, a, b, c)
@@ -194,7 +194,7 @@ ran-done : {t : List ℕ} {base : ℕ} {index : List ℕ} {i : ℕ} {back : Bool
     → (g : Begun t base index i back budget value rs) → Applied work₁ work₂ 0 budget (g .w) (g .m) z → z ≡ reduced.Done n left → 127 ≤ length o → 40960 ≤ length work₂
     → (n ≤ length work₂ → n ≤ length o → o′ ≡ paste o 0 work₂ n) → refusalView (r .refusal) ≡ none → r .count ≡ budget - left → r .length ≡ n
     → RanAs (answerFor rs i back budget value) o o′ r
-ran-done {i = i} {back = back} {budget = budget} {value = value} {rs = rs} work₁ work₂ o o′ n left {z} r g a told long room copy e k l = go (either (g .m) budget)
+ran-done {i = i} {back = back} {budget = budget} {value = value} {rs = rs} work₁ work₂ o o′ n left {z} r g a told long room copy e k l = go (le-or-lt (g .m) budget)
   where
     go : (g .m ≤ budget) ⊎ (budget < g .m) → RanAs (answerFor rs i back budget value) o o′ r
     go (inr h) = absurd (done≢spent (sym told ∙ a .spent h))
@@ -217,7 +217,7 @@ ran-done {i = i} {back = back} {budget = budget} {value = value} {rs = rs} work�
 ran-spent : {t : List ℕ} {base : ℕ} {index : List ℕ} {i : ℕ} {back : Bool} {budget : ℕ} {value : List ℕ} {rs : List Row} (work₁ work₂ o : List ℕ) {z : D.Reduced} (r : R.Ran)
     → (g : Begun t base index i back budget value rs) → Applied work₁ work₂ 0 budget (g .w) (g .m) z → z ≡ reduced.Spent
     → refusalView (r .refusal) ≡ some spent → r .count ≡ 0 → r .length ≡ 0 → RanAs (answerFor rs i back budget value) o o r
-ran-spent {i = i} {back = back} {budget = budget} {value = value} {rs = rs} work₁ work₂ o {z} r g a told e k l = go (either (g .m) budget)
+ran-spent {i = i} {back = back} {budget = budget} {value = value} {rs = rs} work₁ work₂ o {z} r g a told e k l = go (le-or-lt (g .m) budget)
   where
     go : (g .m ≤ budget) ⊎ (budget < g .m) → RanAs (answerFor rs i back budget value) o o r
     go (inl h) = absurd (done≢spent (sym (a .done h) ∙ told))

@@ -4,7 +4,13 @@ use areas::byte_at;
 use areas::put_byte;
 use checker::Checked;
 use checker::check_file;
+use codes::ISO_FROM;
+use codes::ISO_TO;
 use index::index_isos;
+use limits::INDEX_LENGTH;
+use limits::MAX_LINES;
+use limits::RESULT_LENGTH;
+use limits::WORK_LENGTH;
 use model::Refusal;
 use model::is_refused;
 use nodes::cell;
@@ -68,10 +74,10 @@ pub fn prepare(table: &[u16], c: Checked, index: &mut [u16])
 {
     let types = c.types;
     let patterns = c.patterns;
-    if 4096 < types {
+    if MAX_LINES < types {
         return;
     }
-    if 4096 < patterns {
+    if MAX_LINES < patterns {
         return;
     }
     index_isos(table, types + patterns, c.lines, c.isos, index);
@@ -97,7 +103,7 @@ pub fn run_checked(
         return refused(Refusal::NoIso);
     }
     let row = place(index, place(index, i));
-    if !is_value(t, cell(t, row, side(back, 1, 2)), value) {
+    if !is_value(t, cell(t, row, side(back, ISO_FROM, ISO_TO)), value) {
         return refused(Refusal::NoValue);
     }
     copy_front(value, value.len(), work);
@@ -130,7 +136,7 @@ fn run_accepted(
     ensures { λ r. ⌜ drop room (now (work .exit)) ≡ drop room (now (work .entry)) ⌝ }
     ensures { λ r. ⌜ ((s : List ℕ) (a : Accepted s (now (table .entry)) c) → 40960 ≤ room → room ≤ 65536 → 127 ≤ length (now (result .entry)) → RanAs (answerFor (a .file) i back budget (now (value .entry))) (now (result .entry)) (now (result .exit)) r) ⌝ }
 {
-    let mut index = [0u16; 1090];
+    let mut index = [0u16; INDEX_LENGTH];
     prepare(table, c, &mut index);
     run_checked(
         table,
@@ -160,7 +166,7 @@ pub fn run(
 ) -> Ran
     ensures { λ r. ⌜ RunSays (now (file .entry)) (now (table .entry)) (now (work .entry)) i back budget (now (value .entry)) (now (result .entry)) (now (table .exit)) (now (work .exit)) (now (result .exit)) r ⌝ }
 {
-    if result.len() < 127 {
+    if result.len() < RESULT_LENGTH {
         return refused(Refusal::ShortArea);
     }
     let c = check_file(file, table, work);
@@ -169,7 +175,7 @@ pub fn run(
     if is_refused(f) {
         return refused(f);
     }
-    let r = run_accepted(table, c, i, back, budget, value, work, 65536, result);
-    clear_bytes(work, 65536);
+    let r = run_accepted(table, c, i, back, budget, value, work, WORK_LENGTH, result);
+    clear_bytes(work, WORK_LENGTH);
     r
 }

@@ -2,6 +2,7 @@
 // table and as services.
 
 use checker::check_file;
+use limits::RESULT_LENGTH;
 use model::Refusal;
 use model::is_refused;
 use numbering::count_values;
@@ -131,7 +132,7 @@ pub fn to_setting(
 ) -> Lettered
     ensures { λ r. ⌜ SettingSays (now (file .entry)) (now (table .entry)) (now (work .entry)) i setting (now (result .entry)) (now (table .exit)) (now (work .exit)) (now (result .exit)) r ⌝ }
 {
-    if result.len() < 127 {
+    if result.len() < RESULT_LENGTH {
         return not_lettered(Refusal::ShortArea);
     }
     let c = check_file(file, table, work);

@@ -4,6 +4,11 @@ use answers::answer_line;
 use areas::store_number;
 use checker::Checked;
 use checker::check_file;
+use limits::INDEX_LENGTH;
+use limits::MAX_QUERIES;
+use limits::RESULT_LENGTH;
+use limits::TABLE_LENGTH;
+use limits::WORK_LENGTH;
 use model::Answer;
 use model::Refusal;
 use model::is_refused;
@@ -52,16 +57,16 @@ fn refused(f: Refusal) -> Answered
 fn is_short(table: &[u16], work: &[u8], numbers: &[u32], letters: &[u8], n: usize) -> bool
     ensures { λ r. ⌜ r ≡ (short (now (table .entry)) (now (work .entry)) || narrowSheet n (now (numbers .entry)) (now (letters .entry))) ⌝ }
 {
-    if table.len() < 16384 {
+    if table.len() < TABLE_LENGTH {
         return true;
     }
-    if work.len() < 65536 {
+    if work.len() < WORK_LENGTH {
         return true;
     }
     if numbers.len() / 3 < n {
         return true;
     }
-    letters.len() / 127 < n
+    letters.len() / RESULT_LENGTH < n
 }
 
 // A number of 8 bits in 32.
@@ -105,8 +110,8 @@ fn answer_one(
     requires { ⌜ (k * 3 + 3 ≤ length (now numbers)) × (k * 127 + 127 ≤ length (now letters)) ⌝ }
     ensures { λ z. ⌜ ((rs : List RowOf) → Prepared (now (t .entry)) base (now (index .entry)) isos rs → 40960 ≤ length (now (work .entry)) → length (now (work .entry)) ≤ 65536 → OneAnswered (answerOfRun (answerTo (accepted rs) (queryOf (now (line .entry))))) k (now (numbers .entry)) (now (letters .entry)) (now (numbers .exit)) (now (letters .exit))) ⌝ }
 {
-    let from = k * 127;
-    let end = from + 127;
+    let from = k * RESULT_LENGTH;
+    let end = from + RESULT_LENGTH;
     let r = answer_line(t, base, index, isos, line, work, &mut letters[from..end]);
     put_three(numbers, k * 3, r);
 }
@@ -159,7 +164,7 @@ fn answer_all(
     ensures { λ z. ⌜ drop room (now (work .exit)) ≡ drop room (now (work .entry)) ⌝ }
     ensures { λ z. ⌜ ((s : List ℕ) (a : Accepted s (now (table .entry)) c) → 40960 ≤ room → room ≤ 65536 → AllAnswered (a .file) (now (queries .entry)) (now (numbers .entry)) (now (letters .entry)) (now (numbers .exit)) (now (letters .exit))) ⌝ }
 {
-    let mut index = [0u16; 1090];
+    let mut index = [0u16; INDEX_LENGTH];
     prepare(table, c, &mut index);
     answer_lines(
         table,
@@ -190,7 +195,7 @@ pub fn sheet(
     if is_short(table, work, numbers, letters, n) {
         return refused(Refusal::ShortArea);
     }
-    if 600 < n {
+    if MAX_QUERIES < n {
         return refused(Refusal::TooLong);
     }
     let c = check_file(file, table, work);
@@ -202,8 +207,8 @@ pub fn sheet(
             queries: 0,
         };
     }
-    answer_all(table, c, queries, work, 65536, numbers, letters);
-    clear_bytes(work, 65536);
+    answer_all(table, c, queries, work, WORK_LENGTH, numbers, letters);
+    clear_bytes(work, WORK_LENGTH);
     Answered {
         answer: a,
         queries: n,

@@ -9,18 +9,14 @@ use mathlib.Core.Logic.{_⊎_, inl, inr}
 use mathlib.Core.List.{List, [], _∷_, _++_}
 use lib.Dec.{eqb}
 use lib.ListN.{length, getD, take, drop, length-drop, drop-of-length-le}
-use lib.Seq.{drop-cons, take-suc, getD-drop, take-all}
+use lib.Seq.{take-suc, getD-drop, take-all}
 use borrow.Author.Tests.{eq-eqb, ne-eqb}
 use Rattle.model.specs.Limits.{lineFeed}
 use Rattle.model.specs.Lines.{lines, ontoFirst}
-use Rattle.model.proofs.Basic.{bool-cases}
+use Rattle.model.proofs.Basic.{bool-cases, from-byte}
 use Rattle.split.specs.Split.{LineEnd, oneMore}
 
 -- ---- one byte and the lines behind it
-
--- the byte at a place and those behind it
-from-byte : (s : List ℕ) (at : ℕ) → at < length s → drop at s ≡ getD s at 0 ∷ drop (at + 1) s
-from-byte s at h = rw (add-one, drop-cons s at 0 h)
 
 lines-at-feed : (s : List ℕ) (at : ℕ) → at < length s → getD s at 0 ≡ lineFeed → lines (drop at s) ≡ (getD s at 0 ∷ []) ∷ lines (drop (at + 1) s)
 lines-at-feed s at h e = rw (from-byte s at h, eq-eqb (getD s at 0) lineFeed e)

@@ -1,5 +1,6 @@
 // Where lines end, and how many there are.
 
+use codes::LINE_FEED;
 ghost use mathlib.Core.Path.{_≡_};
 ghost use Prim.Native.Nat.{_<_};
 ghost use lib.ListN.{length};
@@ -12,7 +13,7 @@ pub fn line_end(s: &[u8], from: usize) -> usize
 {
     let mut at = from;
     while at < s.len() {
-        if s[at] == 10 {
+        if s[at] == LINE_FEED {
             return at + 1;
         }
         at += 1;
@@ -25,7 +26,7 @@ fn one_more(b: u8, n: usize) -> usize
     requires { ⌜ n < 18446744073709551615 ⌝ }
     ensures { λ r. ⌜ r ≡ oneMore b n ⌝ }
 {
-    if b == 10 {
+    if b == LINE_FEED {
         return n + 1;
     }
     if n == 0 {

@@ -3,6 +3,11 @@
 
 use children::pattern_part;
 use children::type_part;
+use codes::FIRST;
+use codes::KIND;
+use codes::LEFT;
+use codes::PAIR;
+use codes::SECOND;
 use nodes::cell;
 use nodes::pattern_cell;
 ghost use mathlib.Core.Path.{_≡_};
@@ -26,8 +31,8 @@ fn same_former(a: usize, b: usize) -> bool
 pub fn same_type(t: &[u16], a: usize, b: usize) -> bool
     ensures { λ r. ⌜ r ≡ sameType (typeOf (now (t .entry)) a) (typeOf (now (t .entry)) b) ⌝ }
 {
-    let ka = cell(t, a, 1);
-    let kb = cell(t, b, 1);
+    let ka = cell(t, a, KIND);
+    let kb = cell(t, b, KIND);
     if ka == 0 {
         return kb == 0;
     }
@@ -35,11 +40,11 @@ pub fn same_type(t: &[u16], a: usize, b: usize) -> bool
         return false;
     }
     if same_former(ka, kb) {
-        let c = type_part(t, a, 2);
-        let d = type_part(t, b, 2);
+        let c = type_part(t, a, FIRST);
+        let d = type_part(t, b, FIRST);
         if same_type(t, c, d) {
-            let e = type_part(t, a, 3);
-            let f = type_part(t, b, 3);
+            let e = type_part(t, a, SECOND);
+            let f = type_part(t, b, SECOND);
             return same_type(t, e, f);
         }
         return false;
@@ -51,16 +56,16 @@ pub fn same_type(t: &[u16], a: usize, b: usize) -> bool
 pub fn is_plain(t: &[u16], base: usize, p: usize) -> bool
     ensures { λ r. ⌜ r ≡ plain (patternOf (now (t .entry)) base p) ⌝ }
 {
-    let kind = pattern_cell(t, base, p, 1);
-    if kind < 2 {
+    let kind = pattern_cell(t, base, p, KIND);
+    if kind < LEFT {
         return true;
     }
-    if kind < 4 {
+    if kind < PAIR {
         return false;
     }
-    let a = pattern_part(t, base, p, 2);
+    let a = pattern_part(t, base, p, FIRST);
     if is_plain(t, base, a) {
-        let b = pattern_part(t, base, p, 3);
+        let b = pattern_part(t, base, p, SECOND);
         return is_plain(t, base, b);
     }
     false

@@ -2,6 +2,10 @@
 // write fails, standard error says so and nothing more is printed.
 
 use areas::put_byte;
+use codes::COMMA;
+use codes::LINE_FEED;
+use limits::TABLE_LENGTH;
+use limits::WORK_LENGTH;
 use parts::front;
 use printer::put_number;
 use stdio::Filled;
@@ -13,16 +17,16 @@ use turner::turn;
 fn print_answer(number: u8, line: usize) -> bool {
     let mut text = [0u8; 32];
     let comma = put_number(&mut text, 0, number as usize);
-    let from = put_byte(&mut text, comma, 44);
+    let from = put_byte(&mut text, comma, COMMA);
     let feed = put_number(&mut text, from, line);
-    let end = put_byte(&mut text, feed, 10);
+    let end = put_byte(&mut text, feed, LINE_FEED);
     write_front(&text, end)
 }
 
 // Turns a file that was read whole, or as far as shows that it is too long.
 fn print_turned(file: &[u8]) {
-    let mut table = [0u16; 16384];
-    let mut work = [0u8; 65536];
+    let mut table = [0u16; TABLE_LENGTH];
+    let mut work = [0u8; WORK_LENGTH];
     let mut output = [0u8; 65537];
     let r = turn(file, &mut table, &mut work, &mut output);
     let a = r.answer;

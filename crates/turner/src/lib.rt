@@ -1,6 +1,8 @@
 // Turn: the file's bytes in; the turned file's bytes in the output area, and its length.
 
 use checker::check_file;
+use codes::LET_LINE;
+use codes::ROW_LETTER;
 use forms::Letter;
 use forms::kind_of;
 use model::Answer;
@@ -72,7 +74,7 @@ fn exchanged(k: Kind, x: usize, y: usize, z: usize) -> Row
 fn put_turned_row(t: &[u16], n: usize, out: &mut [u8], at: usize) -> usize
     ensures { λ r. ⌜ RowWritten (now (t .entry)) (now (out .entry)) (now (out .exit)) n at r ⌝ }
 {
-    match kind_of(narrow(cell(t, n, 0))) {
+    match kind_of(narrow(cell(t, n, ROW_LETTER))) {
         Letter::Of(k) => put_row(
             out,
             at,
@@ -88,7 +90,7 @@ fn lets_end(t: &[u16], n: usize, lines: usize) -> usize
 {
     let mut m = n;
     while m < lines {
-        if cell(t, m, 0) != 76 {
+        if cell(t, m, ROW_LETTER) != LET_LINE {
             return m;
         }
         m += 1;

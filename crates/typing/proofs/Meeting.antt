@@ -9,11 +9,11 @@ use mathlib.Core.Option.{Option, none, some}
 use mathlib.Core.List.{List, [], _∷_, map}
 use lib.ListN.{length, length-map, getD, set, List·getD-map}
 use Rattle.model.specs.Tools.{_>>=_, guard}
-use Rattle.model.specs.Trees.{Ty, tunit, tsum, tprod, Pat, punit, pvar, sameType, part, left, right}
+use Rattle.model.specs.Trees.{Ty, tunit, tsum, tprod, Pat, punit, pvar, sameType}
 use Rattle.model.specs.Slots.{Slots, put, get, allEmpty}
 use Rattle.model.specs.Judge.{typeNode, patternNode}
 use Rattle.model.specs.Clauses.{learn, spend, used}
-use Rattle.model.proofs.Basic.{some-bind, bind-assoc, none≢some, true-guard, not-eqb}
+use Rattle.model.proofs.Basic.{some-bind, bind-assoc, none≢some, not-eqb, same-bind}
 use Rattle.nodes.specs.Unfolding.{cellOf, smallerOf, typeOf, patternOf}
 use Rattle.nodes.proofs.Unfolding.{rank, type-past, type-node, type-unit, type-sum, type-prod, pattern-unit, pattern-var}
 use Rattle.nodes.proofs.Counts.{pattern-call}
@@ -205,10 +205,6 @@ pair-use (pairs j) n p q a b x = bind-assoc x (spend q b) (spend p a)
 none-fits : (c : Bool) (P : Pat) (A : Ty) (x : Option (Slots Ty)) → ((e : Slots Ty) → fitting c P A e ≡ none) → none ≡ fitAll c P A x
 none-fits c P A none h = refl
 none-fits c P A (some e) h = sym (h e)
-
-same-bind : {A : Type 0} (o : Option A) → o ≡ (o >>= λ a. some a)
-same-bind none = refl
-same-bind (some a) = refl
 
 -- ---- P line p of kind j on T line a of kind k
 

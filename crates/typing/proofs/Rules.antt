@@ -16,7 +16,7 @@ use Rattle.model.specs.Refusals.{variable, letShape, badType}
 use Rattle.model.specs.Clauses.{Deed, binds, uses, Event, deeds, letEvents, events, history, variablesRule, letShapes}
 use Rattle.model.specs.Clauses.{learn, spend, Sigs, typeLets, used, typed, clauseFault}
 use Rattle.model.specs.Paper.{Alternate, BoundThenUsed}
-use Rattle.model.proofs.Basic.{bind-assoc, bool-cases, and-true, true-and, eqb-eq, eqb-false, each-nil, each-append, each-map}
+use Rattle.model.proofs.Basic.{bind-assoc, bool-cases, and-true, true-and, eqb-eq, eqb-false, each-nil, each-append, each-map, same-bind}
 use Rattle.model.proofs.Formed.{FormedLet, FormedClause}
 use Rattle.model.proofs.Variables.{mark, history-hit, history-miss, variables-iff}
 use Rattle.marks.specs.Marks.{nextState, markOne, markEvents, settledAll}
@@ -158,10 +158,6 @@ unfolding letShapes
 shaped-rule c = refl
 
 -- ---- refusal 10
-
-same-bind : {A : Type 0} (o : Option A) → o ≡ (o >>= λ a. some a)
-same-bind none = refl
-same-bind (some a) = refl
 
 fitted-lets : (sigs : Sigs) (ls : List Let) (x : Option (Slots Ty)) → fittedLets sigs ls x ≡ (x >>= λ e. typeLets sigs ls e)
 fitted-lets sigs [] x = same-bind x

@@ -2,6 +2,13 @@
 
 use children::pattern_part;
 use children::type_part;
+use codes::FIRST;
+use codes::KIND;
+use codes::PAIR;
+use codes::UNIT;
+use codes::VARIABLE;
+use limits::MAX_LINES;
+use limits::VARIABLES;
 use nodes::cell;
 use nodes::pattern_cell;
 use trees::same_type;
@@ -16,7 +23,7 @@ ghost use Rattle.typing.specs.Fitting.{envView, EntryOf, fitAll, freshEn
 // The type of each live variable, as one more than its T line, 0 for none; and whether all fitted so far.
 pub struct Env {
     pub fits: bool,
-    pub line: [u16; 32],
+    pub line: [u16; VARIABLES],
 }
 
 pub fn no_types() -> Env
@@ -24,7 +31,7 @@ pub fn no_types() -> Env
 {
     Env {
         fits: true,
-        line: [0u16; 32],
+        line: [0u16; VARIABLES],
     }
 }
 
@@ -40,7 +47,7 @@ fn failed(e: Env) -> Env
 fn entry_of(a: usize) -> u16
     ensures { λ r. ⌜ EntryOf a r ⌝ }
 {
-    if a < 4096 {
+    if a < MAX_LINES {
         return (a + 1) as u16;
     }
     4097
@@ -51,7 +58,7 @@ fn assign(t: &[u16], n: usize, a: usize, binds: bool, e: Env) -> Env
     requires { ⌜ e .fits ≡ true ⌝ }
     ensures { λ r. ⌜ envView (now (t .entry)) r ≡ fitAll binds (pvar n) (typeOf (now (t .entry)) a) (envView (now (t .entry)) e) ⌝ }
 {
-    if 32 <= n {
+    if VARIABLES <= n {
         return failed(e);
     }
     let known = wide(e.line[n]);
@@ -79,16 +86,16 @@ pub fn fit(t: &[u16], base: usize, p: usize, a: usize, binds: bool, e: Env) -> E
     ensures { λ r. ⌜ envView (now (t .entry)) r ≡ fitAll binds (patternOf (now (t .entry)) base p) (typeOf (now (t .entry)) a) (envView (now (t .entry)) e) ⌝ }
 {
     if e.fits {
-        let kp = pattern_cell(t, base, p, 1);
-        let ka = cell(t, a, 1);
-        if kp == 0 {
+        let kp = pattern_cell(t, base, p, KIND);
+        let ka = cell(t, a, KIND);
+        if kp == UNIT {
             if ka == 0 {
                 return e;
             }
             return failed(e);
         }
-        if kp == 1 {
-            return assign(t, pattern_cell(t, base, p, 2), a, binds, e);
+        if kp == VARIABLE {
+            return assign(t, pattern_cell(t, base, p, FIRST), a, binds, e);
         }
         return fit_parts(t, base, p, a, kp, ka, binds, e);
     }
@@ -109,8 +116,8 @@ fn fit_parts(
     requires { ⌜ Parted (now t) base p a kp ka ⌝ }
     ensures { λ r. ⌜ envView (now (t .entry)) r ≡ fitAll binds (patternOf (now (t .entry)) base p) (typeOf (now (t .entry)) a) (envView (now (t .entry)) e) ⌝ }
 {
-    if kp < 4 {
-        let only = pattern_part(t, base, p, 2);
+    if kp < PAIR {
+        let only = pattern_part(t, base, p, FIRST);
         if ka == 1 {
             let part = type_part(t, a, kp);
             return fit(t, base, only, part, binds, e);
@@ -156,7 +163,7 @@ pub fn all_used(e: Env) -> bool
     if e.fits {
         let line = e.line;
         let mut i: usize = 0;
-        while i < 32 {
+        while i < VARIABLES {
             if line[i] != 0 {
                 return false;
             }

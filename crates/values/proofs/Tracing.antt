@@ -10,10 +10,9 @@ use mathlib.Core.List.{List, [], _∷_, map, List·Memᴰ, List·Memᴰ·head, L
 use lib.ListN.{length, getElem?}
 use Rattle.model.specs.Limits.{maxLets, variables}
 use Rattle.model.specs.Tools.{select}
-use Rattle.model.specs.Trees.{Ty, left, right, Pat, punit, pvar, pinj, ppair, Val, vunit, vinj, vpair}
+use Rattle.model.specs.Trees.{Ty, Pat, punit, pvar, pinj, ppair, Val, vunit, vinj, vpair}
 use Rattle.model.specs.Trees.{Let, Clause, Iso, sameTag}
 use Rattle.model.specs.Slots.{Slots, empty}
-use Rattle.model.specs.Letters.{letters}
 use Rattle.model.specs.Refusals.{Kind, typeLine, patternLine, isoLine, clauseLine, letLine}
 use Rattle.model.specs.Lines.{Row}
 use Rattle.model.specs.Judge.{Seen, start, afterKind, afterAll}
@@ -29,7 +28,7 @@ use Rattle.model.proofs.Running.{let-run, ClauseRun, clause-run, hit-only}
 use Rattle.model.proofs.Inverse.{reduce-unfold}
 use Rattle.model.proofs.Joins.{EnvOf, build-total, build-all, bind-total, lhs-total}
 use Rattle.model.proofs.Totality.{Sound}
-use Rattle.model.proofs.Runs.{Good, GoodRows, good, results}
+use Rattle.model.proofs.Runs.{GoodRows, good, results, sound}
 use Rattle.model.proofs.Sizes.{of-small, SmallTypes, small-types}
 use Rattle.values.specs.Texts.{alike}
 use Rattle.values.specs.Traces.{Small, LetsTrace, ClauseTrace, Runs}
@@ -239,17 +238,6 @@ tail-few ts ps n (next {s = s} {r = r} {rs = rs} j d) h =
 pub few-lets : {rs : List Row} → Passes start rs → AllFewLets (isosOf rs)
 unfolding start isosOf
 few-lets {rs} d = tail-few (afterAll start rs .types) (afterAll start rs .patterns) 1 d (omega arith) .isos
-
--- what an accepted file guarantees
-pub sound : (os : List Iso) → Good os → Sound os
-sound os g =
-    record {
-      linear = λ o m c k. g .ok o m .clauses c k .types;
-      shapes = λ o m c k. g .ok o m .clauses c k .shapes;
-      leftsApart = λ o m. g .ok o m .leftsApart;
-      leftsCover = λ o m. g .ok o m .leftsCover;
-      earlier = λ i o e c k l n. g .form i o e c k .lets l n .earlier;
-    }
 
 -- a reduction from a closed value of the from-type is a trace, and gives a closed value of the to-type
 pub trace-typed : (rs : List Row) → GoodRows rs → (d i : ℕ) (o : Iso) → getElem? (isosOf rs) i ≡ some o → (v w : Val) (m : ℕ) → Of v (o .from)

@@ -1,6 +1,15 @@
 // Closed values as letters in an area: whether one is of a type and where it then ends, and copying
 // one to another place.
 
+use codes::FIRST;
+use codes::KIND;
+use codes::LETTER_LEFT;
+use codes::LETTER_PAIR;
+use codes::LETTER_RIGHT;
+use codes::LETTER_UNIT;
+use codes::SECOND;
+use codes::SUM;
+use codes::TYPE_UNIT;
 use nodes::cell;
 use nodes::smaller;
 ghost use mathlib.Core.Path.{_≡_};
@@ -25,25 +34,25 @@ pub fn typed_end(t: &[u16], i: usize, s: &[u8], at: usize) -> Upto
         return Upto::Nothing;
     }
     let b = s[at];
-    let kind = cell(t, i, 1);
-    if kind == 0 {
-        if b == 85 {
+    let kind = cell(t, i, KIND);
+    if kind == TYPE_UNIT {
+        if b == LETTER_UNIT {
             return Upto::Place(at + 1);
         }
         return Upto::Nothing;
     }
-    let left = smaller(cell(t, i, 2), i);
-    let right = smaller(cell(t, i, 3), i);
-    if kind == 1 {
-        if b == 76 {
+    let left = smaller(cell(t, i, FIRST), i);
+    let right = smaller(cell(t, i, SECOND), i);
+    if kind == SUM {
+        if b == LETTER_LEFT {
             return typed_end(t, left, s, at + 1);
         }
-        if b == 82 {
+        if b == LETTER_RIGHT {
             return typed_end(t, right, s, at + 1);
         }
         return Upto::Nothing;
     }
-    if b == 80 {
+    if b == LETTER_PAIR {
         return match typed_end(t, left, s, at + 1) {
             Upto::Place(m) => typed_end(t, right, s, m),
             Upto::Nothing => Upto::Nothing,
