@@ -14,7 +14,7 @@ use Rattle.model.specs.Lines.{Row}
 use Rattle.model.specs.Unfold.{isosOf, turnRows}
 use Rattle.model.specs.Reduction.{reduce}
 use Rattle.model.specs.Services.{Verdict, accepted, refused, verdict, turned, Ran, gives, failed, toward, runOf, run}
-use Rattle.model.specs.Answers.{RunSays, absent, strange, passed, done}
+use Rattle.model.specs.Answers.{RunIs, absent, strange, passed, done}
 use Rattle.model.proofs.Basic.{none≢some, ltb-lt, ltb-false, index-map, index-of-map, not-some}
 use Rattle.model.proofs.Turning.{isos-turn}
 use Rattle.model.proofs.Files.{turned-accepted}
@@ -89,13 +89,13 @@ counted file rs e i back o f v w k r =
 
 module _ (file : List ℕ) (rs : List Row) (e : verdict file ≡ accepted rs) (i : ℕ) (back : Bool) (budget : ℕ) (value : List ℕ) where
   -- a run that gives something
-  on-gives : {k : ℕ} {y : List ℕ} → RunSays (isosOf (toward back rs)) i budget value (gives k y) → Counted file i k × (k ≤ budget)
+  on-gives : {k : ℕ} {y : List ℕ} → RunIs (isosOf (toward back rs)) i budget value (gives k y) → Counted file i k × (k ≤ budget)
   on-gives (done o v w k f x h s l) =
       let g = good (toward back rs) (good-toward back rs (accepted-good file rs e)) in
       (counted file rs e i back o f v w k (reduces-iff (isosOf (toward back rs)) g i o f v h w k .0 s), l)
 
   -- a run that is spent
-  on-spent : RunSays (isosOf (toward back rs)) i budget value (failed spent) → (k : ℕ) × Counted file i k × (budget < k)
+  on-spent : RunIs (isosOf (toward back rs)) i budget value (failed spent) → (k : ℕ) × Counted file i k × (budget < k)
   on-spent (passed o v w k f x h s l) =
       let g = good (toward back rs) (good-toward back rs (accepted-good file rs e)) in
       (k, counted file rs e i back o f v w k (reduces-iff (isosOf (toward back rs)) g i o f v h w k .0 s), l)

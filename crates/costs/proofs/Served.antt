@@ -15,7 +15,7 @@ use Rattle.model.specs.Refusals.{Refusal, number, shortArea, noIso, spent}
 use Rattle.model.specs.Lines.{Row}
 use Rattle.model.specs.Unfold.{isosOf}
 use Rattle.model.specs.Services.{Verdict, accepted, refused, verdict, turned, short, unless, answerOf, check, Ran, gives, failed, toward, runOf, run, answerOfRun, runService}
-use Rattle.model.specs.Answers.{RunSays, absent, strange, passed, done}
+use Rattle.model.specs.Answers.{RunIs, absent, strange, passed, done}
 use Rattle.model.proofs.Files.{number-positive}
 use Rattle.model.proofs.Runs.{run-iff}
 use Rattle.costs.specs.Bounds.{maxCount, Bounds, noBounds, told, onIso, boundsOf, bounds, boundsService}
@@ -114,7 +114,7 @@ spent-run : (file t w : List ℕ) (i : ℕ) (back : Bool) (budget : ℕ) (value 
 unfolding runService run
 spent-run file t w i back budget value o rs e = go (short t w || ltb (length o) resultLength)
   where
-    on : (r : Ran) → RunSays (isosOf (toward back rs)) i budget value r → answerOfRun r .number ≡ 17 → r ≡ failed spent
+    on : (r : Ran) → RunIs (isosOf (toward back rs)) i budget value r → answerOfRun r .number ≡ 17 → r ≡ failed spent
     on _ (absent a) h = absurd (omega arith)
     on _ (strange p a n) h = absurd (omega arith)
     on _ (passed p v u k f x y s l) h = refl

@@ -3,7 +3,7 @@ use Prim.Native.Nat.{ℕ, suc, _+_}
 use native.Mathlib.Omega.{arith}
 use mathlib.Core.Path.{_≡_, refl, sym, ap, ap₂, _∙_, subst}
 use mathlib.Core.Logic.{_⊎_, inl, inr}
-use mathlib.Core.Bool.{Bool, true, false, _&&_, _||_}
+use mathlib.Core.Bool.{Bool, true, false, cond, _&&_, _||_}
 use mathlib.Core.Option.{Option, none, some}
 use mathlib.Core.List.{List, [], _∷_, _++_, List·Memᴰ·head, List·Memᴰ·tail, append-assoc, append-nil}
 use lib.Dec.{eqb}
@@ -151,8 +151,8 @@ pub ending-text : (r : Bool) (t : List ℕ) → text (withEnding r t) ≡ some t
 ending-text r t = go (bool-cases (r || endsInReturn t))
   where
     go : ((r || endsInReturn t) ≡ true) ⊎ ((r || endsInReturn t) ≡ false) → text (withEnding r t) ≡ some t
-    go (inl h) = rw h (text-both t)
-    go (inr h) = rw h (text-alone t (neither r (endsInReturn t) h .1))
+    go (inl h) = ap (λ b. text (t ++ cond b both feed)) h ∙ text-both t
+    go (inr h) = ap (λ b. text (t ++ cond b both feed)) h ∙ text-alone t (neither r (endsInReturn t) h .1)
 
 -- ---- resaved bytes
 

@@ -9,7 +9,7 @@ use mathlib.Core.List.{List, [], _∷_, _++_, map, List·Memᴰ, List·Memᴰ·h
 use lib.Dec.{eqb}
 use lib.ListN.{length}
 use Rattle.model.specs.Limits.{lineFeed, carriageReturn}
-use Rattle.model.specs.Tools.{concat}
+use Rattle.model.specs.Tools.{_>>=_, concat}
 use Rattle.model.specs.Lines.{isEnding, text, withoutReturns}
 use Rattle.model.proofs.Basic.{bind-some, none≢some, some-inj, bool-cases, and-true, eqb-eq}
 
@@ -53,7 +53,7 @@ text-both t = text-last t carriageReturn
 
 -- another last byte is no ending
 pub text-none : (u : List ℕ) (x : ℕ) → eqb x lineFeed ≡ false → text (u ++ (x ∷ [])) ≡ none
-text-none [] x n = rw n
+text-none [] x n = ap (λ b. cond b (some []) (text [] >>= λ t. some (x ∷ t))) n
 text-none (y ∷ u) x n = onto-none (other u) (text-none u x n)
   where
     no-both : (a b : Bool) → b ≡ false → (a && b) ≡ false

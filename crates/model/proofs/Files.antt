@@ -19,6 +19,7 @@ use Rattle.model.specs.Clauses.{fault, sigsOf}
 use Rattle.model.specs.Services.{Verdict, accepted, refused, judged, afterReading, over, verdict, answerOf, turned, turnedOf}
 use Rattle.model.specs.Paper.{FileOk}
 use Rattle.model.specs.Answers.{FirstIso}
+pub use Rattle.model.specs.Answers.{InForm}
 use Rattle.model.proofs.Basic.{some-pair, neither, ltb-false, not-ltb}
 use Rattle.model.proofs.Formed.{Formed}
 use Rattle.model.proofs.Checking.{file-ok, file-fault}
@@ -35,11 +36,6 @@ refused≢accepted e = false≢true cc
 
 pub accepted-inj : {rs qs : List Row} → accepted rs ≡ accepted qs → rs ≡ qs
 accepted-inj e = cc
-
--- "the lines are in form": not too long, and read as rows
-pub record InForm (bs : List ℕ) (rs : List Row) : Type 0 where
-  pub fits : over bs ≡ false
-  pub reads : readFrom start 1 (lines bs) ≡ rows rs
 
 pub passes : (bs : List ℕ) (rs : List Row) → InForm bs rs → Passes start rs
 passes bs rs h = read-rows start 1 (lines bs) rs (h .reads) .2

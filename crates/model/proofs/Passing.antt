@@ -13,14 +13,10 @@ use Rattle.model.specs.Trees.{Ty, Pat, punit, Let, Clause, Iso, typeNode
 use Rattle.model.specs.Refusals.{Kind, typeLine, patternLine, isoLine, clauseLine, letLine, misplaced, badField, badName, ceiling}
 use Rattle.model.specs.Lines.{Row}
 use Rattle.model.specs.Judge.{Seen, start, inOrder, fieldsFit, patternFields, named, withinCeilings, judge, typeTree, patternTree, patternNode, afterKind, after, afterAll}
+pub use Rattle.model.specs.Judge.{Passes, done, next}
 use Rattle.model.specs.Unfold.{Tail, place, tailFrom, isosOf}
 use Rattle.model.proofs.Basic.{none≢some, some-inj, and-true, ltb-lt, leb-le, none-failing, failing-none, each-nil, each-append}
 use Rattle.model.proofs.Formed.{FormedPat, FormedLet, FormedClause, Formed}
-
--- each row passes the judge below the rows above it
-pub data Passes : Seen → List Row → Type 0 where
-  done : {s : Seen} → Passes s []
-  next : {s : Seen} {r : Row} {rs : List Row} → judge s r ≡ none → Passes (after s r) rs → Passes s (r ∷ rs)
 
 -- ---- what the judge tells
 

@@ -19,7 +19,8 @@ use Rattle.model.specs.Services.{accepted, verdict, turned, Ran, gives, 
 use Rattle.model.specs.Paper.{Of, Apart, FileOk, OnWay, ExactlyOne}
 use Rattle.model.specs.Clauses.{lefts, rights}
 use Rattle.model.specs.Terms.{Steps, eapp, valTerm}
-use Rattle.model.specs.Answers.{RunSays, absent, strange, passed, done}
+use Rattle.model.specs.Answers.{RunIs, absent, strange, passed, done}
+pub use Rattle.model.specs.Answers.{GoodRows, ReachedOnce}
 use Rattle.model.proofs.Basic.{bind-some, some-bind, none≢some, some-inj, not-some, guard-true, true-guard, leb-le, le-leb, leb-false, bool-cases, not-leb, index-map}
 use Rattle.model.proofs.Formed.{Formed}
 use Rattle.model.proofs.Letters.{value-letters, letters-value, inhabits-of, of-inhabits}
@@ -68,11 +69,6 @@ reduces-iff os g i o e v h w k =
 
 -- ---- what Run answers
 
--- the rows of an accepted file, as they are or turned
-pub record GoodRows (rs : List Row) : Type 0 where
-  pub passes : Passes start rs
-  pub ok : FileOk (isosOf rs)
-
 pub good : (rs : List Row) → GoodRows rs → Good (isosOf rs)
 good rs g = record { form = formed (g .passes); ok = g .ok }
 
@@ -117,27 +113,27 @@ module _ (os : List Iso) (g : Good os) (i budget : ℕ) (bs : List ℕ) where
   reached o v w k e x h r =
       ap (onIso os i budget bs) e ∙ ap (from os i budget) (some-argument o bs v x h) ∙ ap (within budget) r
 
-  says : RunSays os i budget bs answered
+  says : RunIs os i budget bs answered
   says = on (getElem? os i) refl
     where
       within-says : (o : Iso) → getElem? os i ≡ some o → (v : Val) → bs ≡ letters v → Of v (o .from) → (w : Val) (k : ℕ) → reduce os i v ≡ some (w, k)
-          → (b : Bool) → leb k budget ≡ b → RunSays os i budget bs (cond b (gives k (letters w)) (failed spent))
+          → (b : Bool) → leb k budget ≡ b → RunIs os i budget bs (cond b (gives k (letters w)) (failed spent))
       within-says o e v x h w k r true l = done o v w k e x h (reduces-iff os g i o e v h w k .1 r) (leb-le k budget l)
       within-says o e v x h w k r false l = passed o v w k e x h (reduces-iff os g i o e v h w k .1 r) (leb-false k budget l)
 
-      arg : (o : Iso) → getElem? os i ≡ some o → (x : Option Val) → argument o bs ≡ x → RunSays os i budget bs (from os i budget x)
+      arg : (o : Iso) → getElem? os i ≡ some o → (x : Option Val) → argument o bs ≡ x → RunIs os i budget bs (from os i budget x)
       arg o e none a = strange o e (λ v p h. none≢some (sym a ∙ some-argument o bs v p h))
       arg o e (some v) a =
           let p = argument-some o bs v a in
           let t = results os g i o e v (p .1) in
-          subst (λ y. RunSays os i budget bs (within budget y)) (sym (t .2))
+          subst (λ y. RunIs os i budget bs (within budget y)) (sym (t .2))
           (within-says o e v (p .0) (p .1) (t .0) (t .1) (t .2) (leb (t .1) budget) refl)
 
-      on : (x : Option Iso) → getElem? os i ≡ x → RunSays os i budget bs (onIso os i budget bs x)
+      on : (x : Option Iso) → getElem? os i ≡ x → RunIs os i budget bs (onIso os i budget bs x)
       on none e = absent e
       on (some o) e = arg o e (argument o bs) refl
 
-  said : {r : Ran} → RunSays os i budget bs r → answered ≡ r
+  said : {r : Ran} → RunIs os i budget bs r → answered ≡ r
   said (absent e) = ap (onIso os i budget bs) e
   said (strange o e h) = ap (onIso os i budget bs) e ∙ ap (from os i budget) (no-argument o bs h)
   said (passed o v w k e x h s l) =
@@ -147,17 +143,17 @@ module _ (os : List Iso) (g : Good os) (i budget : ℕ) (bs : List ℕ) where
       reached o v w k e x h (reduces-iff os g i o e v h w k .0 s) ∙ ap (λ b. cond b (gives k (letters w)) (failed spent)) (le-leb l)
 
   -- the answer is what the judgement says, and no other
-  pub says-iff : (r : Ran) → (answered ≡ r) ↔ RunSays os i budget bs r
-  says-iff r = ((λ e. subst (RunSays os i budget bs) e says), said)
+  pub says-iff : (r : Ran) → (answered ≡ r) ↔ RunIs os i budget bs r
+  says-iff r = ((λ e. subst (RunIs os i budget bs) e says), said)
 
 pub run-rows-iff : (rs : List Row) → GoodRows rs → (i budget : ℕ) (bs : List ℕ) (r : Ran)
-    → (runRows rs i budget bs ≡ r) ↔ RunSays (isosOf rs) i budget bs r
+    → (runRows rs i budget bs ≡ r) ↔ RunIs (isosOf rs) i budget bs r
 unfolding runRows
 run-rows-iff rs g i budget bs r = says-iff (isosOf rs) (good rs g) i budget bs r
 
 -- Run's answer for an accepted file, in either direction.
 pub run-iff : (file : List ℕ) (rs : List Row) → verdict file ≡ accepted rs → (i : ℕ) (back : Bool) (budget : ℕ) (bs : List ℕ) (r : Ran)
-    → (run file i back budget bs ≡ r) ↔ RunSays (isosOf (toward back rs)) i budget bs r
+    → (run file i back budget bs ≡ r) ↔ RunIs (isosOf (toward back rs)) i budget bs r
 unfolding run
 run-iff file rs e i back budget bs r =
     let h = run-rows-iff (toward back rs) (good-toward back rs (accepted-good file rs e)) i budget bs r in
@@ -170,13 +166,13 @@ sides : (os : List Iso) → FileOk os → (o : Iso) → List·Memᴰ o os → Ap
 sides os ok o m = (ok o m .leftsApart, ok o m .rightsApart)
 
 there : (os : List Iso) → Good os → Good (map invert os) → (i budget k : ℕ) (x y : List ℕ)
-    → RunSays os i budget x (gives k y) → RunSays (map invert os) i budget y (gives k x)
+    → RunIs os i budget x (gives k y) → RunIs (map invert os) i budget y (gives k x)
 there os g b i budget k x y (done o v w j e p h s l) =
     let r = reduces-iff os g i o e v h w j .0 s in
     let f = index-map invert os i e in
     let t = preserves os g i o e v w j h r in
     let q = reduce-inverse os (sides os (g .ok)) i v w j .0 r in
-    subst (λ z. RunSays (map invert os) i budget (letters w) (gives j z)) (sym p)
+    subst (λ z. RunIs (map invert os) i budget (letters w) (gives j z)) (sym p)
     (done (invert o) w v j f refl t (reduces-iff (map invert os) b i (invert o) f w t v j .1 q) l)
 
 pub good-invert : (rs : List Row) → GoodRows rs → Good (map invert (isosOf rs))
@@ -186,7 +182,7 @@ there-rows : (rs : List Row) → GoodRows rs → (i budget k : ℕ) (x y : List 
     → runRows rs i budget x ≡ gives k y → runRows (turnRows rs) i budget y ≡ gives k x
 there-rows rs g i budget k x y e =
     run-rows-iff (turnRows rs) (good-turn rs g) i budget y (gives k x) .1
-    (subst (λ os. RunSays os i budget y (gives k x)) (sym (isos-turn rs (g .passes)))
+    (subst (λ os. RunIs os i budget y (gives k x)) (sym (isos-turn rs (g .passes)))
     (there (isosOf rs) (good rs g) (good-invert rs g) i budget k x y (run-rows-iff rs g i budget x (gives k y) .0 e)))
 
 there-and-back-rows : (rs : List Row) → GoodRows rs → (i budget k : ℕ) (x y : List ℕ)
@@ -223,13 +219,6 @@ run-back file rs e i budget bs =
     run-accepted file rs e i true budget bs ∙ sym (run-accepted (turned file) (turnRows rs) (turned-accepted file rs e) i false budget bs)
 
 -- ---- every value of the to-type is reached from exactly one value of the from-type
-
-pub record ReachedOnce (os : List Iso) (i : ℕ) (o : Iso) (w : Val) : Type 0 where
-  pub source : Val
-  pub typed : Of source (o .from)
-  pub count : ℕ
-  pub reduces : Steps os (eapp i (valTerm source)) (valTerm w) count
-  pub one : (v : Val) (k : ℕ) → Of v (o .from) → Steps os (eapp i (valTerm v)) (valTerm w) k → v ≡ source
 
 reached-once : (os : List Iso) → Good os → Good (map invert os) → (i : ℕ) (o : Iso) → getElem? os i ≡ some o → (w : Val) → Of w (o .to) → ReachedOnce os i o w
 reached-once os g b i o e w h =

@@ -15,7 +15,7 @@ use Rattle.model.specs.Unfold.{place, tailFrom, isosOf}
 use Rattle.model.specs.Letters.{letters}
 use Rattle.model.specs.Services.{accepted, verdict, Ran, answerOfRun, runRows, toward, runOf}
 use Rattle.model.specs.Paper.{Of}
-use Rattle.model.specs.Answers.{RunSays, absent, strange, passed, done}
+use Rattle.model.specs.Answers.{RunIs, absent, strange, passed, done}
 use Rattle.model.proofs.Basic.{each-nil, each-cons, index-mem}
 use Rattle.model.proofs.Passing as P
 use Rattle.model.proofs.Runs.{Good, GoodRows, good, good-toward, accepted-good, preserves, reduces-iff, run-rows-iff}
@@ -78,7 +78,7 @@ small-types {rs} d = isos-small (afterAll start rs .types) (afterAll start rs .p
 -- ---- results
 
 -- what a run answers has few letters: a result is a value of the iso's to-type, a refusal has none
-says-short : (os : List Iso) → Good os → SmallTypes os → {i budget : ℕ} {bs : List ℕ} {r : Ran} → RunSays os i budget bs r
+says-short : (os : List Iso) → Good os → SmallTypes os → {i budget : ℕ} {bs : List ℕ} {r : Ran} → RunIs os i budget bs r
     → length (answerOfRun r .letters) ≤ resultLength
 says-short os g small (absent e) = omega arith
 says-short os g small (strange o e h) = omega arith

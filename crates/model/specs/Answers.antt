@@ -1,17 +1,31 @@
--- Refusals 8 to 17 as judgements: which condition fails, in the stated order. "Only then the isos in order: each clause in order, lowest
--- of 8 to 10, then the iso, lowest of 11 to 14."
+-- What Check and Run answer, as judgements: files in form, refusals 8 to 17 in the stated order ("Only then the isos in order: each clause in order, lowest
+-- of 8 to 10, then the iso, lowest of 11 to 14."), and what is reached.
 use Prim.Native.Nat.{ℕ, _≤_, _<_}
 use mathlib.Core.Path.{_≡_}
+use mathlib.Core.Bool.{false}
 use mathlib.Core.Option.{none, some}
 use mathlib.Core.List.{List, _∷_, List·Memᴰ}
 use lib.ListN.{getElem?}
 use Rattle.model.specs.Trees.{Ty, Val, Clause, Iso, left, right}
 use Rattle.model.specs.Refusals.{Refusal, variable, letShape, badType, overlap, gap, noIso, noValue, spent}
+use Rattle.model.specs.Lines.{Row, lines}
+use Rattle.model.specs.Judge.{start, Passes, rows, readFrom}
+use Rattle.model.specs.Unfold.{isosOf}
 use Rattle.model.specs.Letters.{letters}
-use Rattle.model.specs.Services.{Ran, gives, failed}
+use Rattle.model.specs.Services.{over, Ran, gives, failed}
 use Rattle.model.specs.Terms.{Steps, eapp, valTerm}
 use Rattle.model.specs.Clauses.{Sigs, lefts, rights}
-use Rattle.model.specs.Paper.{BoundThenUsed, LetProducts, Linear, Of, Apart, Covers, ClauseOk, IsoOk}
+use Rattle.model.specs.Paper.{BoundThenUsed, LetProducts, Linear, Of, Apart, Covers, ClauseOk, IsoOk, FileOk}
+
+-- the lines of a file are in form: not too long, and read as rows that pass 3 to 7
+pub record InForm (bs : List ℕ) (rs : List Row) : Type 0 where
+  pub fits : over bs ≡ false
+  pub reads : readFrom start 1 (lines bs) ≡ rows rs
+
+-- the rows of an accepted file, as they are or turned
+pub record GoodRows (rs : List Row) : Type 0 where
+  pub passes : Passes start rs
+  pub ok : FileOk (isosOf rs)
 
 -- 8 "variables rule broken", 9 "left or right in a let pattern", 10 "no such assignment" (of types to bindings: the crate `reuse`)
 pub data ClauseFault (sigs : Sigs) (a b : Ty) (c : Clause) : Refusal → Type 0 where
@@ -43,10 +57,18 @@ pub data FirstIso (sigs : Sigs) : List Iso → Refusal → ℕ → Type 0 where
 
 -- A run of iso i with a budget on some bytes. "For a run, 15, 16, 17 follow": the iso is there or not; the bytes are exactly one closed
 -- value of the starting type or not; the full count of the reduction passes the budget or not.
-pub data RunSays (os : List Iso) (i budget : ℕ) (bs : List ℕ) : Ran → Type 0 where
-  absent : getElem? os i ≡ none → RunSays os i budget bs (failed noIso)
-  strange : (o : Iso) → getElem? os i ≡ some o → ((v : Val) → bs ≡ letters v → Of v (o .from) → ⊥) → RunSays os i budget bs (failed noValue)
+pub data RunIs (os : List Iso) (i budget : ℕ) (bs : List ℕ) : Ran → Type 0 where
+  absent : getElem? os i ≡ none → RunIs os i budget bs (failed noIso)
+  strange : (o : Iso) → getElem? os i ≡ some o → ((v : Val) → bs ≡ letters v → Of v (o .from) → ⊥) → RunIs os i budget bs (failed noValue)
   passed : (o : Iso) (v w : Val) (k : ℕ) → getElem? os i ≡ some o → bs ≡ letters v → Of v (o .from)
-      → Steps os (eapp i (valTerm v)) (valTerm w) k → budget < k → RunSays os i budget bs (failed spent)
+      → Steps os (eapp i (valTerm v)) (valTerm w) k → budget < k → RunIs os i budget bs (failed spent)
   done : (o : Iso) (v w : Val) (k : ℕ) → getElem? os i ≡ some o → bs ≡ letters v → Of v (o .from)
-      → Steps os (eapp i (valTerm v)) (valTerm w) k → k ≤ budget → RunSays os i budget bs (gives k (letters w))
+      → Steps os (eapp i (valTerm v)) (valTerm w) k → k ≤ budget → RunIs os i budget bs (gives k (letters w))
+
+-- "every value of the to-type is reached from exactly one value of the from-type": w is what `source` reduces to, and no other closed value does
+pub record ReachedOnce (os : List Iso) (i : ℕ) (o : Iso) (w : Val) : Type 0 where
+  pub source : Val
+  pub typed : Of source (o .from)
+  pub count : ℕ
+  pub reduces : Steps os (eapp i (valTerm source)) (valTerm w) count
+  pub one : (v : Val) (k : ℕ) → Of v (o .from) → Steps os (eapp i (valTerm v)) (valTerm w) k → v ≡ source

@@ -1,5 +1,6 @@
 -- Refusals 4 to 7 of a row, judged by the rows above it, and the reading of a whole file.
 use Prim.Native.Nat.{ℕ, zero, suc, _+_}
+use mathlib.Core.Path.{_≡_}
 use mathlib.Core.Bool.{Bool, true, false, _&&_}
 use mathlib.Core.Option.{Option, none, some}
 use mathlib.Core.List.{List, [], _∷_, _++_}
@@ -136,6 +137,11 @@ after s r = afterKind (r .kind) s r
 abbrev pub afterAll : Seen → List Row → Seen
 afterAll s [] = s
 afterAll s (r ∷ rs) = afterAll (after s r) rs
+
+-- each row passes the judge below the rows above it
+pub data Passes : Seen → List Row → Type 0 where
+  done : {s : Seen} → Passes s []
+  next : {s : Seen} {r : Row} {rs : List Row} → judge s r ≡ none → Passes (after s r) rs → Passes s (r ∷ rs)
 
 -- a file's rows, or the first line refused and its place
 pub data Reading : Type 0 where

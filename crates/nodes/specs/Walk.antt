@@ -9,10 +9,9 @@ use Rattle.model.specs.Tools.{firstOf}
 use Rattle.model.specs.Trees.{Ty, tunit, punit, Clause}
 use Rattle.model.specs.Refusals.{Kind, typeLine, patternLine, isoLine, clauseLine, letLine, Refusal}
 use Rattle.model.specs.Lines.{Row, letter}
-use Rattle.model.specs.Judge.{start, afterAll}
+use Rattle.model.specs.Judge.{start, afterAll, Passes}
 use Rattle.model.specs.Unfold.{Tail, tailFrom}
 use Rattle.model.specs.Clauses.{Sigs, at, clauseFault, isoFault}
-use Rattle.model.proofs.Passing.{Passes}
 use Rattle.nodes.specs.Unfolding.{cellOf, typeOf, patternOf}
 use Rattle.nodes.specs.InTable.{letsIn, sigsIn, patternsAt}
 

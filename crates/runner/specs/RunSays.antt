@@ -8,7 +8,7 @@ use Rattle.model.specs.Lines.{Row}
 use Rattle.model.specs.Unfold.{isosOf}
 use Rattle.model.specs.Services.{RunAnswer, answerOfRun, toward, runRows, written, runService}
 use Rattle.model.specs.Code.{numberOf}
-use Rattle.model.proofs.Runs.{GoodRows}
+use Rattle.model.specs.Answers.{GoodRows}
 use Rattle.index.specs.Index.{isosAt}
 use Rattle.runner.specs.declared.run.Ran as R
 

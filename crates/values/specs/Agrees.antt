@@ -4,9 +4,8 @@ use mathlib.Core.Path.{_≡_}
 use mathlib.Core.Option.{some}
 use mathlib.Core.List.{List}
 use Rattle.model.specs.Trees.{Val}
-use Rattle.model.specs.Slots.{Slots}
+use Rattle.model.specs.Slots.{Slots, slot}
 use Rattle.model.specs.Letters.{letters}
-use Rattle.model.proofs.Slots.{slot}
 use Rattle.values.specs.Texts.{rangeOf}
 
 pub record Agrees (s vars : List ℕ) (e : Slots Val) : Type 0 where

@@ -1,0 +1,6 @@
+pub mod Serving
+pub mod Leaving
+pub mod Faults
+pub mod Way
+pub mod Demands
+pub mod Requests

@@ -1,0 +1,99 @@
+-- The promises of `specs/Requests.antt`, proved.
+use Prim.Native.Nat.{ℕ, _*_, _≤_}
+use native.Mathlib.Omega.{arith}
+use mathlib.Core.Path.{_≡_, refl, sym, ap, _∙_, subst}
+use mathlib.Core.Logic.{_↔_}
+use mathlib.Core.Bool.{Bool, false, _||_}
+use mathlib.Core.List.{List, [], _∷_}
+use lib.Dec.{ltb}
+use lib.ListN.{length}
+use Rattle.model.specs.Limits.{resultLength}
+use Rattle.model.specs.Lines.{withoutReturns}
+use Rattle.model.specs.Services.{verdict, written, short, unless, check, turned, runOf, run, RunAnswer, answerOfRun, RunResult, runService}
+use Rattle.model.specs.Sheet.{three}
+use Rattle.model.proofs.Files.{turned-twice, turned-fits}
+use Rattle.model.proofs.Sheets.{block, Room, as-check, each-query}
+use Rattle.costs.specs.Bounds.{boundsService}
+use Rattle.costs.proofs.Served.{turned-same}
+use Rattle.endings.proofs.Feeds.{turned-returnless}
+use Rattle.reordering.specs.Reordered.{SameButOrder}
+use Rattle.reordering.proofs.Files.{reordered-sym}
+use Rattle.reordering.proofs.Services.{check-both, run-same, turned-same as turned-order}
+use Rattle.demands.specs.Words.{Areas, yes, Accepted, turnedBytes}
+use Rattle.demands.specs.Requests.{SheetOfLoneRuns, BoundsOfTurned, TurnedWithFeeds, TurnedTwice, BothAccepted, AnswerAlike, TurnedAlike}
+use Rattle.demands.proofs.Serving.{not-short, accepted-rows, turn-writes, gives-run, run-gives, zero-says}
+use Rattle.demands.proofs.Demands.{accepted-anywhere}
+
+-- ---- request 01
+
+-- the three numbers of a lone run
+abbrev numbersOf : RunResult → List ℕ
+numbersOf r = r .number ∷ (r .count ∷ (r .length ∷ []))
+
+-- what a lone run answers and leaves of its result area does not depend on which table and work area it is lent
+module _ (file : List ℕ) (i : ℕ) (back : Bool) (budget : ℕ) (value o : List ℕ) {t w t₂ w₂ : List ℕ} (a : Areas t w) (b : Areas t₂ w₂) where
+  same-room : short t w ≡ short t₂ w₂
+  same-room = not-short a ∙ sym (not-short b)
+
+  same-answer : (numbersOf (runService file t w i back budget value o) ≡ numbersOf (runService file t₂ w₂ i back budget value o))
+      × (runService file t w i back budget value o .result ≡ runService file t₂ w₂ i back budget value o .result)
+  unfolding runService run
+  same-answer =
+      let narrow : Bool → RunAnswer = λ b. answerOfRun (runOf (unless (b || ltb (length o) resultLength) (verdict file)) i back budget value) in
+      (ap (λ b. three (narrow b)) same-room, ap (λ b. written (narrow b .letters) o) same-room)
+
+pub sheet-of-lone-runs : SheetOfLoneRuns
+sheet-of-lone-runs file a t w queries numbers letters areas few enough room =
+    let r : Room t w queries numbers letters = record { table = areas .long; work = areas .wide; ofNumbers = enough; ofLetters = room } in
+    let answered = as-check file t w queries numbers letters r few .answer ∙ accepted-anywhere file a t w areas in (
+      answered,
+      (λ k l q there reads t₂ w₂ areas₂ lone e.
+          let each = each-query file t w queries numbers letters (ap (λ x. x .number) answered) k l q there reads _ refl in
+          let alike = same-answer file (q .iso) (q .back) (q .budget) (q .letters) (block k letters) areas areas₂ in
+          (each .0 ∙ alike .0 ∙ ap numbersOf (sym e), each .1 ∙ alike .1 ∙ ap (λ x. x .result) (sym e))),
+    )
+
+-- ---- request 05
+
+pub bounds-of-turned : BoundsOfTurned
+bounds-of-turned file a t w output areas h t₂ w₂ i =
+    let (rs, e) = accepted-rows a in
+    ap (λ bs. boundsService bs t₂ w₂ i .bounds) (turn-writes file output areas h) ∙ turned-same file t₂ w₂ i rs e
+
+-- ---- request 06
+
+pub turned-with-feeds : TurnedWithFeeds
+turned-with-feeds file a t w output areas h =
+    let (rs, e) = accepted-rows a in
+    let same = turn-writes file output areas h in
+    ap withoutReturns same ∙ turned-returnless file rs e ∙ sym same
+
+pub turned-twice-too : TurnedTwice
+turned-twice-too file a t w output t₂ w₂ output₂ areas h areas₂ h₂ =
+    let (rs, e) = accepted-rows a in
+    let same = turn-writes file output areas h in
+    let fits = turned-fits file rs e in
+    ap (λ bs. turnedBytes bs t₂ w₂ output₂) same ∙ turn-writes (turned file) output₂ areas₂ (omega arith) ∙ turned-twice file rs e
+
+-- ---- request 08
+
+accepted-other : (file other : List ℕ) → SameButOrder file other → Accepted file → Accepted other
+accepted-other file other order a =
+    let n = check-both file other order (a .table) (a .work) .0 (ap (λ x. x .number) (a .says)) in
+    record { table = a .table; work = a .work; says = zero-says other (a .table) (a .work) n }
+
+pub both-accepted : BothAccepted
+both-accepted file other order = (accepted-other file other order, accepted-other other file (reordered-sym order))
+
+pub answer-alike : AnswerAlike
+answer-alike file other order a i back budget k x y t w result t₂ w₂ result₂ areas h areas₂ h₂ =
+    let e = run-same file other order (a .table) (a .work) (ap (λ z. z .number) (a .says)) i back budget x in (
+      (λ g. run-gives other result₂ i back budget x k y areas₂ h₂ (sym e ∙ gives-run file t w result i back budget x k y g)),
+      (λ g. run-gives file result i back budget x k y areas h (e ∙ gives-run other t₂ w₂ result₂ i back budget x k y g)),
+    )
+
+pub turned-alike : TurnedAlike
+turned-alike file other order a t w output t₂ w₂ output₂ areas h areas₂ h₂ =
+    subst (λ bs. SameButOrder bs (turnedBytes other t₂ w₂ output₂)) (sym (turn-writes file output areas h))
+    (subst (λ bs. SameButOrder (turned file) bs) (sym (turn-writes other output₂ areas₂ h₂))
+    (turned-order file other order (a .table) (a .work) (ap (λ x. x .number) (a .says))))

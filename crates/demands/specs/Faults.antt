@@ -1,0 +1,91 @@
+-- Refusals 1 to 7, exactly where document 01 has them: `Demands.RefusedExactly` has 8 to 14. And the order in which the lines of a file in form stand.
+use Prim.Native.Nat.{ℕ, suc, _≤_, _<_}
+use mathlib.Core.Path.{_≡_}
+use mathlib.Core.Logic.{_↔_, _⊎_}
+use mathlib.Core.Bool.{Bool, true, false}
+use mathlib.Core.Option.{none, some}
+use mathlib.Core.List.{List, [], _∷_}
+use lib.ListN.{length}
+use Rattle.model.specs.Refusals.{typeLine, patternLine, isoLine, clauseLine, letLine, Refusal, number, badLine, misplaced, badField, badName, ceiling}
+use Rattle.model.specs.Lines.{Row, lines, rowOf}
+use Rattle.model.specs.Judge.{Seen, start, inOrder, fieldsFit, named, withinCeilings, after}
+use Rattle.model.specs.Services.{check, turn, runService}
+use Rattle.model.specs.Answers.{InForm}
+use Rattle.demands.specs.Words.{Areas}
+
+-- "an answer or a numbered refusal": Check and Turn answer 0 or one of 1 to 14, Run one of 1 to 17
+abbrev pub NumberedAnswers : Type 0
+NumberedAnswers =
+    (file t w : List ℕ)
+    → (check file t w .answer .number ≤ 14)
+    × ((output : List ℕ) → turn file t w output .answer .number ≤ 14)
+    × ((i : ℕ) (back : Bool) (budget : ℕ) (value result : List ℕ) → runService file t w i back budget value result .number ≤ 17)
+
+-- 1, "a lent area is shorter than stated": for Check the table or the work area, for Turn also its output area, which "must be as long as the file", for Run its result area, which
+-- "must have 127 bytes"
+abbrev pub ShortExactly : Type 0
+ShortExactly = (file t w : List ℕ) → (check file t w .answer ≡ record { number = 1; line = 0 }) ↔ (Areas t w → ⊥)
+
+abbrev pub TurnShortExactly : Type 0
+TurnShortExactly =
+    (file t w output : List ℕ) → (turn file t w output .answer ≡ record { number = 1; line = 0 }) ↔ (Areas t w × (length file ≤ length output) → ⊥)
+
+abbrev pub RunShortExactly : Type 0
+RunShortExactly =
+    (file t w : List ℕ) (i : ℕ) (back : Bool) (budget : ℕ) (value result : List ℕ)
+    → (runService file t w i back budget value result .number ≡ 1) ↔ (Areas t w × (127 ≤ length result) → ⊥)
+
+-- 2, "over 65,536 bytes or 4,096 lines"
+abbrev pub LongExactly : Type 0
+LongExactly =
+    (file t w : List ℕ) → Areas t w → (check file t w .answer ≡ record { number = 2; line = 0 }) ↔ ((65536 < length file) ⊎ (4096 < length (lines file)))
+
+-- What is wrong with a line, where `s` is what the rows above tell: "on each the lowest of 3 to 7".
+pub data LineFault (s : Seen) (l : List ℕ) : Refusal → Type 0 where
+  form : rowOf l ≡ none → LineFault s l badLine
+  order : (r : Row) → rowOf l ≡ some r → inOrder (s .above) (r .kind) ≡ false → LineFault s l (misplaced (r .kind))
+  fields : (r : Row) → rowOf l ≡ some r → inOrder (s .above) (r .kind) ≡ true → fieldsFit (r .kind) r ≡ false → LineFault s l (badField (r .kind))
+  names : (r : Row) → rowOf l ≡ some r → inOrder (s .above) (r .kind) ≡ true → fieldsFit (r .kind) r ≡ true → named s (r .kind) r ≡ false
+      → LineFault s l (badName (r .kind))
+  ceilings : (r : Row) → rowOf l ≡ some r → inOrder (s .above) (r .kind) ≡ true → fieldsFit (r .kind) r ≡ true → named s (r .kind) r ≡ true
+      → withinCeilings s (r .kind) r ≡ false → LineFault s l (ceiling (r .kind))
+
+-- a line that passes
+pub record LinePasses (s : Seen) (l : List ℕ) (r : Row) : Type 0 where
+  pub form : rowOf l ≡ some r
+  pub order : inOrder (s .above) (r .kind) ≡ true
+  pub fields : fieldsFit (r .kind) r ≡ true
+  pub names : named s (r .kind) r ≡ true
+  pub ceilings : withinCeilings s (r .kind) r ≡ true
+
+-- "Then all lines from the first": the first line at fault, of those from number n on
+pub data FirstLine : Seen → ℕ → List (List ℕ) → Refusal → ℕ → Type 0 where
+  here : {s : Seen} {n m : ℕ} {l : List ℕ} {ls : List (List ℕ)} {f : Refusal} → LineFault s l f → m ≡ n → FirstLine s n (l ∷ ls) f m
+  later : {s : Seen} {n m : ℕ} {l : List ℕ} {ls : List (List ℕ)} {f : Refusal} (r : Row) → LinePasses s l r → FirstLine (after s r) (suc n) ls f m
+      → FirstLine s n (l ∷ ls) f m
+
+-- 3 to 7: each at its line, exactly when it is the lowest that fails on the first line where any fails
+abbrev pub LinesExactly : Type 0
+LinesExactly =
+    (file t w : List ℕ) → Areas t w → length file ≤ 65536 → length (lines file) ≤ 4096 → (n m : ℕ) → 0 < n → n ≤ 7
+    → (check file t w .answer ≡ record { number = n; line = m }) ↔ ((f : Refusal) × (number f ≡ n) × FirstLine start 1 (lines file) f m)
+
+-- "All T lines come first, then all P lines, then the isos, each an I line, its C lines, and under each C line its L lines in order": T*, P*, (I (C L*)*)*. What may
+-- stand at a place is a line of its kind, or what may stand at the next one.
+pub data Place : Type 0 where
+  types patterns isos clauses lets : Place
+
+pub data Stand : Place → List Row → Type 0 where
+  type : {r : Row} {rs : List Row} → r .kind ≡ typeLine → Stand types rs → Stand types (r ∷ rs)
+  noType : {rs : List Row} → Stand patterns rs → Stand types rs
+  pattern : {r : Row} {rs : List Row} → r .kind ≡ patternLine → Stand patterns rs → Stand patterns (r ∷ rs)
+  noPattern : {rs : List Row} → Stand isos rs → Stand patterns rs
+  iso : {r : Row} {rs : List Row} → r .kind ≡ isoLine → Stand clauses rs → Stand isos (r ∷ rs)
+  clause : {r : Row} {rs : List Row} → r .kind ≡ clauseLine → Stand lets rs → Stand clauses (r ∷ rs)
+  noClause : {rs : List Row} → Stand isos rs → Stand clauses rs
+  let-step : {r : Row} {rs : List Row} → r .kind ≡ letLine → Stand lets rs → Stand lets (r ∷ rs)
+  noLet : {rs : List Row} → Stand clauses rs → Stand lets rs
+  end : Stand isos []
+
+abbrev pub RowsInOrder : Type 0
+RowsInOrder = (file : List ℕ) (rs : List Row) → InForm file rs → Stand types rs

@@ -1,0 +1,5 @@
+pub mod Words
+pub mod Faults
+pub mod Demands
+pub mod Requests
+pub mod Pins

@@ -1,0 +1,63 @@
+-- Promises of the requests that speak of more than one call, each of which gets areas of its own. What else the requests promise is said of one service, in the crates
+-- `model` (`Sheets`), `ranking`, `reuse`, `comparison`, `costs`, `endings` and `reordering`.
+use Prim.Native.Nat.{ℕ, _*_, _≤_}
+use mathlib.Core.Path.{_≡_}
+use mathlib.Core.Logic.{_↔_}
+use mathlib.Core.Bool.{Bool}
+use mathlib.Core.Option.{some}
+use mathlib.Core.List.{List, [], _∷_}
+use lib.ListN.{length, take, drop, getElem?}
+use Rattle.model.specs.Lines.{lines, withoutReturns}
+use Rattle.model.specs.Services.{check, RunResult, runService}
+use Rattle.model.specs.Desk.{Query, queryOf}
+use Rattle.model.specs.Sheet.{sheet}
+use Rattle.costs.specs.Bounds.{boundsService}
+use Rattle.reordering.specs.Reordered.{SameButOrder}
+use Rattle.demands.specs.Words.{Areas, yes, Accepted, turnedBytes, Gives}
+
+-- Request 01: "For each query come back number, count and length, three numbers of 32 bits in a lent area, in the same order and equal to those of a lone run, and its
+-- letters stand in 127 bytes of its own in one lent area": up to 600 queries of an accepted file, in areas with room for them.
+abbrev pub SheetOfLoneRuns : Type 0
+SheetOfLoneRuns =
+    (file : List ℕ) → Accepted file → (t w queries numbers letters : List ℕ) → Areas t w → length (lines queries) ≤ 600
+    → length (lines queries) * 3 ≤ length numbers → length (lines queries) * 127 ≤ length letters
+    → (sheet file t w queries numbers letters .answer ≡ yes)
+    × ((k : ℕ) (l : List ℕ) (q : Query) → getElem? (lines queries) k ≡ some l → queryOf l ≡ some q
+    → (t₂ w₂ : List ℕ) → Areas t₂ w₂
+    → (r : RunResult) → r ≡ runService file t₂ w₂ (q .iso) (q .back) (q .budget) (q .letters) (take 127 (drop (k * 127) letters))
+    → (take 3 (drop (k * 3) (sheet file t w queries numbers letters .numbers)) ≡ r .number ∷ (r .count ∷ (r .length ∷ [])))
+    × (take 127 (drop (k * 127) (sheet file t w queries numbers letters .letters)) ≡ r .result))
+
+-- Request 05: the bounds of an iso are those of the turned file's, so that they hold of runs back as they do of runs forward.
+abbrev pub BoundsOfTurned : Type 0
+BoundsOfTurned =
+    (file : List ℕ) → Accepted file → (t w output : List ℕ) → Areas t w → length file ≤ length output
+    → (t₂ w₂ : List ℕ) (i : ℕ) → boundsService (turnedBytes file t w output) t₂ w₂ i .bounds ≡ boundsService file t₂ w₂ i .bounds
+
+-- Request 06: "Turned files are written with line feed alone, so turning twice gives the first file with its carriage returns taken out."
+abbrev pub TurnedWithFeeds : Type 0
+TurnedWithFeeds =
+    (file : List ℕ) → Accepted file → (t w output : List ℕ) → Areas t w → length file ≤ length output
+    → withoutReturns (turnedBytes file t w output) ≡ turnedBytes file t w output
+
+abbrev pub TurnedTwice : Type 0
+TurnedTwice =
+    (file : List ℕ) → Accepted file → (t w output t₂ w₂ output₂ : List ℕ) → Areas t w → length file ≤ length output → Areas t₂ w₂ → length file ≤ length output₂
+    → turnedBytes (turnedBytes file t w output) t₂ w₂ output₂ ≡ withoutReturns file
+
+-- Request 08: "Two files that differ only in the order of clauses within isos … are both accepted or both refused, and if accepted answer every query alike": one gives y
+-- for x with a count exactly when the other does; and so it is with the turned files.
+abbrev pub BothAccepted : Type 0
+BothAccepted = (file other : List ℕ) → SameButOrder file other → Accepted file ↔ Accepted other
+
+abbrev pub AnswerAlike : Type 0
+AnswerAlike =
+    (file other : List ℕ) → SameButOrder file other → Accepted file → (i : ℕ) (back : Bool) (budget k : ℕ) (x y : List ℕ)
+    → (t w result t₂ w₂ result₂ : List ℕ) → Areas t w → 127 ≤ length result → Areas t₂ w₂ → 127 ≤ length result₂
+    → Gives (runService file t w i back budget x result) k y ↔ Gives (runService other t₂ w₂ i back budget x result₂) k y
+
+abbrev pub TurnedAlike : Type 0
+TurnedAlike =
+    (file other : List ℕ) → SameButOrder file other → Accepted file → (t w output t₂ w₂ output₂ : List ℕ)
+    → Areas t w → length file ≤ length output → Areas t₂ w₂ → length other ≤ length output₂
+    → SameButOrder (turnedBytes file t w output) (turnedBytes other t₂ w₂ output₂)
