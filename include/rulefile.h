@@ -1,6 +1,6 @@
 /*
- * rulefile.h - Check, Turn, Run, whole sheets of queries, settings as numbers, the overlap of two patterns
- * and steps known beforehand for rule files.
+ * rulefile.h - Check, Turn, Run, whole sheets of queries, settings as numbers, the overlap of two patterns,
+ * steps known beforehand and settings that show a fault for rule files.
  *
  * `bin/install PREFIX` puts librulefile.a, librulefile.so and this header in place, with a file for pkg-config;
  * `rt staticlib rulefile` writes target/staticlib/librulefile.a alone. The platform is x86-64 Linux. The library
@@ -21,7 +21,8 @@
  *     where the call is refused with 15 or above; on refusals 3 to 14 they are all 0;
  *   - the first RULEFILE_WORK_LENGTH bytes of the work area are 0;
  *   - refusals 1 and 2 leave every area as it was;
- *   - any refusal of the call leaves output, result, and the numbers and letters of a sheet as they were;
+ *   - any refusal of the call leaves output, result, and the numbers and letters of a sheet as they were, but
+ *     for the result of rulefile_witness, which is written on refusals 11 to 14;
  *   - whatever lies behind these lengths, and behind what was written, keeps its contents.
  *
  * A line of a file or of a list ends with a line feed, or with a carriage return and a line feed; lengths
@@ -141,6 +142,13 @@ struct rulefile_bounds_answer {
     bool greatest_over; /* the same of the greatest */
 };
 
+/* What the witness of a fault is. */
+struct rulefile_witness_answer {
+    uint32_t number; /* enum rulefile_number, as rulefile_check gives it */
+    size_t line;     /* the line refused, 0 where none is named */
+    size_t length;   /* letters written to result: on refusals 11 to 14 at least 1, otherwise 0 */
+};
+
 /*
  * The version of the library, to be held against RULEFILE_VERSION; and the word of a number, as docs/REFUSALS.md has
  * it: `accepted` for 0, `unknown` for a number that no answer has. Both are texts that stay. They are in the library
@@ -257,6 +265,22 @@ struct rulefile_bounds_answer rulefile_bounds(
     uint16_t *table, size_t table_length,
     uint8_t *work, size_t work_length,
     uint32_t iso);
+
+/*
+ * Checks a file and, where it is refused with 11 to 14, writes a setting that shows the fault: of the iso
+ * refused, a value of its from-type (11, 13) or of its to-type (12, 14) that two or more of its clauses'
+ * left or right patterns match (11, 12), or that none does (13, 14). Of these it is the one with the
+ * fewest letters, and of several such the first in byte order.
+ *
+ * Number, line, table and work area are those of rulefile_check, but that a result shorter than
+ * RULEFILE_RESULT_LENGTH is refused with 1 too. Bytes of the result behind the letters keep their
+ * contents; with any other number the length is 0 and the whole result does.
+ */
+struct rulefile_witness_answer rulefile_witness(
+    const uint8_t *file, size_t file_length,
+    uint16_t *table, size_t table_length,
+    uint8_t *work, size_t work_length,
+    uint8_t *result, size_t result_length);
 
 #ifdef __cplusplus
 }

@@ -17,6 +17,7 @@ pub mod query;
 pub mod random;
 pub mod scribe;
 pub mod shape;
+pub mod shown;
 pub mod thread;
 pub mod tower;
 

@@ -14,6 +14,7 @@ pub mod overlap;
 pub mod reduce;
 pub mod sheet;
 pub mod tree;
+pub mod witness;
 
 use crate::lines::{Clause, Iso, Row};
 use crate::reduce::{apply, turned, Counter};

@@ -2,7 +2,9 @@
 
 use apart::areas::{check_areas, run_areas, turn_areas, Known};
 use apart::bounds::{bounds, bounds_rules, Bounded};
-use rulefile::{Bounds, Direction, Refused, MAX_QUERIES, NUMBERS_A_QUERY, RESULT_LENGTH};
+use apart::witness::{witness, witness_of};
+use rulefile::{Bounds, Direction, Refused, Witnessed};
+use rulefile::{MAX_QUERIES, NUMBERS_A_QUERY, RESULT_LENGTH};
 
 #[derive(Clone, Copy, PartialEq, Eq, Debug)]
 pub enum Implementation {
@@ -104,6 +106,8 @@ pub enum Service {
     Runs(Vec<Asked>),
     /// The bounds of an iso.
     Bounds(u32),
+    /// A setting that shows the fault.
+    Witness,
 }
 
 /// A call, its answer, and what it writes to its output area and to its numbers.
@@ -175,6 +179,23 @@ impl Call {
         Call {
             service: Service::Bounds(iso),
             answer: bounds_answer(told),
+            ..Call::check(file)
+        }
+    }
+
+    /// The witness of a file that is refused with 11 to 14.
+    pub fn witness(file: Vec<u8>) -> Self {
+        let refusal = apart::check(&file).err().expect("the file is refused");
+        let written = witness_of(&file, refusal).expect("a side is at fault");
+        Call {
+            service: Service::Witness,
+            answer: Answer {
+                number: refusal.number.into(),
+                line: refusal.line,
+                length: written.len(),
+                ..Answer::default()
+            },
+            written,
             ..Call::check(file)
         }
     }
@@ -280,6 +301,10 @@ impl Call {
                     ..Answer::default()
                 })
             }
+            Service::Witness => {
+                let shown = rulefile::witness(&self.file, table, work, output);
+                return shown.map_or_else(witnessed, |()| Answer::default());
+            }
         };
         given.unwrap_or_else(Answer::refused)
     }
@@ -314,6 +339,15 @@ impl Call {
             Service::Runs(_) => unreachable!("made one by one"),
             Service::Bounds(iso) => {
                 bounds_answer(bounds(&Known::of(&self.file), table, work, *iso))
+            }
+            Service::Witness => {
+                let shown = witness(&Known::of(&self.file), table, work, output);
+                Answer {
+                    number: shown.number.into(),
+                    line: shown.line,
+                    length: shown.length,
+                    ..Answer::default()
+                }
             }
         }
     }
@@ -382,6 +416,14 @@ fn run_by_apart(
     }
 }
 
+/// What the proved library gives of a file that is refused.
+fn witnessed(Witnessed { refused, length }: Witnessed) -> Answer {
+    Answer {
+        length,
+        ..Answer::refused(refused)
+    }
+}
+
 /// What the checker written apart tells of an iso.
 fn bounds_answer(told: Bounded) -> Answer {
     let bounds = Bounds {
@@ -436,6 +478,14 @@ mod tests {
         let mut call = Call::bounds(inputs::s(), 1);
         let bounds = call.answer.bounds.as_mut();
         bounds.expect("the iso is there").greatest_over = true;
+        call.make(Proved, &mut Areas::new());
+    }
+
+    #[test]
+    #[should_panic(expected = "writes other bytes")]
+    fn a_wrong_witness_is_noticed() {
+        let mut call = Call::witness(inputs::gap());
+        call.written[1] = b'L';
         call.make(Proved, &mut Areas::new());
     }
 

@@ -2,7 +2,7 @@
 
 use crate::call::Proved;
 use crate::measure::{Lent, Timed};
-use crate::point::{Point, Series};
+use crate::point::{Point, Series, GAP, OVERLAP};
 use crate::worst::CANDIDATES;
 
 const QUERIES: usize = 100_000;
@@ -95,6 +95,16 @@ pub fn rows(worst: Point, quick: bool) -> Vec<Row> {
         call(&label, Series::Worst, worst.size),
         call("Turn, 4,096 lines", Series::Turn, 4_096),
         call("Bounds, 4,096 lines", Series::Bounds, 4_096),
+        call(
+            "Witness of an overlap, 32 clauses of 127 nodes",
+            Series::Witness,
+            OVERLAP,
+        ),
+        call(
+            "Witness of a gap, 1 of 4,294,967,296 settings, 32 clauses",
+            Series::Witness,
+            GAP,
+        ),
         runs(
             "Run, tower of isos on one bit",
             Series::Applications,

@@ -16,6 +16,7 @@ pub enum Series {
     Worst,
     Turn,
     Bounds,
+    Witness,
     Applications,
     Swap,
     Swaps,
@@ -27,9 +28,9 @@ pub enum Series {
 }
 
 use Series::{Applications, Bounds, Clauses, Isos, Lines, Nodes, Swap, Swaps, Turn, Worst, S};
-use Series::{LongRuns, LongSheet, Runs, Sheet};
+use Series::{LongRuns, LongSheet, Runs, Sheet, Witness};
 
-const NAMES: [(Series, &str); 16] = [
+const NAMES: [(Series, &str); 17] = [
     (S, "s"),
     (Lines, "lines"),
     (Clauses, "clauses"),
@@ -38,6 +39,7 @@ const NAMES: [(Series, &str); 16] = [
     (Worst, "worst"),
     (Turn, "turn"),
     (Bounds, "bounds"),
+    (Witness, "witness"),
     (Applications, "applications"),
     (Swap, "swap"),
     (Swaps, "swaps"),
@@ -47,6 +49,10 @@ const NAMES: [(Series, &str); 16] = [
     (LongRuns, "long-runs"),
     (Series::Desk, "desk"),
 ];
+
+/// The refusals of which the witness is measured.
+pub const OVERLAP: usize = 11;
+pub const GAP: usize = 13;
 
 impl Series {
     pub fn name(self) -> &'static str {
@@ -59,8 +65,8 @@ impl Series {
     }
 }
 
-/// A series, and a size in it: lines, clauses, isos, nodes or queries; the place of a candidate; or a power
-/// of two, one above the number of applications.
+/// A series, and a size in it: lines, clauses, isos, nodes or queries; the place of a candidate; a refusal; or
+/// a power of two, one above the number of applications.
 #[derive(Clone, Copy, PartialEq, Eq, Hash, Debug)]
 pub struct Point {
     pub series: Series,
@@ -85,6 +91,8 @@ impl Point {
             Worst => (CANDIDATES[size - 1].call)(),
             Turn => Call::turn(inputs::long(size)),
             Bounds => Call::bounds(inputs::long(size), 31),
+            Witness if size == OVERLAP => Call::witness(inputs::overlap()),
+            Witness => Call::witness(inputs::gap()),
             Applications => {
                 let value = b"LU".to_vec();
                 Call::run(
@@ -170,5 +178,8 @@ mod tests {
         }
         Point::new(Sheet, 600).call().agree();
         Point::new(Bounds, 4_096).call().agree();
+        for refusal in [OVERLAP, GAP] {
+            Point::new(Witness, refusal).call().agree();
+        }
     }
 }

@@ -65,6 +65,7 @@ impl<P: Program, S: Services> Block<P, S> {
             self.calls.late_clash(random, &mut self.tally);
         }
         self.calls.bounds(random, &mut self.tally, case, &known);
+        self.calls.witness(random, &mut self.tally, &known);
         if matches!(case, Case::Counted(_)) {
             self.calls.faults(random, &mut self.tally);
         }

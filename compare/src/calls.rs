@@ -8,6 +8,7 @@ use crate::service::{expected, query, Answer, Ask, Call, Services};
 use crate::settings;
 use crate::sheets::{self, Given};
 use crate::tally::{Tally, BY_SHEET, CHECK, ISO_ABOVE_65535, LETTERS, LIBRARY, RUN, SHORT, TURN};
+use crate::witness;
 use apart::areas::{Known, RESULT};
 use apart::bounds::bounds_rules;
 use apart::generate::query::line;
@@ -75,6 +76,7 @@ impl<S: Services> Calls<S> {
         settings::count(tally, known, call, &ours, &theirs);
         overlaps::count(tally, known, call, &ours, &theirs);
         bounds::count(tally, known, call, &ours, &theirs);
+        witness::count(tally, known, call, &ours, &theirs);
         if let Call::Sheet(list) = call {
             let numbers = &self.ours.numbers.lent()[..ours.queries * NUMBERS];
             sheets::count(tally, list, ours.number, numbers);
@@ -121,6 +123,7 @@ fn name(call: Call) -> String {
         Call::SettingOf(ty, number) => format!("setting {number} of T line {ty}"),
         Call::Overlap(left, right) => format!("overlap of P lines {left} and {right}"),
         Call::Bounds(iso) => format!("bounds of iso {iso}"),
+        Call::Witness => "Witness".to_string(),
     }
 }
 
@@ -130,7 +133,7 @@ fn name(call: Call) -> String {
 pub fn input(file: &[u8], call: Call) -> Vec<u8> {
     let mut input = file.to_vec();
     match call {
-        Call::Check | Call::Turn => {}
+        Call::Check | Call::Turn | Call::Witness => {}
         Call::Run(ask) => input.extend(line(ask.iso as usize, ask.back, ask.budget, ask.letters)),
         Call::Sheet(list) => input.extend(list),
         Call::NumberOf(ty, letters) => {
@@ -146,7 +149,7 @@ pub fn input(file: &[u8], call: Call) -> Vec<u8> {
 }
 
 /// Counts the number given and the kinds of the areas. Numbers that are given
-/// for settings, overlaps and bounds have tables of their own.
+/// for settings, overlaps, bounds and witnesses have tables of their own.
 fn count(tally: &mut Tally, known: &Known, call: Call, lengths: [usize; 4], ours: &Answer) {
     tally.calls += 1;
     let (column, rows) = match call {
@@ -158,6 +161,7 @@ fn count(tally: &mut Tally, known: &Known, call: Call, lengths: [usize; 4], ours
         Call::SettingOf(..) => (None, &[10, 11, 12][..]),
         Call::Overlap(..) => (None, &[13, 14][..]),
         Call::Bounds(_) => (None, &[15, 16][..]),
+        Call::Witness => (None, &[17, 18, 19][..]),
     };
     if let Some(column) = column {
         tally.numbers.hit(ours.number as usize, column);
@@ -194,7 +198,7 @@ pub fn otherwise(known: &Known, call: Call) -> usize {
         Err(refusal) => return refusal.number.into(),
     };
     let refused = match call {
-        Call::Check | Call::Turn | Call::Sheet(_) => None,
+        Call::Check | Call::Turn | Call::Sheet(_) | Call::Witness => None,
         Call::Run(ask) => {
             let query = query(ask);
             run_rules(rules, query.iso, query.back, query.budget, query.value).err()

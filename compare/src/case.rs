@@ -1,9 +1,10 @@
 //! Which files are made.
 
-use crate::{bounds, settings, shuffle};
+use crate::{bounds, settings, shuffle, witness};
 use apart::generate::ceiling::{self, Ceiling, CEILINGS};
 use apart::generate::life::SLIPS;
 use apart::generate::random::Random;
+use apart::generate::shown::Form;
 use apart::generate::{accepted, any_file, ending, miss, pair, query, thread, tower};
 use apart::{check, Rules};
 
@@ -52,6 +53,8 @@ pub enum Case {
     Deep,
     /// Clauses of one iso at fault in different ways, 3 to 7 or 8 to 10.
     Several(bool),
+    /// Refused with one of 11 to 14, by the values that show the fault.
+    Shown(Form, u8),
     /// An accepted file with as many queries as a sheet may have, or one more.
     Full(bool),
     Accepted,
@@ -63,6 +66,7 @@ pub fn always() -> Vec<Case> {
     let mut cases = vec![Case::Long; 3];
     cases.extend(settings::cases());
     cases.extend(bounds::cases());
+    cases.extend(witness::cases());
     for over in [false, true].repeat(5) {
         cases.extend([Case::Stack, Case::Longest, Case::Bytes(over)]);
         cases.extend([Case::Several(over); 3]);
@@ -116,6 +120,7 @@ pub fn file(random: &mut Random, case: Case) -> (Vec<u8>, Option<(u8, usize)>) {
         Case::Returns(number) => (ending::all_resaved(&miss::aimed(random, number)), None),
         Case::Bounded(..) | Case::Deep => (bounds::file(random, case), Some((0, 0))),
         Case::Several(form) => (shuffle::several(random, form), None),
+        Case::Shown(..) => (witness::file(random, case), None),
         Case::Accepted | Case::Full(_) => (accepted(random), Some((0, 0))),
         Case::Any => (any_file(random), None),
     }

@@ -62,6 +62,13 @@ struct BoundsAnswer {
     greatest_over: bool,
 }
 
+#[repr(C)]
+struct WitnessAnswer {
+    number: u32,
+    line: usize,
+    length: usize,
+}
+
 extern "C" {
     fn rulefile_check(
         file: *const u8,
@@ -159,6 +166,17 @@ extern "C" {
         work_length: usize,
         iso: u32,
     ) -> BoundsAnswer;
+
+    fn rulefile_witness(
+        file: *const u8,
+        file_length: usize,
+        table: *mut u16,
+        table_length: usize,
+        work: *mut u8,
+        work_length: usize,
+        result: *mut u8,
+        result_length: usize,
+    ) -> WitnessAnswer;
 }
 
 /// Where bytes that are only read begin; null where there are none.
@@ -189,6 +207,7 @@ pub fn call(file: &[u8], call: Call, lent: Lent) -> Answer {
         Call::SettingOf(ty, setting) => setting_of(file, ty, setting, lent),
         Call::Overlap(left, right) => overlap(file, left, right, lent),
         Call::Bounds(iso) => bounds(file, iso, lent),
+        Call::Witness => witness(file, lent),
     }
 }
 
@@ -393,6 +412,31 @@ fn bounds(file: &[u8], iso: u32, lent: Lent) -> Answer {
         greatest: given.greatest,
         least_over: given.least_over,
         greatest_over: given.greatest_over,
+        ..Answer::default()
+    }
+}
+
+fn witness(file: &[u8], lent: Lent) -> Answer {
+    let Lent {
+        table, work, out, ..
+    } = lent;
+    // SAFETY: as for `check`.
+    let given = unsafe {
+        rulefile_witness(
+            begin(file),
+            file.len(),
+            start(table),
+            table.len(),
+            start(work),
+            work.len(),
+            start(out),
+            out.len(),
+        )
+    };
+    Answer {
+        number: given.number,
+        line: given.line,
+        length: given.length,
         ..Answer::default()
     }
 }

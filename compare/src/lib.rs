@@ -24,4 +24,5 @@ pub mod shuffle;
 pub mod tally;
 pub mod trip;
 pub mod variables;
+pub mod witness;
 pub mod work;

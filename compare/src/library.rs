@@ -4,7 +4,7 @@
 use crate::foreign;
 use crate::service::{Answer, Ask, Call, Lent, Services};
 use apart::generate::random::Random;
-use rulefile::{Direction, Query, Refused};
+use rulefile::{Direction, Query, Refused, Witnessed};
 
 pub struct Library {
     random: Random,
@@ -28,7 +28,8 @@ impl Services for Library {
     }
 }
 
-/// Through the wrapper, which gives number and line alone on refusal.
+/// Through the wrapper, which gives number and line alone on refusal, and the
+/// length of a witness.
 fn wrapped(file: &[u8], call: Call, lent: Lent) -> Answer {
     let Lent {
         table,
@@ -37,6 +38,7 @@ fn wrapped(file: &[u8], call: Call, lent: Lent) -> Answer {
         numbers,
     } = lent;
     let none = Answer::default();
+    let mut letters = 0;
     let given = match call {
         Call::Check => rulefile::check(file, table, work).map(|()| none),
         Call::Turn => {
@@ -81,10 +83,20 @@ fn wrapped(file: &[u8], call: Call, lent: Lent) -> Answer {
                 ..none
             })
         }
+        Call::Witness => {
+            let given = rulefile::witness(file, table, work, out);
+            given
+                .map(|()| none)
+                .map_err(|Witnessed { refused, length }| {
+                    letters = length;
+                    refused
+                })
+        }
     };
     given.unwrap_or_else(|Refused { refusal, line }| Answer {
         number: refusal.number(),
         line,
+        length: letters,
         ..none
     })
 }

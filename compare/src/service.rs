@@ -7,6 +7,7 @@ use apart::lines::split;
 use apart::numbering;
 use apart::overlap;
 use apart::sheet::{self, NUMBERS};
+use apart::witness;
 
 /// What Run is asked. The library takes an iso of 32 bits.
 #[derive(Debug, Clone, Copy, PartialEq, Eq)]
@@ -32,6 +33,8 @@ pub enum Call<'a> {
     Overlap(u32, u32),
     /// The bounds of an iso.
     Bounds(u32),
+    /// A setting that shows the fault.
+    Witness,
 }
 
 /// All that an answer holds; what the service does not give is 0.
@@ -55,9 +58,9 @@ pub struct Answer {
     pub greatest_over: bool,
 }
 
-/// The lent areas; `out` is Turn's output, Run's result, a sheet's letters or
-/// the letters of a number, and of no use to others. `numbers` are of use to
-/// a sheet alone.
+/// The lent areas; `out` is Turn's output, Run's result, a sheet's letters, the
+/// letters of a number or of a witness, and of no use to others. `numbers` are
+/// of use to a sheet alone.
 pub struct Lent<'a> {
     pub table: &'a mut [u16],
     pub work: &'a mut [u8],
@@ -74,7 +77,7 @@ impl Call<'_> {
     pub fn areas(&self) -> usize {
         match self {
             Call::Check | Call::NumberOf(..) | Call::Overlap(..) | Call::Bounds(_) => 2,
-            Call::Turn | Call::Run(_) | Call::SettingOf(..) => 3,
+            Call::Turn | Call::Run(_) | Call::SettingOf(..) | Call::Witness => 3,
             Call::Sheet(_) => 4,
         }
     }
@@ -84,7 +87,7 @@ impl Call<'_> {
         let (out, numbers) = match self {
             Call::Check | Call::NumberOf(..) | Call::Overlap(..) | Call::Bounds(_) => (0, 0),
             Call::Turn => (file.len(), 0),
-            Call::Run(_) | Call::SettingOf(..) => (RESULT, 0),
+            Call::Run(_) | Call::SettingOf(..) | Call::Witness => (RESULT, 0),
             Call::Sheet(list) => {
                 let queries = split(list).len();
                 (queries * RESULT, queries * NUMBERS)
@@ -128,6 +131,7 @@ pub fn expected(known: &Known, call: Call, lent: Lent) -> Answer {
         Call::SettingOf(ty, setting) => setting_of(known, ty, setting, lent),
         Call::Overlap(left, right) => overlap(known, left, right, lent),
         Call::Bounds(iso) => bounds(known, iso, lent),
+        Call::Witness => witness(known, lent),
     }
 }
 
@@ -185,6 +189,16 @@ fn bounds(known: &Known, iso: u32, lent: Lent) -> Answer {
         greatest: told.greatest,
         least_over: told.least_over,
         greatest_over: told.greatest_over,
+        ..Answer::default()
+    }
+}
+
+fn witness(known: &Known, lent: Lent) -> Answer {
+    let given = witness::witness(known, lent.table, lent.work, lent.out);
+    Answer {
+        number: given.number.into(),
+        line: given.line,
+        length: given.length,
         ..Answer::default()
     }
 }

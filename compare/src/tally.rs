@@ -8,6 +8,7 @@ use crate::settings;
 use crate::sheets;
 use crate::shuffle;
 use crate::variables;
+use crate::witness;
 use apart::generate::ceiling::CEILINGS;
 use apart::generate::pair;
 
@@ -68,6 +69,7 @@ pub struct Tally {
     pub settings: settings::Grids,
     pub overlaps: overlaps::Grids,
     pub bounds: bounds::Grids,
+    pub witness: witness::Grids,
     pub ceilings: Grid,
     pub sheets: Grid,
     pub variables: Grid,
@@ -136,6 +138,9 @@ fn areas() -> Grid {
         "work of overlap",
         "table of bounds",
         "work of bounds",
+        "table of witness",
+        "work of witness",
+        "result of witness",
     ]);
     let columns = &["exact", "longer", "one short", "empty"];
     Grid::new("area", rows, columns, |_, _| true)
@@ -190,6 +195,7 @@ impl Default for Tally {
             settings: settings::Grids::default(),
             overlaps: overlaps::Grids::default(),
             bounds: bounds::Grids::default(),
+            witness: witness::Grids::default(),
             ceilings: ceilings(),
             sheets: sheets::grid(),
             variables: variables::grid(),
@@ -219,6 +225,7 @@ impl Tally {
         self.settings.add(&other.settings);
         self.overlaps.add(&other.overlaps);
         self.bounds.add(&other.bounds);
+        self.witness.add(&other.witness);
         self.ceilings.add(&other.ceilings);
         self.sheets.add(&other.sheets);
         self.variables.add(&other.variables);
@@ -263,6 +270,7 @@ impl Tally {
         ];
         let others = self.settings.all().into_iter();
         let others = others.chain(self.overlaps.all()).chain(self.bounds.all());
+        let others = others.chain(self.witness.all());
         own.into_iter().chain(others).collect()
     }
 

@@ -167,11 +167,12 @@ enum service {
     SERVICE_SETTING_OF,
     SERVICE_OVERLAP,
     SERVICE_BOUNDS,
+    SERVICE_WITNESS,
     SERVICES
 };
 
-static const char *const service_names[SERVICES] = {"Check",     "Turn",       "Run",     "Sheet",
-                                                    "Number of", "Setting of", "Overlap", "Bounds"};
+static const char *const service_names[SERVICES] = {"Check",      "Turn",    "Run",    "Sheet",  "Number of",
+                                                    "Setting of", "Overlap", "Bounds", "Witness"};
 
 /* What a query of a sheet is to give. */
 struct reply {
@@ -218,8 +219,8 @@ struct answer {
 };
 
 /*
- * The areas that a call writes: the table and the work area; Turn's output, the result of Run or of a
- * setting's number, or the letters of a sheet; the numbers of a sheet.
+ * The areas that a call writes: the table and the work area; Turn's output, the result of Run, of a
+ * setting's number or of a witness, or the letters of a sheet; the numbers of a sheet.
  */
 struct lent {
     struct area table;
@@ -252,7 +253,7 @@ static struct lengths exact_lengths(const struct call *call)
     struct lengths lengths = sheet_lengths(call->sheet.queries);
     if (call->service == SERVICE_TURN)
         lengths.out = call->file.length;
-    if (call->service == SERVICE_RUN || call->service == SERVICE_SETTING_OF)
+    if (call->service == SERVICE_RUN || call->service == SERVICE_SETTING_OF || call->service == SERVICE_WITNESS)
         lengths.out = RULEFILE_RESULT_LENGTH;
     return lengths;
 }
@@ -330,6 +331,14 @@ static struct answer call_bounds(const struct call *call, const struct area *fil
                            .greatest_over = a.greatest_over};
 }
 
+static struct answer call_witness(const struct area *file, const struct lent *lent)
+{
+    struct rulefile_witness_answer a =
+        rulefile_witness(file->start, file->length, rows_of(lent->table.start), lent->table.length / 2,
+                         lent->work.start, lent->work.length, lent->out.start, lent->out.length);
+    return (struct answer){.number = a.number, .line = a.line, .length = a.length};
+}
+
 static struct answer make_call(const struct call *call, const struct area *file, const struct area *input,
                                const struct lent *lent)
 {
@@ -337,6 +346,8 @@ static struct answer make_call(const struct call *call, const struct area *file,
         return call_overlap(call, file, lent);
     if (call->service == SERVICE_BOUNDS)
         return call_bounds(call, file, lent);
+    if (call->service == SERVICE_WITNESS)
+        return call_witness(file, lent);
     if (call->service == SERVICE_NUMBER_OF || call->service == SERVICE_SETTING_OF)
         return call_settings(call, file, input, lent);
     uint16_t *table = rows_of(lent->table.start);
@@ -966,6 +977,52 @@ static const struct bounds_case bounds_cases[] = {
     {__LINE__, TEXT(S "\n"), 4294967295, 3, 0, 0},
 };
 
+/* Four values LLU to RRU, a P line for each, 4 to 7, left and right of anything, 8 and 9; T line 4 is a pair or a unit. */
+#define FOUR                                                                                                 \
+    "T,0,0,0\nT,1,0,0\nT,1,1,1\nT,2,1,1\nT,1,3,0\nP,0,0,0\nP,1,0,0\nP,2,0,0\nP,3,0,0\n"                      \
+    "P,2,2,0\nP,2,3,0\nP,3,2,0\nP,3,3,0\nP,2,1,0\nP,3,1,0\n"
+
+/* Two parts LLU, LRU or RU; P lines 1 RU, 2 both RU, 4 anything and anything. */
+#define PARTS                                                                                                \
+    "T,0,0,0\nT,1,0,0\nT,1,1,0\nT,2,2,2\nP,0,0,0\nP,3,0,0\nP,4,1,1\nP,1,0,0\nP,1,1,0\nP,4,3,4\n"
+
+/* A file that is refused with 11 to 14, and the setting that shows the fault. */
+struct witness_case {
+    int at;
+    struct bytes file;
+    uint32_t number;
+    size_t line;
+    struct bytes letters;
+};
+
+static const struct witness_case witness_cases[] = {
+    {__LINE__, TEXT(S_TO_16 "L,4,0,3\n"), 13, 15, TEXT("PRULU")},
+    {__LINE__, TEXT(S "C,7,7\n"), 11, 15, TEXT("PRULU")},
+    {__LINE__, TEXT(S_RETURNS "C,7,7\r\n"), 11, 15, TEXT("PRULU")},
+    {__LINE__, TEXT("T,0,0,0\nT,1,0,0\nP,0,0,0\nP,2,0,0\nI,0,1\nC,0,1\n"), 14, 5, TEXT("RU")},
+    {__LINE__, TEXT(BIT "I,1,1\nC,1,1\nC,2,1\n"), 12, 6, TEXT("LU")},
+    /* two clauses of one value, of one pattern, of one variable */
+    {__LINE__, TEXT(FOUR "I,2,2\nC,4,4\nC,5,5\nC,8,9\n"), 11, 16, TEXT("LLU")},
+    {__LINE__, TEXT(FOUR "I,2,2\nC,7,4\nC,5,6\nC,9,8\n"), 11, 16, TEXT("RRU")},
+    {__LINE__, TEXT(FOUR "I,2,2\nC,1,1\nC,1,1\n"), 11, 16, TEXT("LLU")},
+    {__LINE__, TEXT(FOUR "I,2,2\nC,4,7\nC,5,5\nC,7,5\nC,6,7\n"), 12, 16, TEXT("LRU")},
+    {__LINE__, TEXT(FOUR "I,2,2\nC,7,4\nC,4,5\n"), 13, 16, TEXT("LRU")},
+    {__LINE__, TEXT(FOUR "I,1,2\nC,2,4\nC,3,7\n"), 14, 16, TEXT("LRU")},
+    /* the type of the side refused, the lowest refusal, the first iso, one without clauses */
+    {__LINE__, TEXT(FOUR "I,1,0\nC,2,0\nC,3,0\n"), 12, 16, TEXT("U")},
+    {__LINE__, TEXT(FOUR "I,0,2\nC,0,5\n"), 14, 16, TEXT("LLU")},
+    {__LINE__, TEXT(FOUR "I,2,2\nC,4,5\nC,4,5\n"), 11, 16, TEXT("LLU")},
+    {__LINE__, TEXT(FOUR "I,2,2\nC,4,5\nC,6,5\n"), 12, 16, TEXT("LRU")},
+    {__LINE__, TEXT(FOUR "I,0,0\nC,0,0\nI,2,1\nI,2,2\nC,4,5\nC,4,5\n"), 13, 18, TEXT("LLU")},
+    /* fewest letters before byte order, also within the parts of a pair */
+    {__LINE__, TEXT(FOUR "I,4,4\n"), 13, 16, TEXT("RU")},
+    {__LINE__, TEXT(FOUR "I,4,4\nC,1,1\nC,1,1\n"), 11, 16, TEXT("RU")},
+    {__LINE__, TEXT(FOUR "I,4,4\nC,3,3\n"), 13, 16, TEXT("LPLULU")},
+    {__LINE__, TEXT(PARTS "I,3,3\n"), 13, 11, TEXT("PRURU")},
+    {__LINE__, TEXT(PARTS "I,3,3\nC,2,2\n"), 13, 11, TEXT("PLLURU")},
+    {__LINE__, TEXT(PARTS "I,3,3\nC,5,5\nC,2,2\n"), 11, 11, TEXT("PRURU")},
+};
+
 static struct call run_call(const struct query_case *c)
 {
     return (struct call){.service = SERVICE_RUN,
@@ -981,6 +1038,11 @@ static struct call sheet_call(const struct sheet_case *c)
     return (struct call){.service = SERVICE_SHEET, .file = c->file, .sheet = {c->list, c->queries, c->replies}};
 }
 
+static bool has_witness(uint32_t number)
+{
+    return number >= RULEFILE_OVERLAP_LEFT && number <= RULEFILE_GAP_RIGHT;
+}
+
 /* A file through every service; of an accepted one an iso, a T line and a P line are asked for that are not there. */
 static void try_file(const struct setting *setting, const struct file_case *c)
 {
@@ -992,6 +1054,9 @@ static void try_file(const struct setting *setting, const struct file_case *c)
     try_call(c->at, setting, &call, answer, c->number == RULEFILE_ACCEPTED ? c->turned : nothing);
     struct call sheet = {.service = SERVICE_SHEET, .file = c->file, .sheet = unanswered_sheet};
     try_call(c->at, setting, &sheet, answer, nothing);
+    call.service = SERVICE_WITNESS;
+    if (!has_witness(c->number))
+        try_call(c->at, setting, &call, answer, nothing);
     if (answer.number == RULEFILE_ACCEPTED)
         answer.number = RULEFILE_NO_ISO;
     call.service = SERVICE_OVERLAP;
@@ -1071,6 +1136,13 @@ static void try_bounds(const struct setting *setting, const struct bounds_case *
     try_call(c->at, setting, &call, answer, nothing);
 }
 
+static void try_witness(const struct setting *setting, const struct witness_case *c)
+{
+    struct call call = {.service = SERVICE_WITNESS, .file = c->file};
+    struct answer answer = {.number = c->number, .line = c->line};
+    try_call(c->at, setting, &call, answer, c->letters);
+}
+
 static void try_cases(const struct setting *setting)
 {
     for (size_t i = 0; i < COUNT_OF(file_cases); i++)
@@ -1087,6 +1159,8 @@ static void try_cases(const struct setting *setting)
         try_overlap(setting, &overlap_cases[i]);
     for (size_t i = 0; i < COUNT_OF(bounds_cases); i++)
         try_bounds(setting, &bounds_cases[i]);
+    for (size_t i = 0; i < COUNT_OF(witness_cases); i++)
+        try_witness(setting, &witness_cases[i]);
 }
 
 /* Groups */
@@ -1123,6 +1197,9 @@ static void header_numbers(void)
     CHECK(offsetof(struct rulefile_bounds_answer, greatest) == 8);
     CHECK(offsetof(struct rulefile_bounds_answer, least_over) == 12);
     CHECK(offsetof(struct rulefile_bounds_answer, greatest_over) == 13);
+    CHECK(sizeof(struct rulefile_witness_answer) == 3 * sizeof(size_t));
+    CHECK(offsetof(struct rulefile_witness_answer, line) == sizeof(size_t));
+    CHECK(offsetof(struct rulefile_witness_answer, length) == 2 * sizeof(size_t));
 }
 
 static void exact_areas(void)
@@ -1170,7 +1247,7 @@ static size_t chosen_length(size_t exact, size_t choice)
 static void try_lengths(int at, enum place place, const struct call *call, struct answer usual, struct bytes text)
 {
     static const struct answer short_area = {.number = RULEFILE_SHORT_AREA};
-    static const size_t choices[SERVICES] = {16, 64, 64, 256, 16, 64, 16, 16};
+    static const size_t choices[SERVICES] = {16, 64, 64, 256, 16, 64, 16, 16, 64};
     struct lengths exact = exact_lengths(call);
     usual = with_lengths(usual, call, text);
     for (size_t choice = 0; choice < choices[call->service]; choice++) {
@@ -1210,6 +1287,9 @@ static void short_areas(void)
         try_lengths(c->at, place, &call, answer, c->turned);
         struct call sheet = {.service = SERVICE_SHEET, .file = c->file, .sheet = unanswered_sheet};
         try_lengths(c->at, place, &sheet, answer, nothing);
+        call.service = SERVICE_WITNESS;
+        if (!has_witness(c->number))
+            try_lengths(c->at, place, &call, answer, nothing);
         answer.number = c->number == RULEFILE_ACCEPTED ? RULEFILE_NO_ISO : c->number;
         call.service = SERVICE_OVERLAP;
         try_lengths(c->at, place, &call, answer, nothing);
@@ -1279,6 +1359,18 @@ static void short_areas_of_bounds(void)
     try_lengths(__LINE__, BEFORE_GUARD, &call, answer, nothing);
 }
 
+/* A witness of each refusal, with every choice of lengths. */
+static void short_areas_of_witnesses(void)
+{
+    static const enum place places[] = {NULL_IF_EMPTY, BEFORE_GUARD};
+    for (size_t i = 0; i < 5 * COUNT_OF(places); i++) {
+        const struct witness_case *c = &witness_cases[i / COUNT_OF(places)];
+        struct call call = {.service = SERVICE_WITNESS, .file = c->file};
+        struct answer answer = {.number = c->number, .line = c->line};
+        try_lengths(c->at, places[i % COUNT_OF(places)], &call, answer, c->letters);
+    }
+}
+
 /* Sheets that are answered, one of them without a query, with every choice of lengths. */
 static void short_areas_of_sheets(void)
 {
@@ -1345,6 +1437,25 @@ static void null_areas_of_bounds(void)
     CHECK(b.number == RULEFILE_NO_ISO && b.least == 0 && b.greatest == 0 && !b.least_over && !b.greatest_over);
     b = rulefile_bounds(NULL, 0, NULL, 0, NULL, 0, 0);
     CHECK(b.number == RULEFILE_SHORT_AREA && b.least == 0 && b.greatest == 0 && !b.least_over && !b.greatest_over);
+    give_back(&lent);
+}
+
+/* The same for witnesses, of a file that has one too. */
+static void null_areas_of_witnesses(void)
+{
+    struct lent lent = lend(HEAP, sheet_lengths(1));
+    uint16_t *table = rows_of(lent.table.start);
+    struct rulefile_witness_answer w = rulefile_witness(NULL, 0, table, RULEFILE_TABLE_LENGTH, lent.work.start,
+                                                        RULEFILE_WORK_LENGTH, lent.out.start, RULEFILE_RESULT_LENGTH);
+    CHECK(w.number == RULEFILE_ACCEPTED && w.line == 0 && w.length == 0 && as_foreseen(&lent.out));
+    struct bytes gap = witness_cases[0].file;
+    w = rulefile_witness(gap.start, gap.length, table, RULEFILE_TABLE_LENGTH, lent.work.start, RULEFILE_WORK_LENGTH,
+                         NULL, 0);
+    CHECK(w.number == RULEFILE_SHORT_AREA && w.line == 0 && w.length == 0);
+    w = rulefile_witness(gap.start, gap.length, NULL, 0, NULL, 0, NULL, 0);
+    CHECK(w.number == RULEFILE_SHORT_AREA && w.line == 0 && w.length == 0);
+    w = rulefile_witness(NULL, 0, NULL, 0, NULL, 0, NULL, 0);
+    CHECK(w.number == RULEFILE_SHORT_AREA && w.line == 0 && w.length == 0);
     give_back(&lent);
 }
 
@@ -1733,6 +1844,80 @@ static void bounds_of_deep_isos(void)
         try_built_bounds(__LINE__, iso,
                          (struct answer){.least = told, .greatest = told, .least_over = over, .greatest_over = over});
     }
+}
+
+/* The witness of the built file. */
+static void try_built_witness(int at, uint32_t number, size_t line, struct bytes letters)
+{
+    static const struct setting settings[] = {{HEAP, 0, NULL}, {BEFORE_GUARD, 0, NULL}, {ODD, 5, NULL}};
+    struct witness_case c = {at, built_file(), number, line, letters};
+    for (size_t i = 0; i < COUNT_OF(settings); i++)
+        try_witness(&settings[i], &c);
+}
+
+/* Settings of 127 letters, the whole result: a variable twice, on either side, and an iso without clauses. */
+static void longest_witnesses(void)
+{
+    uint8_t letters[RULEFILE_RESULT_LENGTH];
+    struct bytes value = {letters, put_largest_value(letters)};
+    begin();
+    add(SEVEN_TYPES "P,1,0,0\nI,6,6\nC,0,0\nC,0,0\n");
+    try_built_witness(__LINE__, RULEFILE_OVERLAP_LEFT, 9, value);
+    begin();
+    add(SEVEN_TYPES "T,1,0,0\nP,0,0,0\nP,2,0,0\nP,3,0,0\nP,4,0,0\nP,4,3,3\nP,4,4,4\nP,4,5,5\nP,4,6,6\nP,4,7,7\n"
+        "I,7,6\nC,1,8\nC,2,8\n");
+    try_built_witness(__LINE__, RULEFILE_OVERLAP_RIGHT, 18, value);
+    begin();
+    add(SEVEN_TYPES "I,6,0\n");
+    try_built_witness(__LINE__, RULEFILE_GAP_LEFT, 8, value);
+}
+
+/*
+ * A pair of a bit and what is behind it, so many bits; clause k has k rights and then a left, the last one rights
+ * alone. T line n is of n bits.
+ */
+static void build_bits(int bits, int clauses)
+{
+    begin();
+    add("T,0,0,0\nT,1,0,0\n");
+    for (int type = 2; type <= bits; type++)
+        add_line('T', 2, 1, type - 1);
+    add("P,0,0,0\nP,1,0,0\nP,2,0,0\nP,3,0,0\nP,4,2,1\n");
+    int lasts[32];
+    int next = 5;
+    for (int rights = 0; rights <= bits; rights++) {
+        int last = rights == bits ? 3 : rights == bits - 1 ? 2 : 4;
+        for (int i = 0; i < rights - (rights == bits); i++) {
+            add_line('P', 4, 3, last);
+            last = next++;
+        }
+        lasts[rights] = last;
+    }
+    add_line('I', bits, bits, -1);
+    for (int clause = 0; clause < clauses; clause++)
+        add_line('C', lasts[clause <= bits ? clause : bits], lasts[clause <= bits ? clause : bits], -1);
+}
+
+/* One setting of 2^30: left out, then matched twice; 30 and 32 clauses. */
+static void one_of_many(void)
+{
+    enum { BITS_THERE = 30 };
+    uint8_t letters[3 * BITS_THERE];
+    size_t length = 0;
+    for (int bit = 0; bit < BITS_THERE; bit++) {
+        if (bit + 1 < BITS_THERE)
+            letters[length++] = 'P';
+        letters[length++] = 'R';
+        letters[length++] = 'U';
+    }
+    struct bytes value = {letters, length};
+    build_bits(BITS_THERE, BITS_THERE);
+    size_t line = built_lines() - BITS_THERE;
+    try_built_witness(__LINE__, RULEFILE_GAP_LEFT, line, value);
+    build_bits(BITS_THERE, BITS_THERE + 1);
+    try_built_witness(__LINE__, RULEFILE_ACCEPTED, 0, nothing);
+    build_bits(BITS_THERE, BITS_THERE + 2);
+    try_built_witness(__LINE__, RULEFILE_OVERLAP_LEFT, line, value);
 }
 
 /* T line 255 of the built file, the last that a file can have: a chain of sums of so many values. */
@@ -2369,6 +2554,11 @@ static void uninitialized_areas(void)
         call = overlap_call(&overlap_cases[i]);
         try_uninitialized(overlap_cases[i].at, &call, overlap_answer(&overlap_cases[i]), nothing);
     }
+    for (size_t i = 0; i < COUNT_OF(witness_cases); i++) {
+        const struct witness_case *c = &witness_cases[i];
+        call = (struct call){.service = SERVICE_WITNESS, .file = c->file};
+        try_uninitialized(c->at, &call, (struct answer){.number = c->number, .line = c->line}, c->letters);
+    }
 }
 
 /* Threads */
@@ -2425,6 +2615,10 @@ static void *work_through(void *argument)
         struct call bounds = {.service = SERVICE_BOUNDS, .file = b->file, .iso = b->iso};
         struct answer told = {.number = b->number, .least = b->least, .greatest = b->greatest};
         try_quietly(worker, &bounds, told, nothing);
+        const struct witness_case *w = &witness_cases[(worker->first_sheet + i) % COUNT_OF(witness_cases)];
+        struct call witness = {.service = SERVICE_WITNESS, .file = w->file};
+        struct answer shown = {.number = w->number, .line = w->line};
+        try_quietly(worker, &witness, shown, w->letters);
     }
     return NULL;
 }
@@ -2451,7 +2645,7 @@ static void threads_at_once(void)
     }
     for (size_t i = 0; i < THREADS; i++) {
         require(pthread_join(threads[i], NULL) == 0);
-        CHECK_AT(queries[i].at, workers[i].calls == 9 * workers[i].rounds);
+        CHECK_AT(queries[i].at, workers[i].calls == 10 * workers[i].rounds);
         CHECK_AT(queries[i].at, workers[i].wrong == 0);
         give_back(&workers[i].lent);
     }
@@ -2504,11 +2698,13 @@ static const struct group groups[] = {
     {"short_areas_of_settings", short_areas_of_settings},
     {"short_areas_of_overlaps", short_areas_of_overlaps},
     {"short_areas_of_bounds", short_areas_of_bounds},
+    {"short_areas_of_witnesses", short_areas_of_witnesses},
     {"short_areas_of_sheets", short_areas_of_sheets},
     {"null_areas", null_areas},
     {"null_areas_of_settings", null_areas_of_settings},
     {"null_areas_of_overlaps", null_areas_of_overlaps},
     {"null_areas_of_bounds", null_areas_of_bounds},
+    {"null_areas_of_witnesses", null_areas_of_witnesses},
     {"file_lengths", file_lengths},
     {"longest_file", longest_file},
     {"ceilings", ceilings},
@@ -2519,6 +2715,8 @@ static const struct group groups[] = {
     {"bounds_of_towers", bounds_of_towers},
     {"bounds_at_the_limit", bounds_at_the_limit},
     {"bounds_of_deep_isos", bounds_of_deep_isos},
+    {"longest_witnesses", longest_witnesses},
+    {"one_of_many", one_of_many},
     {"steps_in_order", steps_in_order},
     {"setting_lengths", setting_lengths},
     {"query_lines", query_lines},

@@ -407,7 +407,7 @@ fn spread(random: &mut Random, ty: &Rc<Type>, clause: &mut Open, waiting: usize)
     }
 }
 
-fn closed_by_merge(random: &mut Random, from: Rc<Type>, clauses: Vec<Open>) -> Iso {
+pub(super) fn closed_by_merge(random: &mut Random, from: Rc<Type>, clauses: Vec<Open>) -> Iso {
     let (to, rights) = merged(random, &clauses);
     let close = |(clause, right): (Open, Rc<Pattern>)| Clause {
         line: 0,

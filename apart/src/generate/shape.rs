@@ -50,7 +50,7 @@ impl Sketch {
         types
     }
 
-    fn clashes(&self, other: &Sketch) -> bool {
+    pub fn clashes(&self, other: &Sketch) -> bool {
         orthogonal(&self.pattern(&mut |_| 0), &other.pattern(&mut |_| 0))
     }
 }
@@ -77,7 +77,12 @@ pub fn exact_type(random: &mut Random, nodes: usize) -> Rc<Type> {
 /// A type of products and units alone, with 127 nodes: its closed value has
 /// 127 letters.
 pub fn longest_type(random: &mut Random) -> Rc<Type> {
-    grown(random, NODES, 0)
+    products(random, NODES)
+}
+
+/// A type of products and units alone with exactly so many nodes, an odd number.
+pub fn products(random: &mut Random, nodes: usize) -> Rc<Type> {
+    grown(random, nodes, 0)
 }
 
 /// A type with exactly so many nodes, of which so many of a hundred are sums.

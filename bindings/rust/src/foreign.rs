@@ -58,6 +58,13 @@ pub struct BoundsAnswer {
     pub greatest_over: bool,
 }
 
+#[repr(C)]
+pub struct WitnessAnswer {
+    pub number: u32,
+    pub line: usize,
+    pub length: usize,
+}
+
 extern "C" {
     fn rulefile_check(
         file: *const u8,
@@ -155,6 +162,17 @@ extern "C" {
         work_length: usize,
         iso: u32,
     ) -> BoundsAnswer;
+
+    fn rulefile_witness(
+        file: *const u8,
+        file_length: usize,
+        table: *mut u16,
+        table_length: usize,
+        work: *mut u8,
+        work_length: usize,
+        result: *mut u8,
+        result_length: usize,
+    ) -> WitnessAnswer;
 }
 
 pub fn check(file: &[u8], table: &mut [u16], work: &mut [u8]) -> CheckAnswer {
@@ -322,6 +340,27 @@ pub fn bounds(file: &[u8], table: &mut [u16], work: &mut [u8], iso: u32) -> Boun
             work.as_mut_ptr(),
             work.len(),
             iso,
+        )
+    }
+}
+
+pub fn witness(
+    file: &[u8],
+    table: &mut [u16],
+    work: &mut [u8],
+    result: &mut [u8],
+) -> WitnessAnswer {
+    // SAFETY: as for `check`.
+    unsafe {
+        rulefile_witness(
+            file.as_ptr(),
+            file.len(),
+            table.as_mut_ptr(),
+            table.len(),
+            work.as_mut_ptr(),
+            work.len(),
+            result.as_mut_ptr(),
+            result.len(),
         )
     }
 }

@@ -1,9 +1,9 @@
-//! Check, Turn, Run, whole sheets of queries, settings as numbers, the overlap of two patterns and steps known
-//! beforehand for rule files, over the proved static library.
+//! Check, Turn, Run, whole sheets of queries, settings as numbers, the overlap of two patterns, steps known
+//! beforehand and settings that show a fault for rule files, over the proved static library.
 //!
 //! Callers who keep their own areas lend them to [`check`], [`turn`], [`run`], [`sheet`], [`number_of`],
-//! [`setting_of`], [`overlap`] and [`bounds`]; areas of any length are safe, and what each then holds is said in
-//! `include/rulefile.h`. Callers who do not want to make one [`Desk`], which owns the areas:
+//! [`setting_of`], [`overlap`], [`bounds`] and [`witness`]; areas of any length are safe, and what each then
+//! holds is said in `include/rulefile.h`. Callers who do not want to make one [`Desk`], which owns the areas:
 //!
 //! ```
 //! use rulefile::{Desk, Direction, Query};
@@ -22,6 +22,9 @@
 //! // Every run of iso 0 makes one application.
 //! let bounds = desk.bounds(file, 0)?;
 //! assert_eq!((bounds.least, bounds.greatest, bounds.greatest_over), (1, 1, false));
+//! // Without its last line the file leaves a setting out.
+//! let shown = desk.witness(&file[..file.len() - 6]).unwrap_err();
+//! assert_eq!((shown.refused.refusal, shown.letters.as_slice()), (rulefile::Refusal::GapLeft, b"RU".as_slice()));
 //! # Ok::<(), rulefile::Refused>(())
 //! ```
 
@@ -32,7 +35,7 @@ mod query;
 mod refusal;
 
 pub use query::{Direction, Query};
-pub use refusal::{Refusal, Refused};
+pub use refusal::{Refusal, Refused, Witness, Witnessed};
 
 /// The version of this crate, which is that of the library.
 pub const VERSION: &str = env!("CARGO_PKG_VERSION");
@@ -208,6 +211,24 @@ pub fn bounds(
     })
 }
 
+/// Checks a file and, where it is refused with 11 to 14, writes a setting that shows the fault: a value of the
+/// refused iso's from-type (11, 13) or to-type (12, 14) that two or more patterns of that side match (11, 12), or
+/// that none does (13, 14); the one with the fewest letters, of several such the first in byte order.
+///
+/// Refused as [`check`] refuses, and with 1 also for a result area of less than 127 bytes. Behind the letters the
+/// result area is as it was; with any other refusal, or none, all of it is.
+pub fn witness(
+    file: &[u8],
+    table: &mut [u16],
+    work: &mut [u8],
+    result: &mut [u8],
+) -> Result<(), Witnessed> {
+    let answer = foreign::witness(file, table, work, result);
+    let length = answer.length;
+    let given = Refused::unless_0(answer.number, answer.line);
+    given.map_err(|refused| Witnessed { refused, length })
+}
+
 /// The areas of the services, for callers who do not keep their own.
 #[derive(Clone, Debug)]
 pub struct Desk {
@@ -298,6 +319,16 @@ impl Desk {
     /// What the runs of iso number `iso` of the file count, at the least and at the most.
     pub fn bounds(&mut self, file: &[u8], iso: u32) -> Result<Bounds, Refused> {
         bounds(file, &mut self.table, &mut self.work, iso)
+    }
+
+    /// Checks a file; where it is refused with 11 to 14, the setting that shows the fault comes with the refusal.
+    pub fn witness(&mut self, file: &[u8]) -> Result<(), Witness> {
+        let mut result = [0; RESULT_LENGTH];
+        let given = witness(file, &mut self.table, &mut self.work, &mut result);
+        given.map_err(|Witnessed { refused, length }| Witness {
+            refused,
+            letters: result[..length].to_vec(),
+        })
     }
 
     /// The table as the last call left it: four numbers a line of the file that was accepted.

@@ -143,6 +143,45 @@ impl fmt::Display for Refused {
 
 impl Error for Refused {}
 
+/// A refusal, and how many letters of a setting that shows the fault were written: none where it is not one of 11
+/// to 14.
+#[derive(Clone, Copy, Debug, PartialEq, Eq)]
+pub struct Witnessed {
+    /// The refusal, as Check gives it.
+    pub refused: Refused,
+    /// The letters written to the result area.
+    pub length: usize,
+}
+
+/// A refusal, and the letters of a setting that shows the fault: none where it is not one of 11 to 14.
+#[derive(Clone, Debug, PartialEq, Eq)]
+pub struct Witness {
+    /// The refusal, as Check gives it.
+    pub refused: Refused,
+    /// The letters of the setting.
+    pub letters: Vec<u8>,
+}
+
+impl fmt::Display for Witnessed {
+    fn fmt(&self, f: &mut fmt::Formatter) -> fmt::Result {
+        self.refused.fmt(f)
+    }
+}
+
+impl fmt::Display for Witness {
+    fn fmt(&self, f: &mut fmt::Formatter) -> fmt::Result {
+        self.refused.fmt(f)?;
+        match self.letters.is_empty() {
+            true => Ok(()),
+            false => write!(f, ", shown by {}", String::from_utf8_lossy(&self.letters)),
+        }
+    }
+}
+
+impl Error for Witnessed {}
+
+impl Error for Witness {}
+
 #[cfg(test)]
 mod tests {
     use super::{Refusal, Refused, ALL};

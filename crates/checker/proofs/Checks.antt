@@ -32,7 +32,7 @@ use Rattle.lines.specs.Reads.{Holds, ReadSays}
 use Rattle.lines.specs.declared.read.Read as R
 use Rattle.lines.proofs.Filing.{filed, rows-few}
 use Rattle.checker.specs.declared.Checked as C
-use Rattle.checker.specs.CheckSays.{CheckSays, Outcome, Loaded, Accepted, Filed, Early}
+use Rattle.checker.specs.CheckSays.{CheckSays, Outcome, Loaded, Entered, Settled, Accepted, Filed, Early}
 
 -- ---- the areas
 
@@ -376,19 +376,6 @@ pub outcome-whole : (s t₀ t₁ : List ℕ) (q : R.Read) (r : A.Answer) (b : Bo
 outcome-whole s t₀ t₁ q r b long few says e h found =
     let k = says .accepted (flag-none b (refusalView (q .refusal)) e h) in outcome-isos s t₀ t₁ q r long few k (found (k .file))
 
-pub says-later : (s t w t₀ t₁ t′ w′ : List ℕ) (a : A.Answer) (b : Bool) → tableLength ≤ length t → workLength ≤ length w
-    → length s ≤ maxBytes → length (lines s) ≤ maxLines → t₀ ≡ cleared tableLength t → Outcome s t₀ t₁ a
-    → b ≡ isSome (refusalView (a .refusal)) → b ≡ true → t′ ≡ cleared tableLength t₁ → w′ ≡ cleared workLength w → CheckSays s t w t′ w′ a
-says-later s t w t₀ t₁ t′ w′ a b ht hw hb hl e₀ o e h =
-    let g = flag-some b (refusalView (a .refusal)) e h in check-refused s t w t₀ t₁ t′ w′ a (g .0) ht hw hb hl e₀ o (g .1)
-
-pub says-accepted : (s t w t₀ t₁ w′ : List ℕ) (a r : A.Answer) (b : Bool) → tableLength ≤ length t → workLength ≤ length w
-    → length s ≤ maxBytes → length (lines s) ≤ maxLines → t₀ ≡ cleared tableLength t → Outcome s t₀ t₁ a
-    → b ≡ isSome (refusalView (a .refusal)) → b ≡ false → refusalView (r .refusal) ≡ none → r .place ≡ 0 → w′ ≡ cleared workLength w
-    → CheckSays s t w t₁ w′ r
-says-accepted s t w t₀ t₁ w′ a r b ht hw hb hl e₀ o e h =
-    check-accepted s t w t₀ t₁ w′ a r ht hw hb hl e₀ o (flag-none b (refusalView (a .refusal)) e h)
-
 -- the lines as they were counted
 pub counted-few : {n : ℕ} (s : List ℕ) → n ≡ length (lines s) → n ≤ maxLines → length (lines s) ≤ maxLines
 counted-few s e h = subst (λ m. m ≤ maxLines) e h
@@ -419,6 +406,13 @@ isos-counted rs =
 rows-inj : {rs qs : List Row} → rows rs ≡ rows qs → rs ≡ qs
 rows-inj e = cc
 
+rows≢faulty : {rs : List Row} {f : Refusal} {n : ℕ} → rows rs ≡ faulty f n → ⊥
+rows≢faulty e = subst Whole e tt
+  where
+    Whole : Reading → Type 0
+    Whole (rows rs) = Unit {0}
+    Whole (faulty f n) = ⊥
+
 pub loaded : (s t₀ t₁ : List ℕ) (q : R.Read) (b : Bool) → length (lines s) ≤ maxLines → ReadSays s t₀ t₁ q → b ≡ isSome (refusalView (q .refusal)) → b ≡ false
     → (c : C.Checked) → c .types ≡ q .seen .types → c .patterns ≡ q .seen .patterns → c .isos ≡ q .seen .isos → c .lines ≡ q .lines → Loaded s t₁ c
 loaded s t₀ t₁ q b few says e h c types patterns isos lines′ =
@@ -431,13 +425,12 @@ loaded s t₀ t₁ q b few says e h c types patterns isos lines′ =
       isos = isos ∙ k .told .counts .isos ∙ isos-counted (k .file);
     }
 
-pub accepted-rows : (s t₀ t₁ : List ℕ) (a : C.Checked) → length s ≤ maxBytes → length (lines s) ≤ maxLines → Outcome s t₀ t₁ (a .answer)
-    → (refusalView (a .answer .refusal) ≡ none → Loaded s t₁ a) → (b : Bool) → b ≡ isSome (refusalView (a .answer .refusal)) → b ≡ false
+accepted-rows : (s t₀ t₁ : List ℕ) (a : C.Checked) → length s ≤ maxBytes → length (lines s) ≤ maxLines → Outcome s t₀ t₁ (a .answer)
+    → ((rs : List Row) → readFrom start 1 (lines s) ≡ rows rs → Loaded s t₁ a) → refusalView (a .answer .refusal) ≡ none
     → (c : C.Checked) → c .types ≡ a .types → c .patterns ≡ a .patterns → c .isos ≡ a .isos → c .lines ≡ a .lines → Accepted s t₁ c
-accepted-rows s t₀ t₁ a hb hl o held b e h c types patterns isos lines′ =
-    let n = flag-none b (refusalView (a .answer .refusal)) e h in
-    let l = held n in
+accepted-rows s t₀ t₁ a hb hl o held n c types patterns isos lines′ =
     let k = o .accepts n in
+    let l = held (k .0) (k .1) in
     let same : k .0 ≡ l .file = rows-inj (sym (k .1) ∙ l .reads) in
     record {
       file = l .file;
@@ -452,50 +445,86 @@ pub refused-flag : {P : Type 0} (x y : F.Refusal) (b : Bool) → b ≡ isSome (r
 refused-flag x y b e h same n =
     let g = flag-some b (refusalView x) e h in absurd (none≢some (sym n ∙ ap refusalView same ∙ g .1))
 
+-- a reading that is refused has no rows
+pub unread : (s t₀ t₁ : List ℕ) (q : R.Read) (b : Bool) (c : C.Checked) → ReadSays s t₀ t₁ q → b ≡ isSome (refusalView (q .refusal)) → b ≡ true
+    → (rs : List Row) → readFrom start 1 (lines s) ≡ rows rs → Loaded s t₁ c
+unread s t₀ t₁ q b c says e h rs k =
+    let g = flag-some b (refusalView (q .refusal)) e h in
+    absurd (rows≢faulty (sym k ∙ says .refused (g .0) (g .1) .reads))
+
 -- ---- the table, filled or cleared again
 
-pub filed-refused : (s t t₀ t₁ t′ : List ℕ) (c : C.Checked) (b : Bool) → tableLength ≤ length t → length (lines s) ≤ maxLines → t₀ ≡ cleared tableLength t
-    → Outcome s t₀ t₁ (c .answer) → b ≡ isSome (refusalView (c .answer .refusal)) → b ≡ true → t′ ≡ cleared tableLength t₁ → Filed s t t′ c
-filed-refused s t t₀ t₁ t′ c b ht hl e₀ o e h et = record {
-  says = λ w w′ hw hb ew. says-later s t w t₀ t₁ t′ w′ (c .answer) b ht hw hb hl e₀ o e h et ew;
-  accepts = λ hb n. refused-flag (c .answer .refusal) (c .answer .refusal) b e h refl n;
+pub entered-says : (s t t₀ t₁ : List ℕ) (c : C.Checked) → t₀ ≡ cleared tableLength t
+    → Outcome s t₀ t₁ (c .answer) × ((rs : List Row) → readFrom start 1 (lines s) ≡ rows rs → Loaded s t₁ c) → Entered s t t₁ c
+entered-says s t t₀ t₁ c e o = record { outcome = subst (λ z. Outcome s z t₁ (c .answer)) e (o .0); loaded = o .1 }
+
+pub settled-refused : (t₁ t′ : List ℕ) (c : C.Checked) (b : Bool) → b ≡ isSome (refusalView (c .answer .refusal)) → b ≡ true → t′ ≡ cleared tableLength t₁
+    → Settled t₁ t′ c c
+settled-refused t₁ t′ c b e h et = record {
+  refuses = λ f k. (et, refl);
+  accepts = λ n. refused-flag (c .answer .refusal) (c .answer .refusal) b e h refl n;
 }
 
-pub filed-accepted : (s t t₀ t₁ : List ℕ) (a : C.Checked) (b : Bool) → tableLength ≤ length t → length (lines s) ≤ maxLines → t₀ ≡ cleared tableLength t
-    → Outcome s t₀ t₁ (a .answer) × (refusalView (a .answer .refusal) ≡ none → Loaded s t₁ a) → b ≡ isSome (refusalView (a .answer .refusal)) → b ≡ false
-    → (c : C.Checked)
-    → (refusalView (c .answer .refusal) ≡ none) × (c .answer .place ≡ 0) × (c .types ≡ a .types) × (c .patterns ≡ a .patterns) × (c .isos ≡ a .isos) × (c .lines ≡ a .lines)
-    → Filed s t t₁ c
-filed-accepted s t t₀ t₁ a b ht hl e₀ o e h c (passed, first, types, patterns, isos, lines′) = record {
-  says = λ w w′ hw hb ew. says-accepted s t w t₀ t₁ w′ (a .answer) (c .answer) b ht hw hb hl e₀ (o .0) e h passed first ew;
-  accepts = λ hb n. accepted-rows s t₀ t₁ a hb hl (o .0) (o .1) b e h c types patterns isos lines′;
+pub settled-accepted : (t₁ : List ℕ) (c r : C.Checked) (b : Bool) → b ≡ isSome (refusalView (c .answer .refusal)) → b ≡ false
+    → (refusalView (r .answer .refusal) ≡ none) × (r .answer .place ≡ 0) × (r .types ≡ c .types) × (r .patterns ≡ c .patterns) × (r .isos ≡ c .isos) × (r .lines ≡ c .lines)
+    → Settled t₁ t₁ c r
+settled-accepted t₁ c r b e h k = record {
+  refuses = λ f n. absurd (none≢some (sym (flag-none b (refusalView (c .answer .refusal)) e h) ∙ n));
+  accepts = λ n. (refl, k .0, k .1, k .2, k .3, k .4, k .5);
 }
+
+-- what a file is entered and settled to is what Check says
+module _ (s t t₁ t′ : List ℕ) (c r : C.Checked) (ht : tableLength ≤ length t) (hl : length (lines s) ≤ maxLines) (o : Entered s t t₁ c) (k : Settled t₁ t′ c r) where
+  refused-filed : (f : Refusal) → refusalView (c .answer .refusal) ≡ some f → Filed s t t′ r
+  refused-filed f n =
+      let d = k .refuses f n in
+      subst (Filed s t t′) (sym (d .1)) record {
+        says = λ w w′ hw hb ew. check-refused s t w (cleared tableLength t) t₁ t′ w′ (c .answer) f ht hw hb hl refl (o .outcome) n (d .0) ew;
+        accepts = λ hb m. absurd (none≢some (sym m ∙ n));
+      }
+
+  accepted-filed : refusalView (c .answer .refusal) ≡ none → Filed s t t′ r
+  accepted-filed n =
+      let d = k .accepts n in
+      subst (λ z. Filed s t z r) (sym (d .0)) record {
+        says = λ w w′ hw hb ew. check-accepted s t w (cleared tableLength t) t₁ w′ (c .answer) (r .answer) ht hw hb hl refl (o .outcome) n (d .1) (d .2) ew;
+        accepts = λ hb m. accepted-rows s (cleared tableLength t) t₁ c hb hl (o .outcome) (o .loaded) n r (d .3) (d .4) (d .5) (d .6);
+      }
+
+  pub filed-says : Filed s t t′ r
+  filed-says = go (refusalView (c .answer .refusal)) refl
+    where
+      go : (x : Option Refusal) → refusalView (c .answer .refusal) ≡ x → Filed s t t′ r
+      go none e = accepted-filed e
+      go (some f) e = refused-filed f e
 
 -- ---- before anything is read
 
-early-refused : (s : List ℕ) (table work : ℕ) (x : F.Refusal) (f : Refusal) → refusalView x ≡ some f
+early-refused : (s : List ℕ) (table work : ℕ) (x : F.Refusal) (f : Refusal) → refusalView x ≡ some f → number f ≤ 2
     → ((t w : List ℕ) → length t ≡ table → length w ≡ work → (r : A.Answer) → refusalView (r .refusal) ≡ some f → r .place ≡ 0 → CheckSays s t w t w r)
     → Early s table work x
-early-refused s table work x f e says = record {
+early-refused s table work x f e h says = record {
   passes = λ n. absurd (none≢some (sym n ∙ e));
+  low = λ g k. subst (λ z. number z ≤ 2) (some-inj (sym e ∙ k)) h;
   refuses = λ g k t w et ew r er ep. says t w et ew r (ap refusalView er ∙ e) ep;
 }
 
 module _ (s : List ℕ) (table work : ℕ) (x : F.Refusal) where
   pub early-table : refusalView x ≡ some shortArea → table < tableLength → Early s table work x
-  early-table e h = early-refused s table work x shortArea e (λ t w et ew r n p. short-table s t w r (subst (λ m. m < tableLength) (sym et) h) n p)
+  early-table e h = early-refused s table work x shortArea e (lit≤ tt) (λ t w et ew r n p. short-table s t w r (subst (λ m. m < tableLength) (sym et) h) n p)
 
   pub early-work : refusalView x ≡ some shortArea → work < workLength → Early s table work x
-  early-work e h = early-refused s table work x shortArea e (λ t w et ew r n p. short-work s t w r (subst (λ m. m < workLength) (sym ew) h) n p)
+  early-work e h = early-refused s table work x shortArea e (lit≤ tt) (λ t w et ew r n p. short-work s t w r (subst (λ m. m < workLength) (sym ew) h) n p)
 
   pub early-long : refusalView x ≡ some tooLong → tableLength ≤ table → workLength ≤ work → verdict s ≡ refused tooLong 0 → Early s table work x
   early-long e ht hw v =
-      early-refused s table work x tooLong e
+      early-refused s table work x tooLong e (lit≤ tt)
       (λ t w et ew r n p. too-long s t w r (subst (λ m. tableLength ≤ m) (sym et) ht) (subst (λ m. workLength ≤ m) (sym ew) hw) v n p)
 
   pub early-none : refusalView x ≡ none → tableLength ≤ table → workLength ≤ work → length s ≤ maxBytes → length (lines s) ≤ maxLines → Early s table work x
   early-none e ht hw hb hl = record {
     passes = λ n. (ht, hw, hb, hl);
+    low = λ f k. absurd (none≢some (sym e ∙ k));
     refuses = λ f k. absurd (none≢some (sym e ∙ k));
   }
 

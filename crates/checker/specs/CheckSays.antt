@@ -43,6 +43,17 @@ pub record Loaded (s t : List ℕ) (c : C.Checked) : Type 0 where
   pub table : FileIn t (c .types) (c .patterns) (c .lines) file
   pub isos : c .isos ≡ length (isosOf file)
 
+-- a file read into a table that was cleared first, t before and t₁ after: its rows are in the table where its lines pass
+pub record Entered (s t t₁ : List ℕ) (c : C.Checked) : Type 0 where
+  pub outcome : Outcome s (cleared tableLength t) t₁ (c .answer)
+  pub loaded : (rs : List Row) → readFrom start 1 (lines s) ≡ rows rs → Loaded s t₁ c
+
+-- a refusal clears the table, t₁ before and t′ after, and stays what it is; with none the table stays, and so does what was counted
+pub record Settled (t₁ t′ : List ℕ) (c r : C.Checked) : Type 0 where
+  pub refuses : (f : Refusal) → refusalView (c .answer .refusal) ≡ some f → (t′ ≡ cleared tableLength t₁) × (r ≡ c)
+  pub accepts : refusalView (c .answer .refusal) ≡ none → (t′ ≡ t₁) × (refusalView (r .answer .refusal) ≡ none) × (r .answer .place ≡ 0)
+      × (r .types ≡ c .types) × (r .patterns ≡ c .patterns) × (r .isos ≡ c .isos) × (r .lines ≡ c .lines)
+
 -- an accepted file, its rows in the table and counted: what a run on a checked table assumes
 pub record Accepted (s t : List ℕ) (c : C.Checked) : Type 0 where
   pub file : List Row
@@ -55,9 +66,10 @@ pub record Filed (s t t′ : List ℕ) (c : C.Checked) : Type 0 where
   pub says : (w w′ : List ℕ) → workLength ≤ length w → length s ≤ maxBytes → w′ ≡ cleared workLength w → CheckSays s t w t′ w′ (c .answer)
   pub accepts : length s ≤ maxBytes → refusalView (c .answer .refusal) ≡ none → Accepted s t′ c
 
--- what stands before any reading: with no refusal the areas are long enough and the file is short enough, and a refusal is Check's answer and
--- leaves both areas as they are
+-- what stands before any reading: with no refusal the areas are long enough and the file is short enough, and a refusal is 1 or 2, is Check's
+-- answer and leaves both areas as they are
 pub record Early (s : List ℕ) (table work : ℕ) (x : F.Refusal) : Type 0 where
   pub passes : refusalView x ≡ none → (tableLength ≤ table) × (workLength ≤ work) × (length s ≤ maxBytes) × (length (lines s) ≤ maxLines)
+  pub low : (f : Refusal) → refusalView x ≡ some f → number f ≤ 2
   pub refuses : (f : Refusal) → refusalView x ≡ some f → (t w : List ℕ) → length t ≡ table → length w ≡ work → (r : A.Answer) → r .refusal ≡ x
       → r .place ≡ 0 → CheckSays s t w t w r

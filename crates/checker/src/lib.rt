@@ -10,12 +10,14 @@ use parts::clear_words;
 use split::count_lines;
 ghost use mathlib.Core.Path.{_≡_};
 ghost use mathlib.Core.Option.{none};
+ghost use mathlib.Core.List.{List};
 ghost use Prim.Native.Nat.{_≤_};
 ghost use lib.ListN.{length};
 ghost use Rattle.model.specs.Limits.{tableLength, maxLines};
-ghost use Rattle.model.specs.Lines.{lines};
+ghost use Rattle.model.specs.Lines.{Row as RowOf, lines};
+ghost use Rattle.model.specs.Judge.{start, rows, readFrom};
 ghost use Rattle.model.specs.Code.{refusalView};
-ghost use Rattle.checker.specs.CheckSays.{CheckSays, Outcome, Loaded, Accepted, Filed, Early};
+ghost use Rattle.checker.specs.CheckSays.{CheckSays, Outcome, Loaded, Entered, Settled, Accepted, Filed, Early};
 
 // An answer, and of an accepted file how many T, P and I lines the table holds, and how many lines.
 pub struct Checked {
@@ -46,7 +48,7 @@ fn refused(place: usize, f: Refusal) -> Checked
 fn judged(file: &[u8], table: &mut [u16]) -> Checked
     requires { ⌜ (tableLength ≤ length (now table)) × (length (lines (now file)) ≤ maxLines) ⌝ }
     ensures { λ r. ⌜ Outcome (now (file .entry)) (now (table .entry)) (now (table .exit)) (r .answer) ⌝ }
-    ensures { λ r. ⌜ (refusalView (r .answer .refusal) ≡ none → Loaded (now (file .entry)) (now (table .exit)) r) ⌝ }
+    ensures { λ r. ⌜ ((rs : List RowOf) → readFrom start 1 (lines (now (file .entry))) ≡ rows rs → Loaded (now (file .entry)) (now (table .exit)) r) ⌝ }
 {
     let r = read_file(file, table);
     let f = r.refusal;
@@ -80,13 +82,20 @@ fn accepted(c: Checked) -> Checked
     }
 }
 
-// A file of at most 4,096 lines, its rows in a table that was cleared, or zeros where it is refused.
-fn filed(file: &[u8], table: &mut [u16]) -> Checked
+// A file of at most 4,096 lines, read into a table that is cleared first, and its isos. The rows of a file
+// whose lines pass are then in the table, also where an iso is refused.
+pub fn entered(file: &[u8], table: &mut [u16]) -> Checked
     requires { ⌜ (tableLength ≤ length (now table)) × (length (lines (now file)) ≤ maxLines) ⌝ }
-    ensures { λ r. ⌜ Filed (now (file .entry)) (now (table .entry)) (now (table .exit)) r ⌝ }
+    ensures { λ r. ⌜ Entered (now (file .entry)) (now (table .entry)) (now (table .exit)) r ⌝ }
 {
     clear_words(table, 16384);
-    let c = judged(file, table);
+    judged(file, table)
+}
+
+// What Check says of such a table and leaves in it: zeros where the file is refused.
+pub fn settled(table: &mut [u16], c: Checked) -> Checked
+    ensures { λ r. ⌜ Settled (now (table .entry)) (now (table .exit)) c r ⌝ }
+{
     let a = c.answer;
     let f = a.refusal;
     if is_refused(f) {
@@ -96,8 +105,17 @@ fn filed(file: &[u8], table: &mut [u16]) -> Checked
     accepted(c)
 }
 
+// A file of at most 4,096 lines, its rows in a table that was cleared, or zeros where it is refused.
+fn filed(file: &[u8], table: &mut [u16]) -> Checked
+    requires { ⌜ (tableLength ≤ length (now table)) × (length (lines (now file)) ≤ maxLines) ⌝ }
+    ensures { λ r. ⌜ Filed (now (file .entry)) (now (table .entry)) (now (table .exit)) r ⌝ }
+{
+    let c = entered(file, table);
+    settled(table, c)
+}
+
 // Refusal 1 or 2 of a file and two areas of these lengths, or nothing.
-fn early(file: &[u8], table: usize, work: usize) -> Refusal
+pub fn early(file: &[u8], table: usize, work: usize) -> Refusal
     ensures { λ r. ⌜ Early (now (file .entry)) table work r ⌝ }
 {
     if table < 16384 {

@@ -223,7 +223,7 @@ clauses-none sigs {o} {n} a e =
     ap (at (d .line)) (sym (r .2) ∙ at-none (r .0 .line) (clauseFault sigs (o .from) (o .to) (r .0))
     (firstOf-none (λ c. at (c .line) (clauseFault sigs (o .from) (o .to) c)) (o .clauses) e (r .0) (r .1))))
 
-iso-none : (sigs : Sigs) {o n : Iso} → AlikeIso o n → isoFault sigs o ≡ none → isoFault sigs n ≡ none
+pub iso-none : (sigs : Sigs) {o n : Iso} → AlikeIso o n → isoFault sigs o ≡ none → isoFault sigs n ≡ none
 unfolding isoFault
 iso-none sigs {o} {n} a e =
     let h = orElse-none (clausesFault sigs o) (at (o .line) (sideFault o)) e in
@@ -356,7 +356,7 @@ near-more (Near.sides e) = Near.sides e
 near-more (Near.clauses o m c d i j x y) = Near.clauses o (List·Memᴰ·tail m) c d i j x y
 
 module _ (sigs : Sigs) {o n : Iso} (a : AlikeIso o n) where
-  iso-near : (os : List Iso) (r : Refusal × ℕ) → isoFault sigs o ≡ some r → (q : Refusal × ℕ) × (isoFault sigs n ≡ some q) × Near sigs (o ∷ os) r q
+  pub iso-near : (os : List Iso) (r : Refusal × ℕ) → isoFault sigs o ≡ some r → (q : Refusal × ℕ) × (isoFault sigs n ≡ some q) × Near sigs (o ∷ os) r q
   unfolding isoFault
   iso-near os r e = go (orElse-cases (clausesFault sigs o) (at (o .line) (sideFault o)) r e)
     where

@@ -9,6 +9,7 @@ use Rattle.model.specs.Sheet.{sheet}
 use Rattle.ranking.specs.Numbering.{numberService, settingService}
 use Rattle.comparison.specs.Overlap.{overlapService}
 use Rattle.costs.specs.Bounds.{boundsService}
+use Rattle.witnesses.specs.Showing.{showService}
 use Rattle.rulefile.specs.declared.CheckAnswer as C
 use Rattle.rulefile.specs.declared.TurnAnswer as T
 use Rattle.rulefile.specs.declared.RunAnswer as R
@@ -17,6 +18,7 @@ use Rattle.rulefile.specs.declared.NumberAnswer as N
 use Rattle.rulefile.specs.declared.SettingAnswer as L
 use Rattle.rulefile.specs.declared.OverlapAnswer as O
 use Rattle.rulefile.specs.declared.BoundsAnswer as B
+use Rattle.rulefile.specs.declared.WitnessAnswer as W
 
 -- "Check gives a number and a line"
 pub record CheckGiven (file t w t′ w′ : List ℕ) (r : C.CheckAnswer) : Type 0 where
@@ -86,3 +88,12 @@ pub record BoundsGiven (file t w : List ℕ) (i : ℕ) (t′ w′ : List ℕ) (r
   pub greatestOver : r .«greatest_over» ≡ boundsService file t w i .bounds .greatestOver
   pub table : t′ ≡ boundsService file t w i .table
   pub work : w′ ≡ boundsService file t w i .work
+
+-- request 09
+pub record WitnessGiven (file t w o t′ w′ o′ : List ℕ) (r : W.WitnessAnswer) : Type 0 where
+  pub number : r .number ≡ showService file t w o .answer .number
+  pub line : r .line ≡ showService file t w o .answer .line
+  pub bytes : r .length ≡ showService file t w o .length
+  pub table : t′ ≡ showService file t w o .table
+  pub work : w′ ≡ showService file t w o .work
+  pub result : o′ ≡ showService file t w o .result

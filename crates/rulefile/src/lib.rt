@@ -1,6 +1,7 @@
 // The interface for callers in C and in Rust: Check, Turn, Run, a whole sheet, settings as numbers, the
-// overlap of two P lines and steps known beforehand under document 01's numbers. Each slice passes as a
-// pointer and a length, each answer as a struct; `include/rulefile.h` declares them.
+// overlap of two P lines, steps known beforehand and a setting that shows the fault, under document 01's
+// numbers. Each slice passes as a pointer and a length, each answer as a struct; `include/rulefile.h`
+// declares them.
 
 use bounds::bounds;
 use checker::check;
@@ -11,7 +12,8 @@ use settings::to_number;
 use settings::to_setting;
 use sheets::sheet;
 use turner::turn;
-ghost use Rattle.rulefile.specs.Given.{CheckGiven, TurnGiven, RunGiven, SheetGiven, NumberGiven, SettingGiven, OverlapGiven, BoundsGiven};
+use witness::witness;
+ghost use Rattle.rulefile.specs.Given.{CheckGiven, TurnGiven, RunGiven, SheetGiven, NumberGiven, SettingGiven, OverlapGiven, BoundsGiven, WitnessGiven};
 
 // Check's number and line.
 #[repr(C)]
@@ -76,6 +78,14 @@ pub struct BoundsAnswer {
     pub greatest: u32,
     pub least_over: bool,
     pub greatest_over: bool,
+}
+
+// The number and line of a call for the value that shows the fault, and how many letters were written.
+#[repr(C)]
+pub struct WitnessAnswer {
+    pub number: u32,
+    pub line: usize,
+    pub length: usize,
 }
 
 // Checks a file.
@@ -235,5 +245,25 @@ pub extern "C" fn rulefile_bounds(
         greatest: told.greatest,
         least_over: told.least_over,
         greatest_over: told.greatest_over,
+    }
+}
+
+// Checks a file, and with refusals 11 to 14 writes the letters of the least value that shows the fault.
+#[no_mangle]
+pub extern "C" fn rulefile_witness(
+    file: &[u8],
+    table: &mut [u16],
+    work: &mut [u8],
+    result: &mut [u8],
+) -> WitnessAnswer
+    ensures { λ r. ⌜ WitnessGiven (now (file .entry)) (now (table .entry)) (now (work .entry)) (now (result .entry)) (now (table .exit)) (now (work .exit)) (now (result .exit)) r ⌝ }
+{
+    let shown = witness(file, table, work, result);
+    let judged = shown.answer;
+    let f = judged.refusal;
+    WitnessAnswer {
+        number: number_of(f) as u32,
+        line: judged.place,
+        length: shown.length,
     }
 }

@@ -1,0 +1,314 @@
+//! Files whose fault is one of 11 to 14, by what the values are like that show
+//! it.
+
+use super::counted;
+use super::plan::{self, closed_by_merge, open, permuted, Open};
+use super::random::Random;
+use super::scribe;
+use super::shape::{
+    closed, closed_count, longest_type, one_case, products, random_type, scattered, Sketch,
+};
+use crate::check;
+use crate::lines::{Clause, Iso, CLAUSES, NODES};
+use crate::reduce::turned;
+use crate::tree::{Pattern, Type};
+use std::rc::Rc;
+
+#[derive(Debug, Clone, Copy, PartialEq, Eq)]
+pub enum Form {
+    /// One value of over a million shows the fault.
+    One,
+    /// Several do, now and then of one length.
+    Several,
+    /// The iso has 32 clauses.
+    Full,
+    /// The value has as many letters as there can be.
+    Longest,
+    /// Many clauses look into some of many sums, each into others.
+    Sparse,
+    /// The iso has no clauses.
+    Bare,
+}
+
+/// The forms that a number can have: an iso without clauses is refused with 13,
+/// and one whose sides are alike for its left one.
+pub fn forms(number: u8) -> Vec<Form> {
+    let mut forms = vec![Form::One, Form::Several, Form::Full, Form::Longest];
+    match number {
+        11 => forms.push(Form::Sparse),
+        13 => forms.extend([Form::Sparse, Form::Bare]),
+        _ => {}
+    }
+    forms
+}
+
+/// A file that is refused with the number, 11 to 14, in one of its forms; now and
+/// then with an iso behind that one that is refused too.
+pub fn file(random: &mut Random, form: Form, number: u8) -> Vec<u8> {
+    let refused = |file: &Vec<u8>| check(file).is_err_and(|refusal| refusal.number == number);
+    loop {
+        let mut isos = plan::isos(random);
+        isos.truncate(random.below(3));
+        let Some(iso) = iso(random, form, number) else {
+            continue;
+        };
+        isos.push(iso);
+        let file = Some(scribe::file(random, &isos)).filter(refused);
+        if file.is_some() && random.chance(50) {
+            isos.push(bare(random));
+            let longer = Some(scribe::file(random, &isos)).filter(refused);
+            if let Some(file) = longer {
+                return file;
+            }
+        }
+        if let Some(file) = file {
+            return file;
+        }
+    }
+}
+
+fn iso(random: &mut Random, form: Form, number: u8) -> Option<Iso> {
+    match (form, number) {
+        (Form::One, 11..=13) if random.chance(70) => one_deep(random, number),
+        (Form::One, _) => one_of_sum(random, number),
+        (Form::Several, _) => several(random, number),
+        (Form::Full, _) => full(random, number),
+        (Form::Longest, _) => longest(random, number),
+        (Form::Sparse, _) => sparse(random, number),
+        (Form::Bare, _) => Some(bare(random)),
+    }
+}
+
+fn overlaps(number: u8) -> bool {
+    number < 13
+}
+
+/// The iso whose left side has these cases, and whose right side stands; turned
+/// where the right side is to be at fault.
+fn sided(random: &mut Random, ty: Rc<Type>, cases: &[Sketch], number: u8) -> Option<Iso> {
+    let clauses: Option<Vec<Open>> = cases.iter().map(|case| open(random, case)).collect();
+    let clauses = clauses.filter(|clauses| !clauses.is_empty())?;
+    let iso = closed_by_merge(random, ty, clauses);
+    let left = matches!(number, 11 | 13);
+    Some(if left { iso } else { turned(&iso) })
+}
+
+/// A sum of a type of over a million values and of types of one value. One of
+/// these is left out, or any one value stands once more.
+fn one_of_sum(random: &mut Random, number: u8) -> Option<Iso> {
+    let many = counted::of(random, "2^20");
+    let mut parts = vec![(Rc::clone(&many), Sketch::Hole(many))];
+    for _ in 0..2 + random.below(4) {
+        let nodes = 1 + 2 * random.below(5);
+        let ty = products(random, nodes);
+        let value = one_case(random, &ty, 0);
+        parts.push((ty, value));
+    }
+    random.shuffle(&mut parts);
+    let mut cases: Vec<Vec<Sketch>> = parts.iter().map(|part| vec![part.1.clone()]).collect();
+    let mut types: Vec<Rc<Type>> = parts.into_iter().map(|part| part.0).collect();
+    while types.len() > 1 {
+        let place = random.below(types.len() - 1);
+        let (b, rights) = (types.remove(place + 1), cases.remove(place + 1));
+        let (a, lefts) = (Rc::clone(&types[place]), cases.remove(place));
+        types[place] = Rc::new(Type::Sum(a, b));
+        let lefts = lefts.into_iter().map(|case| Sketch::Left(Box::new(case)));
+        let rights = rights.into_iter().map(|case| Sketch::Right(Box::new(case)));
+        cases.insert(place, lefts.chain(rights).collect());
+    }
+    let (ty, mut cases) = (types.remove(0), cases.remove(0));
+    if overlaps(number) {
+        cases.push(one_case(random, &ty, 0));
+    } else {
+        let closed = |case: &Sketch| case.holes().is_empty();
+        let gone = cases.iter().position(closed)?;
+        cases.remove(gone);
+    }
+    random.shuffle(&mut cases);
+    sided(random, ty, &cases, number)
+}
+
+/// Cases around one value of a type: they cover all others, and the last one is
+/// that value.
+fn around(random: &mut Random, ty: &Rc<Type>) -> Vec<Sketch> {
+    let left = |case: Sketch| Sketch::Left(Box::new(case));
+    let right = |case: Sketch| Sketch::Right(Box::new(case));
+    match &**ty {
+        Type::Unit => vec![Sketch::Unit],
+        Type::Sum(a, b) if random.chance(50) => {
+            let mut cases = vec![right(Sketch::Hole(Rc::clone(b)))];
+            cases.extend(around(random, a).into_iter().map(left));
+            cases
+        }
+        Type::Sum(a, b) => {
+            let mut cases = vec![left(Sketch::Hole(Rc::clone(a)))];
+            cases.extend(around(random, b).into_iter().map(right));
+            cases
+        }
+        Type::Product(a, b) => {
+            let flip = random.chance(50);
+            let (one, two) = if flip { (b, a) } else { (a, b) };
+            let (mut outer, inner) = (around(random, one), around(random, two));
+            let value = outer.pop().expect("the value itself");
+            let pair = |case: &Sketch, other: &Sketch| {
+                let (case, other) = (Box::new(case.clone()), Box::new(other.clone()));
+                if flip {
+                    Sketch::Pair(other, case)
+                } else {
+                    Sketch::Pair(case, other)
+                }
+            };
+            let hole = Sketch::Hole(Rc::clone(two));
+            let whole = outer.iter().map(|case| pair(case, &hole));
+            whole
+                .chain(inner.iter().map(|case| pair(&value, case)))
+                .collect()
+        }
+    }
+}
+
+/// One value among over a million, anywhere: left out, or matched once more.
+fn one_deep(random: &mut Random, number: u8) -> Option<Iso> {
+    let built = *random.pick(&["2^20", "2^24", "3^13", "2^4 (2^16)", "2^6 3^9"]);
+    let ty = counted::of(random, built);
+    let cases = around(random, &ty);
+    let mut iso = permuted(random, &ty, &cases, &[])?;
+    let value = |case: &Sketch| case.pattern(&mut |_| unreachable!("no holes"));
+    let (last, other) = (value(cases.last()?), value(&one_case(random, &ty, 0)));
+    match number {
+        11 => iso.clauses.push(clause(&other, &last)),
+        12 => {
+            // The left side gets one value more, on its right.
+            iso.from = Rc::new(Type::Sum(ty, Rc::new(Type::Unit)));
+            for clause in &mut iso.clauses {
+                clause.left = Rc::new(Pattern::Left(Rc::clone(&clause.left)));
+            }
+            let more = Rc::new(Pattern::Right(Rc::new(Pattern::Unit)));
+            iso.clauses.push(clause(&more, &other));
+        }
+        _ => iso.clauses.retain(|clause| clause.left != last),
+    }
+    random.shuffle(&mut iso.clauses);
+    Some(iso)
+}
+
+fn clause(left: &Rc<Pattern>, right: &Rc<Pattern>) -> Clause {
+    Clause {
+        line: 0,
+        left: Rc::clone(left),
+        right: Rc::clone(right),
+        lets: Vec::new(),
+    }
+}
+
+/// A type of some values of several lengths, or of one.
+fn some_type(random: &mut Random) -> Rc<Type> {
+    let unit = Rc::new(Type::Unit);
+    let two = plan::two();
+    let three = Rc::new(Type::Sum(Rc::clone(&unit), Rc::clone(&two)));
+    let pool = [unit, two, three];
+    let depth = 2 + random.below(4);
+    random_type(random, depth, &pool)
+}
+
+/// Values left out, or cases that overlap, several of each.
+fn several(random: &mut Random, number: u8) -> Option<Iso> {
+    let ty = some_type(random);
+    let most = 2 + random.below(20);
+    let mut cases = scattered(random, &ty, most);
+    if overlaps(number) {
+        let holes = random.below(80);
+        cases.extend((0..1 + random.below(9)).map(|_| one_case(random, &ty, holes)));
+    } else {
+        cases.truncate(1 + random.below(cases.len().max(1)));
+    }
+    random.shuffle(&mut cases);
+    cases.truncate(CLAUSES);
+    sided(random, ty, &cases, number)
+}
+
+/// Thirty-two closed values, some of them often, or of a type that has more.
+fn full(random: &mut Random, number: u8) -> Option<Iso> {
+    let ty = some_type(random);
+    if ty.nodes() > NODES || closed_count(&ty) > 200 {
+        return None;
+    }
+    let mut values = closed(&ty);
+    random.shuffle(&mut values);
+    if overlaps(number) {
+        let few = 1 + random.below(values.len().min(10));
+        let more = |place: usize| values[place % few].clone();
+        values = (0..CLAUSES).map(more).collect();
+    }
+    if values.len() < CLAUSES + usize::from(!overlaps(number)) {
+        return None;
+    }
+    values.truncate(CLAUSES);
+    sided(random, ty, &values, number)
+}
+
+/// A value of 127 letters; of 126 where another value has to be covered.
+fn longest(random: &mut Random, number: u8) -> Option<Iso> {
+    if overlaps(number) {
+        let ty = longest_type(random);
+        let holes = *random.pick(&[0, 2, 5]);
+        let both = [one_case(random, &ty, 0), one_case(random, &ty, holes)];
+        return sided(random, ty, &both, number);
+    }
+    if number == 13 {
+        let (line, clauses) = (0, Vec::new());
+        let [from, to] = [longest_type(random), longest_type(random)];
+        return Some(Iso {
+            line,
+            from,
+            to,
+            clauses,
+        });
+    }
+    let [unit, long] = [1, NODES - 2].map(|nodes| products(random, nodes));
+    let case = Sketch::Left(Box::new(Sketch::Unit));
+    sided(random, Rc::new(Type::Sum(unit, long)), &[case], number)
+}
+
+/// Cases of a product of sums, each of which looks into some of them; apart where
+/// a gap is wanted. Both sides have the same.
+fn sparse(random: &mut Random, number: u8) -> Option<Iso> {
+    let (twos, threes) = (4 + random.below(12), random.below(4));
+    let ty = counted::of(random, &format!("2^{twos} 3^{threes}"));
+    let percent = *random.pick(&[15, 25, 40, 60]);
+    let mut cases: Vec<Sketch> = Vec::new();
+    for _ in 0..300 {
+        let case = looking(random, &ty, percent);
+        if overlaps(number) || cases.iter().all(|other| case.clashes(other)) {
+            cases.push(case);
+        }
+    }
+    cases.truncate(CLAUSES);
+    permuted(random, &ty, &cases, &[])
+}
+
+/// A case that looks into so many of a hundred sums.
+fn looking(random: &mut Random, ty: &Rc<Type>, percent: usize) -> Sketch {
+    match &**ty {
+        Type::Unit => Sketch::Unit,
+        Type::Sum(..) if !random.chance(percent) => Sketch::Hole(Rc::clone(ty)),
+        Type::Sum(a, _) if random.chance(50) => Sketch::Left(Box::new(looking(random, a, percent))),
+        Type::Sum(_, b) => Sketch::Right(Box::new(looking(random, b, percent))),
+        Type::Product(a, b) => {
+            let one = looking(random, a, percent);
+            Sketch::Pair(Box::new(one), Box::new(looking(random, b, percent)))
+        }
+    }
+}
+
+fn bare(random: &mut Random) -> Iso {
+    let many = counted::of(random, "2^2 3^20");
+    let types = [some_type(random), many, longest_type(random)];
+    let ty = |random: &mut Random| Rc::clone(random.pick(&types));
+    Iso {
+        line: 0,
+        from: ty(random),
+        to: ty(random),
+        clauses: Vec::new(),
+    }
+}

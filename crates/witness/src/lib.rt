@@ -1,0 +1,70 @@
+// A setting that shows the fault: Check, and with refusals 11 to 14 the value that shows what is wrong with
+// the side refused. The search reads the table before it is cleared.
+
+use checker::early;
+use checker::entered;
+use checker::settled;
+use faults::show_fault;
+use model::Answer;
+use model::Refusal;
+use model::is_refused;
+use model::number_of;
+use parts::clear_bytes;
+ghost use mathlib.Core.Path.{_≡_};
+ghost use Prim.Native.Nat.{_≤_};
+ghost use lib.ListN.{length};
+ghost use Rattle.model.specs.Limits.{tableLength, maxLines};
+ghost use Rattle.model.specs.Lines.{lines};
+ghost use Rattle.witness.specs.WitnessSays.{WitnessSays, Searched};
+
+// A refusal and its line, or none, and the number of letters in the result area.
+pub struct Witnessed {
+    pub answer: Answer,
+    pub length: usize,
+}
+
+// A refusal without a line, and no letters.
+fn refused(f: Refusal) -> Witnessed
+    ensures { λ r. ⌜ (r .answer .refusal ≡ f) × (r .answer .place ≡ 0) × (r .length ≡ 0) ⌝ }
+{
+    Witnessed {
+        answer: Answer {
+            place: 0,
+            refusal: f,
+        },
+        length: 0,
+    }
+}
+
+// Checks a file of at most 4,096 lines and shows its fault.
+fn searched(file: &[u8], table: &mut [u16], result: &mut [u8]) -> Witnessed
+    requires { ⌜ (tableLength ≤ length (now table)) × (length (lines (now file)) ≤ maxLines) × (127 ≤ length (now result)) ⌝ }
+    ensures { λ r. ⌜ Searched (now (file .entry)) (now (table .entry)) (now (result .entry)) (now (table .exit)) (now (result .exit)) r ⌝ }
+{
+    let c = entered(file, table);
+    let a = c.answer;
+    let f = a.refusal;
+    let n = show_fault(table, c.types, c.lines, number_of(f), a.place, result);
+    let d = settled(table, c);
+    let answer = d.answer;
+    Witnessed {
+        answer: answer,
+        length: n,
+    }
+}
+
+// Checks a file, and with refusals 11 to 14 writes the letters of the least value that shows the fault. The
+// result area needs 127 bytes; with any other answer it is left untouched.
+pub fn witness(file: &[u8], table: &mut [u16], work: &mut [u8], result: &mut [u8]) -> Witnessed
+    ensures { λ r. ⌜ WitnessSays (now (file .entry)) (now (table .entry)) (now (work .entry)) (now (result .entry)) (now (table .exit)) (now (work .exit)) (now (result .exit)) r ⌝ }
+{
+    if result.len() < 127 {
+        return refused(Refusal::ShortArea);
+    }
+    let f = early(file, table.len(), work.len());
+    if is_refused(f) {
+        return refused(f);
+    }
+    clear_bytes(work, 65536);
+    searched(file, table, result)
+}

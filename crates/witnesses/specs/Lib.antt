@@ -1,0 +1,4 @@
+pub mod Showing
+pub mod Shapes
+pub mod Seeking
+pub mod Examples

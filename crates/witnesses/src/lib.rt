@@ -1,0 +1,1 @@
+// Request 09's definitions (specs/) and laws (proofs/).

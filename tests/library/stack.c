@@ -1,0 +1,201 @@
+/*
+ * stack: how much stack rulefile_witness needs.
+ *
+ * Each call is made by a thread whose stack was painted before; the deepest byte that is no paint any more
+ * says how much was needed. The types are nested as deep as they can be: sums, pairs, and both by turns, to
+ * the left and to the right, with as many clauses as an iso may have. Prints what the dearest calls need, a
+ * line for each failure, and the counts last.
+ */
+#define _DEFAULT_SOURCE /* MAP_ANONYMOUS */
+#include "rulefile.h"
+
+#include <pthread.h>
+#include <stdarg.h>
+#include <stdio.h>
+#include <stdlib.h>
+#include <string.h>
+#include <sys/mman.h>
+
+enum {
+    STACK = 1 << 20, /* what the thread has */
+    MOST = 1 << 16,  /* what a call may need */
+    PAINT = 0xA5,
+    NESTED = 63, /* two nodes each and a unit: 127 */
+    CLAUSES = 32,
+    SIDES = 40
+};
+
+static size_t passed;
+static size_t failed;
+
+static void require(bool done)
+{
+    if (!done) {
+        perror("stack");
+        exit(2);
+    }
+}
+
+/* The file that is built, line by line. */
+static char file[RULEFILE_MAX_FILE_LENGTH];
+static size_t length;
+
+static void add(const char *form, ...)
+{
+    va_list numbers;
+    va_start(numbers, form);
+    int added = vsnprintf(file + length, sizeof file - length, form, numbers);
+    va_end(numbers);
+    require(added > 0 && (size_t)added < sizeof file - length);
+    length += (size_t)added;
+}
+
+/* How the types are nested: T line n names line n - 1, and the unit. */
+struct shape {
+    const char *name;
+    int even; /* the kinds, 1 a sum, 2 a product */
+    int odd;
+    bool right; /* the nested part is the second one */
+};
+
+static const struct shape shapes[] = {
+    {"sums to the left", 1, 1, false},      {"sums to the right", 1, 1, true},
+    {"pairs to the left", 2, 2, false},     {"pairs to the right", 2, 2, true},
+    {"by turns, to the left", 1, 2, false}, {"by turns, to the right", 1, 2, true},
+};
+
+/* T lines 0 to 63, then the unit and the variable as P lines 0 and 1. */
+static void begin(const struct shape *shape)
+{
+    length = 0;
+    add("T,0,0,0\n");
+    for (int type = 1; type <= NESTED; type++) {
+        int kind = type % 2 == 0 ? shape->even : shape->odd;
+        add("T,%d,%d,%d\n", kind, shape->right ? 0 : type - 1, shape->right ? type - 1 : 0);
+    }
+}
+
+/*
+ * P lines for sums: line 2 is the one side of a unit, and line 2 + n that n deep on the other side; lines 42 to
+ * 81 have a unit so deep, 1 to 40.
+ */
+static void add_steps(const struct shape *shape)
+{
+    int deeper = shape->right ? 3 : 2;
+    add("P,0,0,0\nP,1,0,0\nP,%d,0,0\n", 5 - deeper);
+    for (int deep = 1; deep < SIDES; deep++)
+        add("P,%d,%d,0\n", deeper, 1 + deep);
+    add("P,%d,0,0\n", deeper);
+    for (int deep = 2; deep <= SIDES; deep++)
+        add("P,%d,%d,0\n", deeper, 40 + deep);
+}
+
+/* Sums: each clause a step of its own, but for what makes the fault. */
+static void build_sums(const struct shape *shape, int number)
+{
+    int last = 1 + SIDES; /* the deepest step */
+    begin(shape);
+    add_steps(shape);
+    /* T line 31 has 32 values, of which the last one is the unit 31 deep. */
+    add("I,%d,%d\n", number == 14 ? CLAUSES - 1 : NESTED, NESTED);
+    for (int clause = 0; clause < CLAUSES; clause++) {
+        int step = 2 + clause;
+        bool twice = clause >= CLAUSES - 2;
+        int left = number == 11 && twice ? last : number == 14 && clause == CLAUSES - 1 ? 72 : step;
+        add("C,%d,%d\n", left, number == 12 && twice ? last : step);
+    }
+}
+
+/* Other types: a variable in every clause, of one type or of both sides of a sum of smaller ones; or no clause. */
+static void build_others(const struct shape *shape, int number)
+{
+    int half = NESTED / 2;
+    begin(shape);
+    if (number == 12)
+        add("T,1,%d,%d\n", half, half);
+    add("P,0,0,0\nP,1,0,0\nP,2,1,0\nP,3,1,0\n");
+    if (number == 12)
+        add("I,%d,%d\nC,2,1\nC,3,1\n", NESTED + 1, half);
+    else
+        add("I,%d,%d\n", NESTED, NESTED);
+    for (int clause = 0; number == 11 && clause < CLAUSES; clause++)
+        add("C,1,1\n");
+}
+
+/* A unit or the nested type, of which the unit alone is covered. */
+static void build_gap(const struct shape *shape)
+{
+    begin(shape);
+    add("T,1,0,%d\nP,0,0,0\nP,2,0,0\nI,0,%d\nC,0,1\n", NESTED - 1, NESTED + 1);
+}
+
+static void build(const struct shape *shape, int number)
+{
+    if (shape->even == 1 && shape->odd == 1)
+        build_sums(shape, number);
+    else if (number == 14)
+        build_gap(shape);
+    else
+        build_others(shape, number);
+}
+
+static uint16_t table[RULEFILE_TABLE_LENGTH];
+static uint8_t work[RULEFILE_WORK_LENGTH];
+static uint8_t result[RULEFILE_RESULT_LENGTH];
+
+static struct rulefile_witness_answer answer;
+static const uint8_t *top; /* of the call's stack */
+
+static void *call(void *argument)
+{
+    uint8_t here = 0;
+    (void)argument;
+    top = &here;
+    answer = rulefile_witness((const uint8_t *)file, length, table, RULEFILE_TABLE_LENGTH, work,
+                              RULEFILE_WORK_LENGTH, result, sizeof result);
+    return NULL;
+}
+
+/* Makes the call on a painted stack, with a page below it that may not be touched, and gives what it needed. */
+static size_t needed(void)
+{
+    size_t guard = 1 << 16;
+    uint8_t *base = mmap(NULL, guard + STACK, PROT_READ | PROT_WRITE, MAP_PRIVATE | MAP_ANONYMOUS, -1, 0);
+    pthread_attr_t attributes;
+    pthread_t thread;
+    require(base != MAP_FAILED && mprotect(base, guard, PROT_NONE) == 0);
+    memset(base + guard, PAINT, STACK);
+    require(pthread_attr_init(&attributes) == 0);
+    require(pthread_attr_setstack(&attributes, base + guard, STACK) == 0);
+    require(pthread_create(&thread, &attributes, call, NULL) == 0);
+    require(pthread_join(thread, NULL) == 0);
+    require(pthread_attr_destroy(&attributes) == 0);
+    const uint8_t *deepest = base + guard;
+    while (*deepest == PAINT)
+        deepest++;
+    size_t bytes = (size_t)(top - deepest);
+    require(munmap(base, guard + STACK) == 0);
+    return bytes;
+}
+
+int main(void)
+{
+    for (size_t i = 0; i < sizeof shapes / sizeof shapes[0]; i++) {
+        size_t most = 0;
+        for (uint32_t number = RULEFILE_OVERLAP_LEFT; number <= RULEFILE_GAP_RIGHT; number++) {
+            build(&shapes[i], (int)number);
+            size_t bytes = needed();
+            bool holds = answer.number == number && answer.length > 0 && bytes < MOST;
+            if (holds)
+                passed++;
+            else
+                printf("stack: %s: number %lu in place of %lu at line %zu, length %zu, %zu bytes\n", shapes[i].name,
+                       (unsigned long)answer.number, (unsigned long)number, answer.line, answer.length, bytes);
+            failed += !holds;
+            most = bytes > most ? bytes : most;
+        }
+        printf("stack: %s: %zu bytes at the most\n", shapes[i].name, most);
+    }
+    printf("%zu passed, %zu failed\n", passed, failed);
+    return failed == 0 ? 0 : 1;
+}
