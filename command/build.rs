@@ -19,6 +19,5 @@ fn main() {
     if let Ok(archive) = env::var("DEP_RULEFILE_ARCHIVE") {
         println!("cargo:rerun-if-changed={archive}");
     }
-    println!("cargo:rerun-if-env-changed=PATH");
     println!("cargo:rustc-env=RULEFILE_KIT={}", kit());
 }

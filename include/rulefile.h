@@ -1,6 +1,6 @@
 /*
  * rulefile.h - Check, Turn, Run, whole sheets of queries, settings as numbers, the overlap of two patterns,
- * steps known beforehand and settings that show a fault for rule files.
+ * steps known beforehand, pair lists and settings that show a fault for rule files.
  *
  * `bin/install PREFIX` puts librulefile.a, librulefile.so and this header in place, with a file for pkg-config;
  * `rt staticlib rulefile` writes target/staticlib/librulefile.a alone. The platform is x86-64 Linux. The library
@@ -18,7 +18,8 @@
  * The areas need not be cleared. After a call
  *   - the first RULEFILE_TABLE_LENGTH numbers of the table hold, if the file was accepted, four numbers a
  *     line: the letter's ASCII code and the fields, padded with 0, and zeros behind the last line, so also
- *     where the call is refused with 15 or above; on refusals 3 to 14 they are all 0;
+ *     where the call is refused with 15 or above, or an import with 7 at line 0; on other refusals 3 to 14
+ *     they are all 0;
  *   - the first RULEFILE_WORK_LENGTH bytes of the work area are 0;
  *   - refusals 1 and 2 leave every area as it was;
  *   - any refusal of the call leaves output, result, and the numbers and letters of a sheet as they were, but
@@ -26,10 +27,11 @@
  *   - whatever lies behind these lengths, and behind what was written, keeps its contents.
  *
  * A line of a file or of a list ends with a line feed, or with a carriage return and a line feed; lengths
- * count both bytes. What Turn writes ends with line feeds alone.
+ * count both bytes. What Turn, an export and an import write ends with line feeds alone.
  *
  * A call needs at most 48 KB of stack. Measured by painting it, over the deepest files (32 nested isos, types and
- * patterns of 127 nodes): rulefile_run, rulefile_sheet and rulefile_bounds 35 KB, the others 32 KB.
+ * patterns of 127 nodes): rulefile_run, rulefile_sheet and rulefile_bounds 35 KB, Check, Turn, a witness, an overlap and
+ * settings as numbers 32 KB.
  *
  * docs/REFUSALS.md says what each refusal means and what to ask the supplier.
  */
@@ -51,6 +53,7 @@ extern "C" {
 #define RULEFILE_TABLE_LENGTH 16384 /* numbers of 16 bits */
 #define RULEFILE_WORK_LENGTH 65536  /* bytes */
 #define RULEFILE_RESULT_LENGTH 127  /* bytes: no value has more letters */
+#define RULEFILE_LIST_LENGTH 40960  /* bytes: no list that is exported is longer */
 
 /* For each query of a sheet: so many numbers of 32 bits, and RULEFILE_RESULT_LENGTH bytes of letters. */
 #define RULEFILE_NUMBERS_A_QUERY 3
@@ -58,7 +61,8 @@ extern "C" {
 /* A sheet of more queries is refused with 2. */
 #define RULEFILE_MAX_QUERIES 600
 
-/* A longer file is refused with 2. An output area of this length is long enough for every file. */
+/* A longer file is refused with 2. An output area of this length is long enough for every file,
+   and an import needs it. */
 #define RULEFILE_MAX_FILE_LENGTH 65536
 #define RULEFILE_MAX_LINES 4096
 
@@ -82,8 +86,9 @@ enum rulefile_number {
     RULEFILE_NO_ISO = 15,        /* iso number, or number of a T or P line, not in the file; line 0 */
     RULEFILE_NO_VALUE = 16,      /* not exactly one closed value of the starting type or T line; line 0 */
     RULEFILE_SPENT = 17,         /* the full count would pass the budget; line 0 */
-    RULEFILE_TOO_MANY = 18,      /* the T line has over 4,294,967,295 values; line 0 */
-    RULEFILE_TOO_HIGH = 19       /* the setting's number is not below the T line's count of values; line 0 */
+    RULEFILE_TOO_MANY = 18,      /* the T line has over 4,294,967,295 values, of a pair list 4,096; line 0 */
+    RULEFILE_TOO_HIGH = 19,      /* the setting's number is not below the T line's count of values; line 0 */
+    RULEFILE_BAD_LIST = 20       /* the list's lines are not 0,to 1,to and so on, each to once; line 0 */
 };
 
 /* What Check gives. */
@@ -156,6 +161,20 @@ struct rulefile_witness_answer {
  */
 const char *rulefile_version(void);
 const char *rulefile_word(uint32_t number);
+
+/* What an iso gives as a pair list. */
+struct rulefile_export_answer {
+    uint32_t number; /* enum rulefile_number */
+    size_t line;     /* the file's line refused, 0 where none is named */
+    size_t length;   /* bytes of the list written to output, 0 on refusal */
+};
+
+/* What a pair list gives as a file. */
+struct rulefile_import_answer {
+    uint32_t number; /* enum rulefile_number */
+    size_t line;     /* the file's line refused, 0 where none is named */
+    size_t length;   /* bytes of the new file written to output, 0 on refusal */
+};
 
 /* Checks a file. */
 struct rulefile_check_answer rulefile_check(
@@ -281,6 +300,47 @@ struct rulefile_witness_answer rulefile_witness(
     uint16_t *table, size_t table_length,
     uint8_t *work, size_t work_length,
     uint8_t *result, size_t result_length);
+
+/*
+ * Checks a file and writes its iso number `iso` as a pair list: a line `from,to` for each setting of the
+ * from-type, the froms 0, 1, 2 and so on, each to the number of the setting that a run gives for it, as
+ * rulefile_number_of numbers both. Each run has the budget for itself. The output needs
+ * RULEFILE_LIST_LENGTH bytes.
+ *
+ * The refusals in their order: 1, 2, those of the file, which alone name a line, 15 where it has no such
+ * iso, 18 where the from-type has over 4,096 values, 17 where some run passes the budget. Table and work
+ * area are left as rulefile_check leaves them, and on refusal the output is as it was.
+ */
+struct rulefile_export_answer rulefile_export(
+    const uint8_t *file, size_t file_length,
+    uint16_t *table, size_t table_length,
+    uint8_t *work, size_t work_length,
+    uint32_t iso, uint32_t budget,
+    uint8_t *output, size_t output_length);
+
+/*
+ * Checks a file and writes another one with a single iso, from its T line number `from` to its T line number
+ * `to`, out of a pair list: for line `k,t` a clause that sends value k to value t, both without variables.
+ * T lines for the from-type and then the to-type, P lines clause by clause, left before right; each tree
+ * with the first part before the second, parts before wholes; no two lines of these are equal. The file is
+ * accepted, each run of its iso counts 1, and rulefile_export with a budget of 1 or more gives the list
+ * again, without its carriage returns. The output needs RULEFILE_MAX_FILE_LENGTH bytes.
+ *
+ * The refusals in their order: 1, 2, those of the file, which alone name a line, 15 where it lacks either
+ * T line, 18 where either has over 4,096 values, 7 where the list has over 32 lines (bytes behind the last
+ * line feed are a line too), 20 where a line is not two numbers, a comma between and its ending behind them,
+ * the froms are not 0, 1, 2 and so on up to the counts of both types, or a to is repeated or not below the
+ * count, and 7 where the written file would have over 1,024 P lines. Table and work area are left as
+ * rulefile_check leaves them, so with these two 7 the table holds the file's lines; on refusal the output
+ * is as it was.
+ */
+struct rulefile_import_answer rulefile_import(
+    const uint8_t *file, size_t file_length,
+    uint16_t *table, size_t table_length,
+    uint8_t *work, size_t work_length,
+    uint32_t from, uint32_t to,
+    const uint8_t *list, size_t list_length,
+    uint8_t *output, size_t output_length);
 
 #ifdef __cplusplus
 }

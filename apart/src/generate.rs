@@ -10,6 +10,7 @@ pub mod ending;
 pub mod fault;
 pub mod ground;
 pub mod life;
+pub mod listed;
 pub mod miss;
 pub mod pair;
 pub mod plan;

@@ -11,6 +11,7 @@ pub mod generate;
 pub mod lines;
 pub mod numbering;
 pub mod overlap;
+pub mod pair_lists;
 pub mod reduce;
 pub mod sheet;
 pub mod tree;

@@ -2,6 +2,7 @@
 
 use apart::areas::{check_areas, run_areas, turn_areas, Known};
 use apart::bounds::{bounds, bounds_rules, Bounded};
+use apart::pair_lists;
 use apart::witness::{witness, witness_of};
 use rulefile::{Bounds, Direction, Refused, Witnessed};
 use rulefile::{MAX_QUERIES, NUMBERS_A_QUERY, RESULT_LENGTH};
@@ -108,6 +109,10 @@ pub enum Service {
     Bounds(u32),
     /// A setting that shows the fault.
     Witness,
+    /// An iso as a pair list, with a budget for each pair.
+    Export(u32, u32),
+    /// A file out of a pair list, from the file's last T line to itself.
+    Import(u32, Vec<u8>),
 }
 
 /// A call, its answer, and what it writes to its output area and to its numbers.
@@ -192,6 +197,34 @@ impl Call {
             answer: Answer {
                 number: refusal.number.into(),
                 line: refusal.line,
+                length: written.len(),
+                ..Answer::default()
+            },
+            written,
+            ..Call::check(file)
+        }
+    }
+
+    /// An iso of an accepted file as a pair list.
+    pub fn export(file: Vec<u8>, iso: u32, budget: u32) -> Self {
+        let rules = apart::check(&file).expect("the file is accepted");
+        let list = pair_lists::export_rules(&rules, iso, budget);
+        Call::writing(file, Service::Export(iso, budget), list.expect("a list"))
+    }
+
+    /// A file out of a pair list, between two settings of the last T line of an accepted file.
+    pub fn import(file: Vec<u8>, list: Vec<u8>) -> Self {
+        let rules = apart::check(&file).expect("the file is accepted");
+        let ty = rules.types.len() as u32 - 1;
+        let written = pair_lists::import_rules(&rules, ty, ty, &list);
+        Call::writing(file, Service::Import(ty, list), written.expect("a file"))
+    }
+
+    /// A call that writes these bytes.
+    fn writing(file: Vec<u8>, service: Service, written: Vec<u8>) -> Self {
+        Call {
+            service,
+            answer: Answer {
                 length: written.len(),
                 ..Answer::default()
             },
@@ -305,6 +338,15 @@ impl Call {
                 let shown = rulefile::witness(&self.file, table, work, output);
                 return shown.map_or_else(witnessed, |()| Answer::default());
             }
+
+            Service::Export(iso, budget) => {
+                let written = rulefile::export(&self.file, table, work, *iso, *budget, output);
+                written.map(length_alone)
+            }
+            Service::Import(ty, list) => {
+                let written = rulefile::import(&self.file, table, work, [*ty; 2], list, output);
+                written.map(length_alone)
+            }
         };
         given.unwrap_or_else(Answer::refused)
     }
@@ -348,6 +390,15 @@ impl Call {
                     length: shown.length,
                     ..Answer::default()
                 }
+            }
+
+            Service::Export(iso, budget) => {
+                let (known, asked) = (Known::of(&self.file), (*iso, *budget));
+                written_answer(pair_lists::export(&known, table, work, asked, output))
+            }
+            Service::Import(ty, list) => {
+                let (known, asked) = (Known::of(&self.file), (*ty, *ty, &list[..]));
+                written_answer(pair_lists::import(&known, table, work, asked, output))
             }
         }
     }
@@ -424,6 +475,23 @@ fn witnessed(Witnessed { refused, length }: Witnessed) -> Answer {
     }
 }
 
+fn length_alone(length: usize) -> Answer {
+    Answer {
+        length,
+        ..Answer::default()
+    }
+}
+
+/// What the checker written apart gives for a pair list.
+fn written_answer(written: pair_lists::Written) -> Answer {
+    Answer {
+        number: written.number.into(),
+        line: written.line,
+        length: written.length,
+        ..Answer::default()
+    }
+}
+
 /// What the checker written apart tells of an iso.
 fn bounds_answer(told: Bounded) -> Answer {
     let bounds = Bounds {
@@ -478,6 +546,14 @@ mod tests {
         let mut call = Call::bounds(inputs::s(), 1);
         let bounds = call.answer.bounds.as_mut();
         bounds.expect("the iso is there").greatest_over = true;
+        call.make(Proved, &mut Areas::new());
+    }
+
+    #[test]
+    #[should_panic(expected = "Proved writes other bytes")]
+    fn another_list_is_noticed() {
+        let mut call = Call::export(inputs::s(), 1, 2);
+        call.written.swap(2, 6);
         call.make(Proved, &mut Areas::new());
     }
 

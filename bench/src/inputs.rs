@@ -141,27 +141,20 @@ pub fn overlap() -> Vec<u8> {
     draft.into_bytes()
 }
 
-/// An iso on 32 bits, a type of 127 nodes: each of 32 clauses has a left before rights, and a variable for each
-/// bit before that, so that the rights alone are left out, and no letter but the last ones tells clauses apart.
+/// An iso on 32 bits, a type of 127 nodes: each of 32 clauses has a left behind rights, and anything behind
+/// that, so that the rights alone are left out.
 pub fn gap() -> Vec<u8> {
     let mut draft = Draft::default();
     let unit = draft.type_of(0, 0, 0);
     let bit = draft.type_of(SUM, unit, unit);
     let ty = (1..32).fold(bit, |rest, _| draft.type_of(PRODUCT, bit, rest));
     let [left, right] = [false, true].map(|right| bit_pattern(&mut draft, right));
+    let any = draft.pattern(VARIABLE, 0, 0);
+    let first = draft.pattern(PAIR, left, any);
     let mut sides = Vec::new();
     for rights in 0..32 {
-        let last = if rights == 0 { left } else { right };
-        let rest = (1..rights).fold(last, |rest, _| draft.pattern(PAIR, right, rest));
-        let rest = if rights == 0 {
-            rest
-        } else {
-            draft.pattern(PAIR, left, rest)
-        };
-        sides.push((rights..31).fold(rest, |rest, number| {
-            let variable = draft.pattern(VARIABLE, number, 0);
-            draft.pattern(PAIR, variable, rest)
-        }));
+        let last = if rights == 31 { left } else { first };
+        sides.push((0..rights).fold(last, |rest, _| draft.pattern(PAIR, right, rest)));
     }
     draft.iso(ty, ty);
     for side in sides {
@@ -224,6 +217,55 @@ pub fn swap_value(exchanged: bool) -> Vec<u8> {
     format!("P{}{}", parts[0], parts[1]).into_bytes()
 }
 
+/// The applications of each value of `flips`: one and eight let steps.
+pub const FLIPS: u32 = 9;
+
+/// A type of `bits` bits, and an iso that sends the last eight of them, or as many as there are, through one
+/// that exchanges left and right.
+pub fn flips(bits: usize) -> Vec<u8> {
+    let mut draft = Draft::default();
+    let ty = bit_types(&mut draft, bits);
+    let [left, right] = [false, true].map(|right| bit_pattern(&mut draft, right));
+    let variables: Vec<usize> = (0..bits + 8)
+        .map(|n| draft.pattern(VARIABLE, n, 0))
+        .collect();
+    let all = |draft: &mut Draft, numbers: Vec<usize>| {
+        let rest = numbers[1..].iter();
+        rest.fold(numbers[0], |front, bit| draft.pattern(PAIR, front, *bit))
+    };
+    let steps = bits.min(8);
+    let given = [&variables[..bits - steps], &variables[bits..bits + steps]].concat();
+    let value = all(&mut draft, variables[..bits].to_vec());
+    let given = all(&mut draft, given);
+    draft.iso(1, 1);
+    draft.clause(left, right);
+    draft.clause(right, left);
+    draft.iso(ty, ty);
+    draft.clause(value, given);
+    for step in 0..steps {
+        draft.step(variables[bits + step], 0, variables[bits - steps + step]);
+    }
+    draft.into_bytes()
+}
+
+/// The products with which 32 values of `sum` take 1,023 P lines.
+pub const PRODUCTS: usize = 30;
+
+/// A sum of so many units, nested to the right, under products with a unit: the last T line.
+pub fn sum(units: usize, products: usize) -> Vec<u8> {
+    let mut draft = Draft::default();
+    let unit = draft.type_of(0, 0, 0);
+    let sum = (1..units).fold(unit, |sum, _| draft.type_of(SUM, unit, sum));
+    (0..products).fold(sum, |all, _| draft.type_of(PRODUCT, unit, all));
+    draft.into_bytes()
+}
+
+/// The pair list that sends the first of so many settings to the last, and so on.
+pub fn turned_list(count: usize) -> Vec<u8> {
+    let line = |from: usize| format!("{from},{}\n", count - 1 - from);
+    (0..count).map(line).collect::<String>().into_bytes()
+}
+
 /// A query of file S, of two applications.
 pub fn asked_of_s() -> Asked {
     Asked {
@@ -270,6 +312,10 @@ mod tests {
         for count in [7, 127] {
             Call::check(nodes(count)).agree();
         }
+        for bits in [1, 8, 12] {
+            Call::check(flips(bits)).agree();
+        }
+        Call::check(sum(32, PRODUCTS)).agree();
     }
 
     #[test]

@@ -105,6 +105,8 @@ pub fn rows(worst: Point, quick: bool) -> Vec<Row> {
             Series::Witness,
             GAP,
         ),
+        call("Export, 4,096 values of 12 bits", Series::Export, 4_096),
+        call("Import, 32 lines, 1,023 P lines", Series::Import, 32),
         runs(
             "Run, tower of isos on one bit",
             Series::Applications,

@@ -17,6 +17,8 @@ pub enum Series {
     Turn,
     Bounds,
     Witness,
+    Export,
+    Import,
     Applications,
     Swap,
     Swaps,
@@ -28,9 +30,9 @@ pub enum Series {
 }
 
 use Series::{Applications, Bounds, Clauses, Isos, Lines, Nodes, Swap, Swaps, Turn, Worst, S};
-use Series::{LongRuns, LongSheet, Runs, Sheet, Witness};
+use Series::{Export, Import, LongRuns, LongSheet, Runs, Sheet, Witness};
 
-const NAMES: [(Series, &str); 17] = [
+const NAMES: [(Series, &str); 19] = [
     (S, "s"),
     (Lines, "lines"),
     (Clauses, "clauses"),
@@ -40,6 +42,8 @@ const NAMES: [(Series, &str); 17] = [
     (Turn, "turn"),
     (Bounds, "bounds"),
     (Witness, "witness"),
+    (Export, "export"),
+    (Import, "import"),
     (Applications, "applications"),
     (Swap, "swap"),
     (Swaps, "swaps"),
@@ -65,8 +69,8 @@ impl Series {
     }
 }
 
-/// A series, and a size in it: lines, clauses, isos, nodes or queries; the place of a candidate; a refusal; or
-/// a power of two, one above the number of applications.
+/// A series, and a size in it: lines, clauses, isos, nodes, values or queries; the place of a candidate; a
+/// refusal; or a power of two, one above the number of applications.
 #[derive(Clone, Copy, PartialEq, Eq, Hash, Debug)]
 pub struct Point {
     pub series: Series,
@@ -93,6 +97,11 @@ impl Point {
             Bounds => Call::bounds(inputs::long(size), 31),
             Witness if size == OVERLAP => Call::witness(inputs::overlap()),
             Witness => Call::witness(inputs::gap()),
+            Export => Call::export(inputs::flips(level as usize), 1, inputs::FLIPS),
+            Import => Call::import(
+                inputs::sum(size, inputs::PRODUCTS),
+                inputs::turned_list(size),
+            ),
             Applications => {
                 let value = b"LU".to_vec();
                 Call::run(
@@ -180,6 +189,10 @@ mod tests {
         Point::new(Bounds, 4_096).call().agree();
         for refusal in [OVERLAP, GAP] {
             Point::new(Witness, refusal).call().agree();
+        }
+
+        for (series, size) in [(Export, 16), (Export, 4_096), (Import, 32)] {
+            Point::new(series, size).call().agree();
         }
     }
 }

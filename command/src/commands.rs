@@ -1,7 +1,9 @@
 //! The commands, and what is said of them.
 
 use crate::arguments::{Command, Given};
-use crate::{check, numbers, output, patterns, run, sheet, show, turn, verdict};
+use crate::{
+    check, explain, lists, numbers, output, patterns, run, sheet, show, turn, verdict, witness,
+};
 use crate::{Failure, Outcome, Status};
 use std::ffi::OsString;
 
@@ -11,8 +13,8 @@ static COMMANDS: &[Command] = &[
         name: "check",
         usage: "FILE",
         about: "judge a rule file",
-        help: "Prints `number,line`, `0,0` where the file is accepted, and then what that means: of a refused file the\n\
-            line, what happened and what to ask the supplier. The whole of FILE is judged, so that a query in it is\n\
+        help: "Prints `number,line`, `0,0` where the file is accepted, and then what that means: of a refused file the \
+            line, what happened and what to ask the supplier. The whole of FILE is judged, so that a query in it is \
             refused.",
         words: 1..=1,
         options: &[],
@@ -22,8 +24,8 @@ static COMMANDS: &[Command] = &[
         name: "verdict",
         usage: "FILE [--force]",
         about: "judge a rule file and file the verdict beside it, in FILE.verdict",
-        help: "The verdict has number, line, word and meaning, the bytes of the file and their SHA-256, its lines by their\n\
-            letters, the versions of the library and of the kit that proved it, and the day. A verdict that is there and\n\
+        help: "The verdict has number, line, word and meaning, the bytes of the file and their SHA-256, its lines by their \
+            letters, the versions of the library and of the kit that proved it, and the day. A verdict that is there and \
             says something else is kept; --force files the new one in its place.",
         words: 1..=1,
         options: &[("--force", false)],
@@ -33,9 +35,9 @@ static COMMANDS: &[Command] = &[
         name: "show",
         usage: "FILE [ISO] [--html] [-o OUT]",
         about: "show what a rule file says, in readable form",
-        help: "Types are written with 1 (nothing to tell apart), + (either, or) and × (both), and with their number of\n\
-            settings. Each clause is `pattern ↦ pattern, where p = iso i (q)`; small letters are parts that are carried\n\
-            over. With --html it is one page, with drawings and with every conversion of an iso of at most 256 settings.\n\
+        help: "Types are written with 1 (nothing to tell apart), + (either, or) and × (both), and with their number of \
+            settings. Each clause is `pattern ↦ pattern, where p = iso i (q)`; small letters are parts that are carried \
+            over. With --html it is one page, with drawings and with every conversion of an iso of at most 256 settings. \
             Of a file refused with 8 to 14, which has readable lines, the lines are shown too, and the status is 1.",
         words: 1..=2,
         options: &[("--html", false), ("-o", true)],
@@ -45,7 +47,7 @@ static COMMANDS: &[Command] = &[
         name: "turn",
         usage: "FILE [-o OUT]",
         about: "write the turned file, which leads back",
-        help: "What the turned file converts forward, FILE converts back. It is written whole or not at all; of a refused\n\
+        help: "What the turned file converts forward, FILE converts back. It is written whole or not at all; of a refused \
             file nothing is written.",
         words: 1..=1,
         options: &[("-o", true)],
@@ -55,7 +57,7 @@ static COMMANDS: &[Command] = &[
         name: "run",
         usage: "FILE ISO LETTERS [--back] [--budget N]",
         about: "send one setting through a conversion",
-        help: "Prints `number,count,letters`: 0, the steps made, and the setting that comes out. With --back it is sent the\n\
+        help: "Prints `number,count,letters`: 0, the steps made, and the setting that comes out. With --back it is sent the \
             other way. Without --budget as many steps are allowed as any setting needs.",
         words: 3..=3,
         options: &[("--back", false), ("--budget", true)],
@@ -65,18 +67,28 @@ static COMMANDS: &[Command] = &[
         name: "sheet",
         usage: "FILE QUERIES",
         about: "answer a list of queries, as CSV",
-        help: "A line of QUERIES is `Q,iso,direction,budget,letters`, direction 0 for there and 1 for back. Each line is\n\
-            answered by one with the columns line, query, number, word, count, letters. The status is 1 where a query\n\
+        help: "A line of QUERIES is `Q,iso,direction,budget,letters`, direction 0 for there and 1 for back. Each line is \
+            answered by one with the columns line, query, number, word, count, letters. The status is 1 where a query \
             is refused.",
         words: 2..=2,
         options: &[],
         run: sheet::sheet,
     },
     Command {
+        name: "witness",
+        usage: "FILE",
+        about: "give a setting that shows the fault of a refused file",
+        help: "Prints `number,line,letters`: the verdict and, for 11 to 14, a setting that two or more clauses match or give, \
+            or none, with the fewest letters. For other verdicts there is no such setting.",
+        words: 1..=1,
+        options: &[],
+        run: witness::witness,
+    },
+    Command {
         name: "number",
         usage: "FILE TYPE LETTERS",
         about: "give the number of a setting",
-        help: "TYPE is the number of a T line, from 0; `rulefile show` prints it as T0, T1 and so on, which is taken too.\n\
+        help: "TYPE is the number of a T line, from 0; `rulefile show` prints it as T0, T1 and so on, which is taken too. \
             Prints `number,setting`.",
         words: 3..=3,
         options: &[],
@@ -95,7 +107,7 @@ static COMMANDS: &[Command] = &[
         name: "bounds",
         usage: "FILE ISO",
         about: "give the least and the most steps that a conversion takes",
-        help: "Prints `number,least,greatest`. A budget of the greatest is enough for every setting; where it is over\n\
+        help: "Prints `number,least,greatest`. A budget of the greatest is enough for every setting; where it is over \
             4294967295, the words say so.",
         words: 2..=2,
         options: &[],
@@ -105,36 +117,61 @@ static COMMANDS: &[Command] = &[
         name: "overlap",
         usage: "FILE PATTERN PATTERN",
         about: "compare two patterns",
-        help: "PATTERN is the number of a P line, from 0. Prints `number,clash,pairs`: clash is 1 where a left stands against\n\
+        help: "PATTERN is the number of a P line, from 0. Prints `number,clash,pairs`: clash is 1 where a left stands against \
             a right, so that no setting is matched by both; pairs are the node pairs compared.",
         words: 3..=3,
         options: &[],
         run: patterns::overlap,
     },
+    Command {
+        name: "export",
+        usage: "FILE ISO [--budget N] [-o OUT]",
+        about: "write a conversion as a list of pairs of setting numbers",
+        help: "A line is `from,to`, the numbers of a setting and of what becomes of it; the froms are 0, 1, 2 and so on. Of an \
+            iso of over 4,096 settings there is no list. Without --budget as many steps are allowed as any setting needs.",
+        words: 2..=2,
+        options: &[("--budget", true), ("-o", true)],
+        run: lists::export,
+    },
+    Command {
+        name: "import",
+        usage: "FILE FROM TO LIST [-o OUT]",
+        about: "write a rule file out of a list of pairs of setting numbers",
+        help: "FROM and TO are the numbers of two T lines of FILE; `rulefile show` prints them as T0, T1 and so on, which is taken \
+            too. LIST has a line `from,to` for each setting, from 0 upwards. The new file has one iso with a clause for each \
+            line, and `rulefile export` of it gives the list again.",
+        words: 4..=4,
+        options: &[("-o", true)],
+        run: lists::import,
+    },
 ];
 
 /// What follows the list of commands.
-const NOTES: &str = "FILE is a rule file as the supplier sent it; `-` stands for standard input. ISO is the number of a \
-conversion, from 0.\nLETTERS are a setting: U, L or R before a part, P before two parts.\n\
-Exit status: 0 accepted or done; 1 refused; 2 not readable, not writable, or wrong usage.\n";
+const NOTES: [&str; 3] = [
+    "FILE is a rule file as the supplier sent it; `-` stands for standard input. ISO is the number of a conversion, \
+     from 0.",
+    "LETTERS are a setting: U, L or R before a part, P before two parts.",
+    "Exit status: 0 accepted or done; 1 refused; 2 not readable, not writable, or wrong usage.",
+];
+
+/// Prose, in lines for a terminal.
+fn prose(text: &str) -> String {
+    explain::wrapped("", text, 80)
+}
 
 fn overview() -> String {
     let mut text = "usage: rulefile COMMAND …\n\n".to_string();
     for command in COMMANDS {
         text += &format!("  {:<9}{}\n", command.name, command.about);
     }
-    text + "\n`rulefile COMMAND --help` says more of each.\n" + NOTES
+    text + "\n`rulefile COMMAND --help` says more of each.\n" + &NOTES.map(prose).concat()
 }
 
 fn help(command: &Command) -> String {
-    let Command {
-        name,
-        usage,
-        about,
-        help,
-        ..
-    } = command;
-    format!("usage: rulefile {name} {usage}\n\nrulefile {name}: {about}.\n{help}\n\n{NOTES}")
+    let (name, usage) = (command.name, command.usage);
+    let about = prose(&format!("rulefile {name}: {}.", command.about));
+    let (help, notes) = (prose(command.help), NOTES.map(prose).concat());
+    format!("usage: rulefile {name} {usage}\n\n{about}{help}\n{notes}")
 }
 
 fn version() -> String {

@@ -1,7 +1,7 @@
 //! What a refusal means, in the words of `docs/REFUSALS.md`.
 
-use crate::form;
-use rulefile::{Refusal, Refused};
+use crate::{form, show};
+use rulefile::{Desk, Refusal, Refused};
 
 /// The one source of the words.
 const REFUSALS: &str = include_str!("../../docs/REFUSALS.md");
@@ -62,31 +62,68 @@ pub fn numbers(verdict: Result<(), Refused>) -> (u32, usize) {
     )
 }
 
-/// What a refused line of the file says, and what is wrong with its form where that is the fault; each with its label.
+/// What a setting does that shows a fault.
+fn fault(refusal: Refusal) -> Option<&'static str> {
+    match refusal {
+        Refusal::OverlapLeft => Some("which two or more clauses match"),
+        Refusal::OverlapRight => Some("which two or more clauses give"),
+        Refusal::GapLeft => Some("which no clause matches"),
+        Refusal::GapRight => Some("which no clause gives"),
+        _ => None,
+    }
+}
+
+/// A setting that shows the fault of an iso, from the library, and what it does.
+pub fn setting(file: &[u8], refused: Refused) -> Option<String> {
+    let fault = fault(refused.refusal)?;
+    let witness = Desk::new().witness(file).err()?;
+    let letters = String::from_utf8_lossy(&witness.letters).into_owned();
+    Some(format!("{letters}, {fault}"))
+}
+
+/// What there is to see of a refusal, each with its label: the line; what is wrong with its form where that is the
+/// fault; a clause as it reads; a setting that shows the fault.
 pub fn line(file: &[u8], refused: Refused) -> Vec<(String, String)> {
     let Some(bytes) = form::line(file, refused.line) else {
         return Vec::new();
     };
     let mut said = vec![(format!("line {}", refused.line), form::shown(bytes))];
-    if refused.refusal == Refusal::BadLine {
-        said.push(("look here".to_string(), form::fault(file, refused.line)));
-    }
+    let mut add = |label: &str, text: Option<String>| {
+        said.extend(text.map(|text| (label.to_string(), text)));
+    };
+    let number = refused.refusal.number();
+    let form = (number == 3).then(|| form::fault(file, refused.line));
+    add("look here", form);
+    let clause = (number > 7).then(|| show::clause(file, refused.line));
+    add("it reads", clause.flatten());
+    add("a setting", setting(file, refused));
     said
 }
 
-/// A text under its label, in lines of at most 100 characters.
-pub fn entry(label: &str, text: &str) -> String {
-    let mut lines = vec![format!("  {label}:")];
-    for word in text.split(' ') {
-        let last = lines.last_mut().expect("there is a first line");
-        if last.chars().count() + 1 + word.chars().count() <= 100 {
-            last.push(' ');
-            last.push_str(word);
+/// A text in lines of at most so many characters, all but the first indented; the first begins with this.
+pub fn wrapped(first: &str, text: &str, most: usize) -> String {
+    let whole = format!("{first} {text}");
+    if !first.is_empty() && whole.chars().count() <= most {
+        return whole + "\n";
+    }
+    let indent = if first.is_empty() { "" } else { "    " };
+    let (mut lines, mut line) = (String::new(), first.to_string());
+    for word in text.split_whitespace() {
+        let blank = if line.trim().is_empty() { "" } else { " " };
+        let length = line.chars().count() + blank.len() + word.chars().count();
+        if length > most && !line.trim().is_empty() {
+            lines += &format!("{line}\n");
+            line = format!("{indent}{word}");
         } else {
-            lines.push(format!("    {word}"));
+            line += &format!("{blank}{word}");
         }
     }
-    lines.join("\n") + "\n"
+    lines + &line + "\n"
+}
+
+/// A text under its label.
+pub fn entry(label: &str, text: &str) -> String {
+    wrapped(&format!("  {label}:"), text, 100)
 }
 
 /// A refusal in lines: what it is, the line, what happened, what to do.

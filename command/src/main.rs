@@ -13,6 +13,7 @@ mod commands;
 mod explain;
 mod form;
 mod input;
+mod lists;
 mod numbers;
 mod output;
 mod patterns;
@@ -24,6 +25,7 @@ mod streams;
 mod system;
 mod turn;
 mod verdict;
+mod witness;
 
 /// Where a command ends that was not wrong usage and failed nowhere.
 #[derive(Clone, Copy, Debug, PartialEq, Eq)]

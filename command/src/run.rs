@@ -1,14 +1,21 @@
 //! `run` and `bounds`: one setting sent through an iso, and how many steps that can take.
 
 use crate::arguments::{number, Given};
-use crate::{check, Outcome};
+use crate::{check, Failure, Outcome};
 use rulefile::{Bounds, Desk, Direction, Query};
 use std::os::unix::ffi::OsStrExt;
 
 /// A budget that is enough for every run of an iso, as far as one of 32 bits can be.
-fn enough(desk: &mut Desk, file: &[u8], iso: u32) -> u32 {
+pub fn enough(desk: &mut Desk, file: &[u8], iso: u32) -> u32 {
     let bounds = desk.bounds(file, iso);
     bounds.map_or(u32::MAX, |bounds| bounds.greatest)
+}
+
+/// The budget that was given.
+pub fn budget(given: &Given) -> Result<Option<u32>, Failure> {
+    let budget = given.value("--budget");
+    let budget = budget.map(|word| number(word, "", "the budget"));
+    budget.transpose()
 }
 
 /// A count, and what it counts.
@@ -21,9 +28,7 @@ pub fn counted(count: u128, what: &str) -> String {
 pub fn run(given: &Given) -> Outcome {
     let iso = number(given.word(1), "", "ISO")?;
     let letters = given.word(2).as_bytes();
-    let budget = given.value("--budget");
-    let budget = budget.map(|word| number(word, "", "the budget"));
-    let budget = budget.transpose()?;
+    let budget = budget(given)?;
     let direction = match given.flag("--back") {
         false => Direction::Forward,
         true => Direction::Back,

@@ -35,9 +35,14 @@ impl Progress {
     }
 }
 
-/// A field of CSV, in quotation marks.
+/// A field of CSV, in quotation marks; an apostrophe keeps a spreadsheet program from taking it for a formula.
 fn quoted(text: &str) -> String {
-    format!("\"{}\"", text.replace('"', "\"\""))
+    let mark = if text.starts_with(['=', '+', '-', '@']) {
+        "'"
+    } else {
+        ""
+    };
+    format!("\"{mark}{}\"", text.replace('"', "\"\""))
 }
 
 /// The line of an answer.

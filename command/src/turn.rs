@@ -6,12 +6,12 @@ use rulefile::Desk;
 use std::ffi::OsStr;
 use std::fs;
 
-/// The turned file must not take the place of the one that the supplier sent.
+/// What is written must not take the place of the file that it comes from.
 pub fn require_other(file: &OsStr, out: Option<&OsStr>) -> Result<(), Failure> {
     let place = |path: &OsStr| fs::canonicalize(path).ok();
     let there = out.and_then(place);
     if file != "-" && there.is_some() && place(file) == there {
-        let why = "-o names FILE itself; keep the file as the supplier sent it";
+        let why = "-o names a file that is read; keep it as it was sent";
         return Err(Failure(why.to_string()));
     }
     Ok(())

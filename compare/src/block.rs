@@ -80,6 +80,7 @@ impl<P: Program, S: Services> Block<P, S> {
             }
             self.turned(random, &known, &turn_rules(rules), &trips)?;
         }
+        self.calls.pair_lists(random, &mut self.tally, case, &known);
         Ok(answered)
     }
 

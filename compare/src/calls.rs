@@ -4,6 +4,7 @@
 use crate::areas::{Areas, Kind, Noise, Shape};
 use crate::bounds;
 use crate::overlaps;
+use crate::pair_lists;
 use crate::service::{expected, query, Answer, Ask, Call, Services};
 use crate::settings;
 use crate::sheets::{self, Given};
@@ -16,6 +17,7 @@ use apart::generate::random::Random;
 use apart::lines::split;
 use apart::numbering::{number_of_rules, setting_of_rules};
 use apart::overlap::overlap_rules;
+use apart::pair_lists::{export_rules, import_rules};
 use apart::run_rules;
 use apart::sheet::{NUMBERS, QUERIES};
 
@@ -77,6 +79,7 @@ impl<S: Services> Calls<S> {
         overlaps::count(tally, known, call, &ours, &theirs);
         bounds::count(tally, known, call, &ours, &theirs);
         witness::count(tally, known, call, &ours, &theirs);
+        pair_lists::count(tally, known, call, &ours, &theirs);
         if let Call::Sheet(list) = call {
             let numbers = &self.ours.numbers.lent()[..ours.queries * NUMBERS];
             sheets::count(tally, list, ours.number, numbers);
@@ -124,12 +127,18 @@ fn name(call: Call) -> String {
         Call::Overlap(left, right) => format!("overlap of P lines {left} and {right}"),
         Call::Bounds(iso) => format!("bounds of iso {iso}"),
         Call::Witness => "Witness".to_string(),
+        Call::Export(iso, budget) => format!("iso {iso} as a list, budget {budget}"),
+        Call::Import(from, to, list) => {
+            let bytes = list.len();
+            format!("T lines {from} and {to}, the last {bytes} bytes the list")
+        }
     }
 }
 
 /// The file and the queries of a call in the form of the desk program; the
 /// calls of settings as numbers in that of the stored examples, one for an
-/// overlap as `O,left,right`, one for bounds as `B,iso`.
+/// overlap as `O,left,right`, one for bounds as `B,iso`; of pair lists
+/// `E,iso,budget`, and `M,from,to` with the list behind it.
 pub fn input(file: &[u8], call: Call) -> Vec<u8> {
     let mut input = file.to_vec();
     match call {
@@ -144,12 +153,18 @@ pub fn input(file: &[u8], call: Call) -> Vec<u8> {
         Call::SettingOf(ty, number) => input.extend(format!("S,{ty},{number}\n").into_bytes()),
         Call::Overlap(left, right) => input.extend(format!("O,{left},{right}\n").into_bytes()),
         Call::Bounds(iso) => input.extend(format!("B,{iso}\n").into_bytes()),
+        Call::Export(iso, budget) => input.extend(format!("E,{iso},{budget}\n").into_bytes()),
+        Call::Import(from, to, list) => {
+            input.extend(format!("M,{from},{to}\n").into_bytes());
+            input.extend(list);
+        }
     }
     input
 }
 
 /// Counts the number given and the kinds of the areas. Numbers that are given
-/// for settings, overlaps, bounds and witnesses have tables of their own.
+/// for settings, overlaps, bounds, pair lists and witnesses have tables of
+/// their own.
 fn count(tally: &mut Tally, known: &Known, call: Call, lengths: [usize; 4], ours: &Answer) {
     tally.calls += 1;
     let (column, rows) = match call {
@@ -162,6 +177,8 @@ fn count(tally: &mut Tally, known: &Known, call: Call, lengths: [usize; 4], ours
         Call::Overlap(..) => (None, &[13, 14][..]),
         Call::Bounds(_) => (None, &[15, 16][..]),
         Call::Witness => (None, &[17, 18, 19][..]),
+        Call::Export(..) => (None, &[17, 18, 19][..]),
+        Call::Import(..) => (None, &[20, 21, 22][..]),
     };
     if let Some(column) = column {
         tally.numbers.hit(ours.number as usize, column);
@@ -207,6 +224,8 @@ pub fn otherwise(known: &Known, call: Call) -> usize {
         Call::SettingOf(ty, setting) => setting_of_rules(rules, ty, setting).err(),
         Call::Overlap(left, right) => overlap_rules(rules, left, right).err(),
         Call::Bounds(iso) => bounds_rules(rules, iso).err(),
+        Call::Export(iso, budget) => export_rules(rules, iso, budget).err(),
+        Call::Import(from, to, list) => import_rules(rules, from, to, list).err(),
     };
     refused.map_or(0, |refusal| refusal.number.into())
 }

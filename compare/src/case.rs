@@ -1,6 +1,6 @@
 //! Which files are made.
 
-use crate::{bounds, settings, shuffle, witness};
+use crate::{bounds, pair_lists, settings, shuffle, witness};
 use apart::generate::ceiling::{self, Ceiling, CEILINGS};
 use apart::generate::life::SLIPS;
 use apart::generate::random::Random;
@@ -51,6 +51,9 @@ pub enum Case {
     Bounded(usize, bool),
     /// Eight calls of the iso below in each of 32 isos.
     Deep,
+    /// An accepted file with isos on types around the limits of pair lists, by
+    /// the place of the limit.
+    Listed(usize),
     /// Clauses of one iso at fault in different ways, 3 to 7 or 8 to 10.
     Several(bool),
     /// Refused with one of 11 to 14, by the values that show the fault.
@@ -67,6 +70,7 @@ pub fn always() -> Vec<Case> {
     cases.extend(settings::cases());
     cases.extend(bounds::cases());
     cases.extend(witness::cases());
+    cases.extend(pair_lists::cases());
     for over in [false, true].repeat(5) {
         cases.extend([Case::Stack, Case::Longest, Case::Bytes(over)]);
         cases.extend([Case::Several(over); 3]);
@@ -119,6 +123,7 @@ pub fn file(random: &mut Random, case: Case) -> (Vec<u8>, Option<(u8, usize)>) {
         Case::Across => (ending::across(random), Some((0, 0))),
         Case::Returns(number) => (ending::all_resaved(&miss::aimed(random, number)), None),
         Case::Bounded(..) | Case::Deep => (bounds::file(random, case), Some((0, 0))),
+        Case::Listed(place) => (pair_lists::file(random, place), Some((0, 0))),
         Case::Several(form) => (shuffle::several(random, form), None),
         Case::Shown(..) => (witness::file(random, case), None),
         Case::Accepted | Case::Full(_) => (accepted(random), Some((0, 0))),

@@ -138,7 +138,7 @@ fn wrong(random: &mut Random, letters: &[u8]) -> Vec<u8> {
 }
 
 /// What makes a file refused, behind all its lines, or too long.
-fn tail(random: &mut Random, fault: Fault) -> Vec<u8> {
+pub fn tail(random: &mut Random, fault: Fault) -> Vec<u8> {
     let refused = *random.pick(&[&b"x\n"[..], b"T,0,0,0\n", b"I,0,0\n", b"P"]);
     match fault {
         RefusedFile => refused.to_vec(),
@@ -150,7 +150,7 @@ fn tail(random: &mut Random, fault: Fault) -> Vec<u8> {
 
 /// The number of a T line that the file has not; all but the first would be one
 /// with fewer bits.
-fn absent(random: &mut Random, types: u32, near: u32) -> u32 {
+pub fn absent(random: &mut Random, types: u32, near: u32) -> u32 {
     let far = [near + 256, near + 65_536, near + (1 << 31)];
     *random.pick(&[types, far[0], far[1], far[2], u32::MAX])
 }

@@ -69,6 +69,14 @@ struct WitnessAnswer {
     length: usize,
 }
 
+/// What an export and an import give.
+#[repr(C)]
+struct WrittenAnswer {
+    number: u32,
+    line: usize,
+    length: usize,
+}
+
 extern "C" {
     fn rulefile_check(
         file: *const u8,
@@ -177,6 +185,34 @@ extern "C" {
         result: *mut u8,
         result_length: usize,
     ) -> WitnessAnswer;
+
+    fn rulefile_export(
+        file: *const u8,
+        file_length: usize,
+        table: *mut u16,
+        table_length: usize,
+        work: *mut u8,
+        work_length: usize,
+        iso: u32,
+        budget: u32,
+        output: *mut u8,
+        output_length: usize,
+    ) -> WrittenAnswer;
+
+    fn rulefile_import(
+        file: *const u8,
+        file_length: usize,
+        table: *mut u16,
+        table_length: usize,
+        work: *mut u8,
+        work_length: usize,
+        from: u32,
+        to: u32,
+        list: *const u8,
+        list_length: usize,
+        output: *mut u8,
+        output_length: usize,
+    ) -> WrittenAnswer;
 }
 
 /// Where bytes that are only read begin; null where there are none.
@@ -208,6 +244,8 @@ pub fn call(file: &[u8], call: Call, lent: Lent) -> Answer {
         Call::Overlap(left, right) => overlap(file, left, right, lent),
         Call::Bounds(iso) => bounds(file, iso, lent),
         Call::Witness => witness(file, lent),
+        Call::Export(iso, budget) => export(file, iso, budget, lent),
+        Call::Import(from, to, list) => import(file, [from, to], list, lent),
     }
 }
 
@@ -439,4 +477,57 @@ fn witness(file: &[u8], lent: Lent) -> Answer {
         length: given.length,
         ..Answer::default()
     }
+}
+
+fn written(given: WrittenAnswer) -> Answer {
+    Answer {
+        number: given.number,
+        line: given.line,
+        length: given.length,
+        ..Answer::default()
+    }
+}
+
+fn export(file: &[u8], iso: u32, budget: u32, lent: Lent) -> Answer {
+    let Lent {
+        table, work, out, ..
+    } = lent;
+    // SAFETY: as for `check`.
+    written(unsafe {
+        rulefile_export(
+            begin(file),
+            file.len(),
+            start(table),
+            table.len(),
+            start(work),
+            work.len(),
+            iso,
+            budget,
+            start(out),
+            out.len(),
+        )
+    })
+}
+
+fn import(file: &[u8], [from, to]: [u32; 2], list: &[u8], lent: Lent) -> Answer {
+    let Lent {
+        table, work, out, ..
+    } = lent;
+    // SAFETY: as for `check`.
+    written(unsafe {
+        rulefile_import(
+            begin(file),
+            file.len(),
+            start(table),
+            table.len(),
+            start(work),
+            work.len(),
+            from,
+            to,
+            begin(list),
+            list.len(),
+            start(out),
+            out.len(),
+        )
+    })
 }

@@ -92,6 +92,15 @@ fn wrapped(file: &[u8], call: Call, lent: Lent) -> Answer {
                     refused
                 })
         }
+
+        Call::Export(iso, budget) => {
+            let given = rulefile::export(file, table, work, iso, budget, out);
+            given.map(|length| Answer { length, ..none })
+        }
+        Call::Import(from, to, list) => {
+            let given = rulefile::import(file, table, work, [from, to], list, out);
+            given.map(|length| Answer { length, ..none })
+        }
     };
     given.unwrap_or_else(|Refused { refusal, line }| Answer {
         number: refusal.number(),

@@ -6,6 +6,7 @@ use apart::bounds;
 use apart::lines::split;
 use apart::numbering;
 use apart::overlap;
+use apart::pair_lists::{self, FILE, LIST};
 use apart::sheet::{self, NUMBERS};
 use apart::witness;
 
@@ -35,6 +36,10 @@ pub enum Call<'a> {
     Bounds(u32),
     /// A setting that shows the fault.
     Witness,
+    /// An iso as a pair list: its number, and the budget.
+    Export(u32, u32),
+    /// A file out of a pair list: the numbers of two T lines, and the list.
+    Import(u32, u32, &'a [u8]),
 }
 
 /// All that an answer holds; what the service does not give is 0.
@@ -58,9 +63,9 @@ pub struct Answer {
     pub greatest_over: bool,
 }
 
-/// The lent areas; `out` is Turn's output, Run's result, a sheet's letters, the
-/// letters of a number or of a witness, and of no use to others. `numbers` are
-/// of use to a sheet alone.
+/// The lent areas; `out` is the output of Turn and of pair lists, Run's result,
+/// a sheet's letters, the letters of a number or of a witness, and of no use to
+/// others. `numbers` are of use to a sheet alone.
 pub struct Lent<'a> {
     pub table: &'a mut [u16],
     pub work: &'a mut [u8],
@@ -78,6 +83,7 @@ impl Call<'_> {
         match self {
             Call::Check | Call::NumberOf(..) | Call::Overlap(..) | Call::Bounds(_) => 2,
             Call::Turn | Call::Run(_) | Call::SettingOf(..) | Call::Witness => 3,
+            Call::Export(..) | Call::Import(..) => 3,
             Call::Sheet(_) => 4,
         }
     }
@@ -88,6 +94,8 @@ impl Call<'_> {
             Call::Check | Call::NumberOf(..) | Call::Overlap(..) | Call::Bounds(_) => (0, 0),
             Call::Turn => (file.len(), 0),
             Call::Run(_) | Call::SettingOf(..) | Call::Witness => (RESULT, 0),
+            Call::Export(..) => (LIST, 0),
+            Call::Import(..) => (FILE, 0),
             Call::Sheet(list) => {
                 let queries = split(list).len();
                 (queries * RESULT, queries * NUMBERS)
@@ -132,6 +140,7 @@ pub fn expected(known: &Known, call: Call, lent: Lent) -> Answer {
         Call::Overlap(left, right) => overlap(known, left, right, lent),
         Call::Bounds(iso) => bounds(known, iso, lent),
         Call::Witness => witness(known, lent),
+        Call::Export(..) | Call::Import(..) => pair_list(known, call, lent),
     }
 }
 
@@ -195,6 +204,24 @@ fn bounds(known: &Known, iso: u32, lent: Lent) -> Answer {
 
 fn witness(known: &Known, lent: Lent) -> Answer {
     let given = witness::witness(known, lent.table, lent.work, lent.out);
+    Answer {
+        number: given.number.into(),
+        line: given.line,
+        length: given.length,
+        ..Answer::default()
+    }
+}
+
+/// Either way of pair lists.
+fn pair_list(known: &Known, call: Call, lent: Lent) -> Answer {
+    let (table, work, out) = (lent.table, lent.work, lent.out);
+    let given = match call {
+        Call::Export(iso, budget) => pair_lists::export(known, table, work, (iso, budget), out),
+        Call::Import(from, to, list) => {
+            pair_lists::import(known, table, work, (from, to, list), out)
+        }
+        _ => unreachable!("only pair lists get here"),
+    };
     Answer {
         number: given.number.into(),
         line: given.line,

@@ -250,7 +250,7 @@ fn lines(random: &mut Random, case: Case, rules: &Rules) -> Vec<u32> {
 }
 
 /// A T line that may be far above all.
-fn any_line(random: &mut Random, known: &Known) -> u32 {
+pub fn any_line(random: &mut Random, known: &Known) -> u32 {
     let types = known.checked.as_ref().map_or(1, |rules| rules.types.len()) as u32;
     let near = random.below(types as usize + 1) as u32;
     let above = [near + 256, near + 65_536, near + (1 << 31), u32::MAX];

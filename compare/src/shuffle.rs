@@ -9,6 +9,7 @@ use crate::desk::{difference, numbers, Program};
 use crate::endings::answered;
 use crate::grid::Grid;
 use crate::input::Input;
+use crate::pair_lists::enough;
 use crate::service::{Ask, Call, Services};
 use crate::tally::{names, Tally};
 use crate::trip::Trip;
@@ -42,6 +43,7 @@ pub const TURN: usize = 4;
 pub const TURNED: usize = 5;
 pub const SETTINGS: usize = 6;
 pub const BOUNDS: usize = 7;
+pub const LISTS: usize = 8;
 
 /// Of so many of a hundred accepted files all services are tried, of the
 /// others Check and `rules` alone.
@@ -65,7 +67,7 @@ pub fn grid() -> Grid {
         "refused, another number",
     ]);
     let columns = &[
-        "rules", "check", "run", "sheet", "turn", "turned", "settings", "bounds",
+        "rules", "check", "run", "sheet", "turn", "turned", "settings", "bounds", "lists",
     ];
     Grid::new("clauses shuffled", rows, columns, needed)
 }
@@ -253,6 +255,7 @@ impl<P: Program, S: Services> Block<P, S> {
             self.settings_shuffled(random, files, &rows);
             let call = Call::Bounds(any_iso(random, known));
             self.both(random, files, call, (BOUNDS, &rows));
+            self.lists_shuffled(random, files, &rows);
         }
         Ok(())
     }
@@ -366,6 +369,14 @@ impl<P: Program, S: Services> Block<P, S> {
         let turned = [Known::of(&turned[0]), Known::of(&turned[1])];
         let call = Call::Run(ask);
         self.both(random, [&turned[0], &turned[1]], call, (TURNED, rows));
+    }
+
+    /// An iso of either file as a pair list.
+    fn lists_shuffled(&mut self, random: &mut Random, files: [&Known; 2], rows: &[usize]) {
+        let Ok(rules) = &files[0].checked else { return };
+        let iso = random.below(rules.isos.len()) as u32;
+        let call = Call::Export(iso, enough(rules, iso));
+        self.both(random, files, call, (LISTS, rows));
     }
 
     fn settings_shuffled(&mut self, random: &mut Random, files: [&Known; 2], rows: &[usize]) {

@@ -4,6 +4,7 @@ use crate::bounds;
 use crate::endings;
 use crate::grid::Grid;
 use crate::overlaps;
+use crate::pair_lists;
 use crate::settings;
 use crate::sheets;
 use crate::shuffle;
@@ -70,6 +71,7 @@ pub struct Tally {
     pub overlaps: overlaps::Grids,
     pub bounds: bounds::Grids,
     pub witness: witness::Grids,
+    pub pair_lists: pair_lists::Grids,
     pub ceilings: Grid,
     pub sheets: Grid,
     pub variables: Grid,
@@ -141,6 +143,12 @@ fn areas() -> Grid {
         "table of witness",
         "work of witness",
         "result of witness",
+        "table of export",
+        "work of export",
+        "output of export",
+        "table of import",
+        "work of import",
+        "output of import",
     ]);
     let columns = &["exact", "longer", "one short", "empty"];
     Grid::new("area", rows, columns, |_, _| true)
@@ -196,6 +204,7 @@ impl Default for Tally {
             overlaps: overlaps::Grids::default(),
             bounds: bounds::Grids::default(),
             witness: witness::Grids::default(),
+            pair_lists: pair_lists::Grids::default(),
             ceilings: ceilings(),
             sheets: sheets::grid(),
             variables: variables::grid(),
@@ -226,6 +235,7 @@ impl Tally {
         self.overlaps.add(&other.overlaps);
         self.bounds.add(&other.bounds);
         self.witness.add(&other.witness);
+        self.pair_lists.add(&other.pair_lists);
         self.ceilings.add(&other.ceilings);
         self.sheets.add(&other.sheets);
         self.variables.add(&other.variables);
@@ -271,6 +281,7 @@ impl Tally {
         let others = self.settings.all().into_iter();
         let others = others.chain(self.overlaps.all()).chain(self.bounds.all());
         let others = others.chain(self.witness.all());
+        let others = others.chain(self.pair_lists.all());
         own.into_iter().chain(others).collect()
     }
 

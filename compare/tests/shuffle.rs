@@ -12,7 +12,7 @@ use compare::block::Block;
 use compare::case::Case;
 use compare::desk::Program;
 use compare::shuffle::{
-    kind, may_be, several, shuffled, sorted, ACCEPTED, BOUNDS, CHECK, ELSEWHERE, ONE, RULES,
+    kind, may_be, several, shuffled, sorted, ACCEPTED, BOUNDS, CHECK, ELSEWHERE, LISTS, ONE, RULES,
     SETTINGS, SEVERAL, SIDE,
 };
 use std::collections::BTreeSet;
@@ -148,14 +148,14 @@ impl Program for Desk {
 }
 
 /// The mismatches of some cases, and what was counted of them.
-fn compared(program: fn(&mut Vec<u8>), services: Spoil) -> (usize, [usize; 4]) {
+fn compared(program: fn(&mut Vec<u8>), services: Spoil) -> (usize, [usize; 5]) {
     let mut block = Block::new(Desk(program), Spoiled(services), &mut Random::new(5));
     for seed in 0..60 {
         let case = [Case::Accepted, Case::Aimed(8), Case::Aimed(13)][seed as usize % 3];
         block.case(&mut Random::new(seed), case, 9).unwrap();
     }
-    let counts =
-        [RULES, CHECK, SETTINGS, BOUNDS].map(|column| block.tally.shuffled.count(ACCEPTED, column));
+    let counts = [RULES, CHECK, SETTINGS, BOUNDS, LISTS]
+        .map(|column| block.tally.shuffled.count(ACCEPTED, column));
     (block.tally.mismatches, counts)
 }
 

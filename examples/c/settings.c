@@ -1,10 +1,12 @@
 /*
  * settings FILE
  *
- * Settings as numbers. FILE has the lines of a rule file and behind them calls: `N,type,letters` asks for
- * the number of a setting of a T line, `S,type,number` for the letters of the setting with a number. Prints
- * `number,line` for the rule file and, if it is accepted, a line for each call: `number,setting` for N,
- * `number,letters` for S.
+ * Settings as numbers, and pair lists of them. FILE has the lines of a rule file and behind them calls:
+ * `N,type,letters` asks for the number of a setting of a T line, `S,type,number` for the letters of the
+ * setting with a number, `E,iso,budget` for an iso as a pair list, `M,from,to` and the lines of a list,
+ * each behind a blank, for a file with that conversion between two T lines. Prints `number,line` for the
+ * rule file and, if it is accepted, a line for each call: `number,setting` for N, `number,letters` for S,
+ * for E and M `number,` and the lines written, each behind a blank.
  *
  * Exit status: 0 accepted, 1 refused, 2 the argument, FILE or a call in it cannot be read.
  */
@@ -17,6 +19,7 @@
 
 static uint16_t table[RULEFILE_TABLE_LENGTH];
 static uint8_t work[RULEFILE_WORK_LENGTH];
+static uint8_t output[RULEFILE_MAX_FILE_LENGTH]; /* long enough for a pair list too */
 static char text[2 * RULEFILE_MAX_FILE_LENGTH]; /* with a zero byte behind it */
 
 struct bytes {
@@ -50,11 +53,17 @@ static bool read_text(const char *path)
     return read && closed && fits && (length == 0 || text[length - 1] == '\n');
 }
 
-/* Where the first line that begins with N or S stands, or the end. */
+/* Whether a line that begins so is a call. */
+static bool is_call(char letter)
+{
+    return letter == 'N' || letter == 'S' || letter == 'E' || letter == 'M';
+}
+
+/* Where the first call stands, or the end. */
 static char *first_call(void)
 {
     char *at = text;
-    while (*at != '\0' && *at != 'N' && *at != 'S')
+    while (*at != '\0' && !is_call(*at))
         at = strchr(at, '\n') + 1;
     return at;
 }
@@ -87,24 +96,78 @@ static void print_letters(struct bytes rules, uint32_t type, uint32_t setting)
     printf("%lu,%.*s\n", (unsigned long)answer.number, (int)answer.length, (const char *)result);
 }
 
+/* The lines that were written, each behind a blank. */
+static void print_lines(uint32_t number, size_t length)
+{
+    printf("%lu,", (unsigned long)number);
+    for (size_t i = 0; i < length; i++) {
+        if (i == 0 || output[i - 1] == '\n')
+            putchar(' ');
+        if (output[i] != '\n')
+            putchar(output[i]);
+    }
+    putchar('\n');
+}
+
+static void print_list(struct bytes rules, uint32_t iso, uint32_t budget)
+{
+    struct rulefile_export_answer answer =
+        rulefile_export(rules.start, rules.length, table, RULEFILE_TABLE_LENGTH, work, RULEFILE_WORK_LENGTH, iso,
+                        budget, output, sizeof output);
+    print_lines(answer.number, answer.length);
+}
+
+static void print_file(struct bytes rules, uint32_t from, uint32_t to, struct bytes list)
+{
+    struct rulefile_import_answer answer =
+        rulefile_import(rules.start, rules.length, table, RULEFILE_TABLE_LENGTH, work, RULEFILE_WORK_LENGTH, from,
+                        to, list.start, list.length, output, sizeof output);
+    print_lines(answer.number, answer.length);
+}
+
+/* Reads the second T line and the list behind it, and steps behind both; blanks become line feeds. */
+static bool read_list(char **at, uint32_t *to, struct bytes *list)
+{
+    char *start = *at + strcspn(*at, " \n");
+    *list = (struct bytes){(const uint8_t *)start, 0};
+    if (*start == '\n')
+        return read_number(at, '\n', to);
+    if (!read_number(at, ' ', to))
+        return false;
+    list->start++;
+    for (; **at != '\n'; ++*at) {
+        if (**at == ' ')
+            **at = '\n';
+    }
+    ++*at;
+    list->length = (size_t)((const uint8_t *)*at - list->start);
+    return true;
+}
+
 /* Answers the call that stands there, and steps behind it. */
 static bool answer_call(struct bytes rules, char **at)
 {
     char letter = **at;
-    uint32_t type;
-    uint32_t setting;
-    if ((letter != 'N' && letter != 'S') || (*at)[1] != ',')
+    uint32_t first;
+    uint32_t second;
+    struct bytes list = {NULL, 0};
+    if (!is_call(letter) || (*at)[1] != ',')
         return false;
     *at += 2;
-    if (!read_number(at, ',', &type))
+    if (!read_number(at, ',', &first))
         return false;
     if (letter == 'N') {
-        print_number(rules, type, at);
+        print_number(rules, first, at);
         return true;
     }
-    if (!read_number(at, '\n', &setting))
+    if (letter == 'M' ? !read_list(at, &second, &list) : !read_number(at, '\n', &second))
         return false;
-    print_letters(rules, type, setting);
+    if (letter == 'S')
+        print_letters(rules, first, second);
+    else if (letter == 'E')
+        print_list(rules, first, second);
+    else
+        print_file(rules, first, second, list);
     return true;
 }
 

@@ -4,6 +4,7 @@ import sys
 
 import documents
 import forms
+import noise
 import person
 import showing
 import streams
@@ -12,7 +13,7 @@ import versions
 
 someone = person.Person()
 try:
-    for tests in (usual, forms, showing, streams, versions, documents):
+    for tests in (usual, forms, showing, streams, noise, versions, documents):
         tests.run(someone)
 finally:
     someone.leave()

@@ -43,6 +43,8 @@ def run(p):
         out = p.gives(name, ["check", p.file("form.rules", content)], 1)
         p.expect(f"{name}: 3 at line {line}", out.startswith(f"3,{line}\n"), out)
         p.expect(f"{name}: {words}", words in out, out)
+    out = p.gives("blanks", ["check", p.file("form.rules", third(b"T,  1,0,1\n"))], 1)
+    p.expect("blanks: shown as they are", "  line 3: T,  1,0,1\n" in out, out)
     both = good.replace(b"\n", b"\r\n")
     p.expect("carriage returns at the ends of lines", p.call("check", p.file("form.rules", both))[0] == 0)
     out = p.gives("a line that cannot be seen", ["check", p.file("form.rules", third(b"T\x1b[2J\n"))], 1)

@@ -3,7 +3,6 @@
 import os
 import subprocess
 import threading
-import time
 
 from person import PROGRAM
 
@@ -16,12 +15,14 @@ def run(p):
     rights(p)
     closed(p)
     endless(p)
+    progress(p)
     full(p)
     at_once(p)
 
 
 def unreadable(p):
-    more = {"run": [0, "LU"], "sheet": ["examples/heating-curve.queries"], "number": [0, "U"], "setting": [0, 0], "bounds": [0], "overlap": [0, 0]}
+    more = {"run": [0, "LU"], "sheet": ["examples/heating-curve.queries"], "number": [0, "U"], "setting": [0, 0], "bounds": [0], "overlap": [0, 0], "export": [0]}
+    more |= {"witness": [], "import": [0, 0, "examples/heating-curve.queries"]}
     for command in (*S, *more):
         rest = more.get(command, [])
         p.gives(f"{command} of a missing file", [command, "missing.rules", *rest], 2, "", said="there is no file missing.rules")
@@ -84,13 +85,39 @@ def closed(p):
     p.expect("a terminal", b"Ctrl-D ends it" in done.stdout and b"0,0" in done.stdout, done.stdout)
 
 
+def progress(p):
+    """On a terminal a sheet says how far it is, once it takes over a second."""
+    p.file("many.queries", b"Q,1,0,9,PRURRLU\n" * 600)
+    call = f"{{ cat many.queries; sleep 1.2; cat many.queries; }} | {PROGRAM} sheet {H} - >/dev/null"
+    done = subprocess.run(["script", "-qec", call, "/dev/null"], cwd=p.folder, stdin=subprocess.DEVNULL, capture_output=True, timeout=120)
+    p.expect("progress on a terminal", b"1200 queries answered" in done.stdout, done.stdout)
+    p.expect("no progress elsewhere", p.shell(call) == (0, ""))
+
+
+def taken(p, words):
+    """4 GB of zeros on standard input: the status, what was printed and said, and how many bytes were taken."""
+    call = subprocess.Popen([PROGRAM, *words], cwd=p.folder, stdin=subprocess.PIPE, stdout=subprocess.PIPE, stderr=subprocess.STDOUT)
+    zeros, count = bytes(65536), 0
+    try:
+        while count < 1 << 32:
+            count += call.stdin.write(zeros)
+            call.stdin.flush()
+        call.stdin.close()
+    except BrokenPipeError:
+        pass
+    text = call.stdout.read().decode()
+    call.stdout.close()
+    return call.wait(60), text, count
+
+
 def endless(p):
-    for command, rest in (("check", ""), ("show", ""), ("turn", ""), ("run", " 0 LU"), ("number", " 0 U")):
-        start = time.monotonic()
-        status, text = p.shell(f"head -c 4294967296 /dev/zero | {PROGRAM} {command} -{rest}")
-        p.expect(f"{command} of 4 GB of zeros", status == 1 and "2,0\n" in text, text)
-        p.expect(f"{command} of 4 GB of zeros: at once", time.monotonic() - start < 2)
-        p.expect(f"{command} of zeros without end", p.call(command, "/dev/zero", *rest.split())[0] == 1)
+    for command, *rest in (["check"], ["show"], ["turn"], ["witness"], ["run", "0", "LU"], ["number", "0", "U"], ["export", "0"]):
+        status, text, count = taken(p, [command, "-", *rest])
+        p.expect(f"{command} of 4 GB of zeros", status == 1 and "2,0" in text, text)
+        p.expect(f"{command} of 4 GB of zeros: {count} bytes taken", count < 1 << 20)
+        p.expect(f"{command} of zeros without end", p.call(command, "/dev/zero", *rest)[0] == 1)
+    status, text, count = taken(p, ["sheet", H, "-"])
+    p.expect("4 GB of zeros as queries", status == 2 and "its line 1 has over 65,536 bytes" in text and count < 1 << 20, text)
     p.gives("queries without end", ["sheet", H, "/dev/zero"], 2, said="its line 1 has over 65,536 bytes")
     p.gives("a verdict without end", ["verdict", "/dev/zero"], 2, "", said="is not a file beside which")
     # a fifo whose other end says nothing yet

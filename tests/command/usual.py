@@ -7,6 +7,13 @@ H = "examples/heating-curve.rules"
 M = "examples/merged-setting.rules"
 
 
+def rules_of(p, example):
+    """The rule file of a stored input, without the queries behind it."""
+    lines = example.read_bytes().splitlines(True)
+    queries = next((place for place, line in enumerate(lines) if line[:1] == b"Q"), len(lines))
+    return p.file("stored.rules", b"".join(lines[:queries]))
+
+
 def run(p):
     checks(p)
     verdicts(p)
@@ -14,6 +21,8 @@ def run(p):
     runs(p)
     sheets(p)
     numbers(p)
+    witnesses(p)
+    lists(p)
     usage(p)
 
 
@@ -28,9 +37,8 @@ def checks(p):
     # each file that gets a refusal: its number and line as `rules` gives them, and words
     for example in sorted((p.folder / "examples/refusals").glob("*.in")):
         expected = example.with_suffix(".out").read_text().splitlines()[0]
-        file = p.file("refused.rules", b"".join(l for l in example.read_bytes().splitlines(True) if l[:1] != b"Q"))
         status = 0 if expected == "0,0" else 1
-        out = p.gives(example.name, ["check", file], status)
+        out = p.gives(example.name, ["check", rules_of(p, example)], status)
         p.same(f"{example.name}: number and line", expected, out.splitlines()[0])
         p.expect(f"{example.name}: words", status == 0 or "what happened: " in out, out)
     p.gives("check of an empty file", ["check", p.file("empty.rules", "")], 0, said="the file is empty")
@@ -93,7 +101,7 @@ def turns(p):
     p.gives("turn of a refused file", ["turn", M, "-o", out], 1, "", said="12, overlap right, at line 9")
     p.same("turn of a refused file: kept", turned, out.read_text())
     p.gives("turn of a refused file to standard output", ["turn", M], 1, "", said="12,9")
-    p.gives("turn into itself", ["turn", file, "-o", file], 2, "", said="-o names FILE itself")
+    p.gives("turn into itself", ["turn", file, "-o", file], 2, "", said="-o names a file that is read")
     p.same("turn into itself: kept", s, file.read_text())
     p.same("nothing else is left", [], [n.name for n in p.folder.iterdir() if n.name.endswith(".new")])
 
@@ -137,6 +145,7 @@ def sheets(p):
     p.expect("sheet of 1,501 queries: the last", out.endswith('1501,"Q,0,0,9,RLU",0,answered,1,PLURU\n'), out[-100:])
     p.gives("sheet of no query", ["sheet", H, "/dev/null"], 0, head)
     p.gives("sheet, quotes", ["sheet", H, "-"], 1, head + '1,"a""b\\x00",3,bad line,0,\n', said="1 of 1", stdin=b'a"b\0\r\n')
+    p.gives("sheet, a formula", ["sheet", H, "-"], 1, head + '1,"\'=1+1",3,bad line,0,\n', said="1 of 1", stdin=b"=1+1\n")
     p.gives("sheet of a refused file", ["sheet", M, queries], 1, "", said="12,9")
     p.gives("sheet, both standard input", ["sheet", "-", "-"], 2, "", said="cannot both be standard input")
     p.gives("sheet without its list", ["sheet", H, "missing"], 2, "", said="there is no file missing")
@@ -152,6 +161,49 @@ def numbers(p):
     many = "T,0,0,0\nT,1,0,0\n" + "".join(f"T,2,1,{i}\n" for i in range(1, 32))
     file = p.file("many.rules", many)
     p.gives("setting of too many", ["setting", file, 32, 0], 1, "18,\n", said="18, too many values")
+
+
+def witnesses(p):
+    p.gives("witness of an accepted file", ["witness", H], 0, f"0,0,\n{H} is accepted: there is no fault to show.\n")
+    words = {11: "which two or more clauses match", 12: "which two or more clauses give", 13: "which no clause matches", 14: "which no clause gives"}
+    shown = sorted((p.folder / "examples").glob("**/*.shown"))
+    p.expect("witness: stored settings", len(shown) >= 8, shown)
+    for stored in shown:
+        expected = stored.read_text().strip()
+        number, _, letters = expected.split(",")
+        example = next(path for path in (stored.with_suffix(".rules"), stored.with_suffix(".in")) if path.exists())
+        file = rules_of(p, example)
+        out = p.gives(f"witness of {example.name}", ["witness", file], 1)
+        p.same(f"witness of {example.name}: setting", expected, out.splitlines()[0])
+        line = f"  a setting: {letters}, {words[int(number)]}\n"
+        p.expect(f"witness of {example.name}: words", line in out, out)
+        p.expect(f"check of {example.name}: the same setting", line in p.call("check", file)[1])
+    out = p.gives("witness of a bad line", ["witness", p.file("w.rules", "x\n")], 1)
+    p.expect("witness of a bad line: no setting", out.startswith("3,1,\nw.rules") or out.startswith(f"3,1,\n{p.folder}"), out)
+    out = p.gives("a clause that is refused", ["check", "examples/refusals/08-variable.in"], 1)
+    p.expect("a clause that is refused: as it reads", "it reads: (LU, a) ↦ (LU, b)\n" in out, out)
+
+
+def lists(p):
+    pairs = "0,0\n1,2\n2,4\n3,6\n4,1\n5,3\n6,5\n7,7\n"
+    p.gives("export", ["export", H, 1], 0, pairs)
+    p.gives("export into a file", ["export", H, 1, "-o", "pairs.list"], 0, "")
+    p.same("export into a file: content", pairs, (p.folder / "pairs.list").read_text())
+    p.gives("export, spent", ["export", H, 1, "--budget", 1], 1, "", said="17, spent")
+    p.gives("export, no iso", ["export", H, 2], 1, "", said="15, no iso")
+    p.gives("export of a refused file", ["export", M, 0], 1, "", said="12,9")
+    p.gives("import", ["import", H, "T5", 6, "pairs.list", "-o", "imported.rules"], 0, "")
+    p.gives("import: exported again", ["export", "imported.rules", 0, "--budget", 1], 0, pairs)
+    p.gives("import from standard input", ["import", H, 5, 6, "-"], 0, (p.folder / "imported.rules").read_text(), stdin=pairs.encode())
+    p.gives("import of a bad list", ["import", H, 5, 6, "-"], 1, "", said="20, bad list", stdin=b"0,0\n0,1\n")
+    p.gives("import, no type", ["import", H, 5, 7, "pairs.list"], 1, "", said="15, no iso")
+    many = b"".join(b"%d,%d\n" % (n, n) for n in range(33))
+    p.gives("import of over 32 lines", ["import", H, 5, 6, "-"], 1, "", said="7, ceiling", stdin=many)
+    p.gives("import without end", ["import", H, 5, 6, "/dev/zero"], 2, "", said="is no pair list: it has over 65536 bytes")
+    p.gives("import over its list", ["import", H, 5, 6, "pairs.list", "-o", "pairs.list"], 2, "", said="-o names a file that is read")
+    p.gives("import, both standard input", ["import", "-", 5, 6, "-"], 2, "", said="cannot both be standard input")
+    p.gives("import of a refused file", ["import", M, 0, 0, "pairs.list"], 1, "", said="12,9")
+    p.same("import of a list that is missing", 2, p.call("import", H, 5, 6, "missing")[0])
 
 
 def usage(p):

@@ -17,9 +17,11 @@ static uint8_t stack[STACK] __attribute__((aligned(4096)));
 static uint16_t table[RULEFILE_TABLE_LENGTH];
 static uint8_t work[RULEFILE_WORK_LENGTH], output[RULEFILE_MAX_FILE_LENGTH], letters[600 * 127], result[127];
 static uint32_t numbers[1800];
+static uint8_t list[RULEFILE_LIST_LENGTH], pairs[1024];
 static char file[RULEFILE_MAX_FILE_LENGTH], value[128], query[256];
-static size_t length;
+static size_t length, gap;
 static uint32_t last_type, last_pattern, last_iso;
+static int settings;
 
 #define FILE_AREAS (const uint8_t *)file, length, table, sizeof table / sizeof table[0], work, sizeof work
 
@@ -43,6 +45,24 @@ static uint32_t number_of(void)
 }
 static uint32_t setting_of(void) { return rulefile_setting_of(FILE_AREAS, last_type, 0, result, 127).number; }
 static uint32_t overlap(void) { return rulefile_overlap(FILE_AREAS, last_pattern, last_pattern).number; }
+static uint32_t witness(void)
+{
+    /* without its last clause the file has a gap */
+    size_t whole = length;
+    length = gap;
+    uint32_t number = rulefile_witness(FILE_AREAS, result, 127).number;
+    length = whole;
+    return number == RULEFILE_GAP_LEFT ? 0 : 1;
+}
+static uint32_t export_list(void)
+{
+    return rulefile_export(FILE_AREAS, last_iso, UINT32_MAX, list, sizeof list).number;
+}
+static uint32_t import_list(void)
+{
+    size_t count = strlen((char *)pairs);
+    return rulefile_import(FILE_AREAS, last_type, last_type, pairs, count, output, sizeof output).number;
+}
 static uint32_t bounds(void) { return rulefile_bounds(FILE_AREAS, last_iso).number; }
 
 static const struct {
@@ -59,6 +79,9 @@ static const struct {
     {"rulefile_setting_of", setting_of},
     {"rulefile_overlap", overlap},
     {"rulefile_bounds", bounds},
+    {"rulefile_witness", witness},
+    {"rulefile_export", export_list},
+    {"rulefile_import", import_list},
 };
 enum { CALLS = sizeof calls / sizeof calls[0] };
 
@@ -104,21 +127,23 @@ static void nested(bool first)
     for (int i = 0; i < 63; i++)
         line("P,4,%d,%d\n", first ? i : 0, first ? 0 : i, 0);
     last_type = last_pattern = 63;
+    settings = 1;
     for (int i = 0; i < 127; i++)
         value[i] = first ? (i < 63 ? 'P' : 'U') : (i % 2 == 0 && i < 126 ? 'P' : 'U');
 }
 
-/* A type of 40 sums, nested on one side; a setting of 40 left or right. */
+/* A type of 31 sums, nested on one side; a setting of 31 left or right. */
 static void sums(bool first)
 {
     line("T,0,0,0\n", 0, 0, 0);
-    for (int i = 0; i < 40; i++)
+    for (int i = 0; i < 31; i++)
         line("T,1,%d,%d\n", first ? i : 0, first ? 0 : i, 0);
     line("P,1,0,0\n", 0, 0, 0);
-    last_type = 40;
+    last_type = 31;
     last_pattern = 0;
-    memset(value, first ? 'L' : 'R', 40);
-    value[40] = 'U';
+    settings = 32;
+    memset(value, first ? 'L' : 'R', 31);
+    value[31] = 'U';
 }
 
 /* 32 isos; with let steps, each calls the one before it. */
@@ -126,12 +151,17 @@ static void isos(bool lets)
 {
     for (int i = 0; i < 32; i++) {
         line("I,%d,%d\n", (int)last_type, (int)last_type, 0);
+        gap = length;
         line("C,%d,%d\n", (int)last_pattern, (int)last_pattern, 0);
         if (lets && i > 0)
             line("L,%d,%d,%d\n", (int)last_pattern, i - 1, (int)last_pattern);
     }
     last_iso = 31;
     snprintf(query, sizeof query, "Q,31,0,4294967295,%s\n", value);
+    /* the types have one setting, or one more than they have sums */
+    size_t at = 0;
+    for (int i = 0; i < settings && i < 32; i++)
+        at += (size_t)snprintf((char *)pairs + at, sizeof pairs - at, "%d,%d\n", i, i);
 }
 
 static size_t most[CALLS];

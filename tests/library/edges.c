@@ -168,11 +168,13 @@ enum service {
     SERVICE_OVERLAP,
     SERVICE_BOUNDS,
     SERVICE_WITNESS,
+    SERVICE_EXPORT,
+    SERVICE_IMPORT,
     SERVICES
 };
 
-static const char *const service_names[SERVICES] = {"Check",      "Turn",    "Run",    "Sheet",  "Number of",
-                                                    "Setting of", "Overlap", "Bounds", "Witness"};
+static const char *const service_names[SERVICES] = {"Check",   "Turn",   "Run",     "Sheet",  "Number of", "Setting of",
+                                                    "Overlap", "Bounds", "Witness", "Export", "Import"};
 
 /* What a query of a sheet is to give. */
 struct reply {
@@ -188,7 +190,10 @@ struct sheet {
     const struct reply *replies;
 };
 
-/* Only a call of Sheet has queries. The type is that of a setting, which goes in as a value or as a number. */
+/*
+ * Only a call of Sheet has queries. The type is that of a setting, which goes in as a value or as a number. The
+ * value of an import is its list.
+ */
 struct call {
     enum service service;
     struct bytes file;
@@ -199,7 +204,7 @@ struct call {
     struct sheet sheet;
     uint32_t type;
     uint32_t setting;
-    uint32_t left; /* P lines to compare */
+    uint32_t left; /* P lines to compare, or the T lines of an import */
     uint32_t right;
 };
 
@@ -219,8 +224,8 @@ struct answer {
 };
 
 /*
- * The areas that a call writes: the table and the work area; Turn's output, the result of Run, of a
- * setting's number or of a witness, or the letters of a sheet; the numbers of a sheet.
+ * The areas that a call writes: the table and the work area; the output of Turn, an export or an import, the
+ * result of Run, of a setting's number or of a witness, or the letters of a sheet; the numbers of a sheet.
  */
 struct lent {
     struct area table;
@@ -238,8 +243,8 @@ struct lengths {
 };
 
 static const struct bytes nothing = {NULL, 0};
-static bool hit[SERVICES][RULEFILE_TOO_HIGH + 1];
-static bool hit_by_query[RULEFILE_TOO_HIGH + 1];
+static bool hit[SERVICES][RULEFILE_BAD_LIST + 1];
+static bool hit_by_query[RULEFILE_BAD_LIST + 1];
 
 /* For a sheet of so many queries. */
 static struct lengths sheet_lengths(size_t queries)
@@ -255,6 +260,10 @@ static struct lengths exact_lengths(const struct call *call)
         lengths.out = call->file.length;
     if (call->service == SERVICE_RUN || call->service == SERVICE_SETTING_OF || call->service == SERVICE_WITNESS)
         lengths.out = RULEFILE_RESULT_LENGTH;
+    if (call->service == SERVICE_EXPORT)
+        lengths.out = RULEFILE_LIST_LENGTH;
+    if (call->service == SERVICE_IMPORT)
+        lengths.out = RULEFILE_MAX_FILE_LENGTH;
     return lengths;
 }
 
@@ -339,6 +348,24 @@ static struct answer call_witness(const struct area *file, const struct lent *le
     return (struct answer){.number = a.number, .line = a.line, .length = a.length};
 }
 
+/* The two ways of pair lists. */
+static struct answer call_lists(const struct call *call, const struct area *file, const struct area *input,
+                                const struct lent *lent)
+{
+    uint16_t *table = rows_of(lent->table.start);
+    size_t table_length = lent->table.length / 2;
+    if (call->service == SERVICE_EXPORT) {
+        struct rulefile_export_answer a =
+            rulefile_export(file->start, file->length, table, table_length, lent->work.start, lent->work.length,
+                            call->iso, call->budget, lent->out.start, lent->out.length);
+        return (struct answer){.number = a.number, .line = a.line, .length = a.length};
+    }
+    struct rulefile_import_answer a =
+        rulefile_import(file->start, file->length, table, table_length, lent->work.start, lent->work.length,
+                        call->left, call->right, input->start, input->length, lent->out.start, lent->out.length);
+    return (struct answer){.number = a.number, .line = a.line, .length = a.length};
+}
+
 static struct answer make_call(const struct call *call, const struct area *file, const struct area *input,
                                const struct lent *lent)
 {
@@ -348,6 +375,8 @@ static struct answer make_call(const struct call *call, const struct area *file,
         return call_bounds(call, file, lent);
     if (call->service == SERVICE_WITNESS)
         return call_witness(file, lent);
+    if (call->service == SERVICE_EXPORT || call->service == SERVICE_IMPORT)
+        return call_lists(call, file, input, lent);
     if (call->service == SERVICE_NUMBER_OF || call->service == SERVICE_SETTING_OF)
         return call_settings(call, file, input, lent);
     uint16_t *table = rows_of(lent->table.start);
@@ -411,16 +440,23 @@ static void put_replies(const struct sheet *sheet, uint32_t *three, uint8_t *pla
     }
 }
 
-/* Makes the mirrors what the areas are to hold after a call. */
-static void foresee(const struct call *call, struct lent *lent, uint32_t number, struct bytes text)
+/* Whether a call with this answer has accepted its file: the ceilings of an import name no line of it. */
+static bool accepted_file(const struct call *call, struct answer answer)
 {
-    if (number == RULEFILE_SHORT_AREA || number == RULEFILE_TOO_LONG)
+    bool of_import = call->service == SERVICE_IMPORT && answer.number == RULEFILE_CEILING && answer.line == 0;
+    return answer.number == RULEFILE_ACCEPTED || answer.number >= RULEFILE_NO_ISO || of_import;
+}
+
+/* Makes the mirrors what the areas are to hold after a call with this answer. */
+static void foresee(const struct call *call, struct lent *lent, struct answer answer, struct bytes text)
+{
+    if (answer.number == RULEFILE_SHORT_AREA || answer.number == RULEFILE_TOO_LONG)
         return;
     memset(lent->table.mirror, 0, 2 * RULEFILE_TABLE_LENGTH);
     memset(lent->work.mirror, 0, RULEFILE_WORK_LENGTH);
-    if (number == RULEFILE_ACCEPTED || number >= RULEFILE_NO_ISO)
+    if (accepted_file(call, answer))
         put_rows(call->file, rows_of(lent->table.mirror));
-    if (number == RULEFILE_ACCEPTED)
+    if (answer.number == RULEFILE_ACCEPTED)
         put_replies(&call->sheet, numbers_of(lent->numbers.mirror), lent->out.mirror);
     if (text.length > 0)
         memcpy(lent->out.mirror, text.start, text.length);
@@ -436,13 +472,13 @@ struct outcome {
     bool inputs;
 };
 
-static struct outcome perform(enum place place, struct lent *lent, const struct call *call, uint32_t number,
-                              struct bytes text)
+static struct outcome perform(enum place place, struct lent *lent, const struct call *call,
+                              struct answer expected, struct bytes text)
 {
     struct area file = make_input(place, call->file);
     struct area input = make_input(place, input_of(call));
     struct outcome outcome = {.answer = make_call(call, &file, &input, lent)};
-    foresee(call, lent, number, text);
+    foresee(call, lent, expected, text);
     outcome.table = as_foreseen(&lent->table);
     outcome.work = as_foreseen(&lent->work);
     outcome.out = as_foreseen(&lent->out);
@@ -472,7 +508,7 @@ static void print_answer(const char *label, struct answer a)
 
 static void mark(bool *numbers, uint32_t number)
 {
-    if (number <= RULEFILE_TOO_HIGH)
+    if (number <= RULEFILE_BAD_LIST)
         numbers[number] = true;
 }
 
@@ -528,7 +564,7 @@ static void try_call(int at, const struct setting *setting, const struct call *c
         lent = &fresh;
     }
     expected = with_lengths(expected, call, text);
-    judge(at, call, perform(setting->place, lent, call, expected.number, text), expected);
+    judge(at, call, perform(setting->place, lent, call, expected, text), expected);
     if (lent == &fresh)
         give_back(&fresh);
 }
@@ -1023,6 +1059,126 @@ static const struct witness_case witness_cases[] = {
     {__LINE__, TEXT(PARTS "I,3,3\nC,5,5\nC,2,2\n"), 11, 11, TEXT("PRURU")},
 };
 
+/* A bit as a sum and a product with a unit; a unit and a bit again; the second bit's parts are other lines. */
+#define LIST_TYPES "T,0,0,0\nT,1,0,0\nT,2,1,0\nT,0,0,0\nT,1,3,3\n"
+#define BIT_EXCHANGED "T,0,0,0\nT,1,0,0\nP,0,0,0\nP,2,0,0\nP,3,0,0\nI,1,1\nC,1,2\nC,2,1\n"
+#define S_LIST "0,1\n1,0\n2,2\n3,3\n"
+#define S_IMPORTED                                                                                           \
+    "T,0,0,0\nT,1,0,0\nT,2,1,1\nP,0,0,0\nP,2,0,0\nP,4,1,1\nP,3,0,0\nP,4,1,3\nP,4,3,1\nP,4,3,3\n"              \
+    "I,2,2\nC,2,4\nC,4,2\nC,5,5\nC,6,6\n"
+
+/* So many empty lines. */
+#define LINES_33 "\n\n\n\n\n\n\n\n\n\n\n\n\n\n\n\n\n\n\n\n\n\n\n\n\n\n\n\n\n\n\n\n\n"
+
+/* An iso and the list that it gives, or the number that the call is refused with. */
+struct export_case {
+    int at;
+    struct bytes file;
+    uint32_t iso;
+    uint32_t budget;
+    uint32_t number;
+    size_t line;
+    struct bytes list;
+};
+
+static const struct export_case export_cases[] = {
+    {__LINE__, TEXT(S), 0, 1, 0, 0, TEXT("0,1\n1,0\n")},
+    {__LINE__, TEXT(S), 1, 2, 0, 0, TEXT(S_LIST)},
+    {__LINE__, TEXT(S), 1, 4294967295, 0, 0, TEXT(S_LIST)},
+    {__LINE__, TEXT(S_TURNED), 1, 2, 0, 0, TEXT(S_LIST)},
+    {__LINE__, TEXT(S_RETURNS), 1, 2, 0, 0, TEXT(S_LIST)},
+    {__LINE__, TEXT(STEPS), 0, 1, 0, 0, TEXT("0,1\n1,2\n2,0\n")},
+    {__LINE__, TEXT(STEPS_TURNED), 0, 1, 0, 0, TEXT("0,2\n1,0\n2,1\n")},
+    {__LINE__, TEXT(STEPS), 3, 3, 0, 0, TEXT("0,2\n1,0\n2,1\n")},
+    {__LINE__, TEXT(WIDER), 0, 1, 0, 0, TEXT("0,1\n1,0\n")},
+    {__LINE__, TEXT(TWO_UNITS "I,0,1\nC,0,0\n"), 0, 1, 0, 0, TEXT("0,0\n")},
+    {__LINE__, TEXT(S_IMPORTED), 0, 1, 0, 0, TEXT(S_LIST)},
+    /* spent by some pair, each of which has the whole budget */
+    {__LINE__, TEXT(S), 0, 0, 17, 0, TEXT("")},
+    {__LINE__, TEXT(S), 1, 1, 17, 0, TEXT("")},
+    {__LINE__, TEXT(STEPS), 3, 2, 17, 0, TEXT("")},
+    /* isos that are absent; numbers that would be one with fewer bits */
+    {__LINE__, TEXT(S), 2, 2, 15, 0, TEXT("")},
+    {__LINE__, TEXT(S), 256, 2, 15, 0, TEXT("")},
+    {__LINE__, TEXT(S), 65537, 2, 15, 0, TEXT("")},
+    {__LINE__, TEXT(S), 2147483649, 0, 15, 0, TEXT("")},
+    {__LINE__, TEXT(S), 4294967295, 0, 15, 0, TEXT("")},
+    {__LINE__, TEXT(""), 0, 1, 15, 0, TEXT("")},
+    /* too many values, before 17 */
+    {__LINE__, TEXT(BITS "P,1,0,0\nI,13,13\nC,0,0\n"), 0, 0, 18, 0, TEXT("")},
+    {__LINE__, TEXT(BITS "P,1,0,0\nI,32,32\nC,0,0\n"), 0, 1, 18, 0, TEXT("")},
+    /* the file's refusal comes first */
+    {__LINE__, TEXT(S "C,7,7\n"), 2, 0, 11, 15, TEXT("")},
+    {__LINE__, TEXT(S "\n"), 1, 2, 3, 19, TEXT("")},
+};
+
+/* Two T lines and a list, and the file that they give or the number that the call is refused with. */
+struct import_case {
+    int at;
+    struct bytes file;
+    uint32_t from;
+    uint32_t to;
+    struct bytes list;
+    uint32_t number;
+    size_t line;
+    struct bytes written;
+};
+
+static const struct import_case import_cases[] = {
+    {__LINE__, TEXT(S), 2, 2, TEXT(S_LIST), 0, 0, TEXT(S_IMPORTED)},
+    {__LINE__, TEXT(S), 2, 2, TEXT("0,1\r\n1,0\n2,2\r\n3,3\r\n"), 0, 0, TEXT(S_IMPORTED)},
+    {__LINE__, TEXT(LIST_TYPES), 1, 1, TEXT("0,1\n1,0\n"), 0, 0, TEXT(BIT_EXCHANGED)},
+    {__LINE__, TEXT(LIST_TYPES), 4, 1, TEXT("0,1\n1,0\n"), 0, 0, TEXT(BIT_EXCHANGED)},
+    {__LINE__, TEXT(LIST_TYPES), 4, 4, TEXT("0,1\n1,0\n"), 0, 0, TEXT(BIT_EXCHANGED)},
+    {__LINE__, TEXT(LIST_TYPES), 1, 2, TEXT("0,1\n1,0\n"), 0, 0,
+     TEXT("T,0,0,0\nT,1,0,0\nT,2,1,0\nP,0,0,0\nP,2,0,0\nP,3,0,0\nP,4,2,0\nP,4,1,0\nI,1,2\nC,1,3\nC,2,4\n")},
+    {__LINE__, TEXT(LIST_TYPES), 2, 1, TEXT("0,1\n1,0\n"), 0, 0,
+     TEXT("T,0,0,0\nT,1,0,0\nT,2,1,0\nP,0,0,0\nP,2,0,0\nP,4,1,0\nP,3,0,0\nP,4,3,0\nI,2,1\nC,2,3\nC,4,1\n")},
+    {__LINE__, TEXT(LIST_TYPES), 3, 0, TEXT("0,0\n"), 0, 0, TEXT("T,0,0,0\nP,0,0,0\nI,0,0\nC,0,0\n")},
+    /* 20: form, froms, counts, tos */
+    {__LINE__, TEXT(S), 2, 2, TEXT(""), 20, 0, TEXT("")},
+    {__LINE__, TEXT(S), 2, 2, TEXT("\n"), 20, 0, TEXT("")},
+    {__LINE__, TEXT(S), 2, 2, TEXT("0,1\n1,0\n2,2\n3,3"), 20, 0, TEXT("")},
+    {__LINE__, TEXT(S), 2, 2, TEXT("0,1\n1,0\n2,2\n3,3\r"), 20, 0, TEXT("")},
+    {__LINE__, TEXT(S), 2, 2, TEXT("0,1\n1,0\n2,2\n3,3\r\r\n"), 20, 0, TEXT("")},
+    {__LINE__, TEXT(S), 2, 2, TEXT("0,1\n1\r,0\n2,2\n3,3\n"), 20, 0, TEXT("")},
+    {__LINE__, TEXT(S), 2, 2, TEXT("0,1\n1,0\n2,2\n"), 20, 0, TEXT("")},
+    {__LINE__, TEXT(S), 2, 2, TEXT(S_LIST "4,4\n"), 20, 0, TEXT("")},
+    {__LINE__, TEXT(S), 2, 2, TEXT(S_LIST "\n"), 20, 0, TEXT("")},
+    {__LINE__, TEXT(S), 2, 2, TEXT("0,1\n1,0\n3,3\n2,2\n"), 20, 0, TEXT("")},
+    {__LINE__, TEXT(S), 2, 2, TEXT("1,1\n2,0\n3,2\n4,3\n"), 20, 0, TEXT("")},
+    {__LINE__, TEXT(S), 2, 2, TEXT("0,1\n1,0\n2,2\n3,2\n"), 20, 0, TEXT("")},
+    {__LINE__, TEXT(S), 2, 2, TEXT("0,1\n1,0\n2,2\n3,4\n"), 20, 0, TEXT("")},
+    {__LINE__, TEXT(S), 2, 2, TEXT("0,1\n1,0\n2,2\n3,65539\n"), 20, 0, TEXT("")},
+    {__LINE__, TEXT(S), 2, 2, TEXT("0,1\n1,0\n2,2\n3,4294967299\n"), 20, 0, TEXT("")},
+    {__LINE__, TEXT(S), 2, 2, TEXT("0,1\n1,0\n2,2\n4294967299,3\n"), 20, 0, TEXT("")},
+    {__LINE__, TEXT(S), 2, 2, TEXT("0,1\n1,0\n2,2\n3,03\n"), 20, 0, TEXT("")},
+    {__LINE__, TEXT(S), 2, 2, TEXT("0,1\n1,0\n2,2\n3 ,3\n"), 20, 0, TEXT("")},
+    {__LINE__, TEXT(S), 2, 2, TEXT("0,1\n1,0\n2,2\n3,3,\n"), 20, 0, TEXT("")},
+    {__LINE__, TEXT(S), 2, 2, TEXT("0,1\n1,0\n2,2\n3,3\0\n"), 20, 0, TEXT("")},
+    {__LINE__, TEXT(S), 2, 2, TEXT("\377"), 20, 0, TEXT("")},
+    {__LINE__, TEXT(S), 2, 1, TEXT(S_LIST), 20, 0, TEXT("")},
+    {__LINE__, TEXT(S), 1, 2, TEXT("0,1\n1,0\n"), 20, 0, TEXT("")},
+    {__LINE__, TEXT(BITS), 12, 12, TEXT(S_LIST), 20, 0, TEXT("")},
+    /* T lines that are absent; numbers that would be one with fewer bits */
+    {__LINE__, TEXT(S), 3, 2, TEXT(S_LIST), 15, 0, TEXT("")},
+    {__LINE__, TEXT(S), 2, 3, TEXT(S_LIST), 15, 0, TEXT("")},
+    {__LINE__, TEXT(S), 258, 2, TEXT(S_LIST), 15, 0, TEXT("")},
+    {__LINE__, TEXT(S), 2, 65538, TEXT(S_LIST), 15, 0, TEXT("")},
+    {__LINE__, TEXT(S), 2147483650, 2, TEXT(S_LIST), 15, 0, TEXT("")},
+    {__LINE__, TEXT(S), 2, 4294967295, TEXT(""), 15, 0, TEXT("")},
+    {__LINE__, TEXT(""), 0, 0, TEXT(""), 15, 0, TEXT("")},
+    /* too many values of either, after 15 and before 20 */
+    {__LINE__, TEXT(BITS), 13, 1, TEXT(""), 18, 0, TEXT("")},
+    {__LINE__, TEXT(BITS), 1, 13, TEXT(""), 18, 0, TEXT("")},
+    {__LINE__, TEXT(BITS), 32, 32, TEXT("x"), 18, 0, TEXT("")},
+    {__LINE__, TEXT(BITS), 32, 33, TEXT("x"), 15, 0, TEXT("")},
+    {__LINE__, TEXT(BITS), 33, 32, TEXT("x"), 15, 0, TEXT("")},
+    /* the file's refusal comes first */
+    {__LINE__, TEXT(S "C,7,7\n"), 3, 2, TEXT(""), 11, 15, TEXT("")},
+    {__LINE__, TEXT(S "\n"), 2, 2, TEXT(S_LIST), 3, 19, TEXT("")},
+};
+
 static struct call run_call(const struct query_case *c)
 {
     return (struct call){.service = SERVICE_RUN,
@@ -1060,6 +1216,10 @@ static void try_file(const struct setting *setting, const struct file_case *c)
     if (answer.number == RULEFILE_ACCEPTED)
         answer.number = RULEFILE_NO_ISO;
     call.service = SERVICE_OVERLAP;
+    try_call(c->at, setting, &call, answer, nothing);
+    call.service = SERVICE_EXPORT;
+    try_call(c->at, setting, &call, answer, nothing);
+    call.service = SERVICE_IMPORT;
     try_call(c->at, setting, &call, answer, nothing);
     answer.line = 0;
     call.service = SERVICE_RUN;
@@ -1143,6 +1303,29 @@ static void try_witness(const struct setting *setting, const struct witness_case
     try_call(c->at, setting, &call, answer, c->letters);
 }
 
+static struct call export_call(const struct export_case *c)
+{
+    return (struct call){.service = SERVICE_EXPORT, .file = c->file, .iso = c->iso, .budget = c->budget};
+}
+
+static struct call import_call(const struct import_case *c)
+{
+    return (struct call){
+        .service = SERVICE_IMPORT, .file = c->file, .left = c->from, .right = c->to, .value = c->list};
+}
+
+static void try_export(const struct setting *setting, const struct export_case *c)
+{
+    struct call call = export_call(c);
+    try_call(c->at, setting, &call, (struct answer){.number = c->number, .line = c->line}, c->list);
+}
+
+static void try_import(const struct setting *setting, const struct import_case *c)
+{
+    struct call call = import_call(c);
+    try_call(c->at, setting, &call, (struct answer){.number = c->number, .line = c->line}, c->written);
+}
+
 static void try_cases(const struct setting *setting)
 {
     for (size_t i = 0; i < COUNT_OF(file_cases); i++)
@@ -1161,6 +1344,10 @@ static void try_cases(const struct setting *setting)
         try_bounds(setting, &bounds_cases[i]);
     for (size_t i = 0; i < COUNT_OF(witness_cases); i++)
         try_witness(setting, &witness_cases[i]);
+    for (size_t i = 0; i < COUNT_OF(export_cases); i++)
+        try_export(setting, &export_cases[i]);
+    for (size_t i = 0; i < COUNT_OF(import_cases); i++)
+        try_import(setting, &import_cases[i]);
 }
 
 /* Groups */
@@ -1173,13 +1360,15 @@ static void header_numbers(void)
         RULEFILE_BAD_FIELD, RULEFILE_BAD_NAME, RULEFILE_CEILING, RULEFILE_VARIABLE, RULEFILE_LET_SHAPE,
         RULEFILE_TYPE, RULEFILE_OVERLAP_LEFT, RULEFILE_OVERLAP_RIGHT, RULEFILE_GAP_LEFT, RULEFILE_GAP_RIGHT,
         RULEFILE_NO_ISO, RULEFILE_NO_VALUE, RULEFILE_SPENT, RULEFILE_TOO_MANY, RULEFILE_TOO_HIGH,
+        RULEFILE_BAD_LIST,
     };
-    CHECK(COUNT_OF(in_order) == 20);
+    CHECK(COUNT_OF(in_order) == 21);
     for (size_t i = 0; i < COUNT_OF(in_order); i++)
         CHECK(in_order[i] == i);
     CHECK(RULEFILE_TABLE_LENGTH == 16384);
     CHECK(RULEFILE_WORK_LENGTH == 65536);
     CHECK(RULEFILE_RESULT_LENGTH == 127);
+    CHECK(RULEFILE_LIST_LENGTH == 40960);
     CHECK(RULEFILE_NUMBERS_A_QUERY == 3);
     CHECK(RULEFILE_MAX_QUERIES == 600);
     CHECK(RULEFILE_MAX_FILE_LENGTH == 65536);
@@ -1200,6 +1389,12 @@ static void header_numbers(void)
     CHECK(sizeof(struct rulefile_witness_answer) == 3 * sizeof(size_t));
     CHECK(offsetof(struct rulefile_witness_answer, line) == sizeof(size_t));
     CHECK(offsetof(struct rulefile_witness_answer, length) == 2 * sizeof(size_t));
+    CHECK(sizeof(struct rulefile_export_answer) == 3 * sizeof(size_t));
+    CHECK(offsetof(struct rulefile_export_answer, line) == sizeof(size_t));
+    CHECK(offsetof(struct rulefile_export_answer, length) == 2 * sizeof(size_t));
+    CHECK(sizeof(struct rulefile_import_answer) == 3 * sizeof(size_t));
+    CHECK(offsetof(struct rulefile_import_answer, line) == sizeof(size_t));
+    CHECK(offsetof(struct rulefile_import_answer, length) == 2 * sizeof(size_t));
 }
 
 static void exact_areas(void)
@@ -1247,7 +1442,7 @@ static size_t chosen_length(size_t exact, size_t choice)
 static void try_lengths(int at, enum place place, const struct call *call, struct answer usual, struct bytes text)
 {
     static const struct answer short_area = {.number = RULEFILE_SHORT_AREA};
-    static const size_t choices[SERVICES] = {16, 64, 64, 256, 16, 64, 16, 16, 64};
+    static const size_t choices[SERVICES] = {16, 64, 64, 256, 16, 64, 16, 16, 64, 64, 64};
     struct lengths exact = exact_lengths(call);
     usual = with_lengths(usual, call, text);
     for (size_t choice = 0; choice < choices[call->service]; choice++) {
@@ -1261,7 +1456,7 @@ static void try_lengths(int at, enum place place, const struct call *call, struc
                         lengths.numbers < exact.numbers;
         struct answer expected = is_short ? short_area : usual;
         struct lent lent = lend(place, lengths);
-        judge(at, call, perform(place, &lent, call, expected.number, is_short ? nothing : text), expected);
+        judge(at, call, perform(place, &lent, call, expected, is_short ? nothing : text), expected);
         give_back(&lent);
     }
 }
@@ -1292,6 +1487,10 @@ static void short_areas(void)
             try_lengths(c->at, place, &call, answer, nothing);
         answer.number = c->number == RULEFILE_ACCEPTED ? RULEFILE_NO_ISO : c->number;
         call.service = SERVICE_OVERLAP;
+        try_lengths(c->at, place, &call, answer, nothing);
+        call.service = SERVICE_EXPORT;
+        try_lengths(c->at, place, &call, answer, nothing);
+        call.service = SERVICE_IMPORT;
         try_lengths(c->at, place, &call, answer, nothing);
         answer.line = 0;
         call.service = SERVICE_RUN;
@@ -1368,6 +1567,35 @@ static void short_areas_of_witnesses(void)
         struct call call = {.service = SERVICE_WITNESS, .file = c->file};
         struct answer answer = {.number = c->number, .line = c->line};
         try_lengths(c->at, places[i % COUNT_OF(places)], &call, answer, c->letters);
+    }
+}
+
+/* Both ways of pair lists, given and with each refusal of their own, with every choice of lengths. */
+static void short_areas_of_lists(void)
+{
+    static const struct export_case exports[] = {
+        {__LINE__, TEXT(S), 1, 2, 0, 0, TEXT(S_LIST)},
+        {__LINE__, TEXT(S), 1, 1, 17, 0, TEXT("")},
+        {__LINE__, TEXT(BITS "P,1,0,0\nI,13,13\nC,0,0\n"), 0, 1, 18, 0, TEXT("")},
+    };
+    static const struct import_case imports[] = {
+        {__LINE__, TEXT(S), 2, 2, TEXT(S_LIST), 0, 0, TEXT(S_IMPORTED)},
+        {__LINE__, TEXT(S), 2, 2, TEXT("x"), 20, 0, TEXT("")},
+        {__LINE__, TEXT(S), 2, 2, {(const uint8_t *)LINES_33, 33}, 7, 0, TEXT("")},
+        {__LINE__, TEXT(BITS), 13, 1, TEXT(""), 18, 0, TEXT("")},
+    };
+    static const enum place places[] = {NULL_IF_EMPTY, BEFORE_GUARD};
+    for (size_t i = 0; i < COUNT_OF(places); i++) {
+        for (size_t k = 0; k < COUNT_OF(exports); k++) {
+            struct call call = export_call(&exports[k]);
+            try_lengths(exports[k].at, places[i], &call, (struct answer){.number = exports[k].number},
+                        exports[k].list);
+        }
+        for (size_t k = 0; k < COUNT_OF(imports); k++) {
+            struct call call = import_call(&imports[k]);
+            try_lengths(imports[k].at, places[i], &call, (struct answer){.number = imports[k].number},
+                        imports[k].written);
+        }
     }
 }
 
@@ -1456,6 +1684,32 @@ static void null_areas_of_witnesses(void)
     CHECK(w.number == RULEFILE_SHORT_AREA && w.line == 0 && w.length == 0);
     w = rulefile_witness(NULL, 0, NULL, 0, NULL, 0, NULL, 0);
     CHECK(w.number == RULEFILE_SHORT_AREA && w.line == 0 && w.length == 0);
+    give_back(&lent);
+}
+
+/* The same for pair lists. */
+static void null_areas_of_lists(void)
+{
+    struct lengths lengths = {RULEFILE_TABLE_LENGTH, RULEFILE_WORK_LENGTH, RULEFILE_MAX_FILE_LENGTH, 0};
+    struct lent lent = lend(HEAP, lengths);
+    uint16_t *table = rows_of(lent.table.start);
+    struct rulefile_export_answer e =
+        rulefile_export(NULL, 0, table, RULEFILE_TABLE_LENGTH, lent.work.start, RULEFILE_WORK_LENGTH, 0, 1,
+                        lent.out.start, RULEFILE_LIST_LENGTH);
+    CHECK(e.number == RULEFILE_NO_ISO && e.line == 0 && e.length == 0 && as_foreseen(&lent.out));
+    e = rulefile_export(NULL, 0, table, RULEFILE_TABLE_LENGTH, lent.work.start, RULEFILE_WORK_LENGTH, 0, 1, NULL, 0);
+    CHECK(e.number == RULEFILE_SHORT_AREA && e.line == 0 && e.length == 0);
+    e = rulefile_export(NULL, 0, NULL, 0, NULL, 0, 0, 1, NULL, 0);
+    CHECK(e.number == RULEFILE_SHORT_AREA && e.line == 0 && e.length == 0);
+    struct rulefile_import_answer m =
+        rulefile_import(NULL, 0, table, RULEFILE_TABLE_LENGTH, lent.work.start, RULEFILE_WORK_LENGTH, 0, 0, NULL, 0,
+                        lent.out.start, RULEFILE_MAX_FILE_LENGTH);
+    CHECK(m.number == RULEFILE_NO_ISO && m.line == 0 && m.length == 0 && as_foreseen(&lent.out));
+    m = rulefile_import((const uint8_t *)"T,0,0,0\n", 8, table, RULEFILE_TABLE_LENGTH, lent.work.start,
+                        RULEFILE_WORK_LENGTH, 0, 0, NULL, 0, lent.out.start, RULEFILE_MAX_FILE_LENGTH);
+    CHECK(m.number == RULEFILE_BAD_LIST && m.line == 0 && m.length == 0 && as_foreseen(&lent.out));
+    m = rulefile_import(NULL, 0, NULL, 0, NULL, 0, 0, 0, NULL, 0, NULL, 0);
+    CHECK(m.number == RULEFILE_SHORT_AREA && m.line == 0 && m.length == 0);
     give_back(&lent);
 }
 
@@ -2260,7 +2514,7 @@ static void megabyte_lists(void)
     memset(bytes, '\n', sizeof bytes);
     for (size_t i = 0; i < COUNT_OF(short_areas); i++) {
         struct answer answer = {.number = RULEFILE_SHORT_AREA};
-        judge(__LINE__, &call, perform(BEFORE_GUARD, &short_areas[i], &call, answer.number, nothing), answer);
+        judge(__LINE__, &call, perform(BEFORE_GUARD, &short_areas[i], &call, answer, nothing), answer);
         give_back(&short_areas[i]);
     }
     memset(bytes, 'Q', sizeof bytes);
@@ -2386,6 +2640,130 @@ static void sheet_of_counts(void)
     try_as_checked(__LINE__, built_file());
 }
 
+/* The list `0,0 1,1` and so on of so many lines. */
+static struct bytes identity(size_t lines)
+{
+    static char list[RULEFILE_LIST_LENGTH];
+    size_t length = 0;
+    for (size_t i = 0; i < lines; i++) {
+        int put = snprintf(list + length, sizeof list - length, "%zu,%zu\n", i, i);
+        require(put > 0 && (size_t)put < sizeof list - length);
+        length += (size_t)put;
+    }
+    return (struct bytes){(const uint8_t *)list, length};
+}
+
+static void try_built_list(int at, struct call call, uint32_t number, struct bytes text)
+{
+    static const struct setting settings[] = {{HEAP, 0, NULL}, {BEFORE_GUARD, 0, NULL}, {ODD, 5, NULL}};
+    call.file = built_file();
+    for (size_t i = 0; i < COUNT_OF(settings); i++)
+        try_call(at, &settings[i], &call, (struct answer){.number = number}, number == 0 ? text : nothing);
+}
+
+/* Isos on types of 4,096 and 4,097 values; the longer list would not fit. */
+static void longest_lists(void)
+{
+    begin();
+    add("T,0,0,0\nT,1,0,0\n");
+    for (int type = 1; type < 12; type++) /* type 12 has 2^12 values */
+        add_line('T', 2, 1, type);
+    add("T,1,12,0\nP,1,0,0\nI,12,12\nC,0,0\nI,13,13\nC,0,0\n");
+    struct bytes list = identity(4096);
+    CHECK(list.length == 38740);
+    try_built_list(__LINE__, (struct call){.service = SERVICE_EXPORT, .iso = 0, .budget = 1}, 0, list);
+    try_built_list(__LINE__, (struct call){.service = SERVICE_EXPORT, .iso = 0}, 17, nothing);
+    try_built_list(__LINE__, (struct call){.service = SERVICE_EXPORT, .iso = 1, .budget = 1}, 18, nothing);
+    struct call call = {.service = SERVICE_IMPORT, .left = 12, .right = 12, .value = list};
+    try_built_list(__LINE__, call, 7, nothing);
+    call.right = 13;
+    try_built_list(__LINE__, call, 18, nothing);
+    call.left = 14;
+    try_built_list(__LINE__, call, 15, nothing);
+    call = (struct call){.service = SERVICE_IMPORT, .left = 12, .right = 12, .value = identity(32)};
+    try_built_list(__LINE__, call, 20, nothing);
+}
+
+/* Adds the lines of 32 settings, `LU`, `RLU` and so on, each under so many pairs with a unit, and its iso. */
+static void add_settings(int pairs)
+{
+    static char clauses[32 * sizeof "C,1023,1023\n"];
+    int lines = 1;     /* P lines so far */
+    int chain = 0;     /* the line of the last setting, without pairs */
+    size_t length = 0; /* of the clauses */
+    add("P,0,0,0\n");
+    for (int value = 0; value < 32; value++) {
+        int rights = value < 31 ? 1 : 31; /* the last setting has rights alone, and shares but the unit */
+        chain = value < 31 ? chain : 0;
+        for (int depth = 0; depth < rights; depth++) {
+            add_line('P', value == 0 ? 2 : 3, chain, 0);
+            chain = lines++;
+        }
+        int whole = chain;
+        for (int pair = 0; pair < pairs; pair++) {
+            add_line('P', 4, 0, whole);
+            whole = lines++;
+        }
+        int put = snprintf(clauses + length, sizeof clauses - length, "C,%d,%d\n", whole, whole);
+        require(put > 0 && (size_t)put < sizeof clauses - length);
+        length += (size_t)put;
+    }
+    add_line('I', 31 + pairs, 31 + pairs, -1);
+    add(clauses);
+}
+
+/* A sum of 32 units nested to the right, under so many products with a unit. */
+static void build_sum(int products)
+{
+    begin();
+    add("T,0,0,0\n");
+    for (int type = 0; type < 31; type++)
+        add_line('T', 1, 0, type);
+    for (int type = 31; type < 31 + products; type++)
+        add_line('T', 2, 0, type);
+}
+
+/* 32 pairs and 33, 1,023 P lines and 1,055. */
+static void lists_at_the_ceilings(void)
+{
+    static uint8_t written[RULEFILE_MAX_FILE_LENGTH];
+    static const int products[] = {0, 1, 30, 31};
+    for (size_t i = 0; i < COUNT_OF(products); i++) {
+        build_sum(products[i]);
+        size_t before = built.length;
+        add_settings(products[i]);
+        struct bytes text = {written, built.length};
+        memcpy(written, built.bytes, text.length);
+        built.length = before;
+        uint32_t type = (uint32_t)(31 + products[i]);
+        struct call call = {.service = SERVICE_IMPORT, .left = type, .right = type, .value = identity(32)};
+        try_built_list(__LINE__, call, products[i] == 31 ? RULEFILE_CEILING : RULEFILE_ACCEPTED, text);
+        call.value = identity(31);
+        try_built_list(__LINE__, call, RULEFILE_BAD_LIST, nothing);
+        call.value = identity(33);
+        try_built_list(__LINE__, call, RULEFILE_CEILING, nothing);
+        call.value.length -= 2; /* the last of 33 lines is cut short */
+        try_built_list(__LINE__, call, RULEFILE_CEILING, nothing);
+    }
+}
+
+/* S's list with one byte replaced by one that no list has. */
+static void damaged_lists(void)
+{
+    static const struct setting setting = {BEFORE_GUARD, 0, NULL};
+    static const uint8_t bytes[] = {0, 255, ' ', '-', 'C', '\r', 'a'};
+    uint8_t list[] = S_LIST;
+    struct import_case c = {__LINE__, TEXT(S), 2, 2, {list, sizeof list - 1}, RULEFILE_BAD_LIST, 0, TEXT("")};
+    for (size_t i = 0; i < c.list.length; i++) {
+        uint8_t byte = list[i];
+        for (size_t k = 0; k < COUNT_OF(bytes); k++) {
+            list[i] = bytes[k];
+            try_import(&setting, &c);
+        }
+        list[i] = byte;
+    }
+}
+
 /* A file's bytes and a zero behind them. */
 static struct bytes read_file(const char *path)
 {
@@ -2508,7 +2886,7 @@ static void try_uninitialized(int at, const struct call *call, struct answer exp
     renew(&lent.numbers);
     struct answer found = make_call(call, &file, &input, &lent);
     expected = with_lengths(expected, call, text);
-    foresee(call, &lent, expected.number, text);
+    foresee(call, &lent, expected, text);
     CHECK_AT(at, same_answer(found, expected));
     CHECK_AT(at, as_foreseen(&lent.table));
     CHECK_AT(at, as_foreseen(&lent.work));
@@ -2559,6 +2937,16 @@ static void uninitialized_areas(void)
         call = (struct call){.service = SERVICE_WITNESS, .file = c->file};
         try_uninitialized(c->at, &call, (struct answer){.number = c->number, .line = c->line}, c->letters);
     }
+    for (size_t i = 0; i < COUNT_OF(export_cases); i++) {
+        const struct export_case *c = &export_cases[i];
+        call = export_call(c);
+        try_uninitialized(c->at, &call, (struct answer){.number = c->number, .line = c->line}, c->list);
+    }
+    for (size_t i = 0; i < COUNT_OF(import_cases); i++) {
+        const struct import_case *c = &import_cases[i];
+        call = import_call(c);
+        try_uninitialized(c->at, &call, (struct answer){.number = c->number, .line = c->line}, c->written);
+    }
 }
 
 /* Threads */
@@ -2580,7 +2968,7 @@ struct worker {
 static void try_quietly(struct worker *worker, const struct call *call, struct answer expected, struct bytes text)
 {
     expected = with_lengths(expected, call, text);
-    struct outcome o = perform(HEAP, &worker->lent, call, expected.number, text);
+    struct outcome o = perform(HEAP, &worker->lent, call, expected, text);
     bool areas = o.table && o.work && o.out && o.numbers && o.inputs;
     worker->wrong += !areas || !same_answer(o.answer, expected);
     worker->calls++;
@@ -2619,6 +3007,12 @@ static void *work_through(void *argument)
         struct call witness = {.service = SERVICE_WITNESS, .file = w->file};
         struct answer shown = {.number = w->number, .line = w->line};
         try_quietly(worker, &witness, shown, w->letters);
+        const struct export_case *e = &export_cases[(worker->first_sheet + i) % COUNT_OF(export_cases)];
+        struct call list = export_call(e);
+        try_quietly(worker, &list, (struct answer){.number = e->number, .line = e->line}, e->list);
+        const struct import_case *m = &import_cases[(worker->first_sheet + i) % COUNT_OF(import_cases)];
+        struct call written = import_call(m);
+        try_quietly(worker, &written, (struct answer){.number = m->number, .line = m->line}, m->written);
     }
     return NULL;
 }
@@ -2632,6 +3026,7 @@ static void threads_at_once(void)
         {__LINE__, TEXT(WIDER), 0, false, 9, TEXT("RU"), 0, 1, TEXT("PLUU")},
     };
     struct lengths lengths = sheet_lengths(SHEET_CASE_QUERIES);
+    lengths.out = RULEFILE_MAX_FILE_LENGTH; /* for imports */
     struct worker workers[THREADS];
     pthread_t threads[THREADS];
     pthread_barrier_t start;
@@ -2645,7 +3040,7 @@ static void threads_at_once(void)
     }
     for (size_t i = 0; i < THREADS; i++) {
         require(pthread_join(threads[i], NULL) == 0);
-        CHECK_AT(queries[i].at, workers[i].calls == 10 * workers[i].rounds);
+        CHECK_AT(queries[i].at, workers[i].calls == 12 * workers[i].rounds);
         CHECK_AT(queries[i].at, workers[i].wrong == 0);
         give_back(&workers[i].lent);
     }
@@ -2663,6 +3058,10 @@ static bool can_give(size_t service, size_t number)
     if (service == SERVICE_OVERLAP || service == SERVICE_BOUNDS)
         return number == RULEFILE_NO_ISO;
     bool of_type = number == RULEFILE_NO_ISO || number == RULEFILE_TOO_MANY;
+    if (service == SERVICE_EXPORT)
+        return of_type || number == RULEFILE_SPENT;
+    if (service == SERVICE_IMPORT)
+        return of_type || number == RULEFILE_BAD_LIST;
     return (service == SERVICE_NUMBER_OF && (of_type || number == RULEFILE_NO_VALUE)) ||
            (service == SERVICE_SETTING_OF && (of_type || number == RULEFILE_TOO_HIGH));
 }
@@ -2670,7 +3069,7 @@ static bool can_give(size_t service, size_t number)
 /* Every number was given by every service that can give it, and by no other; the same for the queries of sheets. */
 static void every_number(void)
 {
-    for (size_t number = 0; number <= RULEFILE_TOO_HIGH; number++) {
+    for (size_t number = 0; number <= RULEFILE_BAD_LIST; number++) {
         bool of_queries = number == RULEFILE_ACCEPTED || number == RULEFILE_BAD_LINE ||
                           (number >= RULEFILE_NO_ISO && number <= RULEFILE_SPENT);
         if (!CHECK(hit_by_query[number] == of_queries))
@@ -2699,12 +3098,14 @@ static const struct group groups[] = {
     {"short_areas_of_overlaps", short_areas_of_overlaps},
     {"short_areas_of_bounds", short_areas_of_bounds},
     {"short_areas_of_witnesses", short_areas_of_witnesses},
+    {"short_areas_of_lists", short_areas_of_lists},
     {"short_areas_of_sheets", short_areas_of_sheets},
     {"null_areas", null_areas},
     {"null_areas_of_settings", null_areas_of_settings},
     {"null_areas_of_overlaps", null_areas_of_overlaps},
     {"null_areas_of_bounds", null_areas_of_bounds},
     {"null_areas_of_witnesses", null_areas_of_witnesses},
+    {"null_areas_of_lists", null_areas_of_lists},
     {"file_lengths", file_lengths},
     {"longest_file", longest_file},
     {"ceilings", ceilings},
@@ -2729,6 +3130,9 @@ static const struct group groups[] = {
     {"largest_sheet", largest_sheet},
     {"sheets_as_runs", sheets_as_runs},
     {"sheet_of_counts", sheet_of_counts},
+    {"longest_lists", longest_lists},
+    {"lists_at_the_ceilings", lists_at_the_ceilings},
+    {"damaged_lists", damaged_lists},
     {"stored_examples", stored_examples},
     {"uninitialized_areas", uninitialized_areas},
     {"threads_at_once", threads_at_once},

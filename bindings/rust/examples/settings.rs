@@ -1,9 +1,11 @@
 //! `settings FILE`
 //!
-//! Settings as numbers. FILE has the lines of a rule file and behind them calls: `N,type,letters` asks for
-//! the number of a setting of a T line, `S,type,number` for the letters of the setting with a number. Prints
-//! `number,line` for the rule file and, if it is accepted, a line for each call: `number,setting` for N,
-//! `number,letters` for S.
+//! Settings as numbers, and pair lists of them. FILE has the lines of a rule file and behind them calls:
+//! `N,type,letters` asks for the number of a setting of a T line, `S,type,number` for the letters of the
+//! setting with a number, `E,iso,budget` for an iso as a pair list, `M,from,to` and the lines of a list,
+//! each behind a blank, for a file with that conversion between two T lines. Prints `number,line` for the
+//! rule file and, if it is accepted, a line for each call: `number,setting` for N, `number,letters` for S,
+//! for E and M `number,` and the lines written, each behind a blank.
 //!
 //! Exit status: 0 accepted, 1 refused, 2 the argument, FILE or a call in it cannot be read.
 
@@ -20,7 +22,13 @@ const LONGEST: usize = 2 * 65_536 - 1;
 enum Call<'a> {
     Number(u32, &'a str),
     Letters(u32, u32),
+    List(u32, u32),
+    /// With the lines of a pair list, each with its line feed.
+    File(u32, u32, String),
 }
+
+/// The letters that a call begins with.
+const CALLS: [char; 4] = ['N', 'S', 'E', 'M'];
 
 /// A text without zero bytes that ends in a line feed; an empty one too.
 fn read_text(path: &OsStr) -> Option<String> {
@@ -35,21 +43,35 @@ fn read_number(text: &str) -> Option<u32> {
 
 fn read_call(line: &str) -> Option<Call<'_>> {
     let fields: Vec<&str> = line.splitn(3, ',').collect();
-    let [letter, ty, last] = fields[..] else {
+    let [letter, first, last] = fields[..] else {
         return None;
     };
-    let ty = read_number(ty)?;
+    let first = read_number(first)?;
     match letter {
-        "N" => Some(Call::Number(ty, last)),
-        "S" => Some(Call::Letters(ty, read_number(last)?)),
+        "N" => Some(Call::Number(first, last)),
+        "S" => Some(Call::Letters(first, read_number(last)?)),
+        "E" => Some(Call::List(first, read_number(last)?)),
+        "M" => {
+            let (to, list) = read_list(last)?;
+            Some(Call::File(first, to, list))
+        }
         _ => None,
     }
 }
 
-/// What stands before the first line that begins with N or S, and the calls.
+/// The second T line and the list behind it; blanks become line feeds.
+fn read_list(text: &str) -> Option<(u32, String)> {
+    let (to, list) = match text.split_once(' ') {
+        Some((to, list)) => (to, list.replace(' ', "\n") + "\n"),
+        None => (text, String::new()),
+    };
+    Some((read_number(to)?, list))
+}
+
+/// What stands before the first call, and the calls.
 fn parts(text: &str) -> (&[u8], &str) {
     let lines = text.split_inclusive('\n');
-    let rules = lines.take_while(|line| !line.starts_with(['N', 'S']));
+    let rules = lines.take_while(|line| !line.starts_with(CALLS));
     let (rules, calls) = text.split_at(rules.map(str::len).sum());
     (rules.as_bytes(), calls)
 }
@@ -69,6 +91,20 @@ fn answer(desk: &mut Desk, rules: &[u8], call: Call) -> String {
             Ok(letters) => format!("0,{}", String::from_utf8_lossy(&letters)),
             Err(refused) => format!("{},", number(refused)),
         },
+        Call::List(iso, budget) => lines(desk.export(rules, iso, budget)),
+        Call::File(from, to, list) => lines(desk.import(rules, from, to, list.as_bytes())),
+    }
+}
+
+/// The lines that were written, each behind a blank.
+fn lines(written: Result<Vec<u8>, Refused>) -> String {
+    match written {
+        Ok(written) => {
+            let text = String::from_utf8_lossy(&written);
+            let lines = text.lines().map(|line| format!(" {line}"));
+            format!("0,{}", lines.collect::<String>())
+        }
+        Err(refused) => format!("{},", number(refused)),
     }
 }
 

@@ -65,6 +65,20 @@ pub struct WitnessAnswer {
     pub length: usize,
 }
 
+#[repr(C)]
+pub struct ExportAnswer {
+    pub number: u32,
+    pub line: usize,
+    pub length: usize,
+}
+
+#[repr(C)]
+pub struct ImportAnswer {
+    pub number: u32,
+    pub line: usize,
+    pub length: usize,
+}
+
 extern "C" {
     fn rulefile_check(
         file: *const u8,
@@ -173,6 +187,34 @@ extern "C" {
         result: *mut u8,
         result_length: usize,
     ) -> WitnessAnswer;
+
+    fn rulefile_export(
+        file: *const u8,
+        file_length: usize,
+        table: *mut u16,
+        table_length: usize,
+        work: *mut u8,
+        work_length: usize,
+        iso: u32,
+        budget: u32,
+        output: *mut u8,
+        output_length: usize,
+    ) -> ExportAnswer;
+
+    fn rulefile_import(
+        file: *const u8,
+        file_length: usize,
+        table: *mut u16,
+        table_length: usize,
+        work: *mut u8,
+        work_length: usize,
+        from: u32,
+        to: u32,
+        list: *const u8,
+        list_length: usize,
+        output: *mut u8,
+        output_length: usize,
+    ) -> ImportAnswer;
 }
 
 pub fn check(file: &[u8], table: &mut [u16], work: &mut [u8]) -> CheckAnswer {
@@ -361,6 +403,59 @@ pub fn witness(
             work.len(),
             result.as_mut_ptr(),
             result.len(),
+        )
+    }
+}
+
+pub fn export(
+    file: &[u8],
+    table: &mut [u16],
+    work: &mut [u8],
+    iso: u32,
+    budget: u32,
+    output: &mut [u8],
+) -> ExportAnswer {
+    // SAFETY: as for `check`.
+    unsafe {
+        rulefile_export(
+            file.as_ptr(),
+            file.len(),
+            table.as_mut_ptr(),
+            table.len(),
+            work.as_mut_ptr(),
+            work.len(),
+            iso,
+            budget,
+            output.as_mut_ptr(),
+            output.len(),
+        )
+    }
+}
+
+pub fn import(
+    file: &[u8],
+    table: &mut [u16],
+    work: &mut [u8],
+    types: [u32; 2],
+    list: &[u8],
+    output: &mut [u8],
+) -> ImportAnswer {
+    let [from, to] = types;
+    // SAFETY: as for `check`.
+    unsafe {
+        rulefile_import(
+            file.as_ptr(),
+            file.len(),
+            table.as_mut_ptr(),
+            table.len(),
+            work.as_mut_ptr(),
+            work.len(),
+            from,
+            to,
+            list.as_ptr(),
+            list.len(),
+            output.as_mut_ptr(),
+            output.len(),
         )
     }
 }

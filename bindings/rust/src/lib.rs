@@ -1,9 +1,10 @@
 //! Check, Turn, Run, whole sheets of queries, settings as numbers, the overlap of two patterns, steps known
-//! beforehand and settings that show a fault for rule files, over the proved static library.
+//! beforehand, pair lists and settings that show a fault for rule files, over the proved static library.
 //!
 //! Callers who keep their own areas lend them to [`check`], [`turn`], [`run`], [`sheet`], [`number_of`],
-//! [`setting_of`], [`overlap`], [`bounds`] and [`witness`]; areas of any length are safe, and what each then
-//! holds is said in `include/rulefile.h`. Callers who do not want to make one [`Desk`], which owns the areas:
+//! [`setting_of`], [`overlap`], [`bounds`], [`export`], [`import`] and [`witness`]; areas of any length are safe, and
+//! what each then holds is said in `include/rulefile.h`. Callers who do not want to make one [`Desk`], which owns the
+//! areas:
 //!
 //! ```
 //! use rulefile::{Desk, Direction, Query};
@@ -25,6 +26,10 @@
 //! // Without its last line the file leaves a setting out.
 //! let shown = desk.witness(&file[..file.len() - 6]).unwrap_err();
 //! assert_eq!((shown.refused.refusal, shown.letters.as_slice()), (rulefile::Refusal::GapLeft, b"RU".as_slice()));
+//! // Iso 0 as a pair list, and a file out of the list.
+//! let list = desk.export(file, 0, 1)?;
+//! assert_eq!(list, b"0,1\n1,0\n");
+//! assert_eq!(desk.import(file, 1, 1, &list)?, file);
 //! # Ok::<(), rulefile::Refused>(())
 //! ```
 
@@ -46,6 +51,10 @@ pub const TABLE_LENGTH: usize = 16_384;
 pub const WORK_LENGTH: usize = 65_536;
 /// The least length of a result area, in bytes.
 pub const RESULT_LENGTH: usize = 127;
+/// The least length of the area that a pair list is exported into, in bytes.
+pub const LIST_LENGTH: usize = 40_960;
+/// The most bytes of a file, and the least length of the area that one is imported into.
+pub const MAX_FILE_LENGTH: usize = 65_536;
 
 /// The numbers that a sheet needs for each of its queries: number, count and length.
 pub const NUMBERS_A_QUERY: usize = 3;
@@ -229,6 +238,45 @@ pub fn witness(
     given.map_err(|refused| Witnessed { refused, length })
 }
 
+/// Checks a file and writes its iso number `iso` as a pair list, a line `from,to` of setting numbers for each
+/// setting of the from-type, from 0 upwards; gives the number of bytes written. Each run has the budget for
+/// itself.
+///
+/// Refused, in this order: what [`check`] refuses, of which 1 also for an output area of less than 40,960 bytes,
+/// an absent iso (15), a from-type of over 4,096 values (18), a run that passes the budget (17). The output area
+/// is then as it was.
+pub fn export(
+    file: &[u8],
+    table: &mut [u16],
+    work: &mut [u8],
+    iso: u32,
+    budget: u32,
+    output: &mut [u8],
+) -> Result<usize, Refused> {
+    let answer = foreign::export(file, table, work, iso, budget, output);
+    Refused::unless_0(answer.number, answer.line).map(|()| answer.length)
+}
+
+/// Checks a file and writes another one with a single iso, from the first of two of its T lines to the second, out
+/// of a pair list, with a clause for each line; gives the number of bytes written. [`export`] of that file gives
+/// the list again, without its carriage returns.
+///
+/// Refused, in this order: what [`check`] refuses, of which 1 also for an output area of less than 65,536 bytes,
+/// an absent T line (15), one of over 4,096 values (18), a list of over 32 lines (7), one whose lines are not
+/// `0,to`, `1,to` and so on up to the counts of both types with each to once (20), a file of over 1,024 P lines
+/// (7). The output area is then as it was.
+pub fn import(
+    file: &[u8],
+    table: &mut [u16],
+    work: &mut [u8],
+    types: [u32; 2],
+    list: &[u8],
+    output: &mut [u8],
+) -> Result<usize, Refused> {
+    let answer = foreign::import(file, table, work, types, list, output);
+    Refused::unless_0(answer.number, answer.line).map(|()| answer.length)
+}
+
 /// The areas of the services, for callers who do not keep their own.
 #[derive(Clone, Debug)]
 pub struct Desk {
@@ -329,6 +377,30 @@ impl Desk {
             refused,
             letters: result[..length].to_vec(),
         })
+    }
+
+    /// Iso number `iso` of the file as a pair list.
+    pub fn export(&mut self, file: &[u8], iso: u32, budget: u32) -> Result<Vec<u8>, Refused> {
+        let mut output = vec![0; LIST_LENGTH];
+        let (table, work) = (&mut self.table, &mut self.work);
+        let length = export(file, table, work, iso, budget, &mut output)?;
+        output.truncate(length);
+        Ok(output)
+    }
+
+    /// A file with one iso from T line number `from` of the file to T line number `to`, out of a pair list.
+    pub fn import(
+        &mut self,
+        file: &[u8],
+        from: u32,
+        to: u32,
+        list: &[u8],
+    ) -> Result<Vec<u8>, Refused> {
+        let mut output = vec![0; MAX_FILE_LENGTH];
+        let (table, work) = (&mut self.table, &mut self.work);
+        let length = import(file, table, work, [from, to], list, &mut output)?;
+        output.truncate(length);
+        Ok(output)
     }
 
     /// The table as the last call left it: four numbers a line of the file that was accepted.

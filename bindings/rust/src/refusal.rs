@@ -47,6 +47,8 @@ pub enum Refusal {
     TooMany = 18,
     /// The setting's number is not below the T line's count of values.
     TooHigh = 19,
+    /// The lines of the list are not `0,to`, `1,to` and so on up to the counts of both types, each to once.
+    BadList = 20,
     /// A number that this crate has no name for: the library that is linked is of a later version.
     Unknown(u32),
 }
@@ -74,6 +76,7 @@ const ALL: &[(Refusal, &str)] = &[
     (Spent, "spent"),
     (TooMany, "too many values"),
     (TooHigh, "number too high"),
+    (BadList, "bad list"),
 ];
 
 impl Refusal {

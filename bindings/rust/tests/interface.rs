@@ -3,8 +3,8 @@
 
 use rulefile::{
     check, number_of, overlap, run, setting_of, sheet, turn, Desk, Direction, Overlap, Query, Ran,
-    Refusal, Refused, Value, MAX_QUERIES, NUMBERS_A_QUERY, RESULT_LENGTH, TABLE_LENGTH,
-    WORK_LENGTH,
+    Refusal, Refused, Value, LIST_LENGTH, MAX_FILE_LENGTH, MAX_QUERIES, NUMBERS_A_QUERY,
+    RESULT_LENGTH, TABLE_LENGTH, WORK_LENGTH,
 };
 use std::error::Error;
 use std::fs;
@@ -22,7 +22,7 @@ const QUERIES: &str = "Q,1,0,9,PLURU\nQ,1,1,9,PLULU\nQ,1,0,2,PRULU\nQ,1,0,2,PLUR
     Q,2,0,9,U\nQ,1,0,9,PLU\n";
 
 /// The words of documents 01 and 02, the first one for number 1.
-const WORDS: [&str; 19] = [
+const WORDS: [&str; 20] = [
     "short area",
     "too long",
     "bad line",
@@ -42,6 +42,7 @@ const WORDS: [&str; 19] = [
     "spent",
     "too many values",
     "number too high",
+    "bad list",
 ];
 
 /// The words of which a refusal's name is made; those of two are cut.
@@ -546,7 +547,7 @@ fn refusals_by_number_and_word() {
         let name = format!("{refusal:?}").to_lowercase();
         assert_eq!(name, name_words(word).replace(' ', ""));
     }
-    for number in [0, 20, 21, 256, 257, 65_537, u32::MAX] {
+    for number in [0, 21, 22, 256, 257, 65_537, u32::MAX] {
         assert_eq!(Refusal::of(number), None);
     }
 }
@@ -1168,13 +1169,39 @@ fn answer_number(desk: &mut Desk, file: &[u8], ty: u32, setting: u32) -> String 
     }
 }
 
+/// The line that answers `E,iso,budget` or `M,from,to` with a list: the lines written, each behind a blank.
+fn answer_lines(written: Result<Vec<u8>, Refused>) -> String {
+    match written {
+        Ok(written) => {
+            let text = String::from_utf8(written).unwrap();
+            let lines: Vec<&str> = text.lines().collect();
+            format!("0, {}\n", lines.join(" "))
+        }
+        Err(refused) => format!("{},\n", refused.refusal.number()),
+    }
+}
+
+/// The file that `M,from,to` and a list, each line behind a blank, give. It gives the list back.
+fn answer_list(desk: &mut Desk, file: &[u8], from: u32, text: &str) -> String {
+    let (to, list) = text.split_once(' ').unwrap_or((text, ""));
+    let list = list.split_whitespace().map(|line| format!("{line}\n"));
+    let list = list.collect::<String>();
+    let written = desk.import(file, from, to.parse().unwrap(), list.as_bytes());
+    if let Ok(written) = &written {
+        assert_eq!(desk.export(written, 0, 1), Ok(list.into_bytes()));
+    }
+    answer_lines(written)
+}
+
 /// The line that answers a call of a stored example.
 fn answer_call(desk: &mut Desk, file: &[u8], line: &str) -> String {
     let fields: Vec<&str> = line.splitn(3, ',').collect();
-    let ty = fields[1].parse().unwrap();
+    let first = fields[1].parse().unwrap();
     match fields[0] {
-        "N" => answer_letters(desk, file, ty, fields[2]),
-        "S" => answer_number(desk, file, ty, fields[2].parse().unwrap()),
+        "N" => answer_letters(desk, file, first, fields[2]),
+        "S" => answer_number(desk, file, first, fields[2].parse().unwrap()),
+        "E" => answer_lines(desk.export(file, first, fields[2].parse().unwrap())),
+        "M" => answer_list(desk, file, first, fields[2]),
         _ => panic!("{line} is no call"),
     }
 }
@@ -1183,7 +1210,7 @@ fn answer_call(desk: &mut Desk, file: &[u8], line: &str) -> String {
 fn answer_calls(text: &str) -> String {
     let calls = text
         .split_inclusive('\n')
-        .skip_while(|line| !line.starts_with(['N', 'S']));
+        .skip_while(|line| !line.starts_with(['N', 'S', 'E', 'M']));
     let length = text.len() - calls.clone().map(str::len).sum::<usize>();
     let file = &text.as_bytes()[..length];
     let mut desk = Desk::new();
@@ -1207,7 +1234,7 @@ fn stored_calls() {
         let number = |line: &str| line.split(',').next().unwrap().parse::<u32>().unwrap();
         numbers.extend(expected.lines().map(number));
     }
-    for number in [0, 15, 16, 18, 19] {
+    for number in [0, 7, 15, 16, 17, 18, 19, 20] {
         assert!(numbers.contains(&number), "{number} in no example");
     }
 }
@@ -1240,9 +1267,10 @@ fn header_and_wrapper_agree() {
         ("TABLE_LENGTH".to_string(), TABLE_LENGTH as u32),
         ("WORK_LENGTH".to_string(), WORK_LENGTH as u32),
         ("RESULT_LENGTH".to_string(), RESULT_LENGTH as u32),
+        ("LIST_LENGTH".to_string(), LIST_LENGTH as u32),
         ("NUMBERS_A_QUERY".to_string(), NUMBERS_A_QUERY as u32),
         ("MAX_QUERIES".to_string(), MAX_QUERIES as u32),
-        ("MAX_FILE_LENGTH".to_string(), 65_536),
+        ("MAX_FILE_LENGTH".to_string(), MAX_FILE_LENGTH as u32),
         ("MAX_LINES".to_string(), 4_096),
         ("ACCEPTED".to_string(), 0),
     ];
@@ -1253,6 +1281,6 @@ fn header_and_wrapper_agree() {
             refusal.number(),
         )
     }));
-    assert_eq!(expected.len(), 8 + WORDS.len());
+    assert_eq!(expected.len(), 9 + WORDS.len());
     assert_eq!(header_numbers(), expected);
 }

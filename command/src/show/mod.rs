@@ -84,6 +84,15 @@ impl<'a> Sight<'a> {
     }
 }
 
+/// The clause that begins at a line, as it reads, of a file whose lines are in order.
+pub fn clause(file: &[u8], line: usize) -> Option<String> {
+    let rules = Rules::of(file);
+    let mut clauses = rules.isos.iter().flat_map(|iso| &iso.clauses);
+    let clause = clauses.find(|clause| clause.line == line)?;
+    let shown = tree::clause(&rules, clause);
+    Some(format!("{} ↦ {}", shown.left.text(), shown.outcome()))
+}
+
 /// Shows a file.
 pub fn show(given: &Given) -> Outcome {
     let only = given.optional(1).map(|word| number(word, "", "ISO"));

@@ -5,24 +5,25 @@ use native.Mathlib.Omega.{arith}
 use mathlib.Core.Path.{_≡_, refl, sym, ap, ap₂, _∙_, subst}
 use mathlib.Core.Bool.{Bool, true, false, cond, _||_, or-true, true≢false}
 use mathlib.Core.Option.{Option, none, some}
-use mathlib.Core.List.{List, [], _∷_, _++_, map}
+use mathlib.Core.List.{List, [], _∷_, _++_}
 use lib.Dec.{ltb, lit≤}
 use lib.ListN.{length, drop, replicate, length-append, length-drop, length-replicate}
 use borrow.Author.Tests.{lt-ltb, le-ltb, lt-leb}
 use Rattle.model.specs.Limits.{maxBytes, maxLines, tableLength, workLength, rowWidth}
-use Rattle.model.specs.Tools.{concat, isSome, firstFailing, firstOf, orElse}
+use Rattle.model.specs.Tools.{isSome, firstFailing, firstOf, orElse}
 use Rattle.model.specs.Trees.{left, right, Ty, Pat, Clause, Iso}
 use Rattle.model.specs.Refusals.{Kind, typeLine, patternLine, isoLine, clauseLine, letLine, Refusal, number, shortArea, tooLong, misplaced, badField, badName, ceiling, variable, letShape, badType, overlap, gap}
-use Rattle.model.specs.Lines.{Row, lines, rowOf, numbers}
+use Rattle.model.specs.Lines.{Row, lines, rowOf, tableOf}
 use Rattle.model.specs.Judge.{Seen, start, afterAll, judge, inOrder, fieldsFit, named, withinCeilings, after, Reading, rows, faulty, withRow, onRow, onJudged, readFrom}
 use Rattle.model.specs.Unfold.{Tail, place, tailFrom, isosOf}
 use Rattle.model.specs.Clauses.{Sigs, clauseFault, variablesRule, letShapes, typed, sideFault, apart, fullWeight, lefts, rights, at, isoFault, fault, sigsOf}
 use Rattle.model.specs.Services.{Verdict, accepted, refused, judged, afterReading, over, verdict, filled, tableAfter, workAfter, short, unless, answerOf, check}
-use Rattle.model.specs.Code.{refusalView, numberOf, numbered}
+use Rattle.model.specs.Code.{refusalView, numbered}
 use Rattle.model.specs.declared.Answer as A
 use Rattle.model.specs.declared.Refusal as F
 use Rattle.model.proofs.Basic.{none≢some, some-inj, isSome-true}
-use Rattle.model.proofs.Printing.{read-count}
+use Rattle.model.proofs.Printing.{read-count, rows-inj, rows≢faulty}
+use Rattle.model.proofs.Tables.{length-table}
 use Rattle.parts.specs.Cleared.{cleared}
 use lib.Seq.{drop-append-add, drop-drop, drop-at}
 use Rattle.nodes.specs.Walk.{FileIn, isoRows, whenIso}
@@ -138,11 +139,6 @@ unfolding verdict over
 verdict-not-over s h k =
     ap (λ b. cond b (refused tooLong 0) (afterReading (readFrom start 1 (lines s)))) (ap₂ _||_ (le-ltb _ _ h) (le-ltb _ _ k))
 
-pub verdict-bytes : (s : List ℕ) → maxBytes < length s → verdict s ≡ refused tooLong 0
-unfolding verdict over
-verdict-bytes s h =
-    ap (λ b. cond (b || ltb maxLines (length (lines s))) (refused tooLong 0) (afterReading (readFrom start 1 (lines s)))) (lt-ltb _ _ h)
-
 pub verdict-lines : (s : List ℕ) → maxLines < length (lines s) → verdict s ≡ refused tooLong 0
 unfolding verdict over
 verdict-lines s h =
@@ -230,18 +226,12 @@ drop-replicate zero n l h = ap (λ m. replicate m 0 ++ l) (sym (sub-zero n))
 drop-replicate (suc k) zero l h = absurd (not-suc-le-zero h)
 drop-replicate (suc k) (suc n) l h = drop-replicate k n l (le-of-suc-le-suc h) ∙ ap (λ m. replicate m 0 ++ l) (sym (suc-sub-suc n k))
 
--- four numbers a row
-length-rows : (rs : List Row) → length (concat (map numbers rs)) ≡ length rs * rowWidth
-length-rows [] = refl
-length-rows (r ∷ rs) =
-    let e = length-rows rs in let f = length-append (numbers r) (concat (map numbers rs)) in omega (arith, e, f)
-
 rows-then-zeros : (t t₀ : List ℕ) (rs : List Row) → tableLength ≤ length t → length rs ≤ maxLines → t₀ ≡ cleared tableLength t
-    → concat (map numbers rs) ++ drop (length rs * rowWidth) t₀ ≡ filled tableLength (concat (map numbers rs)) t
+    → tableOf rs ++ drop (length rs * rowWidth) t₀ ≡ filled tableLength (tableOf rs) t
 rows-then-zeros t t₀ rs h few e =
     let within : length rs * rowWidth ≤ tableLength - 0 = omega arith in
-    let left : tableLength - 0 - length rs * rowWidth ≡ tableLength - length (concat (map numbers rs)) = omega (arith, length-rows rs) in
-    ap (λ l. concat (map numbers rs) ++ l)
+    let left : tableLength - 0 - length rs * rowWidth ≡ tableLength - length (tableOf rs) = omega (arith, length-table rs) in
+    ap (λ l. tableOf rs ++ l)
     (ap (drop (length rs * rowWidth)) (e ∙ cleared-filled tableLength t h)
     ∙ drop-replicate (length rs * rowWidth) (tableLength - 0) (drop tableLength t) within
     ∙ ap (λ m. replicate m 0 ++ drop tableLength t) left)
@@ -250,7 +240,7 @@ rows-then-zeros t t₀ rs h few e =
 pub accepted-says : (s t w t₀ t′ w′ : List ℕ) (rs : List Row) (r : A.Answer) → tableLength ≤ length t → workLength ≤ length w
     → length s ≤ maxBytes → length (lines s) ≤ maxLines → readFrom start 1 (lines s) ≡ rows rs → fault (isosOf rs) ≡ none
     → refusalView (r .refusal) ≡ none → r .place ≡ 0
-    → t₀ ≡ cleared tableLength t → t′ ≡ concat (map numbers rs) ++ drop (length rs * rowWidth) t₀ → w′ ≡ cleared workLength w
+    → t₀ ≡ cleared tableLength t → t′ ≡ tableOf rs ++ drop (length rs * rowWidth) t₀ → w′ ≡ cleared workLength w
     → CheckSays s t w t′ w′ r
 accepted-says s t w t₀ t′ w′ rs r ht hw hb hl e k n p e₀ et ew =
     let v : verdict s ≡ accepted rs = verdict-not-over s hb hl ∙ ap afterReading e ∙ ap (judged rs) k in
@@ -281,20 +271,20 @@ outcome-read s t₀ t₁ q r g says e same place =
 
 -- rows written over the front of a table leave its length and what lies behind 16,384 numbers
 rows-wide : (t₀ : List ℕ) (rs : List Row) → tableLength ≤ length t₀ → length rs ≤ maxLines
-    → length (concat (map numbers rs) ++ drop (length rs * rowWidth) t₀) ≡ length t₀
+    → length (tableOf rs ++ drop (length rs * rowWidth) t₀) ≡ length t₀
 rows-wide t₀ rs h few =
-    let a = length-append (concat (map numbers rs)) (drop (length rs * rowWidth) t₀) in
+    let a = length-append (tableOf rs) (drop (length rs * rowWidth) t₀) in
     let b = length-drop (length rs * rowWidth) t₀ in
-    omega (arith, a, b, length-rows rs)
+    omega (arith, a, b, length-table rs)
 
 rows-behind : (t₀ : List ℕ) (rs : List Row) → length rs ≤ maxLines
-    → drop tableLength (concat (map numbers rs) ++ drop (length rs * rowWidth) t₀) ≡ drop tableLength t₀
+    → drop tableLength (tableOf rs ++ drop (length rs * rowWidth) t₀) ≡ drop tableLength t₀
 rows-behind t₀ rs few =
     let k : ℕ = length rs * rowWidth in
-    let split : tableLength ≡ length (concat (map numbers rs)) + (tableLength - k) = omega (arith, length-rows rs) in
+    let split : tableLength ≡ length (tableOf rs) + (tableLength - k) = omega (arith, length-table rs) in
     let whole : k + (tableLength - k) ≡ tableLength = omega arith in
-    ap (λ n. drop n (concat (map numbers rs) ++ drop k t₀)) split
-    ∙ drop-append-add (concat (map numbers rs)) (drop k t₀) (tableLength - k)
+    ap (λ n. drop n (tableOf rs ++ drop k t₀)) split
+    ∙ drop-append-add (tableOf rs) (drop k t₀) (tableLength - k)
     ∙ drop-drop (tableLength - k) k t₀
     ∙ ap (λ n. drop n t₀) whole
 
@@ -402,16 +392,6 @@ pub isos-counted : (rs : List Row) → afterAll start rs .isos ≡ length (isosO
 unfolding isosOf start
 isos-counted rs =
     isos-told 0 start rs ∙ zero-add (length (isoRows 0 rs)) ∙ sym (isos-length (afterAll start rs .types) (afterAll start rs .patterns) 0 1 rs)
-
-rows-inj : {rs qs : List Row} → rows rs ≡ rows qs → rs ≡ qs
-rows-inj e = cc
-
-rows≢faulty : {rs : List Row} {f : Refusal} {n : ℕ} → rows rs ≡ faulty f n → ⊥
-rows≢faulty e = subst Whole e tt
-  where
-    Whole : Reading → Type 0
-    Whole (rows rs) = Unit {0}
-    Whole (faulty f n) = ⊥
 
 pub loaded : (s t₀ t₁ : List ℕ) (q : R.Read) (b : Bool) → length (lines s) ≤ maxLines → ReadSays s t₀ t₁ q → b ≡ isSome (refusalView (q .refusal)) → b ≡ false
     → (c : C.Checked) → c .types ≡ q .seen .types → c .patterns ≡ q .seen .patterns → c .isos ≡ q .seen .isos → c .lines ≡ q .lines → Loaded s t₁ c

@@ -2,12 +2,11 @@
 use Prim.Native.Nat.{ℕ, _*_, _≤_}
 use mathlib.Core.Path.{_≡_}
 use mathlib.Core.Option.{none, some}
-use mathlib.Core.List.{List, _++_, map}
+use mathlib.Core.List.{List, _++_}
 use lib.ListN.{length, drop}
 use Rattle.model.specs.Limits.{maxBytes, maxLines, tableLength, workLength, rowWidth}
-use Rattle.model.specs.Tools.{concat}
 use Rattle.model.specs.Refusals.{Refusal, number}
-use Rattle.model.specs.Lines.{Row, lines, numbers}
+use Rattle.model.specs.Lines.{Row, lines, tableOf}
 use Rattle.model.specs.Judge.{start, rows, readFrom}
 use Rattle.model.specs.Unfold.{isosOf}
 use Rattle.model.specs.Clauses.{fault}
@@ -30,7 +29,7 @@ pub record CheckSays (file t w t′ w′ : List ℕ) (r : A.Answer) : Type 0 whe
 -- line are those of the model, and at most the first 16,384 numbers changed
 pub record Outcome (s t₀ t₁ : List ℕ) (r : A.Answer) : Type 0 where
   pub accepts : refusalView (r .refusal) ≡ none → (rs : List Row) × (readFrom start 1 (lines s) ≡ rows rs) × (fault (isosOf rs) ≡ none)
-      × (t₁ ≡ concat (map numbers rs) ++ drop (length rs * rowWidth) t₀)
+      × (t₁ ≡ tableOf rs ++ drop (length rs * rowWidth) t₀)
   pub refuses : (f : Refusal) → refusalView (r .refusal) ≡ some f → afterReading (readFrom start 1 (lines s)) ≡ refused f (r .place)
   pub later : (f : Refusal) → refusalView (r .refusal) ≡ some f → 3 ≤ number f
   pub wide : length t₁ ≡ length t₀

@@ -1,6 +1,10 @@
 // Check: the file's bytes, a table area and a work area in; a number and a line out.
 
 use isos::isos_fault;
+use limits::MAX_BYTES;
+use limits::MAX_LINES;
+use limits::TABLE_LENGTH;
+use limits::WORK_LENGTH;
 use lines::read::read_file;
 use model::Answer;
 use model::Refusal;
@@ -88,7 +92,7 @@ pub fn entered(file: &[u8], table: &mut [u16]) -> Checked
     requires { ⌜ (tableLength ≤ length (now table)) × (length (lines (now file)) ≤ maxLines) ⌝ }
     ensures { λ r. ⌜ Entered (now (file .entry)) (now (table .entry)) (now (table .exit)) r ⌝ }
 {
-    clear_words(table, 16384);
+    clear_words(table, TABLE_LENGTH);
     judged(file, table)
 }
 
@@ -99,7 +103,7 @@ pub fn settled(table: &mut [u16], c: Checked) -> Checked
     let a = c.answer;
     let f = a.refusal;
     if is_refused(f) {
-        clear_words(table, 16384);
+        clear_words(table, TABLE_LENGTH);
         return c;
     }
     accepted(c)
@@ -118,16 +122,16 @@ fn filed(file: &[u8], table: &mut [u16]) -> Checked
 pub fn early(file: &[u8], table: usize, work: usize) -> Refusal
     ensures { λ r. ⌜ Early (now (file .entry)) table work r ⌝ }
 {
-    if table < 16384 {
+    if table < TABLE_LENGTH {
         return Refusal::ShortArea;
     }
-    if work < 65536 {
+    if work < WORK_LENGTH {
         return Refusal::ShortArea;
     }
-    if 65536 < file.len() {
+    if MAX_BYTES < file.len() {
         return Refusal::TooLong;
     }
-    if 4096 < count_lines(file) {
+    if MAX_LINES < count_lines(file) {
         return Refusal::TooLong;
     }
     Refusal::Nothing
@@ -142,7 +146,7 @@ pub fn check_file(file: &[u8], table: &mut [u16], work: &mut [u8]) -> Checked
     if is_refused(f) {
         return refused(0, f);
     }
-    clear_bytes(work, 65536);
+    clear_bytes(work, WORK_LENGTH);
     filed(file, table)
 }
 

@@ -9,9 +9,10 @@ use mathlib.Core.Option.{Option, none, some}
 use mathlib.Core.List.{List, List·Memᴰ}
 use lib.Dec.{ltb}
 use lib.ListN.{length, length-map}
+use borrow.Author.Tests.{lt-ltb}
 use Rattle.model.specs.Limits.{maxBytes, maxLines}
 use Rattle.model.specs.Trees.{left, right}
-use Rattle.model.specs.Refusals.{Refusal, number, shortArea, tooLong, badLine, misplaced, badField, badName, ceiling, variable, letShape, badType, overlap, gap, noIso, noValue, spent, tooMany, tooHigh}
+use Rattle.model.specs.Refusals.{Refusal, number, shortArea, tooLong, badLine, misplaced, badField, badName, ceiling, variable, letShape, badType, overlap, gap, noIso, noValue, spent, tooMany, tooHigh, badList}
 use Rattle.model.specs.Lines.{Row, lines, withoutReturns, print, printRows}
 use Rattle.model.specs.Judge.{start, Reading, rows, faulty, readFrom}
 use Rattle.model.specs.Unfold.{isosOf, turnRows}
@@ -111,6 +112,7 @@ number-positive noValue = omega arith
 number-positive spent = omega arith
 number-positive tooMany = omega arith
 number-positive tooHigh = omega arith
+number-positive badList = omega arith
 
 -- an answer whose number is 0 is of an accepted file
 pub answer-zero : (v : Verdict) → answerOf v .number ≡ 0 → (rs : List Row) × (v ≡ accepted rs)
@@ -125,6 +127,11 @@ answer-iff bs = (
 )
 
 -- ---- the turned file
+
+-- a file of more than 65,536 bytes is refused 2, of no line
+pub verdict-long : (bs : List ℕ) → maxBytes < length bs → verdict bs ≡ refused tooLong 0
+unfolding verdict over
+verdict-long bs h = rw (lt-ltb _ _ h)
 
 pub turned-accepted-bytes : (bs : List ℕ) (rs : List Row) → verdict bs ≡ accepted rs → turned bs ≡ printRows (turnRows rs)
 unfolding turned

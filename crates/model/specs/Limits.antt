@@ -66,6 +66,16 @@ maxQueries = 600
 abbrev pub maxValues : ℕ
 maxValues = 4294967295
 
+-- request 07: the most values of a type whose pairs are listed, and the lengths of the areas for a list and for a file
+abbrev pub maxPairs : ℕ
+maxPairs = 4096
+
+abbrev pub exportLength : ℕ
+exportLength = 40960
+
+abbrev pub importLength : ℕ
+importLength = 65536
+
 abbrev pub lineFeed : ℕ
 lineFeed = 10
 

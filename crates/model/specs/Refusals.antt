@@ -1,4 +1,4 @@
--- The refusals of document 01 and of request 02 (18, 19), each with its number. A case holds the kind of the faulty line where the line may be of any kind.
+-- The refusals of document 01 and of requests 02 (18, 19) and 07 (20), each with its number. A case holds the kind of the faulty line where the line may be of any kind.
 use Prim.Native.Nat.{ℕ}
 use Rattle.model.specs.Trees.{Tag, left, right}
 
@@ -13,6 +13,7 @@ pub data Refusal : Type 0 where
   overlap gap : Tag → Refusal
   noIso noValue spent : Refusal
   tooMany tooHigh : Refusal
+  badList : Refusal
 
 -- the column "number" of document 01's table
 abbrev pub number : Refusal → ℕ
@@ -35,3 +36,4 @@ number noValue = 16
 number spent = 17
 number tooMany = 18
 number tooHigh = 19
+number badList = 20

@@ -6,3 +6,5 @@ pub mod Lines
 pub mod Ranking
 -- The letters of the value with a number.
 pub mod Spelling
+-- The T lines of a file in the table.
+pub mod TypeLines

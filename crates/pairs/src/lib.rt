@@ -48,8 +48,7 @@ fn copy_front(from: &[u8], n: usize, out: &mut [u8])
     }
 }
 
-// Keeps in an area the letters of the sooner of two: the value kept there, if any, and the least that P
-// lines p and q both match.
+// Keeps in an area the letters of the sooner of two: the value kept there, if any, and the least that P lines p and q both match.
 pub fn with_pair(
     t: &[u16],
     base: usize,
@@ -82,7 +81,7 @@ pub fn with_pair(
     n
 }
 
-// The same for P line p with each pattern in field f of the rows.
+// The same for P line p with each pattern in field f of the rows from place `from` on.
 pub fn add_row(
     t: &[u16],
     base: usize,
@@ -106,8 +105,8 @@ pub fn add_row(
     b
 }
 
-// Keeps the letters of the least value of T line i that two of the patterns in field f of the rows match,
-// and gives their number; 0 where there is none. What lies behind them may have changed.
+// Writes the letters of the least value of T line i that two of the patterns in field f of the rows match, and gives their number; 0 where
+// there is none.
 pub fn overlap_value(
     t: &[u16],
     base: usize,
@@ -130,7 +129,7 @@ pub fn overlap_value(
     best
 }
 
-// Writes the same letters, with the bytes past them left as they were.
+// The same, with the bytes past the letters left as they were.
 pub fn show_overlap(
     t: &[u16],
     base: usize,

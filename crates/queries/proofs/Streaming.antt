@@ -12,10 +12,11 @@ use Rattle.model.specs.Limits.{lineFeed, letterQ, maxBytes}
 use Rattle.model.specs.Tools.{concat}
 use Rattle.model.specs.Refusals.{tooLong}
 use Rattle.model.specs.Lines.{Row, lines, ontoFirst}
-use Rattle.model.specs.Services.{Verdict, accepted, refused, verdict, over, answerOf, answerOfRun}
+use Rattle.model.specs.Services.{Verdict, accepted, refused, verdict, answerOf, answerOfRun}
 use Rattle.model.specs.Desk.{isQuery, fileLines, queryLines, queryOf, answerTo, queryAnswers, queryLine, fileLine, desk}
-use Rattle.model.proofs.Basic.{bool-cases, not-both, and-true, eqb-eq, each-nil, each-cons, each-append, not-leb, lt-ltb, ltb-lt}
+use Rattle.model.proofs.Basic.{bool-cases, not-both, and-true, eqb-eq, each-nil, each-cons, each-append, not-leb, ltb-lt}
 use Rattle.model.proofs.Printing.{NoFeed, Feedless, lines-feed, lines-last}
+use Rattle.model.proofs.Files.{verdict-long}
 use Rattle.queries.specs.Stream.{State, collecting, asking, stopped, Step, opensFrom, opens, begun, close, answered, step, finish, behind, steps, output, settled}
 
 -- ---- cutting
@@ -55,11 +56,6 @@ pub opens-append : (bs : List ℕ) (b : ℕ) → opens (bs ++ (b ∷ [])) ≡ eq
 opens-append bs b = opens-from true bs b
 
 -- ---- a file and a line that are too long
-
--- a file of more than 65,536 bytes is refused 2, of no line
-pub verdict-long : (bs : List ℕ) → maxBytes < length bs → verdict bs ≡ refused tooLong 0
-unfolding verdict over
-verdict-long bs h = rw (lt-ltb h)
 
 -- all files of more than 65,536 bytes are refused alike
 pub verdict-cap : (bs cs : List ℕ) → 65536 < length bs → 65536 < length cs → verdict bs ≡ verdict cs

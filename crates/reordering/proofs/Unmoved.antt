@@ -20,6 +20,7 @@ use Rattle.model.proofs.Passing.{Passes, done, next}
 use Rattle.model.proofs.Turning.{passes-next}
 use Rattle.reordering.proofs.Moving.{seen, block-after, block-needs, block-pass}
 use Rattle.reordering.proofs.Reading.{Rows, rows-lets, row-clause, no-let}
+use Rattle.model.proofs.Printing.{rows≢faulty}
 use Rattle.reordering.proofs.Files.{same-over}
 
 -- reading stops at a line with a refusal: the rows above it pass, the line is of no form or its row is refused
@@ -29,9 +30,6 @@ pub data Stops : Seen → ℕ → List (List ℕ) → Refusal → ℕ → List �
       → Stops s n (l ∷ ls) f m k
   past : {s : Seen} {n m : ℕ} {l k : List ℕ} {ls : List (List ℕ)} {f : Refusal} (r : Row) → rowOf l ≡ some r → judge s r ≡ none
       → Stops (after s r) (suc n) ls f m k → Stops s n (l ∷ ls) f m k
-
-rows≢faulty : {rs : List Row} {f : Refusal} {n : ℕ} → rows rs ≡ faulty f n → ⊥
-rows≢faulty e = false≢true cc
 
 withRow-faulty : (r : Row) (x : Reading) (f : Refusal) (n : ℕ) → withRow r x ≡ faulty f n → x ≡ faulty f n
 withRow-faulty r (rows rs) f n e = absurd (rows≢faulty e)

@@ -9,6 +9,7 @@ use Rattle.model.specs.Sheet.{sheet}
 use Rattle.ranking.specs.Numbering.{numberService, settingService}
 use Rattle.comparison.specs.Overlap.{overlapService}
 use Rattle.costs.specs.Bounds.{boundsService}
+use Rattle.pairlists.specs.PairLists.{exportService, importService}
 use Rattle.witnesses.specs.Showing.{showService}
 use Rattle.rulefile.specs.declared.CheckAnswer as C
 use Rattle.rulefile.specs.declared.TurnAnswer as T
@@ -18,6 +19,7 @@ use Rattle.rulefile.specs.declared.NumberAnswer as N
 use Rattle.rulefile.specs.declared.SettingAnswer as L
 use Rattle.rulefile.specs.declared.OverlapAnswer as O
 use Rattle.rulefile.specs.declared.BoundsAnswer as B
+use Rattle.rulefile.specs.declared.TradeAnswer as P
 use Rattle.rulefile.specs.declared.WitnessAnswer as W
 
 -- "Check gives a number and a line"
@@ -88,6 +90,24 @@ pub record BoundsGiven (file t w : List ℕ) (i : ℕ) (t′ w′ : List ℕ) (r
   pub greatestOver : r .«greatest_over» ≡ boundsService file t w i .bounds .greatestOver
   pub table : t′ ≡ boundsService file t w i .table
   pub work : w′ ≡ boundsService file t w i .work
+
+-- request 07, out
+pub record ExportGiven (file t w : List ℕ) (i budget : ℕ) (o t′ w′ o′ : List ℕ) (r : P.TradeAnswer) : Type 0 where
+  pub number : r .number ≡ exportService file t w i budget o .answer .number
+  pub line : r .line ≡ exportService file t w i budget o .answer .line
+  pub bytes : r .length ≡ exportService file t w i budget o .length
+  pub table : t′ ≡ exportService file t w i budget o .table
+  pub work : w′ ≡ exportService file t w i budget o .work
+  pub output : o′ ≡ exportService file t w i budget o .output
+
+-- and in
+pub record ImportGiven (file t w : List ℕ) (i j : ℕ) (list o t′ w′ o′ : List ℕ) (r : P.TradeAnswer) : Type 0 where
+  pub number : r .number ≡ importService file t w i j list o .answer .number
+  pub line : r .line ≡ importService file t w i j list o .answer .line
+  pub bytes : r .length ≡ importService file t w i j list o .length
+  pub table : t′ ≡ importService file t w i j list o .table
+  pub work : w′ ≡ importService file t w i j list o .work
+  pub output : o′ ≡ importService file t w i j list o .output
 
 -- request 09
 pub record WitnessGiven (file t w o t′ w′ o′ : List ℕ) (r : W.WitnessAnswer) : Type 0 where

@@ -1,10 +1,12 @@
 // The interface for callers in C and in Rust: Check, Turn, Run, a whole sheet, settings as numbers, the
-// overlap of two P lines, steps known beforehand and a setting that shows the fault, under document 01's
-// numbers. Each slice passes as a pointer and a length, each answer as a struct; `include/rulefile.h`
-// declares them.
+// overlap of two P lines, steps known beforehand, pair lists in and out and a setting that shows the fault,
+// under document 01's numbers. Each slice passes as a pointer and a length, each answer as a struct;
+// `include/rulefile.h` declares them.
 
 use bounds::bounds;
 use checker::check;
+use exports::export;
+use imports::import;
 use model::number_of;
 use overlaps::overlap;
 use runner::run::run;
@@ -13,7 +15,7 @@ use settings::to_setting;
 use sheets::sheet;
 use turner::turn;
 use witness::witness;
-ghost use Rattle.rulefile.specs.Given.{CheckGiven, TurnGiven, RunGiven, SheetGiven, NumberGiven, SettingGiven, OverlapGiven, BoundsGiven, WitnessGiven};
+ghost use Rattle.rulefile.specs.Given.{CheckGiven, TurnGiven, RunGiven, SheetGiven, NumberGiven, SettingGiven, OverlapGiven, BoundsGiven, ExportGiven, ImportGiven, WitnessGiven};
 
 // Check's number and line.
 #[repr(C)]
@@ -78,6 +80,14 @@ pub struct BoundsAnswer {
     pub greatest: u32,
     pub least_over: bool,
     pub greatest_over: bool,
+}
+
+// The number and line of a call for a pair list, in or out, and the number of bytes written.
+#[repr(C)]
+pub struct TradeAnswer {
+    pub number: u32,
+    pub line: usize,
+    pub length: usize,
 }
 
 // The number and line of a call for the value that shows the fault, and how many letters were written.
@@ -245,6 +255,51 @@ pub extern "C" fn rulefile_bounds(
         greatest: told.greatest,
         least_over: told.least_over,
         greatest_over: told.greatest_over,
+    }
+}
+
+// Checks a file and lists its iso number `iso` as lines `from,to` of setting numbers, with one budget for each.
+#[no_mangle]
+pub extern "C" fn rulefile_export(
+    file: &[u8],
+    table: &mut [u16],
+    work: &mut [u8],
+    iso: u32,
+    budget: u32,
+    output: &mut [u8],
+) -> TradeAnswer
+    ensures { λ r. ⌜ ExportGiven (now (file .entry)) (now (table .entry)) (now (work .entry)) iso budget (now (output .entry)) (now (table .exit)) (now (work .exit)) (now (output .exit)) r ⌝ }
+{
+    let listed = export(file, table, work, iso as usize, budget, output);
+    let call = listed.answer;
+    let f = call.refusal;
+    TradeAnswer {
+        number: number_of(f) as u32,
+        line: call.place,
+        length: listed.length,
+    }
+}
+
+// Checks a file and writes the file of a list of pairs between its T lines `from` and `to`.
+#[no_mangle]
+pub extern "C" fn rulefile_import(
+    file: &[u8],
+    table: &mut [u16],
+    work: &mut [u8],
+    from: u32,
+    to: u32,
+    list: &[u8],
+    output: &mut [u8],
+) -> TradeAnswer
+    ensures { λ r. ⌜ ImportGiven (now (file .entry)) (now (table .entry)) (now (work .entry)) from to (now (list .entry)) (now (output .entry)) (now (table .exit)) (now (work .exit)) (now (output .exit)) r ⌝ }
+{
+    let written = import(file, table, work, from as usize, to as usize, list, output);
+    let outcome = written.answer;
+    let f = outcome.refusal;
+    TradeAnswer {
+        number: number_of(f) as u32,
+        line: outcome.place,
+        length: written.length,
     }
 }
 

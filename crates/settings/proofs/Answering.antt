@@ -30,10 +30,11 @@ use Rattle.values.proofs.Alone.{alone-true, alone-false}
 use Rattle.values.proofs.Agreeing.{value-some, value-behind}
 use Rattle.numbering.specs.Numbers.{Counts, Ranks, Unranks}
 use Rattle.numbering.proofs.Counting.{counted}
+use Rattle.numbering.proofs.TypeLines.{line-small}
 use Rattle.settings.specs.SettingSays.{typeFault, NumberedAs, LetteredAs}
 use Rattle.settings.specs.declared.Numbered as N
 use Rattle.settings.specs.declared.Lettered as L
-use Rattle.settings.proofs.Lines.{fault-passed, line-good, line-faulty, line-small}
+use Rattle.settings.proofs.Lines.{fault-passed, line-good, line-faulty}
 
 -- ---- refusals
 

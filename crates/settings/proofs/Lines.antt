@@ -6,24 +6,22 @@ use mathlib.Core.Bool.{Bool, true, false, cond}
 use mathlib.Core.Option.{Option, none, some}
 use mathlib.Core.List.{List}
 use lib.Dec.{leb, ltb}
-use lib.ListN.{getElem?, length, getD}
-use Rattle.model.specs.Limits.{maxNodes, maxValues}
+use lib.ListN.{getElem?}
+use Rattle.model.specs.Limits.{maxValues}
 use Rattle.model.specs.Tools.{isSome}
-use Rattle.model.specs.Trees.{Ty, tunit, typeNodes}
+use Rattle.model.specs.Trees.{Ty}
 use Rattle.model.specs.Refusals.{Refusal, noIso, tooMany}
 use Rattle.model.specs.Lines.{Row}
-use Rattle.model.specs.Judge.{start, afterAll}
 use Rattle.ranking.specs.Numbering.{count, typesOf}
 use Rattle.ranking.specs.Answers.{LineFault, LineOf}
 use Rattle.model.specs.Code.{refusalView}
 use Rattle.model.specs.declared.Refusal as F
 use Rattle.model.proofs.Basic.{isSome-true, none≢some, some-inj, leb-le, leb-false, le-leb, not-leb, ltb-lt, ltb-false, lt-ltb, not-ltb}
-use Rattle.model.proofs.Sizes.{types-small}
 use Rattle.nodes.specs.Unfolding.{typeOf}
 use Rattle.nodes.specs.Walk.{FileIn}
-use Rattle.nodes.proofs.Rows.{get-row, past-row}
 use Rattle.checker.proofs.Checks.{flag-none}
 use Rattle.numbering.specs.Numbers.{Counts}
+use Rattle.numbering.proofs.TypeLines.{absent, there}
 use Rattle.settings.specs.SettingSays.{typeFault}
 
 -- ---- the test
@@ -60,27 +58,15 @@ module _ (types i : ℕ) (a : Ty) where
 -- ---- a file in the table
 
 module _ {t : List ℕ} {types patterns lines : ℕ} {rs : List Row} (f : FileIn t types patterns lines rs) (i : ℕ) where
-  absent : types ≤ i → getElem? (typesOf rs) i ≡ none
-  unfolding typesOf
-  absent h = past-row (typesOf rs) i (omega (arith, f .typeCount))
-
-  there : i < types → getElem? (typesOf rs) i ≡ some (typeOf t i)
-  unfolding typesOf
-  there h = get-row (typesOf rs) i tunit (omega (arith, f .typeCount)) ∙ ap some (sym (f .typeTrees i h))
-
-  -- its nodes
-  pub line-small : i < types → typeNodes (typeOf t i) ≤ maxNodes
-  line-small h = subst (λ a. typeNodes a ≤ maxNodes) (sym (f .typeTrees i h)) (types-small (f .passes) i)
-
   -- a line that passes the test
   pub line-good : i < types → count (typeOf t i) ≤ maxValues → LineOf rs i (typeOf t i)
-  line-good h k = record { there = there h; few = k }
+  line-good h k = record { there = there f i h; few = k }
 
   -- and another
   faulty-by : (z : Refusal) (p q : Bool) → leb types i ≡ p → ltb maxValues (count (typeOf t i)) ≡ q → faultBy p q ≡ some z → LineFault rs i z
-  faulty-by z true q hp hq k = subst (LineFault rs i) (some-inj k) (LineFault.absent (absent (leb-le types i hp)))
+  faulty-by z true q hp hq k = subst (LineFault rs i) (some-inj k) (LineFault.absent (absent f i (leb-le types i hp)))
   faulty-by z false true hp hq k =
-      subst (LineFault rs i) (some-inj k) (LineFault.many (typeOf t i) (there (leb-false types i hp)) (ltb-lt maxValues (count (typeOf t i)) hq))
+      subst (LineFault rs i) (some-inj k) (LineFault.many (typeOf t i) (there f i (leb-false types i hp)) (ltb-lt maxValues (count (typeOf t i)) hq))
   faulty-by z false false hp hq k = absurd (none≢some k)
 
   pub line-faulty : {x : Option Refusal} {b : Bool} → x ≡ typeFault types i (typeOf t i) → b ≡ isSome x → b ≡ true

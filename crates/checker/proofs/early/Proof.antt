@@ -1,6 +1,7 @@
 -- `checker::early` meets its contract: each answer by the tests that led to it.
 use mathlib.Core.Path.{refl}
-use Rattle.checker.proofs.Checks.{verdict-bytes, counted-many, counted-few, early-table, early-work, early-long, early-none}
+use Rattle.model.proofs.Files.{verdict-long}
+use Rattle.checker.proofs.Checks.{counted-many, counted-few, early-table, early-work, early-long, early-none}
 use borrow.Author.Needs.{needs}
 use Rattle.checker.proofs.early.Statement.{statement}
 use Rattle.checker.proofs.early.Tie as tie
@@ -12,7 +13,7 @@ returns-2 : tie.Need-returns-2
 returns-2 c = early-work _ _ _ _ refl (c .if2 .taken)
 
 returns-3 : tie.Need-returns-3
-returns-3 c = early-long _ _ _ _ refl (c .before .before .if1 .left) (c .before .if2 .left) (verdict-bytes _ (c .if3 .taken))
+returns-3 c = early-long _ _ _ _ refl (c .before .before .if1 .left) (c .before .if2 .left) (verdict-long _ (c .if3 .taken))
 
 count-lines-requires : tie.Need-count-lines-requires
 count-lines-requires c κs = search needs

@@ -1,4 +1,3 @@
--- `meets::write_least_in` meets its contract, node by node of the pattern, a variable by the least value of its type.
 use borrow.Author.Needs.{needs}
 use Prim.Native.Nat.{ℕ, _+_, _<_}
 use mathlib.Core.Path.{sym, _∙_}

@@ -65,6 +65,9 @@ enum-told-15 c = search needs
 enum-told-16 : tie.Need-enum-told-16
 enum-told-16 c = search needs
 
+enum-told-17 : tie.Need-enum-told-17
+enum-told-17 c = search needs
+
 returns : tie.Need-returns
 returns c = sym (ap numberOf (c .enum-told .given .1))
 
@@ -119,6 +122,9 @@ returns-17 c = sym (ap numberOf (c .enum-told15 .given .1))
 returns-18 : tie.Need-returns-18
 returns-18 c = sym (ap numberOf (c .enum-told16 .given .1))
 
+returns-19 : tie.Need-returns-19
+returns-19 c = sym (ap numberOf (c .enum-told17 .given .1))
+
 pub number-of-spec : {M : Type 1} → statement M
 number-of-spec =
     tie.close
@@ -143,6 +149,7 @@ number-of-spec =
     enum-told-14
     enum-told-15
     enum-told-16
+    enum-told-17
     returns
     returns-2
     returns-3
@@ -160,4 +167,5 @@ number-of-spec =
     returns-15
     returns-16
     returns-17
-    returns-18)
+    returns-18
+    returns-19)

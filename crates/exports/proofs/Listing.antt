@@ -1,0 +1,125 @@
+-- A list on a checked table, case by case, against the model's outcome for the file's rows.
+use Prim.Native.Nat.{ℕ, _+_, _≤_, _<_, min}
+use native.Mathlib.Nat.{zero-add}
+use native.Mathlib.Omega.{arith}
+use mathlib.Core.Path.{_≡_, sym, ap, _∙_}
+use mathlib.Core.Bool.{Bool, true, false, cond}
+use mathlib.Core.Option.{Option, none, some}
+use mathlib.Core.List.{List, _++_}
+use lib.Dec.{ltb}
+use lib.ListN.{length, getElem?, take, drop}
+use lib.Seq.{sets-eq}
+use Rattle.model.specs.Limits.{maxPairs}
+use Rattle.model.specs.Trees.{Iso}
+use Rattle.model.specs.Refusals.{Refusal, noIso, spent, tooMany}
+use Rattle.model.specs.Lines.{Row}
+use Rattle.model.specs.Unfold.{isosOf}
+use Rattle.model.specs.Services.{written}
+use Rattle.model.specs.Code.{refusalView, numbered}
+use Rattle.model.proofs.Basic.{lt-ltb, not-ltb}
+use Rattle.model.proofs.Runs.{good, good-invert}
+use Rattle.ranking.specs.Numbering.{count, Outcome, fails, refusalOf, lettersFrom}
+use Rattle.pairlists.specs.PairLists.{pairLines, toFrom, upwards, onPairs, onExported, exportRows}
+use Rattle.pairlists.proofs.List.{pairs-room}
+use Rattle.pairlists.proofs.Exports.{tos-taken}
+use Rattle.areas.specs.Areas.{Writes}
+use Rattle.nodes.specs.Unfolding.{cellOf, typeOf}
+use Rattle.nodes.proofs.Rows.{past-row}
+use Rattle.index.specs.Index.{placeAt}
+use Rattle.numbering.specs.Numbers.{Counts}
+use Rattle.reduction.proofs.Laying.{inside}
+use Rattle.runner.specs.RunSays.{Prepared}
+use Rattle.targets.specs.Targets.{Runnable, Found}
+use Rattle.targets.proofs.Sending.{from-type}
+use Rattle.exports.specs.ExportSays.{ListedAs}
+use Rattle.exports.specs.declared.Listed as L
+
+-- ---- the model's outcome, by its cases
+
+on-none : (rs : List Row) (i budget : ℕ) → getElem? (isosOf rs) i ≡ none → exportRows rs i budget ≡ fails noIso
+unfolding exportRows
+on-none rs i budget e = ap (onExported (isosOf rs) i budget) e
+
+on-some : (rs : List Row) (i budget : ℕ) {o : Iso} → getElem? (isosOf rs) i ≡ some o → (b : Bool) → ltb maxPairs (count (o .from)) ≡ b
+    → exportRows rs i budget ≡ cond b (fails tooMany) (onPairs (upwards (toFrom (isosOf rs) i o budget) 0 (count (o .from))))
+unfolding exportRows
+on-some rs i budget {o} e b h =
+    ap (onExported (isosOf rs) i budget) e
+    ∙ ap (λ c. cond c (fails tooMany) (onPairs (upwards (toFrom (isosOf rs) i o budget) 0 (count (o .from))))) h
+
+-- ---- refusals
+
+listed-refused : {x : Outcome (List ℕ)} (o : List ℕ) (r : L.Listed) {z : Refusal} → x ≡ fails z → refusalView (r .refusal) ≡ some z → r .length ≡ 0
+    → ListedAs x o o r
+listed-refused o r e n k =
+    record {
+      number = ap numbered n ∙ sym (ap refusalOf e);
+      bytes = k ∙ sym (ap (λ y. length (lettersFrom y)) e);
+      output = sym (ap (λ y. written (lettersFrom y) o) e);
+    }
+
+module _ {t : List ℕ} {base : ℕ} {index : List ℕ} {isos : ℕ} {rs : List Row} (p : Prepared t base index isos rs) (i budget : ℕ) (x : List ℕ) (r : L.Listed) where
+  -- 15
+  pub no-iso : isos ≤ i → refusalView (r .refusal) ≡ some noIso → r .length ≡ 0 → ListedAs (exportRows rs i budget) x x r
+  no-iso h n k =
+      let all = p .count in listed-refused x r (on-none rs i budget (past-row (isosOf rs) i (omega (arith, all)))) n k
+
+  module _ (less : i < isos) {j n : ℕ} (e : j ≡ cellOf t (placeAt index (placeAt index i)) 1) (c : Counts (typeOf t j) n) where
+    there : (o : Iso) × (getElem? (isosOf rs) i ≡ some o)
+    there = let all = p .count in inside (isosOf rs) i (omega (arith, all))
+
+    -- how many values its from-type has
+    counted : n ≡ min (count (there .0 .from)) 4294967296
+    counted = c ∙ ap (λ a. min (count a) 4294967296) (ap (typeOf t) e ∙ from-type p i (there .1))
+
+    -- 18
+    pub too-many : 4096 < n → refusalView (r .refusal) ≡ some tooMany → r .length ≡ 0 → ListedAs (exportRows rs i budget) x x r
+    too-many h f k =
+        let m = counted in
+        let over : maxPairs < count (there .0 .from) = omega (arith, m) in
+        listed-refused x r (on-some rs i budget (there .1) true (lt-ltb over)) f k
+
+    module _ (h : n ≤ 4096) where
+      few : count (there .0 .from) ≤ maxPairs
+      few = let m = counted in omega (arith, m)
+
+      same : n ≡ count (there .0 .from)
+      same = let m = counted in let f = few in omega (arith, m, f)
+
+      outcome : (ts : Option (List ℕ)) → upwards (toFrom (isosOf rs) i (there .0) budget) 0 n ≡ ts → exportRows rs i budget ≡ onPairs ts
+      outcome ts u =
+          on-some rs i budget (there .1) false (not-ltb few)
+          ∙ ap onPairs (ap (upwards (toFrom (isosOf rs) i (there .0) budget) 0) (sym same) ∙ u)
+
+      module _ {b : Bool} {l : List ℕ}
+          (says : (o : Iso) → Runnable t base index isos rs i o → n ≤ count (o .from) → Found rs i o budget n l b) where
+        found : upwards (toFrom (isosOf rs) i (there .0) budget) 0 n ≡ cond b (some (take n l)) none
+        found = let m = same in says (there .0) (record { prepared = p; there = there .1; few = few }) (omega (arith, m)) .tos
+
+        -- 17
+        pub some-spent : b ≡ false → refusalView (r .refusal) ≡ some spent → r .length ≡ 0 → ListedAs (exportRows rs i budget) x x r
+        some-spent y g k = listed-refused x r (outcome none (found ∙ ap (λ z. cond z (some (take n l)) none) y)) g k
+
+        -- the lines
+        pub list-given : b ≡ true → n ≤ length l → 40960 ≤ length x → {x′ : List ℕ} {end : ℕ}
+            → (n ≤ length l → n < 10000000000 → Writes x x′ 0 end (pairLines 0 (take n l)))
+            → refusalView (r .refusal) ≡ none → r .length ≡ end → ListedAs (exportRows rs i budget) x x′ r
+        list-given y wide room {x′} {end} w g k =
+            let ts : List ℕ = take n l in
+            let u : upwards (toFrom (isosOf rs) i (there .0) budget) 0 n ≡ some ts = found ∙ ap (λ z. cond z (some ts) none) y in
+            let s = outcome (some ts) u in
+            let taken = tos-taken (isosOf rs) (good rs (p .good)) (good-invert rs (p .good)) i (there .0) (there .1) budget ts
+            (ap (upwards (toFrom (isosOf rs) i (there .0) budget) 0) (sym same) ∙ u) in
+            let a = taken .froms in
+            let d = taken .tos in
+            let m = same in
+            let q = pairs-room 0 ts (omega arith) (λ v z. let b = taken .below v z in omega arith) in
+            let zero = zero-add (length (pairLines 0 ts)) in
+            let fits : 0 + length (pairLines 0 ts) ≤ length x = omega arith in
+            let out = w wide (omega arith) in
+            record {
+              number = ap numbered g ∙ sym (ap refusalOf s);
+              bytes = k ∙ out .place fits ∙ zero ∙ sym (ap (λ z. length (lettersFrom z)) s);
+              output = out .area fits ∙ sets-eq (pairLines 0 ts) x 0 fits ∙ ap (λ z. pairLines 0 ts ++ drop z x) zero
+                  ∙ sym (ap (λ z. written (lettersFrom z) x) s);
+            }

@@ -1,0 +1,171 @@
+// An iso as a list of pairs: a line `from,to` of setting numbers for each value of its from-type.
+
+use areas::put_byte;
+use checker::Checked;
+use checker::check_file;
+use model::Answer;
+use model::Refusal;
+use model::is_refused;
+use numbering::count_values;
+use parts::clear_bytes;
+use printer::put_field;
+use printer::put_number;
+use runner::run::prepare;
+use targets::find_tos;
+use targets::iso_cell;
+use words::wide;
+use words::word_at;
+ghost use mathlib.Core.Path.{_≡_};
+ghost use mathlib.Core.List.{List};
+ghost use Prim.Native.Nat.{ℕ, _≤_, _<_};
+ghost use lib.ListN.{length, take, drop};
+ghost use Rattle.model.specs.Lines.{Row as RowOf};
+ghost use Rattle.pairlists.specs.PairLists.{pairLine, pairLines, exportRows};
+ghost use Rattle.areas.specs.Areas.{Writes};
+ghost use Rattle.checker.specs.CheckSays.{Accepted};
+ghost use Rattle.runner.specs.RunSays.{Prepared};
+ghost use Rattle.exports.specs.ExportSays.{ListedAs, ExportSays};
+
+// A refusal or none, and the number of bytes in the output area.
+pub struct Listed {
+    pub refusal: Refusal,
+    pub length: usize,
+}
+
+// The answer to the call, and the number of bytes in the output area.
+pub struct Exported {
+    pub answer: Answer,
+    pub length: usize,
+}
+
+fn not_listed(f: Refusal) -> Listed
+    ensures { λ r. ⌜ (r .refusal ≡ f) × (r .length ≡ 0) ⌝ }
+{
+    Listed {
+        refusal: f,
+        length: 0,
+    }
+}
+
+// The line of a pair.
+fn put_pair(out: &mut [u8], at: usize, k: usize, to: usize) -> usize
+    ensures { λ r. ⌜ (k < 10000000000 → to < 10000000000 → Writes (now (out .entry)) (now (out .exit)) at r (pairLine k to)) ⌝ }
+{
+    let x = put_number(out, at, k);
+    let y = put_field(out, x, to);
+    put_byte(out, y, 10)
+}
+
+// The lines of the first n pairs, of which the tos are given.
+fn put_pairs(out: &mut [u8], tos: &[u16], n: usize) -> usize
+    ensures { λ r. ⌜ (n ≤ length (now (tos .entry)) → n < 10000000000 → Writes (now (out .entry)) (now (out .exit)) 0 r (pairLines 0 (take n (now (tos .entry))))) ⌝ }
+{
+    let mut at: usize = 0;
+    let mut k: usize = 0;
+    while k < n {
+        at = put_pair(out, at, k, wide(word_at(tos, k)));
+        k += 1;
+    }
+    at
+}
+
+// Lists iso i of a table that holds a checked file, whose isos the index finds, with one budget for each
+// pair. The output area needs 40,960 bytes; a refusal leaves it untouched.
+fn export_checked(
+    t: &[u16],
+    base: usize,
+    index: &[u16],
+    isos: usize,
+    i: usize,
+    budget: u32,
+    work: &mut [u8],
+    output: &mut [u8],
+) -> Listed
+    ensures { λ r. ⌜ ((rs : List RowOf) → Prepared (now (t .entry)) base (now (index .entry)) isos rs → 40960 ≤ length (now (work .entry)) → length (now (work .entry)) ≤ 65536 → 40960 ≤ length (now (output .entry)) → ListedAs (exportRows rs i budget) (now (output .entry)) (now (output .exit)) r) ⌝ }
+{
+    if isos <= i {
+        return not_listed(Refusal::NoIso);
+    }
+    let n = count_values(t, iso_cell(t, index, i, 1));
+    if 4096 < n {
+        return not_listed(Refusal::TooMany);
+    }
+    let mut tos = [0u16; 4096];
+    if !find_tos(t, base, index, isos, i, n, budget, work, &mut tos) {
+        return not_listed(Refusal::Spent);
+    }
+    let length = put_pairs(output, &tos, n);
+    Listed {
+        refusal: Refusal::Nothing,
+        length: length,
+    }
+}
+
+// Indexes the isos of an accepted file and lists one of them, in the first `room` bytes of the work area.
+fn export_accepted(
+    table: &[u16],
+    c: Checked,
+    i: usize,
+    budget: u32,
+    work: &mut [u8],
+    room: usize,
+    output: &mut [u8],
+) -> Listed
+    requires { ⌜ room ≤ length (now work) ⌝ }
+    ensures { λ r. ⌜ drop room (now (work .exit)) ≡ drop room (now (work .entry)) ⌝ }
+    ensures { λ r. ⌜ ((s : List ℕ) (a : Accepted s (now (table .entry)) c) → 40960 ≤ room → room ≤ 65536 → 40960 ≤ length (now (output .entry)) → ListedAs (exportRows (a .file) i budget) (now (output .entry)) (now (output .exit)) r) ⌝ }
+{
+    let mut index = [0u16; 1090];
+    prepare(table, c, &mut index);
+    export_checked(
+        table,
+        c.types,
+        &index,
+        c.isos,
+        i,
+        budget,
+        &mut work[0..room],
+        output,
+    )
+}
+
+// Checks a file and lists its iso i. The output area needs 40,960 bytes; a refusal leaves it untouched.
+pub fn export(
+    file: &[u8],
+    table: &mut [u16],
+    work: &mut [u8],
+    i: usize,
+    budget: u32,
+    output: &mut [u8],
+) -> Exported
+    ensures { λ r. ⌜ ExportSays (now (file .entry)) (now (table .entry)) (now (work .entry)) i budget (now (output .entry)) (now (table .exit)) (now (work .exit)) (now (output .exit)) r ⌝ }
+{
+    if output.len() < 40960 {
+        return Exported {
+            answer: Answer {
+                place: 0,
+                refusal: Refusal::ShortArea,
+            },
+            length: 0,
+        };
+    }
+    let c = check_file(file, table, work);
+    let a = c.answer;
+    let f = a.refusal;
+    if is_refused(f) {
+        return Exported {
+            answer: a,
+            length: 0,
+        };
+    }
+    let l = export_accepted(table, c, i, budget, work, 65536, output);
+    clear_bytes(work, 65536);
+    let g = l.refusal;
+    Exported {
+        answer: Answer {
+            place: 0,
+            refusal: g,
+        },
+        length: l.length,
+    }
+}

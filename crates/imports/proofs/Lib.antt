@@ -1,0 +1,6 @@
+-- the two types
+pub mod Types
+-- the list
+pub mod Listing
+-- the service
+pub mod Serving

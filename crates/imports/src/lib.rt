@@ -1,0 +1,133 @@
+// A list of pairs as a file with one iso: each line `from,to` is a clause of two closed values.
+
+use checker::check_file;
+use filing::Filed;
+use filing::write_file;
+use lists::read_list;
+use model::Answer;
+use model::Kind;
+use model::Refusal;
+use model::is_refused;
+use numbering::count_values;
+use split::count_lines;
+ghost use mathlib.Core.Path.{_≡_};
+ghost use mathlib.Core.List.{List};
+ghost use Prim.Native.Nat.{ℕ, _≤_};
+ghost use lib.ListN.{length};
+ghost use Rattle.model.specs.Lines.{Row as RowOf};
+ghost use Rattle.model.specs.Code.{refusalView};
+ghost use Rattle.pairlists.specs.PairLists.{importRows};
+ghost use Rattle.nodes.specs.Unfolding.{typeOf};
+ghost use Rattle.nodes.specs.Walk.{FileIn};
+ghost use Rattle.filing.specs.Filing.{FiledAs};
+ghost use Rattle.imports.specs.ImportSays.{typesFault, ListFiled, ImportSays};
+
+// The answer to the call, and the number of bytes in the output area.
+pub struct Imported {
+    pub answer: Answer,
+    pub length: usize,
+}
+
+fn not_filed(f: Refusal) -> Filed
+    ensures { λ r. ⌜ (r .refusal ≡ f) × (r .length ≡ 0) ⌝ }
+{
+    Filed {
+        refusal: f,
+        length: 0,
+    }
+}
+
+// Refusal 15 or 18 of T lines i and j of a table that holds so many, or nothing.
+fn types_fault(t: &[u16], types: usize, i: usize, j: usize) -> Refusal
+    ensures { λ r. ⌜ refusalView r ≡ typesFault types i j (typeOf (now (t .entry)) i) (typeOf (now (t .entry)) j) ⌝ }
+{
+    if types <= i {
+        return Refusal::NoIso;
+    }
+    if types <= j {
+        return Refusal::NoIso;
+    }
+    if 4096 < count_values(t, i) {
+        return Refusal::TooMany;
+    }
+    if 4096 < count_values(t, j) {
+        return Refusal::TooMany;
+    }
+    Refusal::Nothing
+}
+
+// Writes the file of a list whose types are T lines i and j, each of at most 4,096 values.
+fn import_list(t: &[u16], i: usize, j: usize, list: &[u8], out: &mut [u8]) -> Filed
+    ensures { λ r. ⌜ ListFiled (typeOf (now (t .entry)) i) (typeOf (now (t .entry)) j) (now (list .entry)) (now (out .entry)) (now (out .exit)) r ⌝ }
+{
+    let n = count_lines(list);
+    if 32 < n {
+        return not_filed(Refusal::Ceiling(Kind::Clause));
+    }
+    let mut tos = [0u16; 32];
+    if !read_list(list, n, count_values(t, i), count_values(t, j), &mut tos) {
+        return not_filed(Refusal::BadList);
+    }
+    write_file(t, i, j, &tos, n, out)
+}
+
+// Imports a list between T lines i and j of a table that holds a checked file with so many T lines. The output area needs 65,536 bytes; a
+// refusal leaves it untouched.
+pub fn import_checked(
+    t: &[u16],
+    types: usize,
+    i: usize,
+    j: usize,
+    list: &[u8],
+    out: &mut [u8],
+) -> Filed
+    ensures { λ r. ⌜ ((patterns lines : ℕ) (rs : List RowOf) → FileIn (now (t .entry)) types patterns lines rs → 65536 ≤ length (now (out .entry)) → FiledAs (importRows rs i j (now (list .entry))) (now (out .entry)) (now (out .exit)) r) ⌝ }
+{
+    let f = types_fault(t, types, i, j);
+    if is_refused(f) {
+        return not_filed(f);
+    }
+    import_list(t, i, j, list, out)
+}
+
+// Checks a file and writes the file of a list of pairs between its T lines i and j. The output area needs 65,536 bytes; a refusal leaves
+// it untouched.
+pub fn import(
+    file: &[u8],
+    table: &mut [u16],
+    work: &mut [u8],
+    i: usize,
+    j: usize,
+    list: &[u8],
+    output: &mut [u8],
+) -> Imported
+    ensures { λ r. ⌜ ImportSays (now (file .entry)) (now (table .entry)) (now (work .entry)) i j (now (list .entry)) (now (output .entry)) (now (table .exit)) (now (work .exit)) (now (output .exit)) r ⌝ }
+{
+    if output.len() < 65536 {
+        return Imported {
+            answer: Answer {
+                place: 0,
+                refusal: Refusal::ShortArea,
+            },
+            length: 0,
+        };
+    }
+    let c = check_file(file, table, work);
+    let a = c.answer;
+    let f = a.refusal;
+    if is_refused(f) {
+        return Imported {
+            answer: a,
+            length: 0,
+        };
+    }
+    let made = import_checked(table, c.types, i, j, list, output);
+    let g = made.refusal;
+    Imported {
+        answer: Answer {
+            place: 0,
+            refusal: g,
+        },
+        length: made.length,
+    }
+}

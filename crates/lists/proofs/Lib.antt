@@ -1,0 +1,4 @@
+-- one line
+pub mod Line
+-- all lines
+pub mod Reading

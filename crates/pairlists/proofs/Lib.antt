@@ -1,0 +1,18 @@
+-- rows written each once
+pub mod Rows
+-- the rows of a written file
+pub mod File
+-- its iso
+pub mod Iso
+-- the list
+pub mod List
+-- what import gives
+pub mod Imports
+-- what export gives
+pub mod Exports
+-- what Run answers of both; the refusals in order
+pub mod Runs
+-- no equal line twice
+pub mod Once
+-- the services
+pub mod Services
