@@ -141,20 +141,27 @@ pub fn overlap() -> Vec<u8> {
     draft.into_bytes()
 }
 
-/// An iso on 32 bits, a type of 127 nodes: each of 32 clauses has a left behind rights, and anything behind
-/// that, so that the rights alone are left out.
+/// An iso on 32 bits, a type of 127 nodes: each of 32 clauses has a left before rights, and a variable for each
+/// bit before that, so that the rights alone are left out, and no letter but the last ones tells clauses apart.
 pub fn gap() -> Vec<u8> {
     let mut draft = Draft::default();
     let unit = draft.type_of(0, 0, 0);
     let bit = draft.type_of(SUM, unit, unit);
     let ty = (1..32).fold(bit, |rest, _| draft.type_of(PRODUCT, bit, rest));
     let [left, right] = [false, true].map(|right| bit_pattern(&mut draft, right));
-    let any = draft.pattern(VARIABLE, 0, 0);
-    let first = draft.pattern(PAIR, left, any);
     let mut sides = Vec::new();
     for rights in 0..32 {
-        let last = if rights == 31 { left } else { first };
-        sides.push((0..rights).fold(last, |rest, _| draft.pattern(PAIR, right, rest)));
+        let last = if rights == 0 { left } else { right };
+        let rest = (1..rights).fold(last, |rest, _| draft.pattern(PAIR, right, rest));
+        let rest = if rights == 0 {
+            rest
+        } else {
+            draft.pattern(PAIR, left, rest)
+        };
+        sides.push((rights..31).fold(rest, |rest, number| {
+            let variable = draft.pattern(VARIABLE, number, 0);
+            draft.pattern(PAIR, variable, rest)
+        }));
     }
     draft.iso(ty, ty);
     for side in sides {

@@ -177,8 +177,8 @@ fn count(tally: &mut Tally, known: &Known, call: Call, lengths: [usize; 4], ours
         Call::Overlap(..) => (None, &[13, 14][..]),
         Call::Bounds(_) => (None, &[15, 16][..]),
         Call::Witness => (None, &[17, 18, 19][..]),
-        Call::Export(..) => (None, &[17, 18, 19][..]),
-        Call::Import(..) => (None, &[20, 21, 22][..]),
+        Call::Export(..) => (None, &[20, 21, 22][..]),
+        Call::Import(..) => (None, &[23, 24, 25][..]),
     };
     if let Some(column) = column {
         tally.numbers.hit(ours.number as usize, column);

@@ -5,11 +5,11 @@ use mathlib.Core.Option.{some}
 use mathlib.Core.List.{List}
 use lib.ListN.{length, take, drop}
 use lib.Seq.{slice}
-use Rattle.model.specs.Refusals.{badLine}
-use Rattle.model.specs.Lines.{Row}
+use Rattle.calculus.specs.Refusals.{badLine}
+use Rattle.format.specs.Lines.{Row}
 use Rattle.model.specs.Services.{accepted, answerOfRun}
 use Rattle.model.specs.Desk.{queryOf, answerTo}
-use Rattle.model.specs.Code.{refusalView}
+use Rattle.format.specs.Code.{refusalView}
 use Rattle.queries.specs.Views.{asQuery}
 use Rattle.queries.specs.declared.Query as Q
 use Rattle.queries.specs.declared.Asked as A

@@ -1,6 +1,6 @@
 // A query's line, answered on a checked table.
 
-use model::Refusal;
+use format::Refusal;
 use parts::front;
 use parts::tail;
 use queries::Asked;
@@ -12,7 +12,7 @@ ghost use mathlib.Core.List.{List};
 ghost use Prim.Native.Nat.{_≤_};
 ghost use lib.ListN.{length};
 ghost use lib.Seq.{slice};
-ghost use Rattle.model.specs.Lines.{Row as RowOf};
+ghost use Rattle.format.specs.Lines.{Row as RowOf};
 ghost use Rattle.model.specs.Services.{accepted, answerOfRun};
 ghost use Rattle.model.specs.Desk.{queryOf, answerTo};
 ghost use Rattle.runner.specs.RunSays.{Prepared, answerFor, RanAs};
@@ -28,7 +28,13 @@ fn run_query(
     work: &mut [u8],
     result: &mut [u8],
 ) -> Ran
-    ensures { λ r. ⌜ ((rs : List RowOf) → Prepared (now (t .entry)) base (now (index .entry)) isos rs → 40960 ≤ length (now (work .entry)) → length (now (work .entry)) ≤ 65536 → 127 ≤ length (now (result .entry)) → RanAs (answerFor rs (q .iso) (q .back) (q .budget) (slice (q .from) (q .to) (now (line .entry)))) (now (result .entry)) (now (result .exit)) r) ⌝ }
+    ensures { λ r. ⌜
+        ((rs : List RowOf) → Prepared (now (t .entry)) base (now (index .entry)) isos rs
+        → 40960 ≤ length (now (work .entry)) → length (now (work .entry)) ≤ 65536
+        → 127 ≤ length (now (result .entry)) → RanAs
+        (answerFor rs (q .iso) (q .back) (q .budget) (slice (q .from) (q .to) (now (line .entry))))
+        (now (result .entry)) (now (result .exit)) r)
+        ⌝ }
 {
     let value = tail(front(line, q.to), q.from);
     run_checked(
@@ -56,7 +62,13 @@ pub fn answer_line(
     work: &mut [u8],
     result: &mut [u8],
 ) -> Ran
-    ensures { λ r. ⌜ ((rs : List RowOf) → Prepared (now (t .entry)) base (now (index .entry)) isos rs → 40960 ≤ length (now (work .entry)) → length (now (work .entry)) ≤ 65536 → 127 ≤ length (now (result .entry)) → RanAs (answerOfRun (answerTo (accepted rs) (queryOf (now (line .entry))))) (now (result .entry)) (now (result .exit)) r) ⌝ }
+    ensures { λ r. ⌜
+        ((rs : List RowOf) → Prepared (now (t .entry)) base (now (index .entry)) isos rs
+        → 40960 ≤ length (now (work .entry)) → length (now (work .entry)) ≤ 65536
+        → 127 ≤ length (now (result .entry))
+        → RanAs (answerOfRun (answerTo (accepted rs) (queryOf (now (line .entry)))))
+        (now (result .entry)) (now (result .exit)) r)
+        ⌝ }
 {
     match query_of(line) {
         Asked::Of(q) => run_query(t, base, index, isos, q, line, work, result),

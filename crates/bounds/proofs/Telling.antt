@@ -7,18 +7,18 @@ use mathlib.Core.Option.{none, some}
 use mathlib.Core.List.{List, [], _∷_}
 use lib.Dec.{ltb}
 use lib.ListN.{length, getD, getElem?, replicate}
-use Rattle.model.specs.Limits.{maxIsos}
-use Rattle.model.specs.Tools.{isSome}
-use Rattle.model.specs.Refusals.{number, noIso}
-use Rattle.model.specs.Lines.{Row}
-use Rattle.model.specs.Unfold.{isosOf}
+use Rattle.limits.specs.Limits.{maxIsos}
+use Rattle.calculus.specs.Tools.{isSome}
+use Rattle.calculus.specs.Refusals.{number, noIso}
+use Rattle.format.specs.Lines.{Row}
+use Rattle.format.specs.Unfold.{isosOf}
 use Rattle.model.specs.Services.{accepted, verdict, short, unless, check}
 use Rattle.costs.specs.Costs.{leastOf, greatestOf, costsFrom, leastCosts, greatestCosts}
 use Rattle.costs.specs.Bounds.{maxCount, onIso, boundsOf, boundsService}
-use Rattle.model.specs.Code.{refusalView, numberOf, numbered}
-use Rattle.model.specs.declared.Answer as A
-use Rattle.model.specs.declared.Refusal as F
-use Rattle.model.proofs.Basic.{isSome-true, ltb-lt, ltb-false, lt-ltb, not-ltb}
+use Rattle.format.specs.Code.{refusalView, numberOf, numbered}
+use Rattle.format.specs.declared.Answer as A
+use Rattle.format.specs.declared.Refusal as F
+use Rattle.calculus.proofs.Basic.{isSome-true, ltb-lt, ltb-false, lt-ltb, not-ltb}
 use Rattle.model.proofs.Files.{number-positive}
 use Rattle.index.specs.Index.{isosAt}
 use Rattle.checker.specs.CheckSays.{CheckSays, Accepted}

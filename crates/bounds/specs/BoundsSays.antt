@@ -2,7 +2,7 @@
 use Prim.Native.Nat.{ℕ}
 use mathlib.Core.Path.{_≡_}
 use mathlib.Core.List.{List}
-use Rattle.model.specs.Code.{numberOf}
+use Rattle.format.specs.Code.{numberOf}
 use Rattle.costs.specs.Bounds.{Bounds, boundsService}
 use Rattle.bounds.specs.declared.Bounded as B
 

@@ -4,17 +4,17 @@ use checker::Checked;
 use checker::check_file;
 use costing::number_at;
 use costing::reckon;
+use format::Refusal;
+use format::is_refused;
 use limits::INDEX_LENGTH;
 use limits::MAX_ISOS;
-use model::Refusal;
-use model::is_refused;
 use runner::run::prepare;
 ghost use mathlib.Core.Path.{_≡_};
 ghost use mathlib.Core.Bool.{false};
 ghost use mathlib.Core.List.{List};
 ghost use Prim.Native.Nat.{ℕ, min};
 ghost use lib.Dec.{ltb};
-ghost use Rattle.model.specs.Lines.{Row as RowOf};
+ghost use Rattle.format.specs.Lines.{Row as RowOf};
 ghost use Rattle.model.specs.Services.{accepted};
 ghost use Rattle.costs.specs.Bounds.{maxCount, boundsOf};
 ghost use Rattle.runner.specs.RunSays.{Prepared};
@@ -60,7 +60,10 @@ fn is_over(n: u64) -> bool
 
 // The bounds of iso i of a table that holds a checked file, whose isos the index finds.
 pub fn bounds_checked(t: &[u16], index: &[u16], isos: usize, i: usize) -> Bounded
-    ensures { λ r. ⌜ ((base : ℕ) (rs : List RowOf) → Prepared (now (t .entry)) base (now (index .entry)) isos rs → Told (boundsOf (accepted rs) i) r) ⌝ }
+    ensures { λ r. ⌜
+        ((base : ℕ) (rs : List RowOf) → Prepared (now (t .entry)) base (now (index .entry)) isos rs
+        → Told (boundsOf (accepted rs) i) r)
+        ⌝ }
 {
     if isos <= i {
         return refused(Refusal::NoIso);

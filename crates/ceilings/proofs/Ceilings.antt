@@ -8,14 +8,14 @@ use mathlib.Core.List.{List}
 use lib.Dec.{leb, ltb}
 use lib.ListN.{length, getD}
 use borrow.Author.Tests.{lt-ltb, le-ltb, le-leb, lt-leb, leb-true, leb-false, ltb-true}
-use Rattle.model.specs.Limits.{maxTypes, maxPatterns, maxIsos, maxClauses, maxLets, maxNodes, maxTags}
-use Rattle.model.specs.Trees.{Ty, tunit, typeNodes, Pat, punit, nodes, tags}
-use Rattle.model.specs.Refusals.{typeLine, patternLine}
-use Rattle.model.specs.Judge.{Seen, typeNames, patternNames, named, withinCeilings}
-use Rattle.model.specs.declared.Kind.the-variants as kinds
-use Rattle.model.specs.declared.Row as R
-use Rattle.model.specs.Code.{kindView, rowView}
-use Rattle.model.proofs.Basic.{bool-cases, and-true}
+use Rattle.limits.specs.Limits.{maxTypes, maxPatterns, maxIsos, maxClauses, maxLets, maxNodes, maxTags}
+use Rattle.calculus.specs.Trees.{Ty, tunit, typeNodes, Pat, punit, nodes, tags}
+use Rattle.calculus.specs.Refusals.{typeLine, patternLine}
+use Rattle.format.specs.Judge.{Seen, typeNames, patternNames, named, withinCeilings}
+use Rattle.format.specs.declared.Kind.the-variants as kinds
+use Rattle.format.specs.declared.Row as R
+use Rattle.format.specs.Code.{kindView, rowView}
+use Rattle.calculus.proofs.Basic.{bool-cases, and-true}
 use Rattle.nodes.specs.Unfolding.{typeOf, patternOf}
 use Rattle.nodes.proofs.Counts.{type-count, leaf-count, inj-count, pair-count, leaf-tags, inj-tags, pair-tags, above-two, above-one, both, one-more}
 use Rattle.counts.specs.declared.Seen as C

@@ -3,6 +3,8 @@
 use codes::LEFT;
 use codes::PAIR;
 use counts::Seen;
+use format::Kind;
+use format::Row;
 use limits::MAX_CLAUSES;
 use limits::MAX_ISOS;
 use limits::MAX_LETS;
@@ -10,8 +12,6 @@ use limits::MAX_NODES;
 use limits::MAX_PATTERNS;
 use limits::MAX_TAGS;
 use limits::MAX_TYPES;
-use model::Kind;
-use model::Row;
 use nodes::above;
 use nodes::pattern_size;
 use nodes::pattern_tags;
@@ -22,15 +22,18 @@ ghost use mathlib.Core.Bool.{true};
 ghost use mathlib.Core.List.{List};
 ghost use Prim.Native.Nat.{min};
 ghost use lib.ListN.{length};
-ghost use Rattle.model.specs.Trees.{Ty, typeNodes, Pat, nodes, tags};
-ghost use Rattle.model.specs.Refusals.{typeLine, patternLine};
-ghost use Rattle.model.specs.Judge.{Seen as SeenOf, typeNames, patternNames, named, withinCeilings};
-ghost use Rattle.model.specs.Code.{kindView, rowView};
+ghost use Rattle.calculus.specs.Trees.{Ty, typeNodes, Pat, nodes, tags};
+ghost use Rattle.calculus.specs.Refusals.{typeLine, patternLine};
+ghost use Rattle.format.specs.Judge.{Seen as SeenOf, typeNames, patternNames, named, withinCeilings};
+ghost use Rattle.format.specs.Code.{kindView, rowView};
 ghost use Rattle.counts.specs.Told.{TypesAt, PatternsAt, nextType, nextPattern, Told};
 
 // The nodes of a T line that stands next, over the lines that it names.
 fn type_nodes(t: &[u16], kind: usize, a: usize, b: usize) -> usize
-    ensures { λ r. ⌜ ((ts : List Ty) → TypesAt (now (t .entry)) ts → typeNames (length ts) kind a b ≡ true → r ≡ min 128 (typeNodes (nextType ts kind a b))) ⌝ }
+    ensures { λ r. ⌜
+        ((ts : List Ty) → TypesAt (now (t .entry)) ts → typeNames (length ts) kind a b ≡ true
+        → r ≡ min 128 (typeNodes (nextType ts kind a b)))
+        ⌝ }
 {
     if kind == 0 {
         return 1;
@@ -40,7 +43,10 @@ fn type_nodes(t: &[u16], kind: usize, a: usize, b: usize) -> usize
 
 // The nodes of a P line that stands next.
 fn pattern_nodes(t: &[u16], base: usize, kind: usize, a: usize, b: usize) -> usize
-    ensures { λ r. ⌜ ((ps : List Pat) → PatternsAt (now (t .entry)) base ps → patternNames (length ps) kind a b ≡ true → r ≡ min 128 (nodes (nextPattern ps kind a b))) ⌝ }
+    ensures { λ r. ⌜
+        ((ps : List Pat) → PatternsAt (now (t .entry)) base ps → patternNames (length ps) kind a b ≡ true
+        → r ≡ min 128 (nodes (nextPattern ps kind a b)))
+        ⌝ }
 {
     if kind < LEFT {
         return 1;
@@ -53,7 +59,10 @@ fn pattern_nodes(t: &[u16], base: usize, kind: usize, a: usize, b: usize) -> usi
 
 // The left and right nodes of a P line that stands next.
 fn next_tags(t: &[u16], base: usize, kind: usize, a: usize, b: usize) -> usize
-    ensures { λ r. ⌜ ((ps : List Pat) → PatternsAt (now (t .entry)) base ps → patternNames (length ps) kind a b ≡ true → r ≡ min 41 (tags (nextPattern ps kind a b))) ⌝ }
+    ensures { λ r. ⌜
+        ((ps : List Pat) → PatternsAt (now (t .entry)) base ps → patternNames (length ps) kind a b ≡ true
+        → r ≡ min 41 (tags (nextPattern ps kind a b)))
+        ⌝ }
 {
     if kind < LEFT {
         return 0;
@@ -66,7 +75,10 @@ fn next_tags(t: &[u16], base: usize, kind: usize, a: usize, b: usize) -> usize
 
 // A T line whose names stand: how many there are, and its nodes.
 fn type_within(c: Seen, t: &[u16], r: Row) -> bool
-    ensures { λ b. ⌜ ((s : SeenOf) → Told (now (t .entry)) c s → named s typeLine (rowView r) ≡ true → b ≡ withinCeilings s typeLine (rowView r)) ⌝ }
+    ensures { λ b. ⌜
+        ((s : SeenOf) → Told (now (t .entry)) c s → named s typeLine (rowView r) ≡ true
+        → b ≡ withinCeilings s typeLine (rowView r))
+        ⌝ }
 {
     if c.types < MAX_TYPES {
         return type_nodes(t, r.x, r.y, r.z) <= MAX_NODES;
@@ -76,7 +88,10 @@ fn type_within(c: Seen, t: &[u16], r: Row) -> bool
 
 // A P line whose names stand: how many there are, its nodes, its left and right nodes.
 fn pattern_within(c: Seen, t: &[u16], r: Row) -> bool
-    ensures { λ b. ⌜ ((s : SeenOf) → Told (now (t .entry)) c s → named s patternLine (rowView r) ≡ true → b ≡ withinCeilings s patternLine (rowView r)) ⌝ }
+    ensures { λ b. ⌜
+        ((s : SeenOf) → Told (now (t .entry)) c s → named s patternLine (rowView r) ≡ true
+        → b ≡ withinCeilings s patternLine (rowView r))
+        ⌝ }
 {
     if c.patterns < MAX_PATTERNS {
         let base = c.types;
@@ -90,7 +105,10 @@ fn pattern_within(c: Seen, t: &[u16], r: Row) -> bool
 
 // Whether a row whose names stand keeps the ceilings.
 pub fn within_ceilings(c: Seen, t: &[u16], r: Row) -> bool
-    ensures { λ b. ⌜ ((s : SeenOf) → Told (now (t .entry)) c s → named s (kindView (r .kind)) (rowView r) ≡ true → b ≡ withinCeilings s (kindView (r .kind)) (rowView r)) ⌝ }
+    ensures { λ b. ⌜
+        ((s : SeenOf) → Told (now (t .entry)) c s → named s (kindView (r .kind)) (rowView r) ≡ true
+        → b ≡ withinCeilings s (kindView (r .kind)) (rowView r))
+        ⌝ }
 {
     let k = r.kind;
     match k {

@@ -35,7 +35,7 @@ fn check_one(file: &[u8]) {
     let mut work = [7u8; WORK_LENGTH];
     let a = check(file, &mut table, &mut work);
     let f = a.refusal;
-    print_answer(model::number_of(f), a.place);
+    print_answer(format::number_of(f), a.place);
 }
 
 // Checks each file of the input.

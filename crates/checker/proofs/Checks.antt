@@ -9,21 +9,21 @@ use mathlib.Core.List.{List, [], _∷_, _++_}
 use lib.Dec.{ltb, lit≤}
 use lib.ListN.{length, drop, replicate, length-append, length-drop, length-replicate}
 use borrow.Author.Tests.{lt-ltb, le-ltb, lt-leb}
-use Rattle.model.specs.Limits.{maxBytes, maxLines, tableLength, workLength, rowWidth}
-use Rattle.model.specs.Tools.{isSome, firstFailing, firstOf, orElse}
-use Rattle.model.specs.Trees.{left, right, Ty, Pat, Clause, Iso}
-use Rattle.model.specs.Refusals.{Kind, typeLine, patternLine, isoLine, clauseLine, letLine, Refusal, number, shortArea, tooLong, misplaced, badField, badName, ceiling, variable, letShape, badType, overlap, gap}
-use Rattle.model.specs.Lines.{Row, lines, rowOf, tableOf}
-use Rattle.model.specs.Judge.{Seen, start, afterAll, judge, inOrder, fieldsFit, named, withinCeilings, after, Reading, rows, faulty, withRow, onRow, onJudged, readFrom}
-use Rattle.model.specs.Unfold.{Tail, place, tailFrom, isosOf}
-use Rattle.model.specs.Clauses.{Sigs, clauseFault, variablesRule, letShapes, typed, sideFault, apart, fullWeight, lefts, rights, at, isoFault, fault, sigsOf}
+use Rattle.limits.specs.Limits.{maxBytes, maxLines, tableLength, workLength, rowWidth}
+use Rattle.calculus.specs.Tools.{isSome, firstFailing, firstOf, orElse}
+use Rattle.calculus.specs.Trees.{left, right, Ty, Pat, Clause, Iso}
+use Rattle.calculus.specs.Refusals.{Kind, typeLine, patternLine, isoLine, clauseLine, letLine, Refusal, number, shortArea, tooLong, misplaced, badField, badName, ceiling, variable, letShape, badType, overlap, gap}
+use Rattle.format.specs.Lines.{Row, lines, rowOf, tableOf}
+use Rattle.format.specs.Judge.{Seen, start, afterAll, judge, inOrder, fieldsFit, named, withinCeilings, after, Reading, rows, faulty, withRow, onRow, onJudged, readFrom}
+use Rattle.format.specs.Unfold.{Tail, place, tailFrom, isosOf}
+use Rattle.calculus.specs.Clauses.{Sigs, clauseFault, variablesRule, letShapes, typed, sideFault, apart, fullWeight, lefts, rights, at, isoFault, fault, sigsOf}
 use Rattle.model.specs.Services.{Verdict, accepted, refused, judged, afterReading, over, verdict, filled, tableAfter, workAfter, short, unless, answerOf, check}
-use Rattle.model.specs.Code.{refusalView, numbered}
-use Rattle.model.specs.declared.Answer as A
-use Rattle.model.specs.declared.Refusal as F
-use Rattle.model.proofs.Basic.{none≢some, some-inj, isSome-true}
-use Rattle.model.proofs.Printing.{read-count, rows-inj, rows≢faulty}
-use Rattle.model.proofs.Tables.{length-table}
+use Rattle.format.specs.Code.{refusalView, numbered}
+use Rattle.format.specs.declared.Answer as A
+use Rattle.format.specs.declared.Refusal as F
+use Rattle.calculus.proofs.Basic.{none≢some, some-inj, isSome-true}
+use Rattle.format.proofs.Printing.{read-count, rows-inj, rows≢faulty}
+use Rattle.format.proofs.Tables.{length-table}
 use Rattle.parts.specs.Cleared.{cleared}
 use lib.Seq.{drop-append-add, drop-drop, drop-at}
 use Rattle.nodes.specs.Walk.{FileIn, isoRows, whenIso}

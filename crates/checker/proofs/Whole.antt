@@ -6,11 +6,11 @@ use mathlib.Core.Option.{none}
 use mathlib.Core.List.{List, []}
 use lib.Dec.{ltb}
 use lib.ListN.{length}
-use Rattle.model.specs.Limits.{workLength, tableLength}
-use Rattle.model.specs.Tools.{isSome}
+use Rattle.limits.specs.Limits.{workLength, tableLength}
+use Rattle.calculus.specs.Tools.{isSome}
 use Rattle.model.specs.Services.{accepted, verdict, filled, tableAfter, workAfter, short, unless, check}
-use Rattle.model.specs.Code.{refusalView, numbered}
-use Rattle.model.proofs.Basic.{ltb-false, neither}
+use Rattle.format.specs.Code.{refusalView, numbered}
+use Rattle.calculus.proofs.Basic.{ltb-false, neither}
 use Rattle.checker.specs.CheckSays.{CheckSays, Accepted}
 use Rattle.checker.specs.declared.Checked as C
 use Rattle.checker.proofs.Checks.{unless-accepted, flag-none}

@@ -4,16 +4,16 @@ use mathlib.Core.Path.{_≡_}
 use mathlib.Core.Option.{none, some}
 use mathlib.Core.List.{List, _++_}
 use lib.ListN.{length, drop}
-use Rattle.model.specs.Limits.{maxBytes, maxLines, tableLength, workLength, rowWidth}
-use Rattle.model.specs.Refusals.{Refusal, number}
-use Rattle.model.specs.Lines.{Row, lines, tableOf}
-use Rattle.model.specs.Judge.{start, rows, readFrom}
-use Rattle.model.specs.Unfold.{isosOf}
-use Rattle.model.specs.Clauses.{fault}
+use Rattle.limits.specs.Limits.{maxBytes, maxLines, tableLength, workLength, rowWidth}
+use Rattle.calculus.specs.Refusals.{Refusal, number}
+use Rattle.format.specs.Lines.{Row, lines, tableOf}
+use Rattle.format.specs.Judge.{start, rows, readFrom}
+use Rattle.format.specs.Unfold.{isosOf}
+use Rattle.calculus.specs.Clauses.{fault}
 use Rattle.model.specs.Services.{check, afterReading, refused, accepted, verdict}
-use Rattle.model.specs.Code.{numberOf, refusalView}
-use Rattle.model.specs.declared.Answer as A
-use Rattle.model.specs.declared.Refusal as F
+use Rattle.format.specs.Code.{numberOf, refusalView}
+use Rattle.format.specs.declared.Answer as A
+use Rattle.format.specs.declared.Refusal as F
 use Rattle.parts.specs.Cleared.{cleared}
 use Rattle.nodes.specs.Walk.{FileIn}
 use Rattle.checker.specs.declared.Checked as C

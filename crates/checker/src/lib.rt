@@ -1,14 +1,14 @@
 // Check: the file's bytes, a table area and a work area in; a number and a line out.
 
+use format::Answer;
+use format::Refusal;
+use format::is_refused;
 use isos::isos_fault;
 use limits::MAX_BYTES;
 use limits::MAX_LINES;
 use limits::TABLE_LENGTH;
 use limits::WORK_LENGTH;
 use lines::read::read_file;
-use model::Answer;
-use model::Refusal;
-use model::is_refused;
 use parts::clear_bytes;
 use parts::clear_words;
 use split::count_lines;
@@ -17,10 +17,10 @@ ghost use mathlib.Core.Option.{none};
 ghost use mathlib.Core.List.{List};
 ghost use Prim.Native.Nat.{_≤_};
 ghost use lib.ListN.{length};
-ghost use Rattle.model.specs.Limits.{tableLength, maxLines};
-ghost use Rattle.model.specs.Lines.{Row as RowOf, lines};
-ghost use Rattle.model.specs.Judge.{start, rows, readFrom};
-ghost use Rattle.model.specs.Code.{refusalView};
+ghost use Rattle.limits.specs.Limits.{tableLength, maxLines};
+ghost use Rattle.format.specs.Lines.{Row as RowOf, lines};
+ghost use Rattle.format.specs.Judge.{start, rows, readFrom};
+ghost use Rattle.format.specs.Code.{refusalView};
 ghost use Rattle.checker.specs.CheckSays.{CheckSays, Outcome, Loaded, Entered, Settled, Accepted, Filed, Early};
 
 // An answer, and of an accepted file how many T, P and I lines the table holds, and how many lines.
@@ -52,7 +52,10 @@ fn refused(place: usize, f: Refusal) -> Checked
 fn judged(file: &[u8], table: &mut [u16]) -> Checked
     requires { ⌜ (tableLength ≤ length (now table)) × (length (lines (now file)) ≤ maxLines) ⌝ }
     ensures { λ r. ⌜ Outcome (now (file .entry)) (now (table .entry)) (now (table .exit)) (r .answer) ⌝ }
-    ensures { λ r. ⌜ ((rs : List RowOf) → readFrom start 1 (lines (now (file .entry))) ≡ rows rs → Loaded (now (file .entry)) (now (table .exit)) r) ⌝ }
+    ensures { λ r. ⌜
+        ((rs : List RowOf) → readFrom start 1 (lines (now (file .entry))) ≡ rows rs
+        → Loaded (now (file .entry)) (now (table .exit)) r)
+        ⌝ }
 {
     let r = read_file(file, table);
     let f = r.refusal;
@@ -72,7 +75,10 @@ fn judged(file: &[u8], table: &mut [u16]) -> Checked
 
 // No refusal, and the lines as they were counted.
 fn accepted(c: Checked) -> Checked
-    ensures { λ r. ⌜ (refusalView (r .answer .refusal) ≡ none) × (r .answer .place ≡ 0) × (r .types ≡ c .types) × (r .patterns ≡ c .patterns) × (r .isos ≡ c .isos) × (r .lines ≡ c .lines) ⌝ }
+    ensures { λ r. ⌜
+        (refusalView (r .answer .refusal) ≡ none) × (r .answer .place ≡ 0) × (r .types ≡ c .types)
+        × (r .patterns ≡ c .patterns) × (r .isos ≡ c .isos) × (r .lines ≡ c .lines)
+        ⌝ }
 {
     Checked {
         answer: Answer {
@@ -139,7 +145,10 @@ pub fn early(file: &[u8], table: usize, work: usize) -> Refusal
 
 // Check, for the services that go on from an accepted file: its rows are then in the table.
 pub fn check_file(file: &[u8], table: &mut [u16], work: &mut [u8]) -> Checked
-    ensures { λ r. ⌜ CheckSays (now (file .entry)) (now (table .entry)) (now (work .entry)) (now (table .exit)) (now (work .exit)) (r .answer) ⌝ }
+    ensures { λ r. ⌜
+        CheckSays (now (file .entry)) (now (table .entry)) (now (work .entry)) (now (table .exit))
+        (now (work .exit)) (r .answer)
+        ⌝ }
     ensures { λ r. ⌜ (refusalView (r .answer .refusal) ≡ none → Accepted (now (file .entry)) (now (table .exit)) r) ⌝ }
 {
     let f = early(file, table.len(), work.len());

@@ -3,7 +3,7 @@ use Prim.Native.Nat.{ℕ, zero, suc, _+_, _<_, _≤_}
 use native.Mathlib.Omega.{arith}
 use mathlib.Core.Path.{_≡_, sym, ap, _∙_}
 use mathlib.Core.List.{List}
-use Rattle.model.specs.Judge.{patternNode}
+use Rattle.format.specs.Judge.{patternNode}
 use Rattle.nodes.specs.Unfolding.{cellOf, smallerOf, patternOf}
 use Rattle.nodes.proofs.Unfolding.{pattern-node}
 

@@ -8,12 +8,12 @@ use mathlib.Core.Bool.{Bool, true, false, _&&_}
 use mathlib.Core.Option.{Option, none, some}
 use mathlib.Core.List.{List, [], _∷_, _++_, map}
 use lib.ListN.{length, getD, getElem?, replicate}
-use Rattle.model.specs.Limits.{maxLines, variables}
-use Rattle.model.specs.Tools.{firstFailing}
-use Rattle.model.specs.Trees.{Ty, Pat, Let, vars}
-use Rattle.model.specs.Clauses.{Deed, binds, uses, Event, deeds, letEvents, plain, used, clauseFault}
-use Rattle.model.specs.Slots.{Slots}
-use Rattle.model.specs.Refusals.{Refusal, variable, letShape, badType}
+use Rattle.limits.specs.Limits.{maxLines, variables}
+use Rattle.calculus.specs.Tools.{firstFailing}
+use Rattle.calculus.specs.Trees.{Ty, Pat, Let, vars}
+use Rattle.calculus.specs.Clauses.{Deed, binds, uses, Event, deeds, letEvents, plain, used, clauseFault}
+use Rattle.calculus.specs.Slots.{Slots}
+use Rattle.calculus.specs.Refusals.{Refusal, variable, letShape, badType}
 use Rattle.nodes.specs.Unfolding.{cellOf, typeOf, patternOf}
 use Rattle.nodes.specs.InTable.{letAt, letsIn, clauseIn, sigsIn}
 use Rattle.marks.specs.Marks.{markOne, markAll, markEvents, settledAll}

@@ -8,12 +8,12 @@ use codes::ISO_TO;
 use codes::LET_ISO;
 use codes::LET_P;
 use codes::LET_Q;
+use format::Refusal;
 use limits::MAX_LINES;
 use limits::VARIABLES;
 use marks::Marks;
 use marks::mark;
 use marks::settled;
-use model::Refusal;
 use nodes::cell;
 use trees::is_plain;
 use typing::Env;
@@ -26,9 +26,9 @@ ghost use mathlib.Core.List.{List};
 ghost use mathlib.Core.Option.{none};
 ghost use Prim.Native.Nat.{ℕ, _-_, _<_};
 ghost use lib.ListN.{getElem?, replicate};
-ghost use Rattle.model.specs.Limits.{maxLines, variables};
-ghost use Rattle.model.specs.Code.{refusalView};
-ghost use Rattle.model.specs.Clauses.{letEvents, clauseFault};
+ghost use Rattle.limits.specs.Limits.{maxLines, variables};
+ghost use Rattle.format.specs.Code.{refusalView};
+ghost use Rattle.calculus.specs.Clauses.{letEvents, clauseFault};
 ghost use Rattle.nodes.specs.Unfolding.{cellOf, typeOf};
 ghost use Rattle.marks.specs.Marks.{markEvents};
 ghost use Rattle.typing.specs.Fitting.{envView};
@@ -100,7 +100,11 @@ fn misfit(e: Env) -> Env
 
 // The types after the L row n: q fits the from-type of its iso, p the to-type.
 fn fit_let(t: &[u16], base: usize, starts: &[u16], n: usize, e: Env) -> Env
-    ensures { λ r. ⌜ envView (now (t .entry)) r ≡ fitLet (getElem? (sigsIn (now (t .entry)) (now (starts .entry))) (cellOf (now (t .entry)) n 2)) (letAt (now (t .entry)) base n) (envView (now (t .entry)) e) ⌝ }
+    ensures { λ r. ⌜
+        envView (now (t .entry)) r ≡ fitLet
+        (getElem? (sigsIn (now (t .entry)) (now (starts .entry))) (cellOf (now (t .entry)) n 2))
+        (letAt (now (t .entry)) base n) (envView (now (t .entry)) e)
+        ⌝ }
 {
     let i = cell(t, n, LET_ISO);
     if i < starts.len() {
@@ -127,7 +131,10 @@ fn fit_let(t: &[u16], base: usize, starts: &[u16], n: usize, e: Env) -> Env
 
 // The types after the L rows from `from` up to `to`.
 fn fit_lets(t: &[u16], base: usize, starts: &[u16], from: usize, to: usize, e: Env) -> Env
-    ensures { λ r. ⌜ envView (now (t .entry)) r ≡ fittedLets (sigsIn (now (t .entry)) (now (starts .entry))) (letsIn (now (t .entry)) base from (to - from)) (envView (now (t .entry)) e) ⌝ }
+    ensures { λ r. ⌜
+        envView (now (t .entry)) r ≡ fittedLets (sigsIn (now (t .entry)) (now (starts .entry)))
+        (letsIn (now (t .entry)) base from (to - from)) (envView (now (t .entry)) e)
+        ⌝ }
 {
     let mut n = from;
     let mut env = e;
@@ -148,7 +155,11 @@ fn types_fit(
     row: usize,
     end: usize,
 ) -> bool
-    ensures { λ r. ⌜ (row < maxLines → r ≡ fitted (sigsIn (now (t .entry)) (now (starts .entry))) (typeOf (now (t .entry)) a) (typeOf (now (t .entry)) b) (clauseIn (now (t .entry)) base row end)) ⌝ }
+    ensures { λ r. ⌜
+        (row < maxLines
+        → r ≡ fitted (sigsIn (now (t .entry)) (now (starts .entry))) (typeOf (now (t .entry)) a)
+        (typeOf (now (t .entry)) b) (clauseIn (now (t .entry)) base row end))
+        ⌝ }
 {
     if row < MAX_LINES {
         let bound = fit(t, base, cell(t, row, CLAUSE_LEFT), a, true, no_types());
@@ -169,7 +180,12 @@ pub fn clause_fault(
     row: usize,
     end: usize,
 ) -> Refusal
-    ensures { λ r. ⌜ (row < maxLines → Slotted (clauseIn (now (t .entry)) base row end) → refusalView r ≡ clauseFault (sigsIn (now (t .entry)) (now (starts .entry))) (typeOf (now (t .entry)) a) (typeOf (now (t .entry)) b) (clauseIn (now (t .entry)) base row end)) ⌝ }
+    ensures { λ r. ⌜
+        (row < maxLines → Slotted (clauseIn (now (t .entry)) base row end)
+        → refusalView r ≡ clauseFault (sigsIn (now (t .entry)) (now (starts .entry)))
+        (typeOf (now (t .entry)) a) (typeOf (now (t .entry)) b)
+        (clauseIn (now (t .entry)) base row end))
+        ⌝ }
 {
     if MAX_LINES <= row {
         return Refusal::Nothing;

@@ -7,10 +7,10 @@ use mathlib.Core.Path.{_≡_, refl, sym, ap, ap₂, _∙_, subst}
 use mathlib.Core.Bool.{Bool, true, false, cond, _||_, true≢false}
 use mathlib.Core.List.{List, [], _∷_, _++_}
 use lib.ListN.{length}
-use Rattle.model.specs.Trees.{Pat, punit, pvar, pinj, ppair, left, right, nodes}
-use Rattle.model.specs.Clauses.{clash}
-use Rattle.model.specs.Paper.{Orth}
-use Rattle.model.proofs.Checking.{clash-orth, orth-clash}
+use Rattle.calculus.specs.Trees.{Pat, punit, pvar, pinj, ppair, left, right, nodes}
+use Rattle.calculus.specs.Clauses.{clash}
+use Rattle.calculus.specs.Paper.{Orth}
+use Rattle.calculus.proofs.Checking.{clash-orth, orth-clash}
 use Rattle.comparison.specs.Comparison.{Compared, met, andThen, compare, laid, clashes, any, upTo}
 
 -- ---- one comparison and the next

@@ -7,14 +7,14 @@ use mathlib.Core.Bool.{true, false}
 use mathlib.Core.Option.{Option, none, some}
 use mathlib.Core.List.{List, [], _∷_, _++_}
 use lib.ListN.{length, getD, getElem?}
-use Rattle.model.specs.Limits.{maxNodes}
-use Rattle.model.specs.Trees.{Pat, punit, nodes}
-use Rattle.model.specs.Refusals.{Kind, typeLine, patternLine, isoLine, clauseLine, letLine, number}
-use Rattle.model.specs.Lines.{Row}
-use Rattle.model.specs.Judge.{Seen, start, patternTree, afterKind, afterAll}
+use Rattle.limits.specs.Limits.{maxNodes}
+use Rattle.calculus.specs.Trees.{Pat, punit, nodes}
+use Rattle.calculus.specs.Refusals.{Kind, typeLine, patternLine, isoLine, clauseLine, letLine, number}
+use Rattle.format.specs.Lines.{Row}
+use Rattle.format.specs.Judge.{Seen, start, patternTree, afterKind, afterAll}
 use Rattle.model.specs.Services.{Verdict, accepted, refused, verdict, short, unless, answerOf, check}
-use Rattle.model.specs.Paper.{Orth}
-use Rattle.model.proofs.Passing as P
+use Rattle.calculus.specs.Paper.{Orth}
+use Rattle.format.proofs.Passing as P
 use Rattle.comparison.specs.Comparison.{compare, laid}
 use Rattle.comparison.specs.Overlap.{Outcome, gives, fails, patternsOf, onPatterns, overlapOn, refusalOf, lineOf, clashOf, pairsOf, overlapService}
 use Rattle.comparison.proofs.Comparing.{compare-orth, compare-sym, compare-least, compare-most, compare-whole}

@@ -8,10 +8,10 @@ use mathlib.Core.Bool.{Bool, true, false, cond, true≢false}
 use mathlib.Core.List.{List}
 use lib.Dec.{eqb}
 use lib.ListN.{length, getD}
-use Rattle.model.specs.Limits.{maxLines, rowWidth, tableLength}
-use Rattle.model.specs.Trees.{Pat, punit, pvar}
-use Rattle.model.specs.Judge.{patternNode}
-use Rattle.model.proofs.Basic.{eq-eqb, not-eqb}
+use Rattle.limits.specs.Limits.{maxLines, rowWidth, tableLength}
+use Rattle.calculus.specs.Trees.{Pat, punit, pvar}
+use Rattle.format.specs.Judge.{patternNode}
+use Rattle.calculus.proofs.Basic.{eq-eqb, not-eqb}
 use Rattle.nodes.specs.Unfolding.{cellOf, smallerOf, patternOf}
 use Rattle.nodes.proofs.Unfolding.{cell-within, smaller-less, smaller-not, pattern-node, pattern-past}
 use Rattle.children.proofs.Shapes.{Injects, lefts, rights, injects, Pairs, pairs, paired}

@@ -2,7 +2,7 @@
 use Prim.Native.Nat.{ℕ, _+_}
 use mathlib.Core.Bool.{Bool, true, false, cond, not, _||_}
 use mathlib.Core.List.{List, [], _∷_, _++_}
-use Rattle.model.specs.Trees.{Pat, punit, pvar, pinj, ppair, sameTag}
+use Rattle.calculus.specs.Trees.{Pat, punit, pvar, pinj, ppair, sameTag}
 
 -- whether two patterns clash, and "the number of node pairs compared, the clash included"
 pub record Compared : Type 0 where

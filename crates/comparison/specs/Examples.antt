@@ -1,8 +1,8 @@
 -- Examples that shut out wrong readings of request 04. Each holds by computation.
 use mathlib.Core.Path.{_≡_, refl}
 use mathlib.Core.Bool.{true, false}
-use Rattle.model.specs.Trees.{Pat, punit, pvar, pinj, ppair, left, right}
-use Rattle.model.specs.Refusals.{noIso}
+use Rattle.calculus.specs.Trees.{Pat, punit, pvar, pinj, ppair, left, right}
+use Rattle.calculus.specs.Refusals.{noIso}
 use Rattle.model.specs.Services.{verdict}
 use Rattle.model.specs.Cases.{fileS}
 use Rattle.comparison.specs.Comparison.{compare}

@@ -4,10 +4,10 @@ use mathlib.Core.Bool.{Bool, false}
 use mathlib.Core.Option.{Option, none, some}
 use mathlib.Core.List.{List}
 use lib.ListN.{getElem?}
-use Rattle.model.specs.Trees.{Pat}
-use Rattle.model.specs.Refusals.{Refusal, number, noIso}
-use Rattle.model.specs.Lines.{Row}
-use Rattle.model.specs.Judge.{start, afterAll}
+use Rattle.calculus.specs.Trees.{Pat}
+use Rattle.calculus.specs.Refusals.{Refusal, number, noIso}
+use Rattle.format.specs.Lines.{Row}
+use Rattle.format.specs.Judge.{start, afterAll}
 use Rattle.model.specs.Services.{Verdict, accepted, refused, verdict, tableAfter, workAfter, short, unless}
 use Rattle.comparison.specs.Comparison.{Compared, compare}
 

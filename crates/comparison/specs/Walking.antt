@@ -5,9 +5,9 @@ use mathlib.Core.Bool.{cond}
 use mathlib.Core.List.{List}
 use lib.Dec.{eqb}
 use lib.ListN.{length}
-use Rattle.model.specs.Limits.{maxLines, tableLength}
-use Rattle.model.specs.Trees.{Pat}
-use Rattle.model.specs.Judge.{patternNode}
+use Rattle.limits.specs.Limits.{maxLines, tableLength}
+use Rattle.calculus.specs.Trees.{Pat}
+use Rattle.format.specs.Judge.{patternNode}
 use Rattle.nodes.specs.Unfolding.{cellOf, smallerOf, patternOf}
 use Rattle.comparison.specs.Comparison.{Compared, met, clashed, andThen, compare}
 

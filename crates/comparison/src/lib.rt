@@ -12,7 +12,7 @@ ghost use mathlib.Core.Bool.{true, false};
 ghost use mathlib.Core.Logic.{_⊎_};
 ghost use Prim.Native.Nat.{_+_, _%_, _^_, _<_, _≤_};
 ghost use lib.ListN.{length};
-ghost use Rattle.model.specs.Limits.{tableLength, maxLines, rowWidth};
+ghost use Rattle.limits.specs.Limits.{tableLength, maxLines, rowWidth};
 ghost use Rattle.nodes.specs.Unfolding.{cellOf, patternOf};
 ghost use Rattle.comparison.specs.Comparison.{compare as compared};
 ghost use Rattle.comparison.specs.Walking.{counted, opening, partOf, Meets, Within};
@@ -156,7 +156,12 @@ fn compare_lines(t: &[u16], base: usize, p: usize, q: usize) -> usize
 // a file have at most 127 nodes.
 pub fn compare(t: &[u16], base: usize, p: usize, q: usize) -> Compared
     requires { ⌜ tableLength ≤ length (now t) ⌝ }
-    ensures { λ r. ⌜ (r .clash ≡ compared (patternOf (now (t .entry)) base p) (patternOf (now (t .entry)) base q) .clash) × (r .pairs ≡ compared (patternOf (now (t .entry)) base p) (patternOf (now (t .entry)) base q) .pairs % 2 ^ 63) ⌝ }
+    ensures { λ r. ⌜
+        (r .clash ≡ compared (patternOf (now (t .entry)) base p) (patternOf (now (t .entry)) base q)
+        .clash)
+        × (r .pairs ≡ compared (patternOf (now (t .entry)) base p) (patternOf (now (t .entry)) base q)
+        .pairs % 2 ^ 63)
+        ⌝ }
 {
     let n = compare_lines(t, base, p, q);
     Compared {

@@ -4,8 +4,8 @@ use native.Mathlib.Omega.{arith}
 use mathlib.Core.Path.{_≡_, refl, sym, ap, ap₂, _∙_, subst}
 use mathlib.Core.List.{List, [], _∷_, _++_, map}
 use lib.ListN.{length, length-append, getD, set}
-use Rattle.model.specs.Tools.{total}
-use Rattle.model.specs.Trees.{Clause}
+use Rattle.calculus.specs.Tools.{total}
+use Rattle.calculus.specs.Trees.{Clause}
 use Rattle.costs.specs.Costs.{leastOf, greatestOf, letCost, clauseCost, isoCost, costsFrom}
 use Rattle.nodes.specs.Unfolding.{cellOf}
 use Rattle.nodes.specs.InTable.{letsIn, clauseIn}

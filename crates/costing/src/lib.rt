@@ -9,7 +9,7 @@ ghost use mathlib.Core.Path.{_≡_};
 ghost use mathlib.Core.List.{List, [], map};
 ghost use Prim.Native.Nat.{ℕ, suc, _+_, _-_, _≤_, _<_, min, max};
 ghost use lib.ListN.{length, getD, set};
-ghost use Rattle.model.specs.Tools.{total};
+ghost use Rattle.calculus.specs.Tools.{total};
 ghost use Rattle.costs.specs.Costs.{leastOf, greatestOf, letCost, clauseCost, costsFrom};
 ghost use Rattle.nodes.specs.InTable.{letsIn, clauseIn};
 ghost use Rattle.index.specs.Index.{placeAt, clausesAt, isosAt};
@@ -70,7 +70,10 @@ fn store_number(numbers: &mut [u64], i: usize, v: u64)
 
 // The sum over the L rows from a row up to another, given the numbers of the isos.
 fn let_sum(t: &[u16], known: &[u64], row: usize, end: usize) -> u64
-    ensures { λ r. ⌜ ((base : ℕ) (ks : List ℕ) → Holds (now (known .entry)) ks → r ≡ min (total (map (letCost ks) (letsIn (now (t .entry)) base row (end - row)))) cap) ⌝ }
+    ensures { λ r. ⌜
+        ((base : ℕ) (ks : List ℕ) → Holds (now (known .entry)) ks
+        → r ≡ min (total (map (letCost ks) (letsIn (now (t .entry)) base row (end - row)))) cap)
+        ⌝ }
 {
     if end <= row {
         return 0;
@@ -87,7 +90,11 @@ fn let_sum(t: &[u16], known: &[u64], row: usize, end: usize) -> u64
 // What the clause at place m of the index needs.
 fn clause_cost(t: &[u16], known: &[u64], index: &[u16], m: usize) -> u64
     requires { ⌜ m < 65536 ⌝ }
-    ensures { λ r. ⌜ ((base : ℕ) (ks : List ℕ) → Holds (now (known .entry)) ks → r ≡ min (clauseCost ks (clauseIn (now (t .entry)) base (placeAt (now (index .entry)) m) (placeAt (now (index .entry)) (suc m)))) cap) ⌝ }
+    ensures { λ r. ⌜
+        ((base : ℕ) (ks : List ℕ) → Holds (now (known .entry)) ks → r ≡ min
+        (clauseCost ks (clauseIn (now (t .entry)) base (placeAt (now (index .entry)) m) (placeAt (now (index .entry)) (suc m))))
+        cap)
+        ⌝ }
 {
     let row = place(index, m);
     let end = place(index, m + 1);
@@ -97,7 +104,11 @@ fn clause_cost(t: &[u16], known: &[u64], index: &[u16], m: usize) -> u64
 // The least over the clauses from place m of the index up to another.
 fn least_cost(t: &[u16], known: &[u64], index: &[u16], m: usize, end: usize) -> u64
     requires { ⌜ end ≤ 65536 ⌝ }
-    ensures { λ r. ⌜ ((base : ℕ) (ks : List ℕ) → Holds (now (known .entry)) ks → r ≡ min (leastOf (map (clauseCost ks) (clausesAt (now (t .entry)) base (now (index .entry)) m (end - m)))) cap) ⌝ }
+    ensures { λ r. ⌜
+        ((base : ℕ) (ks : List ℕ) → Holds (now (known .entry)) ks → r ≡ min
+        (leastOf (map (clauseCost ks) (clausesAt (now (t .entry)) base (now (index .entry)) m (end - m))))
+        cap)
+        ⌝ }
 {
     if end <= m {
         return 0;
@@ -114,7 +125,11 @@ fn least_cost(t: &[u16], known: &[u64], index: &[u16], m: usize, end: usize) -> 
 // The greatest over the same.
 fn greatest_cost(t: &[u16], known: &[u64], index: &[u16], m: usize, end: usize) -> u64
     requires { ⌜ end ≤ 65536 ⌝ }
-    ensures { λ r. ⌜ ((base : ℕ) (ks : List ℕ) → Holds (now (known .entry)) ks → r ≡ min (greatestOf (map (clauseCost ks) (clausesAt (now (t .entry)) base (now (index .entry)) m (end - m)))) cap) ⌝ }
+    ensures { λ r. ⌜
+        ((base : ℕ) (ks : List ℕ) → Holds (now (known .entry)) ks → r ≡ min
+        (greatestOf (map (clauseCost ks) (clausesAt (now (t .entry)) base (now (index .entry)) m (end - m))))
+        cap)
+        ⌝ }
 {
     if end <= m {
         return 0;
@@ -130,7 +145,14 @@ fn greatest_cost(t: &[u16], known: &[u64], index: &[u16], m: usize, end: usize) 
 
 // Reckons both numbers of each iso in order, into areas of zeros.
 pub fn reckon(t: &[u16], index: &[u16], isos: usize, least: &mut [u64], greatest: &mut [u64])
-    ensures { λ r. ⌜ ((base : ℕ) → isos ≤ length (now (least .entry)) → Holds (now (least .entry)) [] → Holds (now (least .exit)) (costsFrom leastOf [] (isosAt (now (t .entry)) base (now (index .entry)) 0 isos))) × ((base : ℕ) → isos ≤ length (now (greatest .entry)) → Holds (now (greatest .entry)) [] → Holds (now (greatest .exit)) (costsFrom greatestOf [] (isosAt (now (t .entry)) base (now (index .entry)) 0 isos))) ⌝ }
+    ensures { λ r. ⌜
+        ((base : ℕ) → isos ≤ length (now (least .entry)) → Holds (now (least .entry)) []
+        → Holds (now (least .exit))
+        (costsFrom leastOf [] (isosAt (now (t .entry)) base (now (index .entry)) 0 isos)))
+        × ((base : ℕ) → isos ≤ length (now (greatest .entry)) → Holds (now (greatest .entry)) []
+        → Holds (now (greatest .exit))
+        (costsFrom greatestOf [] (isosAt (now (t .entry)) base (now (index .entry)) 0 isos)))
+        ⌝ }
 {
     let mut i: usize = 0;
     while i < isos {

@@ -8,15 +8,15 @@ use mathlib.Core.Option.{Option, none, some}
 use mathlib.Core.List.{List, map}
 use lib.Dec.{ltb}
 use lib.ListN.{getD, getElem?}
-use Rattle.model.specs.Trees.{Val, Iso, invert}
-use Rattle.model.specs.Refusals.{Refusal, spent, noIso}
-use Rattle.model.specs.Lines.{Row}
-use Rattle.model.specs.Unfold.{isosOf, turnRows}
-use Rattle.model.specs.Reduction.{reduce}
+use Rattle.calculus.specs.Trees.{Val, Iso, invert}
+use Rattle.calculus.specs.Refusals.{Refusal, spent, noIso}
+use Rattle.format.specs.Lines.{Row}
+use Rattle.format.specs.Unfold.{isosOf, turnRows}
+use Rattle.calculus.specs.Reduction.{reduce}
 use Rattle.model.specs.Services.{Verdict, accepted, refused, verdict, turned, Ran, gives, failed, toward, runOf, run}
 use Rattle.model.specs.Answers.{RunIs, absent, strange, passed, done}
-use Rattle.model.proofs.Basic.{none≢some, ltb-lt, ltb-false, index-map, index-of-map, not-some}
-use Rattle.model.proofs.Turning.{isos-turn}
+use Rattle.calculus.proofs.Basic.{none≢some, ltb-lt, ltb-false, index-map, index-of-map, not-some}
+use Rattle.format.proofs.Turning.{isos-turn}
 use Rattle.model.proofs.Files.{turned-accepted}
 use Rattle.model.proofs.Runs.{Good, GoodRows, good, good-toward, accepted-good, reduces-iff, run-iff}
 use Rattle.costs.specs.Costs.{leastCosts, greatestCosts}

@@ -6,13 +6,13 @@ use mathlib.Core.Path.{_≡_, refl, sym, ap, ap₂, _∙_, subst}
 use mathlib.Core.Option.{Option, none, some}
 use mathlib.Core.List.{List, [], _∷_, _++_, map, List·Memᴰ, List·Memᴰ·head, List·Memᴰ·tail}
 use lib.ListN.{getD, getElem?, length, length-append}
-use Rattle.model.specs.Tools.{total, select}
-use Rattle.model.specs.Trees.{Val, Let, Clause, Iso}
-use Rattle.model.specs.Slots.{Slots}
-use Rattle.model.specs.Reduction.{Call, runLets, runClause, hits, only, apply, reduceTo, reduce}
-use Rattle.model.proofs.Basic.{bind-some, none≢some, some-inj}
-use Rattle.model.proofs.Running.{let-run, clause-run, hit-only}
-use Rattle.model.proofs.Inverse.{reduce-unfold}
+use Rattle.calculus.specs.Tools.{total, select}
+use Rattle.calculus.specs.Trees.{Val, Let, Clause, Iso}
+use Rattle.calculus.specs.Slots.{Slots}
+use Rattle.calculus.specs.Reduction.{Call, runLets, runClause, hits, only, apply, reduceTo, reduce}
+use Rattle.calculus.proofs.Basic.{bind-some, none≢some, some-inj}
+use Rattle.calculus.proofs.Running.{let-run, clause-run, hit-only}
+use Rattle.calculus.proofs.Inverse.{reduce-unfold}
 use Rattle.costs.specs.Costs.{leastOf, greatestOf, letCost, clauseCost, isoCost, costsFrom, leastCosts, greatestCosts}
 
 -- ---- the least and the greatest of several numbers

@@ -6,13 +6,13 @@ use mathlib.Core.Bool.{Bool, true, false}
 use mathlib.Core.Option.{Option, none, some}
 use mathlib.Core.List.{List, [], _∷_, _++_, map, reverse, reverse-cons, map-map}
 use lib.ListN.{getElem?}
-use Rattle.model.specs.Tools.{total}
-use Rattle.model.specs.Trees.{Clause, Iso, invertLet, invertClause, invert}
-use Rattle.model.specs.Lines.{Row}
-use Rattle.model.specs.Unfold.{isosOf}
+use Rattle.calculus.specs.Tools.{total}
+use Rattle.calculus.specs.Trees.{Clause, Iso, invertLet, invertClause, invert}
+use Rattle.format.specs.Lines.{Row}
+use Rattle.format.specs.Unfold.{isosOf}
 use Rattle.model.specs.Services.{toward}
-use Rattle.model.proofs.Basic.{index-of-map, map-reverse}
-use Rattle.model.proofs.Turning.{isos-turn}
+use Rattle.calculus.proofs.Basic.{index-of-map, map-reverse}
+use Rattle.format.proofs.Turning.{isos-turn}
 use Rattle.model.proofs.Runs.{GoodRows}
 use Rattle.costs.specs.Costs.{leastOf, greatestOf, letCost, clauseCost, isoCost, costsFrom, leastCosts, greatestCosts}
 use Rattle.costs.proofs.Between.{map-each}

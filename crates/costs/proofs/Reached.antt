@@ -7,20 +7,20 @@ use mathlib.Core.Bool.{Bool, true, false}
 use mathlib.Core.Option.{Option, none, some}
 use mathlib.Core.List.{List, [], _∷_, map, reverse, List·Memᴰ, List·Memᴰ·head, List·Memᴰ·tail}
 use lib.ListN.{getD, getElem?, length}
-use Rattle.model.specs.Tools.{total, select}
-use Rattle.model.specs.Trees.{Ty, tunit, tsum, tprod, Val, vunit, vinj, vpair, left, Let, Clause, Iso, invertLet, invertClause, invert}
-use Rattle.model.specs.Slots.{Slots}
-use Rattle.model.specs.Lines.{Row}
-use Rattle.model.specs.Unfold.{isosOf}
-use Rattle.model.specs.Reduction.{Call, runLets, hits, only, apply, reduceTo, reduce}
-use Rattle.model.specs.Letters.{letters}
-use Rattle.model.specs.Paper.{Of, unit, inj, pair}
+use Rattle.calculus.specs.Tools.{total, select}
+use Rattle.calculus.specs.Trees.{Ty, tunit, tsum, tprod, Val, vunit, vinj, vpair, left, Let, Clause, Iso, invertLet, invertClause, invert}
+use Rattle.calculus.specs.Slots.{Slots}
+use Rattle.format.specs.Lines.{Row}
+use Rattle.format.specs.Unfold.{isosOf}
+use Rattle.calculus.specs.Reduction.{Call, runLets, hits, only, apply, reduceTo, reduce}
+use Rattle.calculus.specs.Letters.{letters}
+use Rattle.calculus.specs.Paper.{Of, unit, inj, pair}
 use Rattle.model.specs.Services.{accepted, verdict, gives, toward, run}
 use Rattle.model.specs.Answers.{done}
-use Rattle.model.proofs.Basic.{bind-some, none≢some, some-inj, each-map, index-map}
-use Rattle.model.proofs.Running.{clause-run, hit-only}
-use Rattle.model.proofs.Inverse.{reduce-unfold}
-use Rattle.model.proofs.Turning.{isos-turn}
+use Rattle.calculus.proofs.Basic.{bind-some, none≢some, some-inj, each-map, index-map}
+use Rattle.calculus.proofs.Running.{clause-run, hit-only}
+use Rattle.calculus.proofs.Inverse.{reduce-unfold}
+use Rattle.format.proofs.Turning.{isos-turn}
 use Rattle.model.proofs.Runs.{GoodRows, good, good-toward, accepted-good, results, reduces-iff, run-iff}
 use Rattle.costs.specs.Costs.{leastOf, greatestOf, clauseCost, isoCost, costsFrom, leastCosts, greatestCosts}
 use Rattle.costs.specs.Bounds.{told, bounds}

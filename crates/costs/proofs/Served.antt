@@ -9,11 +9,11 @@ use mathlib.Core.Option.{Option, none, some}
 use mathlib.Core.List.{List}
 use lib.Dec.{ltb}
 use lib.ListN.{length, getElem?}
-use Rattle.model.specs.Limits.{resultLength}
-use Rattle.model.specs.Trees.{Iso}
-use Rattle.model.specs.Refusals.{Refusal, number, shortArea, noIso, spent}
-use Rattle.model.specs.Lines.{Row}
-use Rattle.model.specs.Unfold.{isosOf}
+use Rattle.limits.specs.Limits.{resultLength}
+use Rattle.calculus.specs.Trees.{Iso}
+use Rattle.calculus.specs.Refusals.{Refusal, number, shortArea, noIso, spent}
+use Rattle.format.specs.Lines.{Row}
+use Rattle.format.specs.Unfold.{isosOf}
 use Rattle.model.specs.Services.{Verdict, accepted, refused, verdict, turned, short, unless, answerOf, check, Ran, gives, failed, toward, runOf, run, answerOfRun, runService}
 use Rattle.model.specs.Answers.{RunIs, absent, strange, passed, done}
 use Rattle.model.proofs.Files.{number-positive}

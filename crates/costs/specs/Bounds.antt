@@ -5,9 +5,9 @@ use mathlib.Core.Option.{Option, none, some}
 use mathlib.Core.List.{List}
 use lib.Dec.{ltb}
 use lib.ListN.{getD, getElem?}
-use Rattle.model.specs.Trees.{Iso}
-use Rattle.model.specs.Refusals.{Refusal, number, noIso}
-use Rattle.model.specs.Unfold.{isosOf}
+use Rattle.calculus.specs.Trees.{Iso}
+use Rattle.calculus.specs.Refusals.{Refusal, number, noIso}
+use Rattle.format.specs.Unfold.{isosOf}
 use Rattle.model.specs.Services.{Verdict, accepted, refused, verdict, tableAfter, workAfter, short, unless}
 use Rattle.costs.specs.Costs.{leastCosts, greatestCosts}
 

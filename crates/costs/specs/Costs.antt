@@ -3,8 +3,8 @@
 use Prim.Native.Nat.{ℕ, suc, min, max}
 use mathlib.Core.List.{List, [], _∷_, _++_, map}
 use lib.ListN.{getD}
-use Rattle.model.specs.Tools.{total}
-use Rattle.model.specs.Trees.{Let, Clause, Iso}
+use Rattle.calculus.specs.Tools.{total}
+use Rattle.calculus.specs.Trees.{Let, Clause, Iso}
 
 -- the least and the greatest of some numbers; an accepted iso has a clause, and 0 stands where there is none
 abbrev pub leastOf : List ℕ → ℕ

@@ -4,7 +4,7 @@ use mathlib.Core.Path.{_≡_, refl}
 use mathlib.Core.Bool.{true, false}
 use mathlib.Core.List.{List, [], _∷_, _++_, map}
 use lib.ListN.{getElem?}
-use Rattle.model.specs.Trees.{tunit, punit, Let, Clause, Iso}
+use Rattle.calculus.specs.Trees.{tunit, punit, Let, Clause, Iso}
 use Rattle.model.specs.Cases.{fileS}
 use Rattle.costs.specs.Costs.{leastCosts, greatestCosts}
 use Rattle.costs.specs.Bounds.{Bounds, onIso, bounds}

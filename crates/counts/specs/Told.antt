@@ -3,9 +3,9 @@ use Prim.Native.Nat.{ℕ, _+_, _<_}
 use mathlib.Core.Path.{_≡_}
 use mathlib.Core.List.{List}
 use lib.ListN.{length, getD}
-use Rattle.model.specs.Trees.{Ty, tunit, Pat, punit}
-use Rattle.model.specs.Refusals.{Kind, typeLine, patternLine, isoLine, clauseLine, letLine}
-use Rattle.model.specs.Judge.{Seen, stage, typeNode, patternNode}
+use Rattle.calculus.specs.Trees.{Ty, tunit, Pat, punit}
+use Rattle.calculus.specs.Refusals.{Kind, typeLine, patternLine, isoLine, clauseLine, letLine}
+use Rattle.format.specs.Judge.{Seen, stage, typeNode, patternNode}
 use Rattle.nodes.specs.Unfolding.{typeOf, patternOf}
 use Rattle.counts.specs.declared.Seen as C
 

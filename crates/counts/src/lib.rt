@@ -1,8 +1,8 @@
 // What the rows above a row tell of it.
 
-use model::Kind;
+use format::Kind;
 ghost use mathlib.Core.Path.{_≡_};
-ghost use Rattle.model.specs.Code.{kindView};
+ghost use Rattle.format.specs.Code.{kindView};
 ghost use Rattle.counts.specs.Told.{startSeen, seenAfter, SmallCounts};
 
 // What the rows above tell: how far the order has come (0 T, 1 P, 2 I, 3 C, 4 L), how many T, P and I

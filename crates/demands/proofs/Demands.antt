@@ -6,20 +6,21 @@ use mathlib.Core.Logic.{_↔_}
 use mathlib.Core.List.{List}
 use mathlib.Core.Option.{some}
 use lib.ListN.{getElem?}
-use Rattle.model.specs.Trees.{Val, Iso}
-use Rattle.model.specs.Refusals.{Refusal, number}
-use Rattle.model.specs.Lines.{Row}
-use Rattle.model.specs.Clauses.{sigsOf}
-use Rattle.model.specs.Unfold.{isosOf, turnRows}
+use Rattle.calculus.specs.Trees.{Val, Iso}
+use Rattle.calculus.specs.Refusals.{Refusal, number}
+use Rattle.format.specs.Lines.{Row}
+use Rattle.calculus.specs.Clauses.{sigsOf}
+use Rattle.format.specs.Unfold.{isosOf, turnRows}
 use Rattle.model.specs.Services.{Verdict, accepted, refused, verdict, answerOf, check, Ran, gives, toward, run, answerOfRun}
-use Rattle.model.specs.Letters.{letters, valueOf}
-use Rattle.model.specs.Paper.{Of}
-use Rattle.model.specs.Terms.{eapp, valTerm, Steps}
-use Rattle.model.specs.Answers.{FirstIso, RunIs, done}
-use Rattle.model.proofs.Basic.{some-inj}
-use Rattle.model.proofs.Letters.{value-letters}
+use Rattle.calculus.specs.Letters.{letters, valueOf}
+use Rattle.calculus.specs.Paper.{Of}
+use Rattle.calculus.specs.Terms.{eapp, valTerm, Steps}
+use Rattle.calculus.specs.Faulty.{FirstIso}
+use Rattle.model.specs.Answers.{RunIs, done}
+use Rattle.calculus.proofs.Basic.{some-inj}
+use Rattle.calculus.proofs.Letters.{value-letters}
 use Rattle.model.proofs.Files.{InForm, answer-iff, refused-iff, turned-accepted}
-use Rattle.model.proofs.Steps.{unique, LeftsApart}
+use Rattle.calculus.proofs.Steps.{unique, LeftsApart}
 use Rattle.model.proofs.Runs as Runs
 use Rattle.model.proofs.Runs.{Good, good, good-toward, accepted-good, results, run-iff, there-and-back, onto, one-clause}
 use Rattle.demands.specs.Words.{Areas, yes, Accepted, turnedBytes, Gives}

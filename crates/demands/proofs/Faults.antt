@@ -8,17 +8,18 @@ use mathlib.Core.Option.{Option, none, some}
 use mathlib.Core.List.{List, [], _∷_}
 use lib.Dec.{ltb}
 use lib.ListN.{length}
-use Rattle.model.specs.Limits.{maxBytes, maxLines}
-use Rattle.model.specs.Tools.{firstFailing}
-use Rattle.model.specs.Refusals.{Kind, typeLine, patternLine, isoLine, clauseLine, letLine, Refusal, number, tooLong, badLine, misplaced, badField, badName, ceiling}
-use Rattle.model.specs.Lines.{Row, lines, rowOf}
-use Rattle.model.specs.Judge.{Seen, start, inOrder, fieldsFit, named, withinCeilings, judge, afterKind, after, Reading, rows, faulty, withRow, onRow, onJudged, readFrom}
-use Rattle.model.specs.Trees.{Ty, Clause, Iso}
-use Rattle.model.specs.Clauses.{Sigs}
+use Rattle.limits.specs.Limits.{maxBytes, maxLines}
+use Rattle.calculus.specs.Tools.{firstFailing}
+use Rattle.calculus.specs.Refusals.{Kind, typeLine, patternLine, isoLine, clauseLine, letLine, Refusal, number, tooLong, badLine, misplaced, badField, badName, ceiling}
+use Rattle.format.specs.Lines.{Row, lines, rowOf}
+use Rattle.format.specs.Judge.{Seen, start, inOrder, fieldsFit, named, withinCeilings, judge, afterKind, after, Reading, rows, faulty, withRow, onRow, onJudged, readFrom}
+use Rattle.calculus.specs.Trees.{Ty, Clause, Iso}
+use Rattle.calculus.specs.Clauses.{Sigs}
 use Rattle.model.specs.Services.{Verdict, accepted, refused, afterReading, over, verdict, short, unless, Answer, answerOf, check, turn, Ran, runOf, run, answerOfRun, runService}
-use Rattle.model.specs.Answers.{ClauseFault, variables, shapes, SideFault, overlapLeft, overlapRight, gapLeft, gapRight, FirstClause, IsoFault, inClause, inSides, FirstIso, RunIs, absent, strange, passed, done}
-use Rattle.model.proofs.Basic.{none≢some, some-inj, bool-cases, neither, ltb-lt, lt-ltb, ltb-false, not-ltb, or-true, true-or-left, true-or-right}
-use Rattle.model.proofs.Passing.{Passes, Passes.done, Passes.next, judge-fit, fit-judge}
+use Rattle.calculus.specs.Faulty.{ClauseFault, variables, shapes, SideFault, overlapLeft, overlapRight, gapLeft, gapRight, FirstClause, IsoFault, inClause, inSides, FirstIso}
+use Rattle.model.specs.Answers.{RunIs, absent, strange, passed, done}
+use Rattle.calculus.proofs.Basic.{none≢some, some-inj, bool-cases, neither, ltb-lt, lt-ltb, ltb-false, not-ltb, or-true, true-or-left, true-or-right}
+use Rattle.format.proofs.Passing.{Passes, Passes.done, Passes.next, judge-fit, fit-judge}
 use Rattle.model.proofs.Files.{passes, refused-iff}
 use Rattle.model.proofs.Runs.{run-iff}
 use Rattle.demands.specs.Words.{Areas}

@@ -8,18 +8,18 @@ use mathlib.Core.List.{List, [], _∷_, _++_, map, append-assoc}
 use lib.Dec.{leb, ltb}
 use lib.ListN.{length, take, drop, replicate, length-append, length-drop, length-replicate}
 use lib.Seq.{take-at, drop-at}
-use Rattle.model.specs.Limits.{maxBytes, maxLines, tableLength, workLength, resultLength}
-use Rattle.model.specs.Tools.{concat}
-use Rattle.model.specs.Trees.{Iso}
-use Rattle.model.specs.Refusals.{Refusal, number, shortArea}
-use Rattle.model.specs.Lines.{Row, lines, numbers}
-use Rattle.model.specs.Judge.{start}
-use Rattle.model.specs.Unfold.{isosOf}
-use Rattle.model.specs.Paper.{FileOk}
+use Rattle.limits.specs.Limits.{maxBytes, maxLines, tableLength, workLength, resultLength}
+use Rattle.calculus.specs.Tools.{concat}
+use Rattle.calculus.specs.Trees.{Iso}
+use Rattle.calculus.specs.Refusals.{Refusal, number, shortArea}
+use Rattle.format.specs.Lines.{Row, lines, numbers}
+use Rattle.format.specs.Judge.{start}
+use Rattle.format.specs.Unfold.{isosOf}
+use Rattle.calculus.specs.Paper.{FileOk}
 use Rattle.model.specs.Services.{Verdict, accepted, refused, over, verdict, filled, written, tableAfter, workAfter, short, unless, answerOf, check, turned, turnedOf, turn, Ran, gives, failed, onIso, runRows, runOf, run, RunAnswer, answerOfRun, RunResult, runService, toward}
 use Rattle.model.specs.Answers.{RunIs, absent, strange, passed, done}
-use Rattle.model.proofs.Basic.{neither, ltb-false, leb-le, leb-false, bool-cases, not-ltb}
-use Rattle.model.proofs.Printing.{read-count}
+use Rattle.calculus.proofs.Basic.{neither, ltb-false, leb-le, leb-false, bool-cases, not-ltb}
+use Rattle.format.proofs.Printing.{read-count}
 use Rattle.model.proofs.Files.{InForm, refused≢accepted, accepted-inj, accepted-form, accepted-iff, number-positive, turned-fits, turned-accepted-bytes}
 use Rattle.model.proofs.Runs.{run-iff}
 use Rattle.model.proofs.Sizes.{short-result}

@@ -7,8 +7,8 @@ use mathlib.Core.Bool.{Bool, false, _||_}
 use mathlib.Core.List.{List, [], _∷_}
 use lib.Dec.{ltb}
 use lib.ListN.{length}
-use Rattle.model.specs.Limits.{resultLength}
-use Rattle.model.specs.Lines.{withoutReturns}
+use Rattle.limits.specs.Limits.{resultLength}
+use Rattle.format.specs.Lines.{withoutReturns}
 use Rattle.model.specs.Services.{verdict, written, short, unless, check, turned, runOf, run, RunAnswer, answerOfRun, RunResult, runService}
 use Rattle.model.specs.Sheet.{three}
 use Rattle.model.proofs.Files.{turned-twice, turned-fits}

@@ -8,12 +8,12 @@ use mathlib.Core.List.{List}
 use lib.Dec.{ltb}
 use lib.ListN.{length, take, drop}
 use lib.Seq.{take-at}
-use Rattle.model.specs.Limits.{resultLength}
-use Rattle.model.specs.Refusals.{Refusal, number}
-use Rattle.model.specs.Lines.{Row}
-use Rattle.model.specs.Judge.{rows}
+use Rattle.limits.specs.Limits.{resultLength}
+use Rattle.calculus.specs.Refusals.{Refusal, number}
+use Rattle.format.specs.Lines.{Row}
+use Rattle.format.specs.Judge.{rows}
 use Rattle.model.specs.Services.{Verdict, accepted, refused, verdict, short, unless, written, answerOf, check, turned, turnedOf, turn, Ran, gives, failed, runOf, run, RunAnswer, answerOfRun, RunResult, runService}
-use Rattle.model.proofs.Basic.{not-ltb}
+use Rattle.calculus.proofs.Basic.{not-ltb}
 use Rattle.model.proofs.Files.{InForm, accepted-form, answer-zero, number-positive}
 use Rattle.model.proofs.Sheets.{long-enough}
 use Rattle.demands.specs.Words.{Areas, yes, Accepted, turnedBytes, shown, Gives}

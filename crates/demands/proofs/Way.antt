@@ -7,20 +7,20 @@ use mathlib.Core.Bool.{Bool, true, false, _&&_, false≢true}
 use mathlib.Core.Option.{Option, some}
 use mathlib.Core.List.{List, [], _∷_, _++_, List·Memᴰ}
 use lib.ListN.{getElem?, length}
-use Rattle.model.specs.Tools.{select}
-use Rattle.model.specs.Trees.{Pat, Val, vunit, vinj, vpair, Let, Clause, Iso, vars}
-use Rattle.model.specs.Slots.{Slots, empty}
-use Rattle.model.specs.Reduction.{build, Call, runLets, runClause, hits, only, apply, reduceTo, reduce}
-use Rattle.model.specs.Paper.{Valuation, Matches, OnWay, itself, below}
-use Rattle.model.specs.Terms.{Term, eunit, evar, einj, epair, eapp, elet, patTerm, valTerm, chain, look, without, replace, Step, isoApp, letE, inLet as stepInLet, Steps, still, more}
-use Rattle.model.proofs.Basic.{bind-some, none≢some, some-inj}
-use Rattle.model.proofs.Slots.{slot, Contained}
-use Rattle.model.proofs.Binding.{bind-found, build-found}
-use Rattle.model.proofs.Running.{let-run, run-let, clause-run, hit-only}
-use Rattle.model.proofs.Substitution.{build-replace, over, replace-over, bound-over, bound-start}
-use Rattle.model.proofs.Steps.{steps-from, valTerm-injective, value-still, LeftsApart, step-unique}
-use Rattle.model.proofs.Totality.{depth}
-use Rattle.model.proofs.Inverse.{reduce-unfold}
+use Rattle.calculus.specs.Tools.{select}
+use Rattle.calculus.specs.Trees.{Pat, Val, vunit, vinj, vpair, Let, Clause, Iso, vars}
+use Rattle.calculus.specs.Slots.{Slots, empty}
+use Rattle.calculus.specs.Reduction.{build, Call, runLets, runClause, hits, only, apply, reduceTo, reduce}
+use Rattle.calculus.specs.Paper.{Valuation, Matches, OnWay, itself, below}
+use Rattle.calculus.specs.Terms.{Term, eunit, evar, einj, epair, eapp, elet, patTerm, valTerm, chain, look, without, replace, Step, isoApp, letE, inLet as stepInLet, Steps, still, more}
+use Rattle.calculus.proofs.Basic.{bind-some, none≢some, some-inj}
+use Rattle.calculus.proofs.Slots.{slot, Contained}
+use Rattle.calculus.proofs.Binding.{bind-found, build-found}
+use Rattle.calculus.proofs.Running.{let-run, run-let, clause-run, hit-only}
+use Rattle.calculus.proofs.Substitution.{build-replace, over, replace-over, bound-over, bound-start}
+use Rattle.calculus.proofs.Steps.{steps-from, valTerm-injective, value-still, LeftsApart, step-unique}
+use Rattle.calculus.proofs.Totality.{depth}
+use Rattle.calculus.proofs.Inverse.{reduce-unfold}
 use Rattle.demands.specs.Words.{Next, here, inInj, inFst, inSnd, inApp, inLet}
 
 -- ---- a closed value has no application

@@ -8,17 +8,18 @@ use mathlib.Core.Bool.{Bool}
 use mathlib.Core.Option.{some}
 use mathlib.Core.List.{List, _++_, map}
 use lib.ListN.{length, take, drop, replicate, getElem?}
-use Rattle.model.specs.Tools.{concat}
-use Rattle.model.specs.Trees.{Val, Iso}
-use Rattle.model.specs.Refusals.{Refusal, number}
-use Rattle.model.specs.Lines.{Row, lines, numbers}
-use Rattle.model.specs.Clauses.{sigsOf}
-use Rattle.model.specs.Unfold.{isosOf}
-use Rattle.model.specs.Letters.{letters}
+use Rattle.calculus.specs.Tools.{concat}
+use Rattle.calculus.specs.Trees.{Val, Iso}
+use Rattle.calculus.specs.Refusals.{Refusal, number}
+use Rattle.format.specs.Lines.{Row, lines, numbers}
+use Rattle.calculus.specs.Clauses.{sigsOf}
+use Rattle.format.specs.Unfold.{isosOf}
+use Rattle.calculus.specs.Letters.{letters}
 use Rattle.model.specs.Services.{Answer, Checked, check, Turned, turn, Ran, RunAnswer, answerOfRun, RunResult, runService, toward}
-use Rattle.model.specs.Paper.{Of, FileOk, ExactlyOne}
-use Rattle.model.specs.Terms.{Term, eapp, valTerm, Steps}
-use Rattle.model.specs.Answers.{InForm, FirstIso, RunIs}
+use Rattle.calculus.specs.Paper.{Of, FileOk, ExactlyOne}
+use Rattle.calculus.specs.Terms.{Term, eapp, valTerm, Steps}
+use Rattle.calculus.specs.Faulty.{FirstIso}
+use Rattle.model.specs.Answers.{InForm, RunIs}
 use Rattle.demands.specs.Words.{Areas, yes, Accepted, turnedBytes, shown, Gives, Next}
 
 -- ---- demand 1: "Any caller, any bytes, numbers and lent areas: an answer or a numbered refusal, the call ends, and document 01 says what every lent area

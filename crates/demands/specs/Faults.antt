@@ -6,9 +6,9 @@ use mathlib.Core.Bool.{Bool, true, false}
 use mathlib.Core.Option.{none, some}
 use mathlib.Core.List.{List, [], _∷_}
 use lib.ListN.{length}
-use Rattle.model.specs.Refusals.{typeLine, patternLine, isoLine, clauseLine, letLine, Refusal, number, badLine, misplaced, badField, badName, ceiling}
-use Rattle.model.specs.Lines.{Row, lines, rowOf}
-use Rattle.model.specs.Judge.{Seen, start, inOrder, fieldsFit, named, withinCeilings, after}
+use Rattle.calculus.specs.Refusals.{typeLine, patternLine, isoLine, clauseLine, letLine, Refusal, number, badLine, misplaced, badField, badName, ceiling}
+use Rattle.format.specs.Lines.{Row, lines, rowOf}
+use Rattle.format.specs.Judge.{Seen, start, inOrder, fieldsFit, named, withinCeilings, after}
 use Rattle.model.specs.Services.{check, turn, runService}
 use Rattle.model.specs.Answers.{InForm}
 use Rattle.demands.specs.Words.{Areas}

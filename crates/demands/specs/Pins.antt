@@ -6,13 +6,13 @@ use mathlib.Core.Bool.{Bool, true, false}
 use mathlib.Core.Option.{Option, none, some}
 use mathlib.Core.List.{List, [], _∷_, _++_, map}
 use lib.ListN.{replicate}
-use Rattle.model.specs.Limits.{maxBytes, maxLines, maxTypes, maxPatterns, maxIsos, maxClauses, maxLets, maxNodes, maxTags, variables, fieldBound, budgetBound, rowWidth, tableLength, workLength, resultLength, queryLength, maxQueries, maxValues}
-use Rattle.model.specs.Tools.{isSome}
-use Rattle.model.specs.Trees.{Ty, tunit, tprod, left, right, Pat, punit, pinj, vunit, vinj, vpair}
-use Rattle.model.specs.Refusals.{Kind, typeLine, patternLine, isoLine, clauseLine, letLine, number, shortArea, tooLong, badLine, misplaced, badField, badName, ceiling, variable, letShape, badType, overlap, gap, noIso, noValue, spent, tooMany, tooHigh}
-use Rattle.model.specs.Lines.{Row, rowOf, numbers}
-use Rattle.model.specs.Judge.{Seen, inOrder, fieldsFit, named, withinCeilings}
-use Rattle.model.specs.Letters.{letters}
+use Rattle.limits.specs.Limits.{maxBytes, maxLines, maxTypes, maxPatterns, maxIsos, maxClauses, maxLets, maxNodes, maxTags, variables, fieldBound, budgetBound, rowWidth, tableLength, workLength, resultLength, queryLength, maxQueries, maxValues, maxPairs, exportLength, importLength}
+use Rattle.calculus.specs.Tools.{isSome}
+use Rattle.calculus.specs.Trees.{Ty, tunit, tprod, left, right, Pat, punit, pinj, vunit, vinj, vpair}
+use Rattle.calculus.specs.Refusals.{Kind, typeLine, patternLine, isoLine, clauseLine, letLine, number, shortArea, tooLong, badLine, misplaced, badField, badName, ceiling, variable, letShape, badType, overlap, gap, noIso, noValue, spent, tooMany, tooHigh, badList}
+use Rattle.format.specs.Lines.{Row, rowOf, numbers}
+use Rattle.format.specs.Judge.{Seen, inOrder, fieldsFit, named, withinCeilings}
+use Rattle.calculus.specs.Letters.{letters}
 use Rattle.model.specs.Services.{accepted, refused}
 use Rattle.model.specs.Desk.{queryOf, desk}
 use Rattle.model.specs.Sheet.{sheetVerdict}
@@ -22,8 +22,8 @@ use Rattle.model.specs.Cases.{bytes}
 numbered : (k : Kind)
     → map number
     (shortArea ∷ tooLong ∷ badLine ∷ misplaced k ∷ badField k ∷ badName k ∷ ceiling k ∷ variable ∷ letShape ∷ badType ∷ overlap left ∷ overlap right ∷ gap left
-    ∷ gap right ∷ noIso ∷ noValue ∷ spent ∷ tooMany ∷ tooHigh ∷ [])
-    ≡ 1 ∷ 2 ∷ 3 ∷ 4 ∷ 5 ∷ 6 ∷ 7 ∷ 8 ∷ 9 ∷ 10 ∷ 11 ∷ 12 ∷ 13 ∷ 14 ∷ 15 ∷ 16 ∷ 17 ∷ 18 ∷ 19 ∷ []
+    ∷ gap right ∷ noIso ∷ noValue ∷ spent ∷ tooMany ∷ tooHigh ∷ badList ∷ [])
+    ≡ 1 ∷ 2 ∷ 3 ∷ 4 ∷ 5 ∷ 6 ∷ 7 ∷ 8 ∷ 9 ∷ 10 ∷ 11 ∷ 12 ∷ 13 ∷ 14 ∷ 15 ∷ 16 ∷ 17 ∷ 18 ∷ 19 ∷ 20 ∷ []
 numbered k = refl
 
 -- "Ceilings: 65,536 bytes; 4,096 lines; 256 T; 1,024 P; 32 I; 32 C in an iso; 8 L in a clause; 127 nodes in an unfolded T or P; 40 left and right nodes in an unfolded P."
@@ -31,9 +31,11 @@ ceilings : maxBytes ∷ maxLines ∷ maxTypes ∷ maxPatterns ∷ maxIsos ∷ ma
     ≡ 65536 ∷ 4096 ∷ 256 ∷ 1024 ∷ 32 ∷ 32 ∷ 8 ∷ 127 ∷ 40 ∷ []
 ceilings = refl
 
--- variables 0 to 31, fields 0 to 65,535, budgets 0 to 4,294,967,295, four numbers a line, the areas, a query's 200 bytes; 600 queries and 4,294,967,295 values of the requests
-bounds : variables ∷ fieldBound ∷ budgetBound ∷ rowWidth ∷ tableLength ∷ workLength ∷ resultLength ∷ queryLength ∷ maxQueries ∷ maxValues ∷ []
-    ≡ 32 ∷ 65536 ∷ 4294967296 ∷ 4 ∷ 16384 ∷ 65536 ∷ 127 ∷ 200 ∷ 600 ∷ 4294967295 ∷ []
+-- variables 0 to 31, fields 0 to 65,535, budgets 0 to 4,294,967,295, four numbers a line, the areas, a query's 200 bytes; of the requests 600 queries, 4,294,967,295
+-- values, 4,096 pairs, and areas of 40,960 and 65,536 bytes for lists and their files
+bounds : variables ∷ fieldBound ∷ budgetBound ∷ rowWidth ∷ tableLength ∷ workLength ∷ resultLength ∷ queryLength ∷ maxQueries ∷ maxValues ∷ maxPairs ∷ exportLength
+    ∷ importLength ∷ []
+    ≡ 32 ∷ 65536 ∷ 4294967296 ∷ 4 ∷ 16384 ∷ 65536 ∷ 127 ∷ 200 ∷ 600 ∷ 4294967295 ∷ 4096 ∷ 40960 ∷ 65536 ∷ []
 bounds = refl
 
 -- ---- lines

@@ -4,9 +4,9 @@ use mathlib.Core.Path.{_≡_}
 use mathlib.Core.Bool.{Bool}
 use mathlib.Core.List.{List}
 use lib.ListN.{length, take}
-use Rattle.model.specs.Trees.{Tag, Pat, Val}
+use Rattle.calculus.specs.Trees.{Tag, Pat, Val}
 use Rattle.model.specs.Services.{Answer, check, turn, RunResult, RunAnswer}
-use Rattle.model.specs.Terms.{Term, einj, epair, eapp, elet, valTerm}
+use Rattle.calculus.specs.Terms.{Term, einj, epair, eapp, elet, valTerm}
 
 -- "All three take … a table area of at least 16,384 numbers of 16 bits, and a work area of at least 65,536 bytes."
 pub record Areas (table work : List ℕ) : Type 0 where

@@ -9,11 +9,11 @@ use mathlib.Core.List.{List, []}
 use lib.ListN.{length, take, drop}
 use lib.Seq.{take-append-seam, length-take-le}
 use borrow.Author.Tests.{le-ltb}
-use Rattle.model.specs.Limits.{tableLength, workLength}
-use Rattle.model.specs.Refusals.{Refusal, number}
+use Rattle.limits.specs.Limits.{tableLength, workLength}
+use Rattle.calculus.specs.Refusals.{Refusal, number}
 use Rattle.model.specs.Services.{Verdict, accepted, refused, verdict, unless, answerOf, check, RunAnswer, written}
 use Rattle.model.specs.Desk.{queryLine, fileLine}
-use Rattle.model.specs.Code.{refusalView, numberOf, numbered}
+use Rattle.format.specs.Code.{refusalView, numberOf, numbered}
 use Rattle.model.proofs.Files.{number-positive}
 use Rattle.model.proofs.Sheets.{written-fits}
 use Rattle.areas.specs.Areas.{Writes}

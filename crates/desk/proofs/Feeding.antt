@@ -11,14 +11,14 @@ use lib.Dec.{ltb, leb, eqb}
 use lib.ListN.{length, take, getD, length-append}
 use lib.Seq.{sets, length-sets, take-suc}
 use borrow.Author.Tests.{eq-eqb, ne-eqb, lt-ltb, le-ltb, lt-leb, le-leb, ltb-true, ltb-false, leb-true, leb-false}
-use Rattle.model.specs.Limits.{lineFeed, letterQ, workLength}
-use Rattle.model.specs.Refusals.{Refusal}
-use Rattle.model.specs.Tools.{isSome}
-use Rattle.model.specs.Lines.{Row}
+use Rattle.limits.specs.Limits.{lineFeed, letterQ, workLength}
+use Rattle.calculus.specs.Refusals.{Refusal}
+use Rattle.calculus.specs.Tools.{isSome}
+use Rattle.format.specs.Lines.{Row}
 use Rattle.model.specs.Services.{verdict, answerOf}
 use Rattle.model.specs.Desk.{fileLine}
-use Rattle.model.specs.Code.{refusalView}
-use Rattle.model.proofs.Basic.{bool-cases, isSome-true, not-both}
+use Rattle.format.specs.Code.{refusalView}
+use Rattle.calculus.proofs.Basic.{bool-cases, isSome-true, not-both}
 use Rattle.areas.proofs.Writing.{sets-append}
 use Rattle.checker.specs.CheckSays.{Accepted}
 use Rattle.checker.specs.declared.Checked as C

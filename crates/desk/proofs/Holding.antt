@@ -8,11 +8,11 @@ use mathlib.Core.List.{List, [], _∷_, _++_}
 use lib.Dec.{ltb, leb}
 use lib.ListN.{length, take, set, length-append, length-take}
 use lib.Seq.{take-all, take-nil, take-append-le, take-suc-set}
-use Rattle.model.specs.Limits.{letterQ}
-use Rattle.model.specs.Lines.{Row}
+use Rattle.limits.specs.Limits.{letterQ}
+use Rattle.format.specs.Lines.{Row}
 use Rattle.model.specs.Services.{verdict}
 use borrow.Author.Tests.{lt-ltb}
-use Rattle.model.proofs.Basic.{bool-cases, leb-le, leb-false}
+use Rattle.calculus.proofs.Basic.{bool-cases, leb-le, leb-false}
 use Rattle.queries.specs.Stream.{answered}
 use Rattle.queries.proofs.Streaming.{verdict-cap, answered-cap}
 use Rattle.desk.specs.DeskSays.{fileRoom, lineRoom, Holds}

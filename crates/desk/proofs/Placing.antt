@@ -8,17 +8,17 @@ use mathlib.Core.Option.{Option, none, some}
 use mathlib.Core.List.{List, [], _∷_, _++_, List·Memᴰ, List·Memᴰ·head, List·Memᴰ·tail}
 use lib.Dec.{ltb}
 use lib.ListN.{length, length-append}
-use Rattle.model.specs.Limits.{maxBytes, maxLines, digitZero, comma, lineFeed}
-use Rattle.model.specs.Tools.{orElse, firstOf}
-use Rattle.model.specs.Trees.{Ty, Pat, Clause, Iso}
-use Rattle.model.specs.Refusals.{Kind, typeLine, patternLine, isoLine, clauseLine, letLine, Refusal}
-use Rattle.model.specs.Lines.{Row, lines, rowOf, decimalOf, decimal}
-use Rattle.model.specs.Judge.{Seen, start, judge, after, afterAll, Reading, rows, faulty, withRow, onRow, onJudged, readFrom}
-use Rattle.model.specs.Unfold.{Tail, place, tailFrom, isosOf}
-use Rattle.model.specs.Clauses.{Sigs, at, clauseFault, sideFault, isoFault, sigsOf, fault}
+use Rattle.limits.specs.Limits.{maxBytes, maxLines, digitZero, comma, lineFeed}
+use Rattle.calculus.specs.Tools.{orElse, firstOf}
+use Rattle.calculus.specs.Trees.{Ty, Pat, Clause, Iso}
+use Rattle.calculus.specs.Refusals.{Kind, typeLine, patternLine, isoLine, clauseLine, letLine, Refusal}
+use Rattle.format.specs.Lines.{Row, lines, rowOf, decimalOf, decimal}
+use Rattle.format.specs.Judge.{Seen, start, judge, after, afterAll, Reading, rows, faulty, withRow, onRow, onJudged, readFrom}
+use Rattle.format.specs.Unfold.{Tail, place, tailFrom, isosOf}
+use Rattle.calculus.specs.Clauses.{Sigs, at, clauseFault, sideFault, isoFault, sigsOf, fault}
 use Rattle.model.specs.Services.{Verdict, accepted, refused, judged, afterReading, over, verdict, Answer, answerOf, RunAnswer}
 use Rattle.model.specs.Desk.{queryLine, fileLine}
-use Rattle.model.proofs.Basic.{bool-cases, each-nil, each-cons, ltb-false, true-or-right, not-both}
+use Rattle.calculus.proofs.Basic.{bool-cases, each-nil, each-cons, ltb-false, true-or-right, not-both}
 use Rattle.desk.specs.DeskSays.{answerRoom}
 
 -- ---- reading

@@ -8,8 +8,8 @@ use mathlib.Core.List.{List}
 use lib.Dec.{ltb}
 use lib.ListN.{length, take, length-take}
 use borrow.Author.Tests.{lt-ltb, le-ltb, ltb-true, ltb-false}
-use Rattle.model.specs.Limits.{maxBytes}
-use Rattle.model.proofs.Basic.{bool-cases}
+use Rattle.limits.specs.Limits.{maxBytes}
+use Rattle.calculus.proofs.Basic.{bool-cases}
 use Rattle.queries.specs.Stream.{State, collecting, asking, stopped, settled}
 use Rattle.desk.specs.declared.Desk as D
 use Rattle.desk.specs.declared.Phase.the-variants as phases

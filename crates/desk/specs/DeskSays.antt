@@ -6,12 +6,12 @@ use mathlib.Core.Option.{none, some}
 use mathlib.Core.List.{List}
 use lib.ListN.{length, take}
 use lib.Seq.{sets}
-use Rattle.model.specs.Limits.{tableLength, workLength}
-use Rattle.model.specs.Refusals.{Refusal}
-use Rattle.model.specs.Lines.{Row}
+use Rattle.limits.specs.Limits.{tableLength, workLength}
+use Rattle.calculus.specs.Refusals.{Refusal}
+use Rattle.format.specs.Lines.{Row}
 use Rattle.model.specs.Services.{verdict, answerOf}
 use Rattle.model.specs.Desk.{fileLine}
-use Rattle.model.specs.Code.{refusalView}
+use Rattle.format.specs.Code.{refusalView}
 use Rattle.checker.specs.CheckSays.{Accepted}
 use Rattle.checker.specs.declared.Checked as C
 use Rattle.index.specs.Index.{indexLength}

@@ -7,11 +7,11 @@ use checker::Checked;
 use checker::check_file;
 use codes::LETTER_Q;
 use codes::LINE_FEED;
+use format::is_refused;
+use format::number_of;
 use limits::MAX_BYTES;
 use limits::RESULT_LENGTH;
 use limits::WORK_LENGTH;
-use model::is_refused;
-use model::number_of;
 use parts::front;
 use queries::put_answer;
 use queries::put_verdict;
@@ -23,12 +23,12 @@ ghost use mathlib.Core.List.{List, [], _∷_, _++_};
 ghost use Prim.Native.Nat.{ℕ, _+_, _≤_, _<_};
 ghost use lib.Dec.{eqb, ltb, leb};
 ghost use lib.ListN.{length, take};
-ghost use Rattle.model.specs.Limits.{letterQ, workLength};
-ghost use Rattle.model.specs.Lines.{Row as RowOf};
+ghost use Rattle.limits.specs.Limits.{letterQ, workLength};
+ghost use Rattle.format.specs.Lines.{Row as RowOf};
 ghost use Rattle.model.specs.Services.{accepted, answerOfRun};
 ghost use Rattle.model.specs.Desk.{queryOf, answerTo, queryLine, fileLine};
-ghost use Rattle.model.specs.Code.{refusalView, numberOf};
-ghost use Rattle.model.specs.Tools.{isSome};
+ghost use Rattle.format.specs.Code.{refusalView, numberOf};
+ghost use Rattle.calculus.specs.Tools.{isSome};
 ghost use Rattle.index.specs.Index.{indexLength};
 ghost use Rattle.areas.specs.Areas.{Writes};
 ghost use Rattle.runner.specs.RunSays.{Prepared, RanAs};
@@ -115,7 +115,10 @@ fn goes_on(taken: usize, bytes: usize, at: usize, n: usize) -> bool
 
 // One byte more of a file or of a line, as far as it is kept.
 fn hold(area: &mut [u8], held: usize, b: u8, most: usize) -> usize
-    ensures { λ r. ⌜ ((bs : List ℕ) → Holds most held (now (area .entry)) bs → most ≤ length (now (area .entry)) → Holds most r (now (area .exit)) (bs ++ (b ∷ []))) ⌝ }
+    ensures { λ r. ⌜
+        ((bs : List ℕ) → Holds most held (now (area .entry)) bs → most ≤ length (now (area .entry))
+        → Holds most r (now (area .exit)) (bs ++ (b ∷ [])))
+        ⌝ }
 {
     if held < most {
         return put_byte(area, held, b);
@@ -144,7 +147,10 @@ fn is_down(c: Checked) -> bool
 
 // Prints the answer to a checked file.
 fn put_checked(out: &mut [u8], at: usize, c: Checked) -> usize
-    ensures { λ r. ⌜ (c .answer .place < 10000000000 → Writes (now (out .entry)) (now (out .exit)) at r (fileLine (record { number = numberOf (c .answer .refusal); line = c .answer .place }))) ⌝ }
+    ensures { λ r. ⌜
+        (c .answer .place < 10000000000 → Writes (now (out .entry)) (now (out .exit)) at r
+        (fileLine (record { number = numberOf (c .answer .refusal); line = c .answer .place })))
+        ⌝ }
 {
     let a = c.answer;
     let f = a.refusal;
@@ -155,7 +161,12 @@ fn put_checked(out: &mut [u8], at: usize, c: Checked) -> usize
 // Behind the answer to a file at its first Q line: a refused file is the end, and an accepted one is made
 // ready for queries.
 fn settle(c: Checked, line: &mut [u8], table: &[u16], index: &mut [u16], end: usize) -> Next
-    ensures { λ r. ⌜ ((file area out out′ : List ℕ) (at : ℕ) → JudgedAs file (now (table .entry)) out out′ at end c → lineRoom ≤ length (now (line .entry)) → indexLength ≤ length (now (index .entry)) → Reaches (close file) area (now (line .exit)) (now (table .entry)) (now (index .exit)) out out′ at r) ⌝ }
+    ensures { λ r. ⌜
+        ((file area out out′ : List ℕ) (at : ℕ) → JudgedAs file (now (table .entry)) out out′ at end c
+        → lineRoom ≤ length (now (line .entry)) → indexLength ≤ length (now (index .entry))
+        → Reaches (close file) area (now (line .exit)) (now (table .entry)) (now (index .exit)) out out′
+        at r)
+        ⌝ }
 {
     if is_down(c) {
         return Next {
@@ -182,7 +193,13 @@ fn begin(
     out: &mut [u8],
     at: usize,
 ) -> Next
-    ensures { λ r. ⌜ (Roomy (now (file .entry)) (now (line .entry)) (now (table .entry)) (now (work .entry)) (now (index .entry)) → at + answerRoom ≤ length (now (out .entry)) → Reaches (close (take held (now (file .entry)))) (now (file .entry)) (now (line .exit)) (now (table .exit)) (now (index .exit)) (now (out .entry)) (now (out .exit)) at r) ⌝ }
+    ensures { λ r. ⌜
+        (Roomy (now (file .entry)) (now (line .entry)) (now (table .entry)) (now (work .entry))
+        (now (index .entry))
+        → at + answerRoom ≤ length (now (out .entry))
+        → Reaches (close (take held (now (file .entry)))) (now (file .entry)) (now (line .exit))
+        (now (table .exit)) (now (index .exit)) (now (out .entry)) (now (out .exit)) at r)
+        ⌝ }
 {
     let c = check_file(front(file, held), table, work);
     let end = put_checked(out, at, c);
@@ -191,7 +208,12 @@ fn begin(
 
 // One byte more of the file.
 fn file_byte(held: usize, b: u8, file: &mut [u8], at: usize) -> Next
-    ensures { λ r. ⌜ ((bs line table index out : List ℕ) → Holds fileRoom held (now (file .entry)) bs → fileRoom ≤ length (now (file .entry)) → at + answerRoom ≤ length out → Reaches (record { next = collecting (bs ++ (b ∷ [])); prints = [] }) (now (file .exit)) line table index out out at r) ⌝ }
+    ensures { λ r. ⌜
+        ((bs line table index out : List ℕ) → Holds fileRoom held (now (file .entry)) bs
+        → fileRoom ≤ length (now (file .entry)) → at + answerRoom ≤ length out
+        → Reaches (record { next = collecting (bs ++ (b ∷ [])); prints = [] }) (now (file .exit)) line
+        table index out out at r)
+        ⌝ }
 {
     let more = hold(file, held, b, 65537);
     Next {
@@ -212,14 +234,22 @@ fn answer_with(
     result: &mut [u8],
 ) -> Ran
     requires { ⌜ room ≤ length (now work) ⌝ }
-    ensures { λ r. ⌜ ((rs : List RowOf) → Prepared (now (table .entry)) types (now (index .entry)) isos rs → 40960 ≤ room → room ≤ 65536 → 127 ≤ length (now (result .entry)) → RanAs (answerOfRun (answerTo (accepted rs) (queryOf (now (line .entry))))) (now (result .entry)) (now (result .exit)) r) ⌝ }
+    ensures { λ r. ⌜
+        ((rs : List RowOf) → Prepared (now (table .entry)) types (now (index .entry)) isos rs
+        → 40960 ≤ room → room ≤ 65536 → 127 ≤ length (now (result .entry))
+        → RanAs (answerOfRun (answerTo (accepted rs) (queryOf (now (line .entry)))))
+        (now (result .entry)) (now (result .exit)) r)
+        ⌝ }
 {
     answer_line(table, types, index, isos, line, &mut work[0..room], result)
 }
 
 // Prints what a run gave, whose letters stand in a result area.
 fn put_ran(out: &mut [u8], at: usize, r: Ran, result: &[u8]) -> usize
-    ensures { λ e. ⌜ Writes (now (out .entry)) (now (out .exit)) at e (queryLine (record { number = numberOf (r .refusal); count = r .count; letters = take (r .length) (now (result .entry)) })) ⌝ }
+    ensures { λ e. ⌜
+        Writes (now (out .entry)) (now (out .exit)) at e
+        (queryLine (record { number = numberOf (r .refusal); count = r .count; letters = take (r .length) (now (result .entry)) }))
+        ⌝ }
 {
     let f = r.refusal;
     let n = number_of(f);
@@ -237,7 +267,11 @@ fn answer(
     out: &mut [u8],
     at: usize,
 ) -> usize
-    ensures { λ r. ⌜ ((rs : List RowOf) → Prepared (now (table .entry)) (d .types) (now (index .entry)) (d .isos) rs → workLength ≤ length (now (work .entry)) → at + answerRoom ≤ length (now (out .entry)) → Printed (now (out .entry)) (now (out .exit)) at r (answered rs (now (line .entry)))) ⌝ }
+    ensures { λ r. ⌜
+        ((rs : List RowOf) → Prepared (now (table .entry)) (d .types) (now (index .entry)) (d .isos) rs
+        → workLength ≤ length (now (work .entry)) → at + answerRoom ≤ length (now (out .entry))
+        → Printed (now (out .entry)) (now (out .exit)) at r (answered rs (now (line .entry))))
+        ⌝ }
 {
     if work.len() < WORK_LENGTH {
         return at;
@@ -267,7 +301,14 @@ fn query_byte(
     out: &mut [u8],
     at: usize,
 ) -> Next
-    ensures { λ r. ⌜ ((file : List ℕ) (rs : List RowOf) (l : List ℕ) → DeskAt d file (now (line .entry)) (now (table .entry)) (now (index .entry)) (asking rs l) → Roomy file (now (line .entry)) (now (table .entry)) (now (work .entry)) (now (index .entry)) → at + answerRoom ≤ length (now (out .entry)) → Reaches (step (asking rs l) b) file (now (line .exit)) (now (table .entry)) (now (index .entry)) (now (out .entry)) (now (out .exit)) at r) ⌝ }
+    ensures { λ r. ⌜
+        ((file : List ℕ) (rs : List RowOf) (l : List ℕ)
+        → DeskAt d file (now (line .entry)) (now (table .entry)) (now (index .entry)) (asking rs l)
+        → Roomy file (now (line .entry)) (now (table .entry)) (now (work .entry)) (now (index .entry))
+        → at + answerRoom ≤ length (now (out .entry))
+        → Reaches (step (asking rs l) b) file (now (line .exit)) (now (table .entry))
+        (now (index .entry)) (now (out .entry)) (now (out .exit)) at r)
+        ⌝ }
 {
     let held = hold(line, d.held, b, 201);
     if b == LINE_FEED {
@@ -295,7 +336,15 @@ fn feed_byte(
     out: &mut [u8],
     at: usize,
 ) -> Next
-    ensures { λ r. ⌜ ((s : State) → DeskAt d (now (file .entry)) (now (line .entry)) (now (table .entry)) (now (index .entry)) s → Roomy (now (file .entry)) (now (line .entry)) (now (table .entry)) (now (work .entry)) (now (index .entry)) → at + answerRoom ≤ length (now (out .entry)) → Reaches (step s b) (now (file .exit)) (now (line .exit)) (now (table .exit)) (now (index .exit)) (now (out .entry)) (now (out .exit)) at r) ⌝ }
+    ensures { λ r. ⌜
+        ((s : State)
+        → DeskAt d (now (file .entry)) (now (line .entry)) (now (table .entry)) (now (index .entry)) s
+        → Roomy (now (file .entry)) (now (line .entry)) (now (table .entry)) (now (work .entry))
+        (now (index .entry))
+        → at + answerRoom ≤ length (now (out .entry))
+        → Reaches (step s b) (now (file .exit)) (now (line .exit)) (now (table .exit))
+        (now (index .exit)) (now (out .entry)) (now (out .exit)) at r)
+        ⌝ }
 {
     let phase = d.phase;
     let held = d.held;
@@ -325,7 +374,14 @@ pub fn feed(
     index: &mut [u16],
     out: &mut [u8],
 ) -> Fed
-    ensures { λ r. ⌜ ((s : State) → DeskAt d (now (file .entry)) (now (line .entry)) (now (table .entry)) (now (index .entry)) s → Roomy (now (file .entry)) (now (line .entry)) (now (table .entry)) (now (work .entry)) (now (index .entry)) → FedAs s (now (chunk .entry)) (now (file .exit)) (now (line .exit)) (now (table .exit)) (now (index .exit)) (now (out .entry)) (now (out .exit)) r) ⌝ }
+    ensures { λ r. ⌜
+        ((s : State)
+        → DeskAt d (now (file .entry)) (now (line .entry)) (now (table .entry)) (now (index .entry)) s
+        → Roomy (now (file .entry)) (now (line .entry)) (now (table .entry)) (now (work .entry))
+        (now (index .entry))
+        → FedAs s (now (chunk .entry)) (now (file .exit)) (now (line .exit)) (now (table .exit))
+        (now (index .exit)) (now (out .entry)) (now (out .exit)) r)
+        ⌝ }
 {
     let mut desk = d;
     let mut taken: usize = 0;
@@ -370,7 +426,14 @@ pub fn finished(
     index: &[u16],
     out: &mut [u8],
 ) -> usize
-    ensures { λ r. ⌜ ((s : State) → DeskAt d (now (file .entry)) (now (line .entry)) (now (table .entry)) (now (index .entry)) s → Roomy (now (file .entry)) (now (line .entry)) (now (table .entry)) (now (work .entry)) (now (index .entry)) → answerRoom ≤ length (now (out .entry)) → Printed (now (out .entry)) (now (out .exit)) 0 r (finish s)) ⌝ }
+    ensures { λ r. ⌜
+        ((s : State)
+        → DeskAt d (now (file .entry)) (now (line .entry)) (now (table .entry)) (now (index .entry)) s
+        → Roomy (now (file .entry)) (now (line .entry)) (now (table .entry)) (now (work .entry))
+        (now (index .entry))
+        → answerRoom ≤ length (now (out .entry))
+        → Printed (now (out .entry)) (now (out .exit)) 0 r (finish s))
+        ⌝ }
 {
     let phase = d.phase;
     let held = d.held;

@@ -7,19 +7,19 @@ use mathlib.Core.Option.{Option, some}
 use mathlib.Core.List.{List, [], _∷_, _++_, map}
 use lib.Dec.{leb, ltb, eqb}
 use lib.ListN.{length, getD, length-append}
-use Rattle.model.specs.Limits.{maxBytes, maxLines, maxQueries, resultLength, queryLength, fieldBound, budgetBound, comma, letterQ}
-use Rattle.model.specs.Tools.{_>>=_, guard, concat}
-use Rattle.model.specs.Refusals.{tooLong}
-use Rattle.model.specs.Lines.{lines, skip}
-use Rattle.model.specs.Judge.{start}
+use Rattle.limits.specs.Limits.{maxBytes, maxLines, maxQueries, resultLength, queryLength, fieldBound, budgetBound, comma, letterQ}
+use Rattle.calculus.specs.Tools.{_>>=_, guard, concat}
+use Rattle.calculus.specs.Refusals.{tooLong}
+use Rattle.format.specs.Lines.{lines, skip}
+use Rattle.format.specs.Judge.{start}
 use Rattle.model.specs.Services.{Verdict, accepted, refused, afterReading, over, verdict, answerOf, check, turnedOf, turn, runOf, run, RunAnswer, answerOfRun, runService}
 use Rattle.model.specs.Services.{written, tableAfter, workAfter, short, unless}
 use Rattle.model.specs.Desk.{Query, queryIn, queryOf, answerTo, queryLine, fileLine, fileLines, queryLines, queryAnswers, desk}
 use Rattle.model.specs.Sheet.{answersTo, numbersAfter, lettersAfter, narrowSheet, sheet}
 use Rattle.ranking.specs.Numbering.{Outcome, numberOn, settingOn, refusalOf, numberFrom, lettersFrom, numberService, settingService}
-use Rattle.model.proofs.Basic.{some-bind, not-ltb}
-use Rattle.model.proofs.Endings.{feed, both, text-both}
-use Rattle.model.proofs.Printing.{printFields, fields-print}
+use Rattle.calculus.proofs.Basic.{some-bind, not-ltb}
+use Rattle.format.proofs.Endings.{feed, both, text-both}
+use Rattle.format.proofs.Printing.{printFields, fields-print}
 use Rattle.endings.specs.Resaved.{endsInReturn, SameLine, SameLines, done, next, Resaved, fits}
 use Rattle.endings.proofs.Lines.{text-same, read-same, count-same, file-same, queries-same, lines-split, split-lines, file-split, text-alone}
 

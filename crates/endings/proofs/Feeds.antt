@@ -8,16 +8,16 @@ use mathlib.Core.List.{List, [], _∷_, _++_, map, List·Memᴰ, List·Memᴰ·h
 use lib.Dec.{ltb}
 use lib.ListN.{length, take, drop}
 use lib.Seq.{take-at}
-use Rattle.model.specs.Limits.{carriageReturn}
-use Rattle.model.specs.Tools.{concat}
-use Rattle.model.specs.Lines.{Row, lines, text, withoutReturns, rowOf, printRows}
-use Rattle.model.specs.Judge.{start}
-use Rattle.model.specs.Unfold.{turnRows}
+use Rattle.limits.specs.Limits.{carriageReturn}
+use Rattle.calculus.specs.Tools.{concat}
+use Rattle.format.specs.Lines.{Row, lines, text, withoutReturns, rowOf, printRows}
+use Rattle.format.specs.Judge.{start}
+use Rattle.format.specs.Unfold.{turnRows}
 use Rattle.model.specs.Services.{verdict, accepted, answerOf, short, unless, turnedOf, turned, turn}
-use Rattle.model.proofs.Basic.{some-inj, not-ltb, not-some, not-both}
-use Rattle.model.proofs.Turning.{turn-turn}
-use Rattle.model.proofs.Endings.{feed, both, Ended, by-feed, by-both, Returnless, text-ended, without-concat, without-line}
-use Rattle.model.proofs.Printing.{returnless-body, read-print, read-each, concat-lines}
+use Rattle.calculus.proofs.Basic.{some-inj, not-ltb, not-some, not-both}
+use Rattle.format.proofs.Turning.{turn-turn}
+use Rattle.format.proofs.Endings.{feed, both, Ended, by-feed, by-both, Returnless, text-ended, without-concat, without-line}
+use Rattle.format.proofs.Printing.{returnless-body, read-print, read-each, concat-lines}
 use Rattle.model.proofs.Files.{refused≢accepted, accepted-form, answer-zero, printed, turned-accepted, turned-length, turned-fits, turned-twice, turned-accepted-bytes}
 use Rattle.endings.specs.Resaved.{feedsAlone}
 

@@ -8,14 +8,14 @@ use mathlib.Core.Option.{Option, none, some}
 use mathlib.Core.List.{List, [], _∷_, _++_, List·Memᴰ·head, List·Memᴰ·tail, append-assoc, append-nil}
 use lib.Dec.{eqb}
 use lib.ListN.{length, drop}
-use Rattle.model.specs.Limits.{lineFeed, carriageReturn}
-use Rattle.model.specs.Tools.{_>>=_, concat}
-use Rattle.model.specs.Lines.{Row, ontoFirst, lines, isEnding, text, rowIn, rowOf}
-use Rattle.model.specs.Judge.{Seen, judge, after, onRow, onJudged, withRow, readFrom}
+use Rattle.limits.specs.Limits.{lineFeed, carriageReturn}
+use Rattle.calculus.specs.Tools.{_>>=_, concat}
+use Rattle.format.specs.Lines.{Row, ontoFirst, lines, isEnding, text, rowIn, rowOf}
+use Rattle.format.specs.Judge.{Seen, judge, after, onRow, onJudged, withRow, readFrom}
 use Rattle.model.specs.Desk.{isQuery, fileLines, queryLines}
-use Rattle.model.proofs.Basic.{bind-some, bool-cases, eqb-eq, not-both, neither, some-inj, each-nil, each-cons, each-append}
-use Rattle.model.proofs.Endings.{feed, both, Ended, by-feed, by-both, text-both, text-ended, onto-text}
-use Rattle.model.proofs.Printing.{NoFeed, Feedless, lines-feed, concat-lines, lines-last}
+use Rattle.calculus.proofs.Basic.{bind-some, bool-cases, eqb-eq, not-both, neither, some-inj, each-nil, each-cons, each-append}
+use Rattle.format.proofs.Endings.{feed, both, Ended, by-feed, by-both, text-both, text-ended, onto-text}
+use Rattle.format.proofs.Printing.{NoFeed, Feedless, lines-feed, concat-lines, lines-last}
 use Rattle.endings.specs.Resaved.{endsInReturn, withEnding, lineWith, resaveLines, resave, SameLine, same, ended, SameLines, done, next, Resaved}
 
 -- ---- reading

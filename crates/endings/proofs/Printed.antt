@@ -8,19 +8,19 @@ use mathlib.Core.Option.{Option, none, some}
 use mathlib.Core.List.{List, [], _∷_, _++_}
 use lib.Dec.{leb}
 use lib.ListN.{getElem?}
-use Rattle.model.specs.Limits.{carriageReturn, comma, lineFeed}
-use Rattle.model.specs.Tools.{concat}
-use Rattle.model.specs.Refusals.{spent}
-use Rattle.model.specs.Trees.{left, right, Val, vunit, vinj, vpair, Iso}
-use Rattle.model.specs.Lines.{Row, lines, isDigit, decimal}
-use Rattle.model.specs.Letters.{letters}
-use Rattle.model.specs.Reduction.{reduce}
-use Rattle.model.specs.Unfold.{isosOf}
+use Rattle.limits.specs.Limits.{carriageReturn, comma, lineFeed}
+use Rattle.calculus.specs.Tools.{concat}
+use Rattle.calculus.specs.Refusals.{spent}
+use Rattle.calculus.specs.Trees.{left, right, Val, vunit, vinj, vpair, Iso}
+use Rattle.format.specs.Lines.{Row, lines, isDigit, decimal}
+use Rattle.calculus.specs.Letters.{letters}
+use Rattle.calculus.specs.Reduction.{reduce}
+use Rattle.format.specs.Unfold.{isosOf}
 use Rattle.model.specs.Services.{Verdict, accepted, refused, verdict, Answer, answerOf, Ran, gives, failed, within, argument, from, onIso, runRows, toward, RunAnswer, answerOfRun}
 use Rattle.model.specs.Desk.{Query, queryOf, answerTo, queryLine, fileLine, fileLines, queryLines, queryAnswers, desk}
-use Rattle.model.proofs.Basic.{not-eqb, each-nil, each-cons, each-append, all-mem}
-use Rattle.model.proofs.Numerals.{digit-lower, decimal-digits}
-use Rattle.model.proofs.Endings.{NoReturn, Returnless}
+use Rattle.calculus.proofs.Basic.{not-eqb, each-nil, each-cons, each-append, all-mem}
+use Rattle.format.proofs.Numerals.{digit-lower, decimal-digits}
+use Rattle.format.proofs.Endings.{NoReturn, Returnless}
 
 nothing : Returnless []
 nothing = each-nil NoReturn

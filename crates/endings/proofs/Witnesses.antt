@@ -5,10 +5,10 @@ use mathlib.Core.Bool.{Bool, cond, _||_}
 use mathlib.Core.List.{List, []}
 use lib.Dec.{ltb}
 use lib.ListN.{length}
-use Rattle.model.specs.Limits.{maxBytes, maxLines, resultLength}
-use Rattle.model.specs.Judge.{start}
+use Rattle.limits.specs.Limits.{maxBytes, maxLines, resultLength}
+use Rattle.format.specs.Judge.{start}
 use Rattle.model.specs.Services.{Verdict, over, answerOf, tableAfter, workAfter, short, unless, written}
-use Rattle.model.proofs.Basic.{not-ltb}
+use Rattle.calculus.proofs.Basic.{not-ltb}
 use Rattle.witnesses.specs.Showing.{Shown, shownOf, showing, showService}
 use Rattle.endings.specs.Resaved.{Resaved}
 use Rattle.endings.proofs.Lines.{read-same, count-same}

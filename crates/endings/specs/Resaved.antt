@@ -6,9 +6,9 @@ use mathlib.Core.Option.{Option, none, some}
 use mathlib.Core.List.{List, [], _∷_, _++_}
 use lib.Dec.{leb, eqb}
 use lib.ListN.{length}
-use Rattle.model.specs.Limits.{lineFeed, carriageReturn, queryLength}
-use Rattle.model.specs.Tools.{concat}
-use Rattle.model.specs.Lines.{lines, text}
+use Rattle.limits.specs.Limits.{lineFeed, carriageReturn, queryLength}
+use Rattle.calculus.specs.Tools.{concat}
+use Rattle.format.specs.Lines.{lines, text}
 
 -- whether these bytes begin with a line feed
 abbrev pub feedAhead : List ℕ → Bool

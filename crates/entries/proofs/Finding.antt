@@ -7,10 +7,10 @@ use mathlib.Core.Bool.{Bool, true, false, cond, _&&_}
 use mathlib.Core.List.{List, [], _∷_}
 use lib.Dec.{eqb}
 use lib.ListN.{set}
-use Rattle.model.specs.Refusals.{Kind}
-use Rattle.model.specs.Lines.{Row, letter}
+use Rattle.calculus.specs.Refusals.{Kind}
+use Rattle.format.specs.Lines.{Row, letter}
 use Rattle.pairlists.specs.PairLists.{sameRow, find}
-use Rattle.model.proofs.Basic.{eq-eqb, not-eqb, true-and}
+use Rattle.calculus.proofs.Basic.{eq-eqb, not-eqb, true-and}
 use Rattle.nodes.specs.Unfolding.{cellOf}
 use Rattle.entries.specs.Entries.{rowOf, entryAt, entriesAt, sameEntry, storeEntry}
 

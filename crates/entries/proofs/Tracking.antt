@@ -10,10 +10,10 @@ use mathlib.Core.List.{List, [], _∷_, _++_}
 use lib.Dec.{ltb, leb, eqb}
 use lib.ListN.{length, getD, set, length-set}
 use lib.Seq.{getD-set-same, getD-set-other}
-use Rattle.model.specs.Refusals.{Kind}
-use Rattle.model.specs.Lines.{Row}
+use Rattle.calculus.specs.Refusals.{Kind}
+use Rattle.format.specs.Lines.{Row}
 use Rattle.pairlists.specs.PairLists.{find, enter}
-use Rattle.model.proofs.Basic.{bool-cases, leb-le, leb-false, ltb-lt, ltb-false, lt-ltb, eqb-eq, eqb-false, index-below}
+use Rattle.calculus.proofs.Basic.{bool-cases, leb-le, leb-false, ltb-lt, ltb-false, lt-ltb, eqb-eq, eqb-false, index-below}
 use Rattle.pairlists.proofs.Rows.{Finding, there, fresh, finding, length-snoc, enter-grows}
 use Rattle.nodes.specs.Unfolding.{cellOf}
 use Rattle.entries.specs.Entries.{rowOf, entryAt, entriesAt, storeEntry, Tracks, Room, Follows, Entering}

@@ -5,8 +5,8 @@ use mathlib.Core.List.{List, [], _∷_}
 use mathlib.Core.Path.{_≡_}
 use lib.Dec.{eqb}
 use lib.ListN.{set, length}
-use Rattle.model.specs.Refusals.{Kind}
-use Rattle.model.specs.Lines.{Row}
+use Rattle.calculus.specs.Refusals.{Kind}
+use Rattle.format.specs.Lines.{Row}
 use Rattle.pairlists.specs.PairLists.{find, enter}
 use Rattle.nodes.specs.Unfolding.{cellOf}
 

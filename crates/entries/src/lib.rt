@@ -6,8 +6,8 @@ use words::store_word;
 ghost use mathlib.Core.Path.{_≡_};
 ghost use mathlib.Core.List.{List};
 ghost use Prim.Native.Nat.{_<_};
-ghost use Rattle.model.specs.Refusals.{Kind};
-ghost use Rattle.model.specs.Lines.{Row as RowOf};
+ghost use Rattle.calculus.specs.Refusals.{Kind};
+ghost use Rattle.format.specs.Lines.{Row as RowOf};
 ghost use Rattle.pairlists.specs.PairLists.{find};
 ghost use Rattle.entries.specs.Entries.{rowOf, entriesAt, sameEntry, storeEntry, Entering};
 

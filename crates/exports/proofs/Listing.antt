@@ -9,14 +9,14 @@ use mathlib.Core.List.{List, _++_}
 use lib.Dec.{ltb}
 use lib.ListN.{length, getElem?, take, drop}
 use lib.Seq.{sets-eq}
-use Rattle.model.specs.Limits.{maxPairs}
-use Rattle.model.specs.Trees.{Iso}
-use Rattle.model.specs.Refusals.{Refusal, noIso, spent, tooMany}
-use Rattle.model.specs.Lines.{Row}
-use Rattle.model.specs.Unfold.{isosOf}
+use Rattle.limits.specs.Limits.{maxPairs}
+use Rattle.calculus.specs.Trees.{Iso}
+use Rattle.calculus.specs.Refusals.{Refusal, noIso, spent, tooMany}
+use Rattle.format.specs.Lines.{Row}
+use Rattle.format.specs.Unfold.{isosOf}
 use Rattle.model.specs.Services.{written}
-use Rattle.model.specs.Code.{refusalView, numbered}
-use Rattle.model.proofs.Basic.{lt-ltb, not-ltb}
+use Rattle.format.specs.Code.{refusalView, numbered}
+use Rattle.calculus.proofs.Basic.{lt-ltb, not-ltb}
 use Rattle.model.proofs.Runs.{good, good-invert}
 use Rattle.ranking.specs.Numbering.{count, Outcome, fails, refusalOf, lettersFrom}
 use Rattle.pairlists.specs.PairLists.{pairLines, toFrom, upwards, onPairs, onExported, exportRows}

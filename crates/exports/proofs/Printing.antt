@@ -8,8 +8,8 @@ use mathlib.Core.List.{List, [], _∷_, _++_, append-assoc, append-nil}
 use lib.Dec.{ltb}
 use lib.ListN.{length, getD, set, take}
 use lib.Seq.{take-suc, length-take-le}
-use Rattle.model.specs.Limits.{lineFeed}
-use Rattle.model.specs.Lines.{decimal, printField}
+use Rattle.limits.specs.Limits.{lineFeed}
+use Rattle.format.specs.Lines.{decimal, printField}
 use Rattle.pairlists.specs.PairLists.{pairLine, pairLines}
 use Rattle.pairlists.proofs.List.{pairLine-shape}
 use Rattle.areas.specs.Areas.{Writes}

@@ -8,12 +8,12 @@ use mathlib.Core.List.{List, []}
 use lib.Dec.{ltb}
 use lib.ListN.{length, drop}
 use borrow.Author.Tests.{lt-ltb, le-ltb}
-use Rattle.model.specs.Limits.{workLength, exportLength}
-use Rattle.model.specs.Tools.{isSome}
-use Rattle.model.specs.Refusals.{number, shortArea}
+use Rattle.limits.specs.Limits.{workLength, exportLength}
+use Rattle.calculus.specs.Tools.{isSome}
+use Rattle.calculus.specs.Refusals.{number, shortArea}
 use Rattle.model.specs.Services.{Verdict, accepted, refused, verdict, written, tableAfter, workAfter, short, unless, answerOf, check}
-use Rattle.model.specs.Code.{refusalView, numberOf, numbered}
-use Rattle.model.proofs.Basic.{isSome-true}
+use Rattle.format.specs.Code.{refusalView, numberOf, numbered}
+use Rattle.calculus.proofs.Basic.{isSome-true}
 use Rattle.model.proofs.Files.{number-positive}
 use Rattle.ranking.specs.Numbering.{refusalOf, lettersFrom}
 use Rattle.pairlists.specs.PairLists.{exportRows, exportOn, lineOf, exportService}

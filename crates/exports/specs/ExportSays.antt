@@ -4,7 +4,7 @@ use mathlib.Core.Path.{_≡_}
 use mathlib.Core.List.{List}
 use lib.ListN.{length}
 use Rattle.model.specs.Services.{written}
-use Rattle.model.specs.Code.{numberOf}
+use Rattle.format.specs.Code.{numberOf}
 use Rattle.ranking.specs.Numbering.{Outcome, refusalOf, lettersFrom}
 use Rattle.pairlists.specs.PairLists.{exportService}
 use Rattle.exports.specs.declared.Listed as L

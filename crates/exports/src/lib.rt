@@ -3,9 +3,9 @@
 use areas::put_byte;
 use checker::Checked;
 use checker::check_file;
-use model::Answer;
-use model::Refusal;
-use model::is_refused;
+use format::Answer;
+use format::Refusal;
+use format::is_refused;
 use numbering::count_values;
 use parts::clear_bytes;
 use printer::put_field;
@@ -19,7 +19,7 @@ ghost use mathlib.Core.Path.{_≡_};
 ghost use mathlib.Core.List.{List};
 ghost use Prim.Native.Nat.{ℕ, _≤_, _<_};
 ghost use lib.ListN.{length, take, drop};
-ghost use Rattle.model.specs.Lines.{Row as RowOf};
+ghost use Rattle.format.specs.Lines.{Row as RowOf};
 ghost use Rattle.pairlists.specs.PairLists.{pairLine, pairLines, exportRows};
 ghost use Rattle.areas.specs.Areas.{Writes};
 ghost use Rattle.checker.specs.CheckSays.{Accepted};
@@ -58,7 +58,10 @@ fn put_pair(out: &mut [u8], at: usize, k: usize, to: usize) -> usize
 
 // The lines of the first n pairs, of which the tos are given.
 fn put_pairs(out: &mut [u8], tos: &[u16], n: usize) -> usize
-    ensures { λ r. ⌜ (n ≤ length (now (tos .entry)) → n < 10000000000 → Writes (now (out .entry)) (now (out .exit)) 0 r (pairLines 0 (take n (now (tos .entry))))) ⌝ }
+    ensures { λ r. ⌜
+        (n ≤ length (now (tos .entry)) → n < 10000000000
+        → Writes (now (out .entry)) (now (out .exit)) 0 r (pairLines 0 (take n (now (tos .entry)))))
+        ⌝ }
 {
     let mut at: usize = 0;
     let mut k: usize = 0;
@@ -81,7 +84,12 @@ fn export_checked(
     work: &mut [u8],
     output: &mut [u8],
 ) -> Listed
-    ensures { λ r. ⌜ ((rs : List RowOf) → Prepared (now (t .entry)) base (now (index .entry)) isos rs → 40960 ≤ length (now (work .entry)) → length (now (work .entry)) ≤ 65536 → 40960 ≤ length (now (output .entry)) → ListedAs (exportRows rs i budget) (now (output .entry)) (now (output .exit)) r) ⌝ }
+    ensures { λ r. ⌜
+        ((rs : List RowOf) → Prepared (now (t .entry)) base (now (index .entry)) isos rs
+        → 40960 ≤ length (now (work .entry)) → length (now (work .entry)) ≤ 65536
+        → 40960 ≤ length (now (output .entry))
+        → ListedAs (exportRows rs i budget) (now (output .entry)) (now (output .exit)) r)
+        ⌝ }
 {
     if isos <= i {
         return not_listed(Refusal::NoIso);
@@ -113,7 +121,11 @@ fn export_accepted(
 ) -> Listed
     requires { ⌜ room ≤ length (now work) ⌝ }
     ensures { λ r. ⌜ drop room (now (work .exit)) ≡ drop room (now (work .entry)) ⌝ }
-    ensures { λ r. ⌜ ((s : List ℕ) (a : Accepted s (now (table .entry)) c) → 40960 ≤ room → room ≤ 65536 → 40960 ≤ length (now (output .entry)) → ListedAs (exportRows (a .file) i budget) (now (output .entry)) (now (output .exit)) r) ⌝ }
+    ensures { λ r. ⌜
+        ((s : List ℕ) (a : Accepted s (now (table .entry)) c) → 40960 ≤ room → room ≤ 65536
+        → 40960 ≤ length (now (output .entry))
+        → ListedAs (exportRows (a .file) i budget) (now (output .entry)) (now (output .exit)) r)
+        ⌝ }
 {
     let mut index = [0u16; 1090];
     prepare(table, c, &mut index);
@@ -138,7 +150,10 @@ pub fn export(
     budget: u32,
     output: &mut [u8],
 ) -> Exported
-    ensures { λ r. ⌜ ExportSays (now (file .entry)) (now (table .entry)) (now (work .entry)) i budget (now (output .entry)) (now (table .exit)) (now (work .exit)) (now (output .exit)) r ⌝ }
+    ensures { λ r. ⌜
+        ExportSays (now (file .entry)) (now (table .entry)) (now (work .entry)) i budget
+        (now (output .entry)) (now (table .exit)) (now (work .exit)) (now (output .exit)) r
+        ⌝ }
 {
     if output.len() < 40960 {
         return Exported {

@@ -6,12 +6,12 @@ use mathlib.Core.Option.{some}
 use mathlib.Core.List.{List, [], _∷_, map}
 use lib.ListN.{length, getElem?, drop, set, length-set, length-drop, length-map, drop-of-length-le}
 use lib.Seq.{drop-cons, getD-set-same, drop-set-lt}
-use Rattle.model.specs.Limits.{maxClauses}
-use Rattle.model.specs.Trees.{Ty, Pat, punit, Clause}
-use Rattle.model.specs.Refusals.{Kind, typeLine, patternLine, isoLine, clauseLine, letLine}
-use Rattle.model.specs.Lines.{Row, letter}
-use Rattle.model.specs.Judge.{start, afterAll}
-use Rattle.model.specs.Unfold.{Tail, place}
+use Rattle.limits.specs.Limits.{maxClauses}
+use Rattle.calculus.specs.Trees.{Ty, Pat, punit, Clause}
+use Rattle.calculus.specs.Refusals.{Kind, typeLine, patternLine, isoLine, clauseLine, letLine}
+use Rattle.format.specs.Lines.{Row, letter}
+use Rattle.format.specs.Judge.{start, afterAll}
+use Rattle.format.specs.Unfold.{Tail, place}
 use Rattle.nodes.specs.Unfolding.{cellOf, patternOf}
 use Rattle.nodes.specs.InTable.{patternsAt}
 use Rattle.nodes.specs.Walk.{FileIn, tailAt}

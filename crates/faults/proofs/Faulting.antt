@@ -9,14 +9,14 @@ use mathlib.Core.List.{List, [], _∷_, map}
 use lib.Dec.{leb}
 use lib.ListN.{length, take, drop, length-drop}
 use lib.Seq.{take-all}
-use Rattle.model.specs.Trees.{Ty, Pat, Val, Iso}
-use Rattle.model.specs.Refusals.{Refusal, number}
-use Rattle.model.specs.Lines.{Row}
-use Rattle.model.specs.Unfold.{isosOf}
-use Rattle.model.specs.Clauses.{lefts, rights, sigsOf, fault}
-use Rattle.model.specs.Letters.{letters}
+use Rattle.calculus.specs.Trees.{Ty, Pat, Val, Iso}
+use Rattle.calculus.specs.Refusals.{Refusal, number}
+use Rattle.format.specs.Lines.{Row}
+use Rattle.format.specs.Unfold.{isosOf}
+use Rattle.calculus.specs.Clauses.{lefts, rights, sigsOf, fault}
+use Rattle.calculus.specs.Letters.{letters}
 use Rattle.model.specs.Services.{written}
-use Rattle.model.proofs.Basic.{and-true, leb-le}
+use Rattle.calculus.proofs.Basic.{and-true, leb-le}
 use Rattle.model.proofs.Files.{InForm}
 use Rattle.witnesses.specs.Showing.{sided, shown, lettersOf?, showing}
 use Rattle.witnesses.proofs.Sides.{Found}

@@ -6,12 +6,12 @@ use mathlib.Core.Path.{_≡_, refl, sym, ap, _∙_, subst}
 use mathlib.Core.Option.{some}
 use mathlib.Core.List.{List, [], _∷_, List·Memᴰ}
 use lib.ListN.{getD, getElem?, drop}
-use Rattle.model.specs.Trees.{Ty, tunit, Pat, Clause, Iso}
-use Rattle.model.specs.Refusals.{Kind, typeLine, patternLine, isoLine, clauseLine, letLine}
-use Rattle.model.specs.Lines.{Row}
-use Rattle.model.specs.Judge.{start, afterAll}
-use Rattle.model.specs.Unfold.{place, tailFrom, isosOf}
-use Rattle.model.proofs.Basic.{each-nil, each-cons, index-below}
+use Rattle.calculus.specs.Trees.{Ty, tunit, Pat, Clause, Iso}
+use Rattle.calculus.specs.Refusals.{Kind, typeLine, patternLine, isoLine, clauseLine, letLine}
+use Rattle.format.specs.Lines.{Row}
+use Rattle.format.specs.Judge.{start, afterAll}
+use Rattle.format.specs.Unfold.{place, tailFrom, isosOf}
+use Rattle.calculus.proofs.Basic.{each-nil, each-cons, index-below}
 use Rattle.nodes.specs.Unfolding.{cellOf, typeOf}
 use Rattle.nodes.specs.Walk.{FileIn, tailAt}
 use Rattle.nodes.proofs.Walking.{iso-types}

@@ -5,11 +5,11 @@ use mathlib.Core.Bool.{true}
 use mathlib.Core.Option.{some}
 use mathlib.Core.List.{List, map}
 use lib.ListN.{length, drop}
-use Rattle.model.specs.Trees.{Ty, Pat}
-use Rattle.model.specs.Refusals.{Refusal, number}
-use Rattle.model.specs.Lines.{Row}
-use Rattle.model.specs.Unfold.{isosOf}
-use Rattle.model.specs.Clauses.{fault}
+use Rattle.calculus.specs.Trees.{Ty, Pat}
+use Rattle.calculus.specs.Refusals.{Refusal, number}
+use Rattle.format.specs.Lines.{Row}
+use Rattle.format.specs.Unfold.{isosOf}
+use Rattle.calculus.specs.Clauses.{fault}
 use Rattle.model.specs.Services.{written}
 use Rattle.model.proofs.Files.{InForm}
 use Rattle.witnesses.specs.Showing.{sided, showing}

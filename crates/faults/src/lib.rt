@@ -9,8 +9,8 @@ ghost use mathlib.Core.Path.{_≡_};
 ghost use mathlib.Core.List.{List};
 ghost use Prim.Native.Nat.{ℕ, suc, _-_, _≤_, _<_};
 ghost use lib.ListN.{length, set};
-ghost use Rattle.model.specs.Limits.{tableLength};
-ghost use Rattle.model.specs.Lines.{Row as RowOf};
+ghost use Rattle.limits.specs.Limits.{tableLength};
+ghost use Rattle.format.specs.Lines.{Row as RowOf};
 ghost use Rattle.nodes.specs.Unfolding.{cellOf, typeOf};
 ghost use Rattle.nodes.specs.InTable.{patternsAt};
 ghost use Rattle.nodes.specs.Walk.{FileIn};
@@ -42,7 +42,11 @@ fn with_clause(c: Clauses, n: usize) -> Clauses
 
 // The rows with row n: a C row is one of them, and at an I row another iso's begin.
 fn with_row(t: &[u16], c: Clauses, n: usize) -> Clauses
-    ensures { λ r. ⌜ ((rs : List RowOf) (types patterns lines : ℕ) → FileIn (now (t .entry)) types patterns lines rs → n < lines → Collected (now (t .entry)) types rs (suc n) c → Collected (now (t .entry)) types rs n r) ⌝ }
+    ensures { λ r. ⌜
+        ((rs : List RowOf) (types patterns lines : ℕ) → FileIn (now (t .entry)) types patterns lines rs
+        → n < lines → Collected (now (t .entry)) types rs (suc n) c
+        → Collected (now (t .entry)) types rs n r)
+        ⌝ }
 {
     let letter = cell(t, n, 0);
     if letter == 67 {
@@ -60,7 +64,10 @@ fn with_row(t: &[u16], c: Clauses, n: usize) -> Clauses
 
 // The rows of the C lines from row `from` on that belong to an iso above.
 fn clauses_from(t: &[u16], from: usize, lines: usize) -> Clauses
-    ensures { λ r. ⌜ ((rs : List RowOf) (types patterns : ℕ) → FileIn (now (t .entry)) types patterns lines rs → from ≤ lines → Collected (now (t .entry)) types rs from r) ⌝ }
+    ensures { λ r. ⌜
+        ((rs : List RowOf) (types patterns : ℕ) → FileIn (now (t .entry)) types patterns lines rs
+        → from ≤ lines → Collected (now (t .entry)) types rs from r)
+        ⌝ }
 {
     let mut n = lines;
     let mut c = Clauses {
@@ -77,7 +84,13 @@ fn clauses_from(t: &[u16], from: usize, lines: usize) -> Clauses
 // Writes what shows refusal 11, 12, 13 or 14 of the iso with its I row at `head` and these C rows.
 fn show_side(t: &[u16], base: usize, number: u8, head: usize, rows: &[u16], out: &mut [u8]) -> usize
     requires { ⌜ (tableLength ≤ length (now t)) × (127 ≤ length (now out)) ⌝ }
-    ensures { λ r. ⌜ SideShown number (typeOf (now (t .entry)) (cellOf (now (t .entry)) head 1)) (typeOf (now (t .entry)) (cellOf (now (t .entry)) head 2)) (patternsAt (now (t .entry)) base 1 (now (rows .entry))) (patternsAt (now (t .entry)) base 2 (now (rows .entry))) (now (out .entry)) (now (out .exit)) r ⌝ }
+    ensures { λ r. ⌜
+        SideShown number (typeOf (now (t .entry)) (cellOf (now (t .entry)) head 1))
+        (typeOf (now (t .entry)) (cellOf (now (t .entry)) head 2))
+        (patternsAt (now (t .entry)) base 1 (now (rows .entry)))
+        (patternsAt (now (t .entry)) base 2 (now (rows .entry))) (now (out .entry)) (now (out .exit))
+        r
+        ⌝ }
 {
     let from = cell(t, head, 1);
     let to = cell(t, head, 2);

@@ -10,11 +10,11 @@ use lib.Dec.{leb, eqb}
 use lib.ListN.{length, getD, take, drop, drop-of-length-le, take-append-drop}
 use lib.Seq.{take-suc}
 use borrow.Author.Tests.{eq-eqb, ne-eqb, leb-true, leb-false}
-use Rattle.model.specs.Limits.{lineFeed, carriageReturn}
-use Rattle.model.specs.Tools.{guard}
-use Rattle.model.specs.Lines.{text, skip, ended}
-use Rattle.model.proofs.Basic.{bool-cases, from-byte}
-use Rattle.model.proofs.Endings.{text-none, text-last}
+use Rattle.limits.specs.Limits.{lineFeed, carriageReturn}
+use Rattle.calculus.specs.Tools.{guard}
+use Rattle.format.specs.Lines.{text, skip, ended}
+use Rattle.calculus.proofs.Basic.{bool-cases, from-byte}
+use Rattle.format.proofs.Endings.{text-none, text-last}
 use Rattle.fields.specs.declared.Cursor as C
 use Rattle.fields.specs.declared.Skipped as S
 use Rattle.fields.specs.declared.Skipped.the-variants as skips

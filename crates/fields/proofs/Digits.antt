@@ -9,8 +9,8 @@ use mathlib.Core.List.{List}
 use lib.Dec.{leb, ltb}
 use lib.ListN.{length, getD, drop, drop-of-length-le, List·getD-eq-default}
 use borrow.Author.Tests.{le-leb, lt-leb, lt-ltb, le-ltb, leb-true, leb-false, ltb-true, eq-eqb, ne-eqb}
-use Rattle.model.specs.Lines.{isDigit, digits, numeral}
-use Rattle.model.proofs.Basic.{bool-cases, from-byte}
+use Rattle.format.specs.Lines.{isDigit, digits, numeral}
+use Rattle.calculus.proofs.Basic.{bool-cases, from-byte}
 use Rattle.fields.specs.Views.{digitOf}
 
 -- ---- which bytes are digits

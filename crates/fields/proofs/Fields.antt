@@ -4,10 +4,10 @@ use mathlib.Core.Path.{_≡_, sym, ap, _∙_}
 use mathlib.Core.Option.{Option, none, some}
 use mathlib.Core.List.{List, _∷_}
 use lib.ListN.{drop}
-use Rattle.model.specs.Limits.{comma}
-use Rattle.model.specs.Tools.{_>>=_}
-use Rattle.model.specs.Lines.{skip, numeral, fields}
-use Rattle.model.proofs.Basic.{bind-assoc}
+use Rattle.limits.specs.Limits.{comma}
+use Rattle.calculus.specs.Tools.{_>>=_}
+use Rattle.format.specs.Lines.{skip, numeral, fields}
+use Rattle.calculus.proofs.Basic.{bind-assoc}
 use Rattle.fields.specs.declared.Cursor as C
 use Rattle.fields.specs.declared.Skipped as S
 use Rattle.fields.specs.declared.Skipped.the-variants as skips

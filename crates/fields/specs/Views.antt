@@ -4,9 +4,9 @@ use mathlib.Core.Bool.{Bool, cond}
 use mathlib.Core.Option.{Option, none, some}
 use mathlib.Core.List.{List}
 use lib.ListN.{take, drop}
-use Rattle.model.specs.Limits.{comma, digitZero}
-use Rattle.model.specs.Tools.{_>>=_, guard}
-use Rattle.model.specs.Lines.{isDigit, skip, numeral}
+use Rattle.limits.specs.Limits.{comma, digitZero}
+use Rattle.calculus.specs.Tools.{_>>=_, guard}
+use Rattle.format.specs.Lines.{isDigit, skip, numeral}
 use Rattle.fields.specs.declared.Skipped as S
 use Rattle.fields.specs.declared.Skipped.the-variants as skips
 use Rattle.fields.specs.declared.Number as N

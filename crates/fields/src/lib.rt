@@ -7,7 +7,7 @@ use codes::LINE_FEED;
 ghost use mathlib.Core.Path.{_≡_};
 ghost use Prim.Native.Nat.{_+_};
 ghost use lib.ListN.{getD, drop};
-ghost use Rattle.model.specs.Lines.{text, skip, digits, numeral, ended};
+ghost use Rattle.format.specs.Lines.{text, skip, digits, numeral, ended};
 ghost use Rattle.fields.specs.Views.{asText, asSkipped, asNumber, digitOf, asField, asEnd};
 
 pub struct Cursor {

@@ -10,14 +10,14 @@ use mathlib.Core.List.{List, [], _∷_, _++_}
 use lib.Dec.{leb}
 use lib.ListN.{length, take, drop}
 use lib.Seq.{sets-eq, length-take-le}
-use Rattle.model.specs.Limits.{maxNodes, maxValues, maxClauses, maxPatterns, importLength}
-use Rattle.model.specs.Trees.{Ty, Val, typeNodes}
-use Rattle.model.specs.Refusals.{Refusal, typeLine, patternLine, clauseLine, ceiling}
-use Rattle.model.specs.Lines.{Row, printRows}
-use Rattle.model.specs.Judge.{start}
+use Rattle.limits.specs.Limits.{maxNodes, maxValues, maxClauses, maxPatterns, importLength}
+use Rattle.calculus.specs.Trees.{Ty, Val, typeNodes}
+use Rattle.calculus.specs.Refusals.{Refusal, typeLine, patternLine, clauseLine, ceiling}
+use Rattle.format.specs.Lines.{Row, printRows}
+use Rattle.format.specs.Judge.{start}
 use Rattle.model.specs.Services.{written}
-use Rattle.model.specs.Code.{refusalView, numberOf, numbered}
-use Rattle.model.proofs.Basic.{bool-cases, leb-le, leb-false, is-false}
+use Rattle.format.specs.Code.{refusalView, numberOf, numbered}
+use Rattle.calculus.proofs.Basic.{bool-cases, leb-le, leb-false, is-false}
 use Rattle.ranking.specs.Numbering.{count, Outcome, gives, fails, refusalOf, lettersFrom}
 use Rattle.areas.specs.Areas.{Writes}
 use Rattle.pairlists.specs.PairLists.{Entry, writeType, Written, writePairs, isoRow, pairsUp, settings, fileRows, withinAll, writing}

@@ -5,9 +5,9 @@ use native.Mathlib.Omega.{arith}
 use mathlib.Core.Path.{_≡_, refl, sym, ap, _∙_, subst}
 use mathlib.Core.List.{List, [], _∷_, _++_, append-assoc, append-nil}
 use lib.ListN.{length}
-use Rattle.model.specs.Refusals.{Kind}
-use Rattle.model.specs.Lines.{Row, print, printRows}
-use Rattle.model.proofs.Printing.{printRows-nil, printRows-cons}
+use Rattle.calculus.specs.Refusals.{Kind}
+use Rattle.format.specs.Lines.{Row, print, printRows}
+use Rattle.format.proofs.Printing.{printRows-nil, printRows-cons}
 use Rattle.areas.specs.Areas.{Writes}
 use Rattle.areas.proofs.Writing.{writes-none, writes-both, writes-as}
 use Rattle.nodes.specs.Unfolding.{cellOf}

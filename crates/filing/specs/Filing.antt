@@ -4,10 +4,10 @@ use mathlib.Core.Path.{_≡_}
 use mathlib.Core.Bool.{true}
 use mathlib.Core.List.{List}
 use lib.ListN.{length, take}
-use Rattle.model.specs.Limits.{maxNodes, importLength}
-use Rattle.model.specs.Trees.{Ty, typeNodes}
+use Rattle.limits.specs.Limits.{maxNodes, importLength}
+use Rattle.calculus.specs.Trees.{Ty, typeNodes}
 use Rattle.model.specs.Services.{written}
-use Rattle.model.specs.Code.{numberOf}
+use Rattle.format.specs.Code.{numberOf}
 use Rattle.ranking.specs.Numbering.{Outcome, refusalOf, lettersFrom}
 use Rattle.pairlists.specs.PairLists.{pairsUp, settings, fileRows, writing}
 use Rattle.filing.specs.declared.Filed as F

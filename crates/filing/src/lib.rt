@@ -1,17 +1,17 @@
 // The file of an imported list: its rows built in areas of their own, then printed, unless they pass a ceiling.
 
-use model::Kind;
-use model::Refusal;
-use model::Row;
+use format::Kind;
+use format::Refusal;
+use format::Row;
 use nodes::cell;
 use printer::put_row;
 use writings::write_pairs;
 use writings::write_type;
 ghost use mathlib.Core.List.{_∷_, _++_};
 ghost use Prim.Native.Nat.{_≤_, _<_};
-ghost use Rattle.model.specs.Refusals.{typeLine, patternLine, clauseLine};
-ghost use Rattle.model.specs.Lines.{print, printRows};
-ghost use Rattle.model.specs.Code.{kindView};
+ghost use Rattle.calculus.specs.Refusals.{typeLine, patternLine, clauseLine};
+ghost use Rattle.format.specs.Lines.{print, printRows};
+ghost use Rattle.format.specs.Code.{kindView};
 ghost use Rattle.pairlists.specs.PairLists.{isoRow};
 ghost use Rattle.areas.specs.Areas.{Writes};
 ghost use Rattle.nodes.specs.Unfolding.{typeOf};
@@ -64,7 +64,13 @@ struct Made {
 
 // The file of these rows.
 fn put_file(ts: &[u16], ps: &[u16], cs: &[u16], m: Made, out: &mut [u8]) -> usize
-    ensures { λ r. ⌜ (m .from < 10000000000 → m .to < 10000000000 → Writes (now (out .entry)) (now (out .exit)) 0 r (printRows (entriesAt typeLine (now (ts .entry)) 0 (m .types) ++ (entriesAt patternLine (now (ps .entry)) 0 (m .patterns) ++ (isoRow (m .from) (m .to) ∷ entriesAt clauseLine (now (cs .entry)) 0 (m .clauses)))))) ⌝ }
+    ensures { λ r. ⌜
+        (m .from < 10000000000 → m .to < 10000000000 → Writes (now (out .entry)) (now (out .exit)) 0 r
+        (printRows
+        (entriesAt typeLine (now (ts .entry)) 0 (m .types)
+        ++ (entriesAt patternLine (now (ps .entry)) 0 (m .patterns)
+        ++ (isoRow (m .from) (m .to) ∷ entriesAt clauseLine (now (cs .entry)) 0 (m .clauses))))))
+        ⌝ }
 {
     let x = put_entries(ts, Kind::Type, m.types, out, 0);
     let y = put_entries(ps, Kind::Pattern, m.patterns, out, x);
@@ -85,7 +91,10 @@ fn put_file(ts: &[u16], ps: &[u16], cs: &[u16], m: Made, out: &mut [u8]) -> usiz
 // refusal leaves it untouched.
 pub fn write_file(t: &[u16], i: usize, j: usize, tos: &[u16], n: usize, out: &mut [u8]) -> Filed
     requires { ⌜ n ≤ 32 ⌝ }
-    ensures { λ r. ⌜ FileMade (typeOf (now (t .entry)) i) (typeOf (now (t .entry)) j) (now (tos .entry)) n (now (out .entry)) (now (out .exit)) r ⌝ }
+    ensures { λ r. ⌜
+        FileMade (typeOf (now (t .entry)) i) (typeOf (now (t .entry)) j) (now (tos .entry)) n
+        (now (out .entry)) (now (out .exit)) r
+        ⌝ }
 {
     let mut ts = [0u16; 4100];
     let mut ps = [0u16; 4100];

@@ -1,8 +1,8 @@
 -- What the answer about a letter means, and where a kind's letter stands in the table of forms.
 use Prim.Native.Nat.{ℕ}
 use mathlib.Core.Option.{Option, none, some}
-use Rattle.model.specs.Refusals.{Kind, typeLine, patternLine, isoLine, clauseLine, letLine}
-use Rattle.model.specs.Code.{kindView}
+use Rattle.calculus.specs.Refusals.{Kind, typeLine, patternLine, isoLine, clauseLine, letLine}
+use Rattle.format.specs.Code.{kindView}
 use Rattle.forms.specs.declared.Letter as L
 use Rattle.forms.specs.declared.Letter.the-variants as letters
 

@@ -1,9 +1,9 @@
 // The table of line forms: a kind's letter, its number of fields, and the kind of a letter.
 
-use model::Kind;
+use format::Kind;
 ghost use mathlib.Core.Path.{_≡_};
-ghost use Rattle.model.specs.Lines.{letter, fieldCount, kindOf};
-ghost use Rattle.model.specs.Code.{kindView};
+ghost use Rattle.format.specs.Lines.{letter, fieldCount, kindOf};
+ghost use Rattle.format.specs.Code.{kindView};
 ghost use Rattle.forms.specs.Views.{asLetter, formPlace};
 
 // The five line forms, T, P, I, C, L: the letter's code, then the number of fields after it.

@@ -7,14 +7,14 @@ use mathlib.Core.Bool.{Bool, true, false, cond}
 use mathlib.Core.Option.{Option, none, some}
 use mathlib.Core.List.{List, [], _∷_, _++_, List·Memᴰ, List·Memᴰ·head, List·Memᴰ·tail}
 use lib.ListN.{getD}
-use Rattle.model.specs.Tools.{_>>=_}
-use Rattle.model.specs.Trees.{Ty, tunit, tsum, tprod, left, right, Pat, typeNodes}
-use Rattle.model.specs.Paper.{Apart}
+use Rattle.calculus.specs.Tools.{_>>=_}
+use Rattle.calculus.specs.Trees.{Ty, tunit, tsum, tprod, left, right, Pat, typeNodes}
+use Rattle.calculus.specs.Paper.{Apart}
 use Rattle.witnesses.specs.Shapes.{Shape}
 use Rattle.witnesses.specs.Showing.{Move, unit, both, tag, letterOn, moves}
 use Rattle.witnesses.specs.Seeking.{after, howMany, also, keep, lacks, alone, pick}
-use Rattle.model.proofs.Basic.{bind-some, none≢some, some-inj, ltb-lt, lt-ltb, not-ltb, each-nil, each-cons}
-use Rattle.model.specs.Limits.{maxNodes}
+use Rattle.calculus.proofs.Basic.{bind-some, none≢some, some-inj, ltb-lt, lt-ltb, not-ltb, each-nil, each-cons}
+use Rattle.limits.specs.Limits.{maxNodes}
 use Rattle.witnesses.proofs.Gaps.{Once, once-after, once-alone, matched-le}
 use Rattle.witnesses.proofs.Descent.{allChoices, choices-small, howMany-small}
 use Rattle.tallies.specs.Tallies.{modulus}

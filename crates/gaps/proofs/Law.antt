@@ -5,14 +5,14 @@ use mathlib.Core.Path.{_≡_, refl, sym, ap, _∙_}
 use mathlib.Core.Option.{none, some}
 use mathlib.Core.List.{List, [], _∷_, _++_}
 use lib.ListN.{length, drop}
-use Rattle.model.specs.Trees.{Ty, Pat, Val}
-use Rattle.model.specs.Letters.{letters}
+use Rattle.calculus.specs.Trees.{Ty, Pat, Val}
+use Rattle.calculus.specs.Letters.{letters}
 use Rattle.model.specs.Services.{written}
-use Rattle.model.specs.Paper.{Apart}
+use Rattle.calculus.specs.Paper.{Apart}
 use Rattle.witnesses.specs.Showing.{never, setting}
 use Rattle.witnesses.specs.Shapes.{Side}
 use Rattle.witnesses.specs.Seeking.{on, alone, gapWord, gapLength}
-use Rattle.model.proofs.Basic.{none≢some, some-inj}
+use Rattle.calculus.proofs.Basic.{none≢some, some-inj}
 use Rattle.witnesses.proofs.Gaps.{gap-setting}
 use Rattle.witnesses.proofs.Descent.{gap-in, word-length, length-lacks}
 use Rattle.gaps.specs.Gaps.{GapValue}

@@ -9,9 +9,9 @@ use mathlib.Core.List.{List, [], _∷_, List·Memᴰ, List·Memᴰ·head, List·
 use lib.Dec.{leb}
 use lib.ListN.{length, getD, drop, drop-of-length-le}
 use lib.Seq.{drop-cons}
-use Rattle.model.specs.Trees.{Ty, Pat}
+use Rattle.calculus.specs.Trees.{Ty, Pat}
 use Rattle.witnesses.specs.Seeking.{howMany, ways, orZero, also, keep, alone}
-use Rattle.model.proofs.Basic.{leb-le, leb-false}
+use Rattle.calculus.proofs.Basic.{leb-le, leb-false}
 use Rattle.nodes.specs.Unfolding.{cellOf, typeOf, patternOf}
 use Rattle.nodes.specs.InTable.{patternsAt}
 use Rattle.tallies.specs.Tallies.{modulus, Holds}

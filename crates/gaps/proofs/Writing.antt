@@ -7,7 +7,7 @@ use mathlib.Core.Bool.{true, false, cond}
 use mathlib.Core.List.{List, [], _∷_, _++_, map, append-assoc, append-nil}
 use lib.ListN.{length, getD, set, take, drop, length-set, take-append-drop}
 use lib.Seq.{getD-set-same, drop-cons, take-suc, drop-set-lt}
-use Rattle.model.specs.Trees.{Ty, Pat}
+use Rattle.calculus.specs.Trees.{Ty, Pat}
 use Rattle.witnesses.specs.Showing.{letterOn}
 use Rattle.witnesses.specs.Seeking.{after, keep, lacks, alone, pick, gapWord, gapLength}
 use Rattle.witnesses.proofs.Descent.{pick-lacks}
@@ -17,8 +17,8 @@ use Rattle.stacks.proofs.Stepping.{Stepped, replaced, here-line}
 use Rattle.stacks.proofs.Walking.{top-near}
 use Rattle.stacks.proofs.Counting.{types-end}
 use Rattle.gaps.specs.Gaps.{typesAt, rowsAt, Good, Picks, Asked, Writes, TakesAll, FirstCount}
-use Rattle.model.specs.Limits.{resultLength}
-use Rattle.model.specs.Tools.{firstOf, orElse}
+use Rattle.limits.specs.Limits.{resultLength}
+use Rattle.calculus.specs.Tools.{firstOf, orElse}
 use Rattle.witnesses.specs.Showing.{countUp}
 use native.Mathlib.Nat.{le-refl, eq-or-lt-of-le}
 use mathlib.Core.Logic.{_⊎_, inl, inr}

@@ -6,11 +6,11 @@ use mathlib.Core.Option.{Option, none, some}
 use mathlib.Core.List.{List, [], _∷_, _++_, map, List·Memᴰ}
 use lib.Dec.{leb}
 use lib.ListN.{length, getD, drop}
-use Rattle.model.specs.Tools.{total}
-use Rattle.model.specs.Trees.{Ty, Pat, Val}
-use Rattle.model.specs.Letters.{letters}
+use Rattle.calculus.specs.Tools.{total}
+use Rattle.calculus.specs.Trees.{Ty, Pat, Val}
+use Rattle.calculus.specs.Letters.{letters}
 use Rattle.model.specs.Services.{written}
-use Rattle.model.specs.Paper.{Apart}
+use Rattle.calculus.specs.Paper.{Apart}
 use Rattle.witnesses.specs.Showing.{letterOn, never, setting}
 use Rattle.witnesses.specs.Shapes.{Side}
 use Rattle.witnesses.specs.Seeking.{howMany, ways, orZero, keep, alone, lacks, pick, gapWord}

@@ -42,7 +42,11 @@ pub fn take_away(k: &mut [u64], o: &[u64])
 // Counts less those that P line p matches, after some letters of a value of T line i.
 pub fn take_row(t: &[u16], base: usize, p: usize, i: usize, w: &[u8], k: &mut [u64])
     requires { ⌜ (length (now k) ≡ 128) × (length (now w) ≤ 127) ⌝ }
-    ensures { λ r. ⌜ TakesRow (now (k .entry)) (now (k .exit)) (typesAlong (now (w .entry)) (typeOf (now (t .entry)) i ∷ [])) (rowAlong (now (w .entry)) (patternOf (now (t .entry)) base p ∷ [])) ⌝ }
+    ensures { λ r. ⌜
+        TakesRow (now (k .entry)) (now (k .exit))
+        (typesAlong (now (w .entry)) (typeOf (now (t .entry)) i ∷ []))
+        (rowAlong (now (w .entry)) (patternOf (now (t .entry)) base p ∷ []))
+        ⌝ }
 {
     let mut ps = [0usize; 128];
     let mut ts = [0usize; 128];
@@ -58,7 +62,11 @@ pub fn take_row(t: &[u16], base: usize, p: usize, i: usize, w: &[u8], k: &mut [u
 // The ways to go on after some letters of a value of T line i that no pattern in field f of the rows matches.
 pub fn count_gaps(t: &[u16], base: usize, f: usize, rows: &[u16], i: usize, w: &[u8], k: &mut [u64])
     requires { ⌜ (length (now k) ≡ 128) × (length (now w) ≤ 127) ⌝ }
-    ensures { λ r. ⌜ TakesAll (now (k .exit)) (now (w .entry)) (typesAlong (now (w .entry)) (typeOf (now (t .entry)) i ∷ [])) (patternsAt (now (t .entry)) base f (now (rows .entry))) ⌝ }
+    ensures { λ r. ⌜
+        TakesAll (now (k .exit)) (now (w .entry))
+        (typesAlong (now (w .entry)) (typeOf (now (t .entry)) i ∷ []))
+        (patternsAt (now (t .entry)) base f (now (rows .entry)))
+        ⌝ }
 {
     let mut ts = [0usize; 128];
     let top = walk_types(t, i, w, &mut ts);
@@ -83,7 +91,10 @@ pub fn letter(
     w: &[u8],
 ) -> u8
     requires { ⌜ (length (now w) ≤ 127) × (n < 128) ⌝ }
-    ensures { λ r. ⌜ Picks (typeOf (now (t .entry)) i) (patternsAt (now (t .entry)) base f (now (rows .entry))) (now (w .entry)) (typeOf (now (t .entry)) j) n r ⌝ }
+    ensures { λ r. ⌜
+        Picks (typeOf (now (t .entry)) i) (patternsAt (now (t .entry)) base f (now (rows .entry)))
+        (now (w .entry)) (typeOf (now (t .entry)) j) n r
+        ⌝ }
 {
     let kind = cell(t, j, 1);
     if kind == 0 {
@@ -103,7 +114,10 @@ pub fn letter(
 // Writes the letters of the first gap, which has n.
 pub fn write_gap(t: &[u16], base: usize, f: usize, rows: &[u16], i: usize, n: usize, out: &mut [u8])
     requires { ⌜ (n ≤ 127) × (n ≤ length (now out)) ⌝ }
-    ensures { λ r. ⌜ Writes (typeOf (now (t .entry)) i) (patternsAt (now (t .entry)) base f (now (rows .entry))) (now (out .entry)) (now (out .exit)) n ⌝ }
+    ensures { λ r. ⌜
+        Writes (typeOf (now (t .entry)) i) (patternsAt (now (t .entry)) base f (now (rows .entry)))
+        (now (out .entry)) (now (out .exit)) n
+        ⌝ }
 {
     let mut ts = [0usize; 128];
     ts[127] = i;
@@ -143,7 +157,10 @@ pub fn first_count(k: &[u64]) -> usize
 // value of at most 127 letters is left.
 pub fn gap_value(t: &[u16], base: usize, f: usize, rows: &[u16], i: usize, out: &mut [u8]) -> usize
     requires { ⌜ 127 ≤ length (now out) ⌝ }
-    ensures { λ r. ⌜ GapValue (typeOf (now (t .entry)) i) (patternsAt (now (t .entry)) base f (now (rows .entry))) (now (out .entry)) (now (out .exit)) r ⌝ }
+    ensures { λ r. ⌜
+        GapValue (typeOf (now (t .entry)) i) (patternsAt (now (t .entry)) base f (now (rows .entry)))
+        (now (out .entry)) (now (out .exit)) r
+        ⌝ }
 {
     let mut k = [0u64; 128];
     count_gaps(t, base, f, rows, i, &out[0..0], &mut k);

@@ -7,13 +7,13 @@ use mathlib.Core.Option.{Option, none, some}
 use mathlib.Core.List.{List}
 use lib.Dec.{ltb}
 use lib.ListN.{length, take}
-use Rattle.model.specs.Limits.{maxNodes, maxPairs, maxValues, maxClauses, importLength}
-use Rattle.model.specs.Tools.{_>>=_, guard}
-use Rattle.model.specs.Trees.{Ty, typeNodes}
-use Rattle.model.specs.Refusals.{clauseLine, ceiling, badList}
-use Rattle.model.specs.Lines.{lines}
-use Rattle.model.specs.Code.{refusalView}
-use Rattle.model.proofs.Basic.{bind-some, some-inj, guard-true, lt-ltb, not-ltb}
+use Rattle.limits.specs.Limits.{maxNodes, maxPairs, maxValues, maxClauses, importLength}
+use Rattle.calculus.specs.Tools.{_>>=_, guard}
+use Rattle.calculus.specs.Trees.{Ty, typeNodes}
+use Rattle.calculus.specs.Refusals.{clauseLine, ceiling, badList}
+use Rattle.format.specs.Lines.{lines}
+use Rattle.format.specs.Code.{refusalView}
+use Rattle.calculus.proofs.Basic.{bind-some, some-inj, guard-true, lt-ltb, not-ltb}
 use Rattle.ranking.specs.Numbering.{count, Outcome, fails}
 use Rattle.pairlists.specs.PairLists.{tosOf, pairsUp, listOf, onList, onLines, settings, fileRows, writing}
 use Rattle.numbering.specs.Numbers.{Counts}

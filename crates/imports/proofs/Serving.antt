@@ -8,14 +8,14 @@ use mathlib.Core.List.{List, []}
 use lib.Dec.{ltb}
 use lib.ListN.{length}
 use borrow.Author.Tests.{lt-ltb, le-ltb}
-use Rattle.model.specs.Limits.{importLength}
-use Rattle.model.specs.Tools.{isSome}
-use Rattle.model.specs.Refusals.{number, shortArea}
-use Rattle.model.specs.Lines.{Row}
+use Rattle.limits.specs.Limits.{importLength}
+use Rattle.calculus.specs.Tools.{isSome}
+use Rattle.calculus.specs.Refusals.{number, shortArea}
+use Rattle.format.specs.Lines.{Row}
 use Rattle.model.specs.Services.{Verdict, accepted, refused, verdict, written, tableAfter, workAfter, short, unless, answerOf, check}
-use Rattle.model.specs.Code.{refusalView, numberOf, numbered}
-use Rattle.model.specs.declared.Answer as A
-use Rattle.model.proofs.Basic.{isSome-true}
+use Rattle.format.specs.Code.{refusalView, numberOf, numbered}
+use Rattle.format.specs.declared.Answer as A
+use Rattle.calculus.proofs.Basic.{isSome-true}
 use Rattle.model.proofs.Files.{number-positive}
 use Rattle.ranking.specs.Numbering.{Outcome, refusalOf, lettersFrom}
 use Rattle.pairlists.specs.PairLists.{importRows, importOn, lineOf, importService}

@@ -7,15 +7,15 @@ use mathlib.Core.Option.{Option, none, some}
 use mathlib.Core.List.{List}
 use lib.Dec.{leb, ltb}
 use lib.ListN.{length, getElem?}
-use Rattle.model.specs.Limits.{maxPairs, importLength}
-use Rattle.model.specs.Tools.{isSome}
-use Rattle.model.specs.Trees.{Ty}
-use Rattle.model.specs.Refusals.{Refusal, noIso, tooMany}
-use Rattle.model.specs.Lines.{Row, lines}
+use Rattle.limits.specs.Limits.{maxPairs, importLength}
+use Rattle.calculus.specs.Tools.{isSome}
+use Rattle.calculus.specs.Trees.{Ty}
+use Rattle.calculus.specs.Refusals.{Refusal, noIso, tooMany}
+use Rattle.format.specs.Lines.{Row, lines}
 use Rattle.model.specs.Services.{written}
-use Rattle.model.specs.Code.{refusalView, numbered}
-use Rattle.model.specs.declared.Refusal as F
-use Rattle.model.proofs.Basic.{isSome-true, none≢some, some-inj, leb-le, leb-false, le-leb, not-leb, ltb-lt, ltb-false, lt-ltb, not-ltb}
+use Rattle.format.specs.Code.{refusalView, numbered}
+use Rattle.format.specs.declared.Refusal as F
+use Rattle.calculus.proofs.Basic.{isSome-true, none≢some, some-inj, leb-le, leb-false, le-leb, not-leb, ltb-lt, ltb-false, lt-ltb, not-ltb}
 use Rattle.checker.proofs.Checks.{flag-none}
 use Rattle.ranking.specs.Numbering.{count, Outcome, fails, typesOf, refusalOf, lettersFrom}
 use Rattle.pairlists.specs.PairLists.{onTypes, onLines, importRows}

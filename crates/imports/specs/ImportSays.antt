@@ -6,11 +6,11 @@ use mathlib.Core.Option.{Option, none, some}
 use mathlib.Core.List.{List}
 use lib.Dec.{leb, ltb}
 use lib.ListN.{length}
-use Rattle.model.specs.Limits.{maxNodes, maxPairs, importLength}
-use Rattle.model.specs.Trees.{Ty, typeNodes}
-use Rattle.model.specs.Refusals.{Refusal, noIso, tooMany}
-use Rattle.model.specs.Lines.{lines}
-use Rattle.model.specs.Code.{numberOf}
+use Rattle.limits.specs.Limits.{maxNodes, maxPairs, importLength}
+use Rattle.calculus.specs.Trees.{Ty, typeNodes}
+use Rattle.calculus.specs.Refusals.{Refusal, noIso, tooMany}
+use Rattle.format.specs.Lines.{lines}
+use Rattle.format.specs.Code.{numberOf}
 use Rattle.ranking.specs.Numbering.{count}
 use Rattle.pairlists.specs.PairLists.{onLines, importService}
 use Rattle.filing.specs.Filing.{FiledAs}

@@ -3,19 +3,19 @@
 use checker::check_file;
 use filing::Filed;
 use filing::write_file;
+use format::Answer;
+use format::Kind;
+use format::Refusal;
+use format::is_refused;
 use lists::read_list;
-use model::Answer;
-use model::Kind;
-use model::Refusal;
-use model::is_refused;
 use numbering::count_values;
 use split::count_lines;
 ghost use mathlib.Core.Path.{_≡_};
 ghost use mathlib.Core.List.{List};
 ghost use Prim.Native.Nat.{ℕ, _≤_};
 ghost use lib.ListN.{length};
-ghost use Rattle.model.specs.Lines.{Row as RowOf};
-ghost use Rattle.model.specs.Code.{refusalView};
+ghost use Rattle.format.specs.Lines.{Row as RowOf};
+ghost use Rattle.format.specs.Code.{refusalView};
 ghost use Rattle.pairlists.specs.PairLists.{importRows};
 ghost use Rattle.nodes.specs.Unfolding.{typeOf};
 ghost use Rattle.nodes.specs.Walk.{FileIn};
@@ -58,7 +58,10 @@ fn types_fault(t: &[u16], types: usize, i: usize, j: usize) -> Refusal
 
 // Writes the file of a list whose types are T lines i and j, each of at most 4,096 values.
 fn import_list(t: &[u16], i: usize, j: usize, list: &[u8], out: &mut [u8]) -> Filed
-    ensures { λ r. ⌜ ListFiled (typeOf (now (t .entry)) i) (typeOf (now (t .entry)) j) (now (list .entry)) (now (out .entry)) (now (out .exit)) r ⌝ }
+    ensures { λ r. ⌜
+        ListFiled (typeOf (now (t .entry)) i) (typeOf (now (t .entry)) j) (now (list .entry))
+        (now (out .entry)) (now (out .exit)) r
+        ⌝ }
 {
     let n = count_lines(list);
     if 32 < n {
@@ -81,7 +84,11 @@ pub fn import_checked(
     list: &[u8],
     out: &mut [u8],
 ) -> Filed
-    ensures { λ r. ⌜ ((patterns lines : ℕ) (rs : List RowOf) → FileIn (now (t .entry)) types patterns lines rs → 65536 ≤ length (now (out .entry)) → FiledAs (importRows rs i j (now (list .entry))) (now (out .entry)) (now (out .exit)) r) ⌝ }
+    ensures { λ r. ⌜
+        ((patterns lines : ℕ) (rs : List RowOf) → FileIn (now (t .entry)) types patterns lines rs
+        → 65536 ≤ length (now (out .entry))
+        → FiledAs (importRows rs i j (now (list .entry))) (now (out .entry)) (now (out .exit)) r)
+        ⌝ }
 {
     let f = types_fault(t, types, i, j);
     if is_refused(f) {
@@ -101,7 +108,10 @@ pub fn import(
     list: &[u8],
     output: &mut [u8],
 ) -> Imported
-    ensures { λ r. ⌜ ImportSays (now (file .entry)) (now (table .entry)) (now (work .entry)) i j (now (list .entry)) (now (output .entry)) (now (table .exit)) (now (work .exit)) (now (output .exit)) r ⌝ }
+    ensures { λ r. ⌜
+        ImportSays (now (file .entry)) (now (table .entry)) (now (work .entry)) i j (now (list .entry))
+        (now (output .entry)) (now (table .exit)) (now (work .exit)) (now (output .exit)) r
+        ⌝ }
 {
     if output.len() < 65536 {
         return Imported {

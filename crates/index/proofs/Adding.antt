@@ -5,11 +5,11 @@ use mathlib.Core.Path.{_≡_, refl, sym, ap, _∙_}
 use mathlib.Core.Option.{some}
 use mathlib.Core.List.{List, [], _∷_}
 use lib.ListN.{length, getElem?, length-map}
-use Rattle.model.specs.Trees.{Ty, Pat}
-use Rattle.model.specs.Refusals.{isoLine, clauseLine, letLine}
-use Rattle.model.specs.Lines.{Row}
-use Rattle.model.specs.Judge.{start, afterAll}
-use Rattle.model.specs.Unfold.{Tail, isosOf}
+use Rattle.calculus.specs.Trees.{Ty, Pat}
+use Rattle.calculus.specs.Refusals.{isoLine, clauseLine, letLine}
+use Rattle.format.specs.Lines.{Row}
+use Rattle.format.specs.Judge.{start, afterAll}
+use Rattle.format.specs.Unfold.{Tail, isosOf}
 use Rattle.nodes.specs.Unfolding.{cellOf, typeOf, patternOf}
 use Rattle.nodes.specs.InTable.{letAt}
 use Rattle.nodes.specs.Walk.{FileIn, isoRows, tailAt}

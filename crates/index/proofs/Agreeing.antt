@@ -5,7 +5,7 @@ use mathlib.Core.Path.{_≡_, refl, ap₂, _∙_}
 use mathlib.Core.List.{List, _∷_}
 use lib.ListN.{length, set}
 use lib.Seq.{getD-set-same, getD-set-other}
-use Rattle.model.specs.Trees.{Clause, Iso}
+use Rattle.calculus.specs.Trees.{Clause, Iso}
 use Rattle.nodes.specs.Unfolding.{cellOf, typeOf}
 use Rattle.nodes.specs.InTable.{clauseIn}
 use Rattle.index.specs.Index.{placeAt, clausesAt, isoBetween, isosAt}

@@ -5,12 +5,12 @@ use mathlib.Core.Path.{_≡_, ap}
 use mathlib.Core.Option.{some}
 use mathlib.Core.List.{List, [], _∷_}
 use lib.ListN.{getElem?, take}
-use Rattle.model.specs.Limits.{maxIsos, maxClauses}
-use Rattle.model.specs.Refusals.{Kind, typeLine, patternLine, isoLine, clauseLine, letLine}
-use Rattle.model.specs.Lines.{Row}
-use Rattle.model.specs.Judge.{Seen, start, stage, afterKind}
-use Rattle.model.proofs.Basic.{none≢some, some-inj, leb-le}
-use Rattle.model.proofs.Passing.{Passes, done, next, Fit, judge-fit, iso-fit, clause-fit}
+use Rattle.limits.specs.Limits.{maxIsos, maxClauses}
+use Rattle.calculus.specs.Refusals.{Kind, typeLine, patternLine, isoLine, clauseLine, letLine}
+use Rattle.format.specs.Lines.{Row}
+use Rattle.format.specs.Judge.{Seen, start, stage, afterKind}
+use Rattle.calculus.proofs.Basic.{none≢some, some-inj, leb-le}
+use Rattle.format.proofs.Passing.{Passes, done, next, Fit, judge-fit, iso-fit, clause-fit}
 use Rattle.index.specs.Indexed.{placesOf, places}
 
 -- m places of the rows that `s` tells of: 33 for each iso above the last, one for the last and one for each of its clauses

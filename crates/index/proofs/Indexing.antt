@@ -7,10 +7,10 @@ use mathlib.Core.Logic.{_⊎_, inl, inr}
 use mathlib.Core.Option.{some}
 use mathlib.Core.List.{List, [], _∷_}
 use lib.ListN.{length, getElem?, take, set, length-set}
-use Rattle.model.specs.Trees.{Clause, Iso}
-use Rattle.model.specs.Refusals.{isoLine, clauseLine, letLine}
-use Rattle.model.specs.Lines.{Row}
-use Rattle.model.specs.Unfold.{Tail, isosOf}
+use Rattle.calculus.specs.Trees.{Clause, Iso}
+use Rattle.calculus.specs.Refusals.{isoLine, clauseLine, letLine}
+use Rattle.format.specs.Lines.{Row}
+use Rattle.format.specs.Unfold.{Tail, isosOf}
 use Rattle.nodes.specs.Unfolding.{cellOf, typeOf, patternOf}
 use Rattle.nodes.specs.InTable.{letAt, letsIn, clauseIn}
 use Rattle.nodes.specs.Walk.{FileIn, isoRows, tailAt}

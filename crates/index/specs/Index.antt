@@ -3,7 +3,7 @@
 use Prim.Native.Nat.{ℕ, zero, suc, _-_}
 use mathlib.Core.List.{List, [], _∷_}
 use lib.ListN.{getD}
-use Rattle.model.specs.Trees.{Clause, Iso}
+use Rattle.calculus.specs.Trees.{Clause, Iso}
 use Rattle.nodes.specs.Unfolding.{cellOf, typeOf}
 use Rattle.nodes.specs.InTable.{clauseIn}
 

@@ -3,9 +3,9 @@ use Prim.Native.Nat.{ℕ, suc, _+_, _-_, _≤_, _<_}
 use mathlib.Core.Path.{_≡_}
 use mathlib.Core.List.{List, [], _∷_}
 use lib.ListN.{length, take}
-use Rattle.model.specs.Limits.{maxIsos}
-use Rattle.model.specs.Refusals.{Kind, typeLine, patternLine, isoLine, clauseLine, letLine}
-use Rattle.model.specs.Lines.{Row}
+use Rattle.limits.specs.Limits.{maxIsos}
+use Rattle.calculus.specs.Refusals.{Kind, typeLine, patternLine, isoLine, clauseLine, letLine}
+use Rattle.format.specs.Lines.{Row}
 use Rattle.nodes.specs.InTable.{letsIn}
 use Rattle.nodes.specs.Walk.{isoRows, tailAt}
 use Rattle.index.specs.Index.{indexLength, placeAt, clausesAt, isosAt}

@@ -13,8 +13,8 @@ ghost use mathlib.Core.Path.{_≡_};
 ghost use mathlib.Core.List.{List};
 ghost use Prim.Native.Nat.{ℕ, suc, _+_, _≤_, _<_};
 ghost use lib.ListN.{length};
-ghost use Rattle.model.specs.Lines.{Row as RowOf};
-ghost use Rattle.model.specs.Unfold.{isosOf};
+ghost use Rattle.format.specs.Lines.{Row as RowOf};
+ghost use Rattle.format.specs.Unfold.{isosOf};
 ghost use Rattle.nodes.specs.Unfolding.{cellOf};
 ghost use Rattle.nodes.specs.Walk.{FileIn};
 ghost use Rattle.index.specs.Index.{isosAt, indexLength};
@@ -28,7 +28,12 @@ pub struct Left {
 
 // The index with the C row n.
 fn with_clause(index: &mut [u16], l: Left, n: usize) -> Left
-    ensures { λ r. ⌜ ((t : List ℕ) (rs : List RowOf) (types patterns lines : ℕ) → FileIn t types patterns lines rs → n < lines → cellOf t n 0 ≡ 67 → Indexed t types rs (suc n) (now (index .entry)) (l .first) (l .isos) → Indexed t types rs n (now (index .exit)) (r .first) (r .isos)) ⌝ }
+    ensures { λ r. ⌜
+        ((t : List ℕ) (rs : List RowOf) (types patterns lines : ℕ) → FileIn t types patterns lines rs
+        → n < lines → cellOf t n 0 ≡ 67
+        → Indexed t types rs (suc n) (now (index .entry)) (l .first) (l .isos)
+        → Indexed t types rs n (now (index .exit)) (r .first) (r .isos))
+        ⌝ }
 {
     let first = l.first;
     let isos = l.isos;
@@ -45,7 +50,12 @@ fn with_clause(index: &mut [u16], l: Left, n: usize) -> Left
 
 // The index with the I row n.
 fn with_iso(index: &mut [u16], l: Left, n: usize) -> Left
-    ensures { λ r. ⌜ ((t : List ℕ) (rs : List RowOf) (types patterns lines : ℕ) → FileIn t types patterns lines rs → n < lines → cellOf t n 0 ≡ 73 → Indexed t types rs (suc n) (now (index .entry)) (l .first) (l .isos) → Indexed t types rs n (now (index .exit)) (r .first) (r .isos)) ⌝ }
+    ensures { λ r. ⌜
+        ((t : List ℕ) (rs : List RowOf) (types patterns lines : ℕ) → FileIn t types patterns lines rs
+        → n < lines → cellOf t n 0 ≡ 73
+        → Indexed t types rs (suc n) (now (index .entry)) (l .first) (l .isos)
+        → Indexed t types rs n (now (index .exit)) (r .first) (r .isos))
+        ⌝ }
 {
     let first = l.first;
     let isos = l.isos;
@@ -67,7 +77,12 @@ fn with_iso(index: &mut [u16], l: Left, n: usize) -> Left
 
 // The index with row n. An L row leaves it as it is.
 fn with_row(t: &[u16], index: &mut [u16], l: Left, n: usize) -> Left
-    ensures { λ r. ⌜ ((rs : List RowOf) (types patterns lines : ℕ) → FileIn (now (t .entry)) types patterns lines rs → n < lines → types + patterns ≤ n → Indexed (now (t .entry)) types rs (suc n) (now (index .entry)) (l .first) (l .isos) → Indexed (now (t .entry)) types rs n (now (index .exit)) (r .first) (r .isos)) ⌝ }
+    ensures { λ r. ⌜
+        ((rs : List RowOf) (types patterns lines : ℕ) → FileIn (now (t .entry)) types patterns lines rs
+        → n < lines → types + patterns ≤ n
+        → Indexed (now (t .entry)) types rs (suc n) (now (index .entry)) (l .first) (l .isos)
+        → Indexed (now (t .entry)) types rs n (now (index .exit)) (r .first) (r .isos))
+        ⌝ }
 {
     let letter = cell(t, n, ROW_LETTER);
     if letter == CLAUSE_LINE {
@@ -81,7 +96,12 @@ fn with_row(t: &[u16], index: &mut [u16], l: Left, n: usize) -> Left
 
 // Indexes the isos of a table of `lines` rows, of which the first `above` are T and P lines.
 pub fn index_isos(t: &[u16], above: usize, lines: usize, isos: usize, index: &mut [u16])
-    ensures { λ r. ⌜ ((rs : List RowOf) (types patterns : ℕ) → FileIn (now (t .entry)) types patterns lines rs → above ≡ types + patterns → isos ≡ length (isosOf rs) → indexLength ≤ length (now (index .entry)) → isosOf rs ≡ isosAt (now (t .entry)) types (now (index .exit)) 0 isos) ⌝ }
+    ensures { λ r. ⌜
+        ((rs : List RowOf) (types patterns : ℕ) → FileIn (now (t .entry)) types patterns lines rs
+        → above ≡ types + patterns → isos ≡ length (isosOf rs)
+        → indexLength ≤ length (now (index .entry))
+        → isosOf rs ≡ isosAt (now (t .entry)) types (now (index .exit)) 0 isos)
+        ⌝ }
 {
     store_word(index, 1089, narrow(lines));
     store_word(index, isos, 1089);

@@ -7,7 +7,7 @@ use mathlib.Core.Path.{_≡_, sym, ap, ap₂, _∙_, subst}
 use mathlib.Core.List.{List, [], _∷_, _++_}
 use lib.ListN.{length, take, drop, set, length-set}
 use lib.Seq.{take-suc-set}
-use Rattle.model.specs.Lines.{Row}
+use Rattle.format.specs.Lines.{Row}
 use Rattle.nodes.specs.Unfolding.{cellOf}
 use Rattle.nodes.specs.Walk.{FileIn, isoRows}
 use Rattle.nodes.proofs.Walking.{row-of, lines-few, whole-file, head-few, letter-iso, iso-letter, iso-rows-few, iso-rows-iso, iso-rows-other, iso-rows-longer, iso-rows-room, iso-rows-early}

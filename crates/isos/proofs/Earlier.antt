@@ -4,9 +4,9 @@ use native.Mathlib.Numerals.{add-one}
 use mathlib.Core.Path.{_≡_, refl, sym, ap, ap₂, _∙_}
 use mathlib.Core.Bool.{Bool, true, false, true≢false, false≢true}
 use mathlib.Core.Option.{Option, none, some}
-use Rattle.model.specs.Refusals.{Refusal}
-use Rattle.model.specs.Tools.{isSome, orElse}
-use Rattle.model.specs.Clauses.{at}
+use Rattle.calculus.specs.Refusals.{Refusal}
+use Rattle.calculus.specs.Tools.{isSome, orElse}
+use Rattle.calculus.specs.Clauses.{at}
 
 -- x is the refusal there or none, b whether it is one
 module _ {b : Bool} (place : ℕ) (later : Option (Refusal × ℕ)) where

@@ -7,15 +7,15 @@ use mathlib.Core.Option.{Option, none, some}
 use mathlib.Core.List.{List, [], _∷_}
 use lib.ListN.{length, getD, getElem?, take, drop, set, length-set, length-drop, drop-of-length-le}
 use lib.Seq.{drop-cons, getD-set-same, drop-set-lt, take-all}
-use Rattle.model.specs.Limits.{maxLines}
-use Rattle.model.specs.Lines.{Row}
-use Rattle.model.specs.Refusals.{Refusal, clauseLine}
-use Rattle.model.specs.Tools.{orElse}
-use Rattle.model.specs.Code.{refusalView}
-use Rattle.model.specs.Unfold.{isosOf}
-use Rattle.model.specs.Clauses.{at, clauseFault, fault}
-use Rattle.model.specs.declared.Answer as A
-use Rattle.model.specs.declared.Refusal as R
+use Rattle.limits.specs.Limits.{maxLines}
+use Rattle.format.specs.Lines.{Row}
+use Rattle.calculus.specs.Refusals.{Refusal, clauseLine}
+use Rattle.calculus.specs.Tools.{orElse}
+use Rattle.format.specs.Code.{refusalView}
+use Rattle.format.specs.Unfold.{isosOf}
+use Rattle.calculus.specs.Clauses.{at, clauseFault, fault}
+use Rattle.format.specs.declared.Answer as A
+use Rattle.format.specs.declared.Refusal as R
 use Rattle.nodes.specs.Unfolding.{cellOf, typeOf}
 use Rattle.nodes.specs.InTable.{clauseIn, sigsIn, patternsAt, sidesFault}
 use Rattle.nodes.specs.Walk.{FileIn, isoRows, WalkAt}

@@ -3,12 +3,12 @@ use Prim.Native.Nat.{ℕ, _<_}
 use mathlib.Core.Path.{_≡_}
 use mathlib.Core.List.{List}
 use lib.ListN.{getD}
-use Rattle.model.specs.Limits.{maxLines}
+use Rattle.limits.specs.Limits.{maxLines}
 use mathlib.Core.Option.{Option}
-use Rattle.model.specs.Refusals.{Refusal}
-use Rattle.model.specs.Clauses.{at, clauseFault}
-use Rattle.model.specs.Code.{refusalView}
-use Rattle.model.specs.declared.Answer as A
+use Rattle.calculus.specs.Refusals.{Refusal}
+use Rattle.calculus.specs.Clauses.{at, clauseFault}
+use Rattle.format.specs.Code.{refusalView}
+use Rattle.format.specs.declared.Answer as A
 use Rattle.nodes.specs.Unfolding.{cellOf, typeOf}
 use Rattle.nodes.specs.InTable.{clauseIn, sigsIn}
 use Rattle.typing.specs.Rules.{Slotted}

@@ -3,7 +3,7 @@ use Prim.Native.Nat.{ℕ, _≤_}
 use mathlib.Core.Path.{_≡_}
 use mathlib.Core.List.{List}
 use lib.ListN.{length, take, drop}
-use Rattle.model.specs.Lines.{Row}
+use Rattle.format.specs.Lines.{Row}
 use Rattle.nodes.specs.Walk.{isoRows, WalkAt}
 use Rattle.isos.specs.declared.Starts as S
 use Rattle.isos.specs.declared.Walk as W

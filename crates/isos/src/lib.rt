@@ -7,12 +7,12 @@ use codes::ISO_FROM;
 use codes::ISO_LINE;
 use codes::ISO_TO;
 use codes::ROW_LETTER;
+use format::Answer;
+use format::Refusal;
+use format::is_refused;
 use limits::MAX_CLAUSES;
 use limits::MAX_ISOS;
 use limits::MAX_LINES;
-use model::Answer;
-use model::Refusal;
-use model::is_refused;
 use nodes::cell;
 use sides::side_fault;
 use words::narrow;
@@ -24,12 +24,12 @@ ghost use mathlib.Core.List.{List};
 ghost use mathlib.Core.Option.{none as nothing};
 ghost use Prim.Native.Nat.{ℕ, suc, _+_, _≤_, _<_};
 ghost use lib.ListN.{length, take, set};
-ghost use Rattle.model.specs.Limits.{tableLength};
-ghost use Rattle.model.specs.Lines.{Row as RowOf};
-ghost use Rattle.model.specs.Tools.{orElse};
-ghost use Rattle.model.specs.Code.{refusalView};
-ghost use Rattle.model.specs.Unfold.{isosOf};
-ghost use Rattle.model.specs.Clauses.{at, fault};
+ghost use Rattle.limits.specs.Limits.{tableLength};
+ghost use Rattle.format.specs.Lines.{Row as RowOf};
+ghost use Rattle.calculus.specs.Tools.{orElse};
+ghost use Rattle.format.specs.Code.{refusalView};
+ghost use Rattle.format.specs.Unfold.{isosOf};
+ghost use Rattle.calculus.specs.Clauses.{at, fault};
 ghost use Rattle.nodes.specs.Unfolding.{cellOf};
 ghost use Rattle.nodes.specs.InTable.{patternsAt, sidesFault};
 ghost use Rattle.nodes.specs.Walk.{FileIn, isoRows};
@@ -58,7 +58,10 @@ fn with_start(s: Starts, n: usize) -> Starts
 
 // The I lines with row n, if it is one.
 fn with_line(t: &[u16], s: Starts, n: usize) -> Starts
-    ensures { λ r. ⌜ ((rs : List RowOf) (types patterns lines : ℕ) → FileIn (now (t .entry)) types patterns lines rs → n < lines → StartsOf (take n rs) s → StartsOf (take (suc n) rs) r) ⌝ }
+    ensures { λ r. ⌜
+        ((rs : List RowOf) (types patterns lines : ℕ) → FileIn (now (t .entry)) types patterns lines rs
+        → n < lines → StartsOf (take n rs) s → StartsOf (take (suc n) rs) r)
+        ⌝ }
 {
     if cell(t, n, ROW_LETTER) == ISO_LINE {
         return with_start(s, n);
@@ -68,7 +71,10 @@ fn with_line(t: &[u16], s: Starts, n: usize) -> Starts
 
 // The rows of the I lines among the rows from `from` up to `to`.
 fn iso_rows(t: &[u16], from: usize, to: usize) -> Starts
-    ensures { λ r. ⌜ ((rs : List RowOf) (types patterns : ℕ) → FileIn (now (t .entry)) types patterns to rs → from ≡ types + patterns → StartsOf rs r) ⌝ }
+    ensures { λ r. ⌜
+        ((rs : List RowOf) (types patterns : ℕ) → FileIn (now (t .entry)) types patterns to rs
+        → from ≡ types + patterns → StartsOf rs r)
+        ⌝ }
 {
     let mut n = from;
     let mut s = Starts {
@@ -144,7 +150,11 @@ fn is_inside(i: usize, first: usize, n: usize) -> bool
 
 // The walk with the C row n.
 fn with_clause(t: &[u16], base: usize, starts: &[u16], w: Walk, n: usize) -> Walk
-    ensures { λ r. ⌜ ((rs : List RowOf) (patterns lines : ℕ) → FileIn (now (t .entry)) base patterns lines rs → now (starts .entry) ≡ isoRows 0 rs → n < lines → cellOf (now (t .entry)) n 0 ≡ 67 → Walked (now (t .entry)) base rs (suc n) w → Walked (now (t .entry)) base rs n r) ⌝ }
+    ensures { λ r. ⌜
+        ((rs : List RowOf) (patterns lines : ℕ) → FileIn (now (t .entry)) base patterns lines rs
+        → now (starts .entry) ≡ isoRows 0 rs → n < lines → cellOf (now (t .entry)) n 0 ≡ 67
+        → Walked (now (t .entry)) base rs (suc n) w → Walked (now (t .entry)) base rs n r)
+        ⌝ }
 {
     let i = w.iso;
     let first = w.first;
@@ -180,7 +190,11 @@ fn iso_found(
     found: Answer,
 ) -> Answer
     requires { ⌜ (tableLength ≤ length (now t)) × (length (now rows) ≤ 32) × (n < 4096) ⌝ }
-    ensures { λ r. ⌜ asFault r ≡ orElse (orElse (asFault pending) (at (suc n) (sidesFault (patternsAt (now (t .entry)) base 1 (now (rows .entry))) (patternsAt (now (t .entry)) base 2 (now (rows .entry)))))) (asFault found) ⌝ }
+    ensures { λ r. ⌜
+        asFault r ≡ orElse
+        (orElse (asFault pending) (at (suc n) (sidesFault (patternsAt (now (t .entry)) base 1 (now (rows .entry))) (patternsAt (now (t .entry)) base 2 (now (rows .entry))))))
+        (asFault found)
+        ⌝ }
 {
     let f = pending.refusal;
     if is_refused(f) {
@@ -192,7 +206,11 @@ fn iso_found(
 // The walk with the I row n.
 fn with_iso(t: &[u16], base: usize, w: Walk, n: usize) -> Walk
     requires { ⌜ tableLength ≤ length (now t) ⌝ }
-    ensures { λ r. ⌜ ((rs : List RowOf) (patterns lines : ℕ) → FileIn (now (t .entry)) base patterns lines rs → n < lines → cellOf (now (t .entry)) n 0 ≡ 73 → Walked (now (t .entry)) base rs (suc n) w → Walked (now (t .entry)) base rs n r) ⌝ }
+    ensures { λ r. ⌜
+        ((rs : List RowOf) (patterns lines : ℕ) → FileIn (now (t .entry)) base patterns lines rs
+        → n < lines → cellOf (now (t .entry)) n 0 ≡ 73 → Walked (now (t .entry)) base rs (suc n) w
+        → Walked (now (t .entry)) base rs n r)
+        ⌝ }
 {
     let i = w.iso;
     let first = w.first;
@@ -217,7 +235,11 @@ fn with_iso(t: &[u16], base: usize, w: Walk, n: usize) -> Walk
 // The walk with row n. An L row leaves it as it is.
 fn with_row(t: &[u16], base: usize, starts: &[u16], w: Walk, n: usize) -> Walk
     requires { ⌜ tableLength ≤ length (now t) ⌝ }
-    ensures { λ r. ⌜ ((rs : List RowOf) (patterns lines : ℕ) → FileIn (now (t .entry)) base patterns lines rs → now (starts .entry) ≡ isoRows 0 rs → n < lines → base + patterns ≤ n → Walked (now (t .entry)) base rs (suc n) w → Walked (now (t .entry)) base rs n r) ⌝ }
+    ensures { λ r. ⌜
+        ((rs : List RowOf) (patterns lines : ℕ) → FileIn (now (t .entry)) base patterns lines rs
+        → now (starts .entry) ≡ isoRows 0 rs → n < lines → base + patterns ≤ n
+        → Walked (now (t .entry)) base rs (suc n) w → Walked (now (t .entry)) base rs n r)
+        ⌝ }
 {
     let letter = cell(t, n, ROW_LETTER);
     if letter == CLAUSE_LINE {
@@ -254,7 +276,11 @@ pub fn isos_fault(t: &[u16], types: usize, patterns: usize, lines: usize) -> Ans
 // The first refusal that the walk from the last row up to row `stop` finds.
 fn walk_up(t: &[u16], base: usize, starts: &[u16], stop: usize, lines: usize, isos: usize) -> Answer
     requires { ⌜ tableLength ≤ length (now t) ⌝ }
-    ensures { λ r. ⌜ ((rs : List RowOf) (patterns : ℕ) → FileIn (now (t .entry)) base patterns lines rs → now (starts .entry) ≡ isoRows 0 rs → isos ≡ length (isoRows 0 rs) → stop ≡ base + patterns → asFault r ≡ fault (isosOf rs)) ⌝ }
+    ensures { λ r. ⌜
+        ((rs : List RowOf) (patterns : ℕ) → FileIn (now (t .entry)) base patterns lines rs
+        → now (starts .entry) ≡ isoRows 0 rs → isos ≡ length (isoRows 0 rs) → stop ≡ base + patterns
+        → asFault r ≡ fault (isosOf rs))
+        ⌝ }
 {
     let clean = none();
     let mut n = lines;

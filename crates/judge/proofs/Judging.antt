@@ -4,11 +4,11 @@ use mathlib.Core.Path.{_≡_, refl, sym, _∙_}
 use mathlib.Core.Bool.{Bool, true, false, cond}
 use mathlib.Core.Option.{Option, none, some}
 use mathlib.Core.List.{List}
-use Rattle.model.specs.Refusals.{Kind, misplaced, badField, badName, ceiling}
-use Rattle.model.specs.Lines.{Row}
-use Rattle.model.specs.Judge.{Seen, stage, inOrder, fieldsFit, named, withinCeilings, judge}
-use Rattle.model.specs.declared.Row as R
-use Rattle.model.specs.Code.{kindView, rowView}
+use Rattle.calculus.specs.Refusals.{Kind, misplaced, badField, badName, ceiling}
+use Rattle.format.specs.Lines.{Row}
+use Rattle.format.specs.Judge.{Seen, stage, inOrder, fieldsFit, named, withinCeilings, judge}
+use Rattle.format.specs.declared.Row as R
+use Rattle.format.specs.Code.{kindView, rowView}
 use Rattle.counts.specs.declared.Seen as C
 use Rattle.counts.specs.Told.{Counts, Told}
 use Rattle.ceilings.proofs.Ceilings.{Within}

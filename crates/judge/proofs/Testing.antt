@@ -7,13 +7,13 @@ use mathlib.Core.Bool.{Bool, true, false, _&&_}
 use mathlib.Core.Option.{Option}
 use lib.Dec.{leb, ltb, eqb}
 use borrow.Author.Tests.{lt-ltb, le-ltb, lt-leb, ne-eqb}
-use Rattle.model.specs.Limits.{variables}
-use Rattle.model.specs.Refusals.{Kind}
-use Rattle.model.specs.Judge.{Seen, stage, inOrder, typeFields, patternFields, fieldsFit, typeNames, patternNames, named}
-use Rattle.model.specs.declared.Kind as K
-use Rattle.model.specs.declared.Kind.the-variants as kinds
-use Rattle.model.specs.declared.Row as R
-use Rattle.model.specs.Code.{kindView, rowView}
+use Rattle.limits.specs.Limits.{variables}
+use Rattle.calculus.specs.Refusals.{Kind}
+use Rattle.format.specs.Judge.{Seen, stage, inOrder, typeFields, patternFields, fieldsFit, typeNames, patternNames, named}
+use Rattle.format.specs.declared.Kind as K
+use Rattle.format.specs.declared.Kind.the-variants as kinds
+use Rattle.format.specs.declared.Row as R
+use Rattle.format.specs.Code.{kindView, rowView}
 use Rattle.counts.specs.declared.Seen as C
 use Rattle.counts.specs.Told.{Counts}
 

@@ -4,18 +4,18 @@ use ceilings::within_ceilings;
 use codes::PAIR;
 use codes::PRODUCT;
 use counts::Seen;
+use format::Kind;
+use format::Refusal;
+use format::Row;
 use limits::VARIABLES;
-use model::Kind;
-use model::Refusal;
-use model::Row;
 ghost use mathlib.Core.Path.{_≡_};
 ghost use mathlib.Core.Bool.{_&&_};
 ghost use mathlib.Core.Option.{Option};
 ghost use Prim.Native.Nat.{suc};
 ghost use lib.Dec.{ltb};
-ghost use Rattle.model.specs.Refusals.{Kind as KindOf};
-ghost use Rattle.model.specs.Judge.{Seen as SeenOf, stage as stageOf, inOrder, typeFields, patternFields, fieldsFit, typeNames, patternNames, named, judge as judgeOf};
-ghost use Rattle.model.specs.Code.{kindView, rowView, refusalView};
+ghost use Rattle.calculus.specs.Refusals.{Kind as KindOf};
+ghost use Rattle.format.specs.Judge.{Seen as SeenOf, stage as stageOf, inOrder, typeFields, patternFields, fieldsFit, typeNames, patternNames, named, judge as judgeOf};
+ghost use Rattle.format.specs.Code.{kindView, rowView, refusalView};
 ghost use Rattle.counts.specs.Told.{Counts, Told};
 
 // All T lines, then all P lines, then the isos: I, its C lines, under each its L lines.

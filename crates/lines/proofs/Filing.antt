@@ -6,12 +6,12 @@ use mathlib.Core.Option.{some}
 use mathlib.Core.List.{List}
 use lib.ListN.{length, getD, getElem?, drop}
 use lib.Dec.{lit<}
-use Rattle.model.specs.Limits.{maxLines, rowWidth}
-use Rattle.model.specs.Lines.{Row, lines, numbers}
-use Rattle.model.specs.Judge.{start}
-use Rattle.model.proofs.Basic.{index-below}
-use Rattle.model.proofs.Printing.{read-rows, read-count}
-use Rattle.model.proofs.Tables.{table-cell}
+use Rattle.limits.specs.Limits.{maxLines, rowWidth}
+use Rattle.format.specs.Lines.{Row, lines, numbers}
+use Rattle.format.specs.Judge.{start}
+use Rattle.calculus.proofs.Basic.{index-below}
+use Rattle.format.proofs.Printing.{read-rows, read-count}
+use Rattle.format.proofs.Tables.{table-cell}
 use Rattle.nodes.specs.Unfolding.{cellOf, patternOf}
 use Rattle.nodes.specs.Walk.{FileIn}
 use Rattle.nodes.proofs.Unfolding.{cell-within}

@@ -4,13 +4,13 @@ use mathlib.Core.Path.{_≡_, refl, sym, ap, _∙_}
 use mathlib.Core.Bool.{Bool, true, false, true≢false, false≢true}
 use mathlib.Core.Option.{Option, none, some}
 use mathlib.Core.List.{List}
-use Rattle.model.specs.Tools.{isSome}
-use Rattle.model.specs.Refusals.{Refusal, badLine}
-use Rattle.model.specs.Lines.{Row, rowOf}
-use Rattle.model.specs.Judge.{Seen, judge}
-use Rattle.model.specs.declared.Row as R
-use Rattle.model.specs.declared.Refusal as F
-use Rattle.model.specs.Code.{rowView, refusalView}
+use Rattle.calculus.specs.Tools.{isSome}
+use Rattle.calculus.specs.Refusals.{Refusal, badLine}
+use Rattle.format.specs.Lines.{Row, rowOf}
+use Rattle.format.specs.Judge.{Seen, judge}
+use Rattle.format.specs.declared.Row as R
+use Rattle.format.specs.declared.Refusal as F
+use Rattle.format.specs.Code.{rowView, refusalView}
 use Rattle.rows.specs.declared.Line as L
 use Rattle.rows.specs.declared.Line.the-variants as forms
 use Rattle.rows.specs.Views.{asLine}

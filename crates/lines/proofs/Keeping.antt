@@ -10,12 +10,12 @@ use mathlib.Core.List.{List, [], _∷_, _++_}
 use lib.ListN.{length, getD, length-append, List·getD-append}
 use lib.Seq.{sets, getD-at}
 use borrow.Author.Tests.{leb-true}
-use Rattle.model.specs.Limits.{maxLines, rowWidth}
-use Rattle.model.specs.Trees.{Ty, tunit, tsum, tprod, Pat, punit, pinj, ppair, left, right}
-use Rattle.model.specs.Refusals.{Kind, typeLine, patternLine, isoLine, clauseLine, letLine}
-use Rattle.model.specs.Lines.{Row, numbers}
-use Rattle.model.specs.Judge.{Seen, start, stage, inOrder, typeNode, typeTree, typeNames, patternNode, patternTree, patternNames, judge, afterKind, after}
-use Rattle.model.proofs.Passing.{Fit, judge-fit}
+use Rattle.limits.specs.Limits.{maxLines, rowWidth}
+use Rattle.calculus.specs.Trees.{Ty, tunit, tsum, tprod, Pat, punit, pinj, ppair, left, right}
+use Rattle.calculus.specs.Refusals.{Kind, typeLine, patternLine, isoLine, clauseLine, letLine}
+use Rattle.format.specs.Lines.{Row, numbers}
+use Rattle.format.specs.Judge.{Seen, start, stage, inOrder, typeNode, typeTree, typeNames, patternNode, patternTree, patternNames, judge, afterKind, after}
+use Rattle.format.proofs.Passing.{Fit, judge-fit}
 use Rattle.nodes.specs.Unfolding.{cellOf, smallerOf, typeOf, patternOf}
 use Rattle.nodes.proofs.Unfolding.{smaller-less, type-node, type-same, pattern-node, pattern-same}
 use Rattle.counts.specs.declared.Seen as C

@@ -7,17 +7,17 @@ use mathlib.Core.Option.{Option, none, some}
 use mathlib.Core.List.{List, [], _∷_, _++_}
 use lib.ListN.{length, take, drop, length-append, drop-of-length-le}
 use lib.Seq.{sets, sets-eq, length-sets, take-at, drop-append-add, drop-drop}
-use Rattle.model.specs.Limits.{tableLength, maxLines, rowWidth}
-use Rattle.model.specs.Refusals.{Refusal, badLine}
-use Rattle.model.specs.Lines.{Row, rowOf, lines, numbers, tableOf}
-use Rattle.model.specs.Judge.{Seen, start, judge, after, afterAll, Reading, rows, faulty, withRow, readFrom}
-use Rattle.model.specs.declared.Row as R
-use Rattle.model.specs.declared.Refusal as F
-use Rattle.model.specs.declared.Refusal.the-variants as refusals
-use Rattle.model.specs.Code.{kindView, rowView, refusalView}
-use Rattle.model.proofs.Basic.{none≢some, some-inj}
-use Rattle.model.proofs.Printing.{WellFormed, read-print}
-use Rattle.model.proofs.Tables.{length-table, table-snoc}
+use Rattle.limits.specs.Limits.{tableLength, maxLines, rowWidth}
+use Rattle.calculus.specs.Refusals.{Refusal, badLine}
+use Rattle.format.specs.Lines.{Row, rowOf, lines, numbers, tableOf}
+use Rattle.format.specs.Judge.{Seen, start, judge, after, afterAll, Reading, rows, faulty, withRow, readFrom}
+use Rattle.format.specs.declared.Row as R
+use Rattle.format.specs.declared.Refusal as F
+use Rattle.format.specs.declared.Refusal.the-variants as refusals
+use Rattle.format.specs.Code.{kindView, rowView, refusalView}
+use Rattle.calculus.proofs.Basic.{none≢some, some-inj}
+use Rattle.format.proofs.Printing.{WellFormed, read-print}
+use Rattle.format.proofs.Tables.{length-table, table-snoc}
 use Rattle.counts.specs.declared.Seen as C
 use Rattle.lines.specs.declared.read.Judged as J
 use Rattle.lines.specs.declared.read.Judged.the-variants as judged

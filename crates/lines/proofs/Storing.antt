@@ -11,9 +11,9 @@ use lib.Dec.{ltb}
 use lib.ListN.{length, getD, set, length-set}
 use lib.Seq.{sets, getD-set-same, getD-set-other}
 use borrow.Author.Tests.{ltb-true}
-use Rattle.model.specs.Limits.{maxLines, rowWidth}
-use Rattle.model.specs.Lines.{Row, numbers}
-use Rattle.model.proofs.Basic.{bool-cases}
+use Rattle.limits.specs.Limits.{maxLines, rowWidth}
+use Rattle.format.specs.Lines.{Row, numbers}
+use Rattle.calculus.proofs.Basic.{bool-cases}
 use Rattle.nodes.specs.Unfolding.{cellOf}
 use Rattle.nodes.proofs.Unfolding.{cell-within}
 

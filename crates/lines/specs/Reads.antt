@@ -4,11 +4,11 @@ use mathlib.Core.Path.{_≡_}
 use mathlib.Core.Option.{Option, none, some}
 use mathlib.Core.List.{List, _++_}
 use lib.ListN.{length, drop}
-use Rattle.model.specs.Limits.{tableLength, rowWidth}
-use Rattle.model.specs.Refusals.{Refusal, badLine}
-use Rattle.model.specs.Lines.{Row, rowOf, lines, tableOf}
-use Rattle.model.specs.Judge.{Seen, start, judge, afterAll, readFrom, rows, faulty}
-use Rattle.model.specs.Code.{rowView, refusalView}
+use Rattle.limits.specs.Limits.{tableLength, rowWidth}
+use Rattle.calculus.specs.Refusals.{Refusal, badLine}
+use Rattle.format.specs.Lines.{Row, rowOf, lines, tableOf}
+use Rattle.format.specs.Judge.{Seen, start, judge, afterAll, readFrom, rows, faulty}
+use Rattle.format.specs.Code.{rowView, refusalView}
 use Rattle.counts.specs.Told.{Told}
 use Rattle.lines.specs.declared.read.Judged as J
 use Rattle.lines.specs.declared.read.Judged.the-variants as judged

@@ -5,10 +5,10 @@ use mathlib.Core.Bool.{Bool, true, false}
 use mathlib.Core.Option.{Option, none, some}
 use mathlib.Core.List.{List}
 use lib.Dec.{eqb}
-use Rattle.model.specs.Limits.{budgetBound, comma}
-use Rattle.model.specs.Tools.{_>>=_, guard}
-use Rattle.model.specs.Lines.{text, numeral, skip, ended}
-use Rattle.model.proofs.Basic.{eq-eqb, not-eqb}
+use Rattle.limits.specs.Limits.{budgetBound, comma}
+use Rattle.calculus.specs.Tools.{_>>=_, guard}
+use Rattle.format.specs.Lines.{text, numeral, skip, ended}
+use Rattle.calculus.proofs.Basic.{eq-eqb, not-eqb}
 use Rattle.pairlists.specs.PairLists.{toIn, toOf}
 use Rattle.fields.specs.Views.{asField, asEnd}
 

@@ -12,11 +12,11 @@ use lib.Dec.{eqb, ltb}
 use lib.ListN.{length, getD, set, take, drop, length-set, length-append, drop-of-length-le}
 use lib.Seq.{take-suc, take-suc-set, length-take-le}
 use borrow.Rule.Slice.PartMut.{midOf}
-use Rattle.model.specs.Tools.{_>>=_, guard, all}
-use Rattle.model.specs.Lines.{lines}
-use Rattle.model.specs.Paper.{Distinct, nobody, another}
-use Rattle.model.specs.Trees.{Ty}
-use Rattle.model.proofs.Basic.{bind-some, some-bind, none≢some, some-inj, not-some, guard-true, true-guard, and-true, true-and, bool-cases, eq-eqb, eqb-eq, not-eqb, not-true, ltb-lt, lt-ltb, all-mem, mem-all}
+use Rattle.calculus.specs.Tools.{_>>=_, guard, all}
+use Rattle.format.specs.Lines.{lines}
+use Rattle.calculus.specs.Paper.{Distinct, nobody, another}
+use Rattle.calculus.specs.Trees.{Ty}
+use Rattle.calculus.proofs.Basic.{bind-some, some-bind, none≢some, some-inj, not-some, guard-true, true-guard, and-true, true-and, bool-cases, eq-eqb, eqb-eq, not-eqb, not-true, ltb-lt, lt-ltb, all-mem, mem-all}
 use Rattle.ranking.specs.Numbering.{count}
 use Rattle.split.specs.Split.{LineEnd}
 use Rattle.pairlists.specs.PairLists.{toOf, tosOf, noneTwice, pairsUp, listOf}

@@ -4,7 +4,7 @@ use mathlib.Core.Bool.{Bool, not, _&&_}
 use mathlib.Core.Option.{Option, none, some}
 use mathlib.Core.List.{List}
 use lib.Dec.{eqb, ltb}
-use Rattle.model.specs.Tools.{_>>=_, guard, all}
+use Rattle.calculus.specs.Tools.{_>>=_, guard, all}
 use Rattle.pairlists.specs.PairLists.{tosOf, noneTwice}
 use Rattle.lists.specs.declared.To as T
 use Rattle.lists.specs.declared.To.the-variants as tos

@@ -14,8 +14,8 @@ ghost use mathlib.Core.Bool.{cond};
 ghost use mathlib.Core.Option.{none, some};
 ghost use Prim.Native.Nat.{_≤_};
 ghost use lib.ListN.{length, take};
-ghost use Rattle.model.specs.Trees.{Ty};
-ghost use Rattle.model.specs.Lines.{lines};
+ghost use Rattle.calculus.specs.Trees.{Ty};
+ghost use Rattle.format.specs.Lines.{lines};
 ghost use Rattle.ranking.specs.Numbering.{count};
 ghost use Rattle.pairlists.specs.PairLists.{toIn, toOf, listOf};
 ghost use Rattle.lists.specs.Views.{asTo, stands, taking};
@@ -72,7 +72,11 @@ fn is_among(words: &[u16], n: usize, x: usize) -> bool
 
 // Reads the tos of a list's lines: whether each is below `most`, and none is repeated.
 fn read_tos(list: &[u8], most: usize, tos: &mut [u16]) -> bool
-    ensures { λ r. ⌜ (length (lines (now (list .entry))) ≤ length (now (tos .entry)) → most ≤ 65536 → taking most (lines (now (list .entry))) ≡ cond r (some (take (length (lines (now (list .entry)))) (now (tos .exit)))) none) ⌝ }
+    ensures { λ r. ⌜
+        (length (lines (now (list .entry))) ≤ length (now (tos .entry)) → most ≤ 65536
+        → taking most (lines (now (list .entry))) ≡ cond r
+        (some (take (length (lines (now (list .entry)))) (now (tos .exit)))) none)
+        ⌝ }
 {
     let mut at: usize = 0;
     let mut k: usize = 0;
@@ -96,7 +100,11 @@ fn read_tos(list: &[u8], most: usize, tos: &mut [u16]) -> bool
 
 // Reads a list of n lines: whether it pairs as many values of one type with as many of another, each once.
 pub fn read_list(list: &[u8], n: usize, froms: usize, most: usize, tos: &mut [u16]) -> bool
-    ensures { λ r. ⌜ ((a b : Ty) → froms ≡ count a → most ≡ count b → n ≡ length (lines (now (list .entry))) → n ≤ length (now (tos .entry)) → most ≤ 65536 → listOf a b (lines (now (list .entry))) ≡ cond r (some (take n (now (tos .exit)))) none) ⌝ }
+    ensures { λ r. ⌜
+        ((a b : Ty) → froms ≡ count a → most ≡ count b → n ≡ length (lines (now (list .entry)))
+        → n ≤ length (now (tos .entry)) → most ≤ 65536
+        → listOf a b (lines (now (list .entry))) ≡ cond r (some (take n (now (tos .exit)))) none)
+        ⌝ }
 {
     if n != froms {
         return false;

@@ -9,10 +9,10 @@ use lib.Dec.{eqb}
 use lib.ListN.{length, getD, drop, drop-of-length-le, length-map}
 use lib.Seq.{set-out, drop-cons}
 use borrow.Author.Tests.{eq-eqb, ne-eqb}
-use Rattle.model.specs.Tools.{all}
-use Rattle.model.specs.Trees.{Pat, vars}
-use Rattle.model.specs.Judge.{patternNode}
-use Rattle.model.specs.Clauses.{Deed, binds, uses}
+use Rattle.calculus.specs.Tools.{all}
+use Rattle.calculus.specs.Trees.{Pat, vars}
+use Rattle.format.specs.Judge.{patternNode}
+use Rattle.calculus.specs.Clauses.{Deed, binds, uses}
 use Rattle.nodes.specs.Unfolding.{cellOf, smallerOf, patternOf}
 use Rattle.nodes.proofs.Unfolding.{pattern-unit, pattern-var, pattern-pair}
 use Rattle.marks.specs.Marks.{deedView, nextState, markOne, markAll, settledAll}

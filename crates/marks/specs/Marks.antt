@@ -4,8 +4,8 @@ use mathlib.Core.Bool.{Bool, true, false}
 use mathlib.Core.List.{List, [], _∷_}
 use lib.Dec.{eqb}
 use lib.ListN.{getD, set}
-use Rattle.model.specs.Tools.{all}
-use Rattle.model.specs.Clauses.{Deed, binds, uses, Event}
+use Rattle.calculus.specs.Tools.{all}
+use Rattle.calculus.specs.Clauses.{Deed, binds, uses, Event}
 
 abbrev pub deedView : Bool → Deed
 deedView true = binds

@@ -10,7 +10,7 @@ use codes::VARIABLE;
 use limits::VARIABLES;
 use nodes::pattern_cell;
 ghost use mathlib.Core.Path.{_≡_};
-ghost use Rattle.model.specs.Trees.{vars};
+ghost use Rattle.calculus.specs.Trees.{vars};
 ghost use Rattle.nodes.specs.Unfolding.{patternOf};
 ghost use Rattle.marks.specs.Marks.{deedView, nextState, markOne, markAll, settledAll};
 

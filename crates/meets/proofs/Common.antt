@@ -5,14 +5,14 @@ use mathlib.Core.Path.{_≡_, refl, sym, ap, ap₂, _∙_, subst}
 use mathlib.Core.Bool.{cond, false≢true}
 use mathlib.Core.Option.{Option, none, some}
 use mathlib.Core.List.{List, [], _∷_, _++_}
-use Rattle.model.specs.Limits.{maxNodes}
-use Rattle.model.specs.Tools.{_>>=_}
-use Rattle.model.specs.Trees.{Ty, tunit, tsum, tprod, Tag, left, right, Pat, punit, pvar, pinj, ppair, typeNodes, part}
-use Rattle.model.specs.Letters.{letterOf, letters}
-use Rattle.model.specs.Judge.{patternNode}
+use Rattle.limits.specs.Limits.{maxNodes}
+use Rattle.calculus.specs.Tools.{_>>=_}
+use Rattle.calculus.specs.Trees.{Ty, tunit, tsum, tprod, Tag, left, right, Pat, punit, pvar, pinj, ppair, typeNodes, part}
+use Rattle.calculus.specs.Letters.{letterOf, letters}
+use Rattle.format.specs.Judge.{patternNode}
 use Rattle.witnesses.specs.Shapes.{Shape}
 use Rattle.witnesses.specs.Seeking.{leastIn, meet}
-use Rattle.model.proofs.Basic.{bind-some, none≢some, some-inj}
+use Rattle.calculus.proofs.Basic.{bind-some, none≢some, some-inj}
 use Rattle.areas.specs.Areas.{Writes}
 use Rattle.areas.proofs.Writing.{writes-both}
 use Rattle.tallies.specs.Tallies.{partOf}

@@ -7,11 +7,11 @@ use mathlib.Core.Bool.{Bool, true, false, cond}
 use mathlib.Core.List.{List, [], _∷_, _++_}
 use lib.Dec.{leb}
 use lib.ListN.{length, length-append}
-use Rattle.model.specs.Limits.{maxNodes}
-use Rattle.model.specs.Trees.{Ty, tunit, tsum, tprod, left, right, Val, vinj, vpair, typeNodes}
-use Rattle.model.specs.Letters.{letters}
+use Rattle.limits.specs.Limits.{maxNodes}
+use Rattle.calculus.specs.Trees.{Ty, tunit, tsum, tprod, left, right, Val, vinj, vpair, typeNodes}
+use Rattle.calculus.specs.Letters.{letters}
 use Rattle.witnesses.specs.Seeking.{shorter, least}
-use Rattle.model.proofs.Basic.{leb-le, leb-false, le-leb, not-leb}
+use Rattle.calculus.proofs.Basic.{leb-le, leb-false, le-leb, not-leb}
 use Rattle.model.proofs.Sizes.{of-small}
 use Rattle.witnesses.proofs.Overlaps.{least-of}
 use Rattle.areas.specs.Areas.{Writes}

@@ -3,9 +3,9 @@ use Prim.Native.Nat.{ℕ, _+_, _≤_}
 use native.Mathlib.Omega.{arith}
 use mathlib.Core.Path.{_≡_, refl, sym, ap, subst}
 use mathlib.Core.List.{List, [], _∷_, _++_}
-use Rattle.model.specs.Limits.{maxNodes}
-use Rattle.model.specs.Trees.{Ty, tunit, tsum, tprod, Tag, left, right, Pat, punit, pvar, pinj, ppair, typeNodes, part}
-use Rattle.model.specs.Letters.{letterOf, letters}
+use Rattle.limits.specs.Limits.{maxNodes}
+use Rattle.calculus.specs.Trees.{Ty, tunit, tsum, tprod, Tag, left, right, Pat, punit, pvar, pinj, ppair, typeNodes, part}
+use Rattle.calculus.specs.Letters.{letterOf, letters}
 use Rattle.witnesses.specs.Shapes.{Shape}
 use Rattle.witnesses.specs.Seeking.{leastIn}
 use Rattle.areas.specs.Areas.{Writes}

@@ -3,9 +3,9 @@ use Prim.Native.Nat.{ℕ, _≤_}
 use mathlib.Core.Path.{_≡_}
 use mathlib.Core.Option.{some}
 use mathlib.Core.List.{List}
-use Rattle.model.specs.Limits.{maxNodes}
-use Rattle.model.specs.Trees.{Ty, Pat, typeNodes}
-use Rattle.model.specs.Letters.{letters}
+use Rattle.limits.specs.Limits.{maxNodes}
+use Rattle.calculus.specs.Trees.{Ty, Pat, typeNodes}
+use Rattle.calculus.specs.Letters.{letters}
 use Rattle.witnesses.specs.Shapes.{Shape}
 use Rattle.witnesses.specs.Seeking.{least, leastIn, meet}
 use Rattle.areas.specs.Areas.{Writes}

@@ -11,7 +11,7 @@ use tallies::second_part;
 ghost use mathlib.Core.Path.{_≡_};
 ghost use Prim.Native.Nat.{min};
 ghost use lib.ListN.{length};
-ghost use Rattle.model.specs.Letters.{letters};
+ghost use Rattle.calculus.specs.Letters.{letters};
 ghost use Rattle.witnesses.specs.Seeking.{least};
 ghost use Rattle.nodes.specs.Unfolding.{typeOf, patternOf};
 ghost use Rattle.meets.specs.Spelled.{SpellsLeast, SpellsIn, SpellsBoth};
@@ -103,7 +103,10 @@ pub fn write_common(
     out: &mut [u8],
     at: usize,
 ) -> usize
-    ensures { λ r. ⌜ SpellsBoth (patternOf (now (t .entry)) base p) (patternOf (now (t .entry)) base q) (typeOf (now (t .entry)) i) (now (out .entry)) (now (out .exit)) at r ⌝ }
+    ensures { λ r. ⌜
+        SpellsBoth (patternOf (now (t .entry)) base p) (patternOf (now (t .entry)) base q)
+        (typeOf (now (t .entry)) i) (now (out .entry)) (now (out .exit)) at r
+        ⌝ }
 {
     let kp = pattern_cell(t, base, p, 1);
     if kp == 1 {

@@ -10,25 +10,25 @@ use mathlib.Core.List.{List, List·Memᴰ}
 use lib.Dec.{ltb}
 use lib.ListN.{length, length-map}
 use borrow.Author.Tests.{lt-ltb}
-use Rattle.model.specs.Limits.{maxBytes, maxLines}
-use Rattle.model.specs.Trees.{left, right}
-use Rattle.model.specs.Refusals.{Refusal, number, shortArea, tooLong, badLine, misplaced, badField, badName, ceiling, variable, letShape, badType, overlap, gap, noIso, noValue, spent, tooMany, tooHigh, badList}
-use Rattle.model.specs.Lines.{Row, lines, withoutReturns, print, printRows}
-use Rattle.model.specs.Judge.{start, Reading, rows, faulty, readFrom}
-use Rattle.model.specs.Unfold.{isosOf, turnRows}
-use Rattle.model.specs.Clauses.{fault, sigsOf}
+use Rattle.limits.specs.Limits.{maxBytes, maxLines}
+use Rattle.calculus.specs.Trees.{left, right}
+use Rattle.calculus.specs.Refusals.{Refusal, number, shortArea, tooLong, badLine, misplaced, badField, badName, ceiling, variable, letShape, badType, overlap, gap, noIso, noValue, spent, tooMany, tooHigh, badList}
+use Rattle.format.specs.Lines.{Row, lines, withoutReturns, print, printRows}
+use Rattle.format.specs.Judge.{start, Reading, rows, faulty, readFrom}
+use Rattle.format.specs.Unfold.{isosOf, turnRows}
+use Rattle.calculus.specs.Clauses.{fault, sigsOf}
 use Rattle.model.specs.Services.{Verdict, accepted, refused, judged, afterReading, over, verdict, answerOf, turned, turnedOf}
-use Rattle.model.specs.Paper.{FileOk}
-use Rattle.model.specs.Answers.{FirstIso}
+use Rattle.calculus.specs.Paper.{FileOk}
+use Rattle.calculus.specs.Faulty.{FirstIso}
 pub use Rattle.model.specs.Answers.{InForm}
-use Rattle.model.proofs.Basic.{some-pair, neither, ltb-false, not-ltb}
-use Rattle.model.proofs.Formed.{Formed}
-use Rattle.model.proofs.Checking.{file-ok, file-fault}
-use Rattle.model.proofs.Inverted.{file-invert}
-use Rattle.model.proofs.Passing.{Passes, formed}
-use Rattle.model.proofs.Turning.{turn-turn, isos-turn, passes-turn}
-use Rattle.model.proofs.Endings.{without-length}
-use Rattle.model.proofs.Printing.{WellFormed, read-rows, read-count, lines-print, reading-printed, printed-reading, length-printRows-turn, wellformed-turn, length-turnRows}
+use Rattle.calculus.proofs.Basic.{some-pair, neither, ltb-false, not-ltb}
+use Rattle.calculus.proofs.Formed.{Formed}
+use Rattle.calculus.proofs.Checking.{file-ok, file-fault}
+use Rattle.calculus.proofs.Inverted.{file-invert}
+use Rattle.format.proofs.Passing.{Passes, formed}
+use Rattle.format.proofs.Turning.{turn-turn, isos-turn, passes-turn}
+use Rattle.format.proofs.Endings.{without-length}
+use Rattle.format.proofs.Printing.{WellFormed, read-rows, read-count, lines-print, reading-printed, printed-reading, length-printRows-turn, wellformed-turn, length-turnRows}
 
 -- ---- verdicts
 

@@ -7,28 +7,29 @@ use mathlib.Core.Option.{Option, none, some}
 use mathlib.Core.List.{List, map, List·Memᴰ}
 use lib.Dec.{leb}
 use lib.ListN.{getElem?, length}
-use Rattle.model.specs.Tools.{_>>=_, guard}
-use Rattle.model.specs.Trees.{Ty, Val, Iso, invert}
-use Rattle.model.specs.Refusals.{Refusal, spent}
-use Rattle.model.specs.Lines.{Row}
-use Rattle.model.specs.Judge.{start}
-use Rattle.model.specs.Unfold.{isosOf, turnRows}
-use Rattle.model.specs.Reduction.{reduce}
-use Rattle.model.specs.Letters.{letters, valueOf, inhabits}
+use Rattle.calculus.specs.Tools.{_>>=_, guard}
+use Rattle.calculus.specs.Trees.{Ty, Val, Iso, invert}
+use Rattle.calculus.specs.Refusals.{Refusal, spent}
+use Rattle.format.specs.Lines.{Row}
+use Rattle.format.specs.Judge.{start}
+use Rattle.format.specs.Unfold.{isosOf, turnRows}
+use Rattle.calculus.specs.Reduction.{reduce}
+use Rattle.calculus.specs.Letters.{letters, valueOf, inhabits}
 use Rattle.model.specs.Services.{accepted, verdict, turned, Ran, gives, failed, within, valueIn, argument, from, onIso, runRows, toward, runOf, run}
-use Rattle.model.specs.Paper.{Of, Apart, FileOk, OnWay, ExactlyOne}
-use Rattle.model.specs.Clauses.{lefts, rights}
-use Rattle.model.specs.Terms.{Steps, eapp, valTerm}
+use Rattle.calculus.specs.Paper.{Of, Apart, FileOk, OnWay, ExactlyOne}
+use Rattle.calculus.specs.Clauses.{lefts, rights}
+use Rattle.calculus.specs.Terms.{Steps, eapp, valTerm}
 use Rattle.model.specs.Answers.{RunIs, absent, strange, passed, done}
-pub use Rattle.model.specs.Answers.{GoodRows, ReachedOnce}
-use Rattle.model.proofs.Basic.{bind-some, some-bind, none≢some, some-inj, not-some, guard-true, true-guard, leb-le, le-leb, leb-false, bool-cases, not-leb, index-map}
-use Rattle.model.proofs.Formed.{Formed}
-use Rattle.model.proofs.Letters.{value-letters, letters-value, inhabits-of, of-inhabits}
-use Rattle.model.proofs.Inverse.{reduce-inverse, reduce-unfold}
-use Rattle.model.proofs.Totality.{Sound, total, on-way}
-use Rattle.model.proofs.Steps.{reduction}
-use Rattle.model.proofs.Passing.{Passes, formed}
-use Rattle.model.proofs.Turning.{turn-turn, isos-turn, passes-turn}
+pub use Rattle.calculus.specs.Faulty.{ReachedOnce}
+pub use Rattle.model.specs.Answers.{GoodRows}
+use Rattle.calculus.proofs.Basic.{bind-some, some-bind, none≢some, some-inj, not-some, guard-true, true-guard, leb-le, le-leb, leb-false, bool-cases, not-leb, index-map}
+use Rattle.calculus.proofs.Formed.{Formed}
+use Rattle.calculus.proofs.Letters.{value-letters, letters-value, inhabits-of, of-inhabits}
+use Rattle.calculus.proofs.Inverse.{reduce-inverse, reduce-unfold}
+use Rattle.calculus.proofs.Totality.{Sound, total, on-way}
+use Rattle.calculus.proofs.Steps.{reduction}
+use Rattle.format.proofs.Passing.{Passes, formed}
+use Rattle.format.proofs.Turning.{turn-turn, isos-turn, passes-turn}
 use Rattle.model.proofs.Files.{passes as passes-of, accepted-iff, turned-ok, turned-accepted}
 
 -- ---- the isos of an accepted file

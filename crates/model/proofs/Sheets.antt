@@ -10,15 +10,15 @@ use mathlib.Core.List.{List, [], _∷_, _++_, map, map-map, List·Memᴰ, List·
 use lib.Dec.{ltb}
 use lib.ListN.{length, take, drop, getElem?, length-append, length-drop, length-map}
 use lib.Seq.{length-take-le, take-at, drop-at, drop-drop}
-use Rattle.model.specs.Limits.{tableLength, workLength, resultLength, maxQueries}
-use Rattle.model.specs.Tools.{concat}
-use Rattle.model.specs.Refusals.{Refusal, shortArea, tooLong, badLine}
-use Rattle.model.specs.Lines.{Row, lines}
+use Rattle.limits.specs.Limits.{tableLength, workLength, resultLength, maxQueries}
+use Rattle.calculus.specs.Tools.{concat}
+use Rattle.calculus.specs.Refusals.{Refusal, shortArea, tooLong, badLine}
+use Rattle.format.specs.Lines.{Row, lines}
 use Rattle.model.specs.Services.{Verdict, accepted, refused, verdict, answerOf, check, Ran, gives, failed, RunAnswer, answerOfRun, RunResult, runOf, runService}
 use Rattle.model.specs.Services.{filled, written, tableAfter, workAfter, short, unless}
 use Rattle.model.specs.Desk.{Query, queryOf, answerTo, queryLine, queryAnswers}
 use Rattle.model.specs.Sheet.{answersTo, three, numbersAfter, lettersAfter, narrowSheet, sheetVerdict, sheet}
-use Rattle.model.proofs.Basic.{neither, none≢some, some-inj, le-leb, lt-ltb, ltb-false, not-ltb, each-nil, each-map, index-map, index-of-map, index-below}
+use Rattle.calculus.proofs.Basic.{neither, none≢some, some-inj, le-leb, lt-ltb, ltb-false, not-ltb, each-nil, each-map, index-map, index-of-map, index-below}
 use Rattle.model.proofs.Files.{number-positive, answer-zero}
 use Rattle.model.proofs.Sizes.{short-result}
 

@@ -6,18 +6,18 @@ use mathlib.Core.Path.{_≡_, refl}
 use mathlib.Core.Bool.{Bool}
 use mathlib.Core.List.{List, [], _∷_, _++_, List·Memᴰ}
 use lib.ListN.{length, length-append, getD}
-use Rattle.model.specs.Limits.{maxNodes, resultLength}
-use Rattle.model.specs.Trees.{Ty, tunit, left, right, Pat, Val, Iso, typeNodes}
-use Rattle.model.specs.Refusals.{Kind, typeLine, patternLine, isoLine, clauseLine, letLine}
-use Rattle.model.specs.Lines.{Row}
-use Rattle.model.specs.Judge.{Seen, start, typeTree, afterKind, afterAll}
-use Rattle.model.specs.Unfold.{place, tailFrom, isosOf}
-use Rattle.model.specs.Letters.{letters}
+use Rattle.limits.specs.Limits.{maxNodes, resultLength}
+use Rattle.calculus.specs.Trees.{Ty, tunit, left, right, Pat, Val, Iso, typeNodes}
+use Rattle.calculus.specs.Refusals.{Kind, typeLine, patternLine, isoLine, clauseLine, letLine}
+use Rattle.format.specs.Lines.{Row}
+use Rattle.format.specs.Judge.{Seen, start, typeTree, afterKind, afterAll}
+use Rattle.format.specs.Unfold.{place, tailFrom, isosOf}
+use Rattle.calculus.specs.Letters.{letters}
 use Rattle.model.specs.Services.{accepted, verdict, Ran, answerOfRun, runRows, toward, runOf}
-use Rattle.model.specs.Paper.{Of}
+use Rattle.calculus.specs.Paper.{Of}
 use Rattle.model.specs.Answers.{RunIs, absent, strange, passed, done}
-use Rattle.model.proofs.Basic.{each-nil, each-cons, index-mem}
-use Rattle.model.proofs.Passing as P
+use Rattle.calculus.proofs.Basic.{each-nil, each-cons, index-mem}
+use Rattle.format.proofs.Passing as P
 use Rattle.model.proofs.Runs.{Good, GoodRows, good, good-toward, accepted-good, preserves, reduces-iff, run-rows-iff}
 
 -- ---- types

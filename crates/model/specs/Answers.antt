@@ -1,21 +1,19 @@
--- What Check and Run answer, as judgements: files in form, refusals 8 to 17 in the stated order ("Only then the isos in order: each clause in order, lowest
--- of 8 to 10, then the iso, lowest of 11 to 14."), and what is reached.
+-- Files in form, and what a run answers (15 to 17), as judgements.
 use Prim.Native.Nat.{ℕ, _≤_, _<_}
 use mathlib.Core.Path.{_≡_}
 use mathlib.Core.Bool.{false}
 use mathlib.Core.Option.{none, some}
-use mathlib.Core.List.{List, _∷_, List·Memᴰ}
+use mathlib.Core.List.{List}
 use lib.ListN.{getElem?}
-use Rattle.model.specs.Trees.{Ty, Val, Clause, Iso, left, right}
-use Rattle.model.specs.Refusals.{Refusal, variable, letShape, badType, overlap, gap, noIso, noValue, spent}
-use Rattle.model.specs.Lines.{Row, lines}
-use Rattle.model.specs.Judge.{start, Passes, rows, readFrom}
-use Rattle.model.specs.Unfold.{isosOf}
-use Rattle.model.specs.Letters.{letters}
+use Rattle.calculus.specs.Trees.{Val, Iso}
+use Rattle.calculus.specs.Refusals.{noIso, noValue, spent}
+use Rattle.format.specs.Lines.{Row, lines}
+use Rattle.format.specs.Judge.{start, Passes, rows, readFrom}
+use Rattle.format.specs.Unfold.{isosOf}
+use Rattle.calculus.specs.Letters.{letters}
 use Rattle.model.specs.Services.{over, Ran, gives, failed}
-use Rattle.model.specs.Terms.{Steps, eapp, valTerm}
-use Rattle.model.specs.Clauses.{Sigs, lefts, rights}
-use Rattle.model.specs.Paper.{BoundThenUsed, LetProducts, Linear, Of, Apart, Covers, ClauseOk, IsoOk, FileOk}
+use Rattle.calculus.specs.Terms.{Steps, eapp, valTerm}
+use Rattle.calculus.specs.Paper.{Of, FileOk}
 
 -- the lines of a file are in form: not too long, and read as rows that pass 3 to 7
 pub record InForm (bs : List ℕ) (rs : List Row) : Type 0 where
@@ -27,34 +25,6 @@ pub record GoodRows (rs : List Row) : Type 0 where
   pub passes : Passes start rs
   pub ok : FileOk (isosOf rs)
 
--- 8 "variables rule broken", 9 "left or right in a let pattern", 10 "no such assignment" (of types to bindings: the crate `reuse`)
-pub data ClauseFault (sigs : Sigs) (a b : Ty) (c : Clause) : Refusal → Type 0 where
-  variables : ¬ BoundThenUsed c → ClauseFault sigs a b c variable
-  shapes : BoundThenUsed c → ¬ LetProducts c → ClauseFault sigs a b c letShape
-  types : BoundThenUsed c → LetProducts c → ¬ Linear sigs a b c → ClauseFault sigs a b c badType
-
--- 11 and 12 "two left (right) patterns are not orthogonal", 13 and 14 "left (right) patterns do not cover"
-pub data SideFault (o : Iso) : Refusal → Type 0 where
-  overlapLeft : ¬ Apart (lefts o) → SideFault o (overlap left)
-  overlapRight : Apart (lefts o) → ¬ Apart (rights o) → SideFault o (overlap right)
-  gapLeft : Apart (lefts o) → Apart (rights o) → ¬ Covers (o .from) (lefts o) → SideFault o (gap left)
-  gapRight : Apart (lefts o) → Apart (rights o) → Covers (o .from) (lefts o) → ¬ Covers (o .to) (rights o) → SideFault o (gap right)
-
--- the first faulty clause, at its C line
-pub data FirstClause (sigs : Sigs) (a b : Ty) : List Clause → Refusal → ℕ → Type 0 where
-  here : {c : Clause} {cs : List Clause} {f : Refusal} {n : ℕ} → ClauseFault sigs a b c f → n ≡ c .line → FirstClause sigs a b (c ∷ cs) f n
-  later : {c : Clause} {cs : List Clause} {f : Refusal} {n : ℕ} → ClauseOk sigs a b c → FirstClause sigs a b cs f n → FirstClause sigs a b (c ∷ cs) f n
-
--- a faulty iso: in its clauses, and only then in its sides, at its I line
-pub data IsoFault (sigs : Sigs) (o : Iso) : Refusal → ℕ → Type 0 where
-  inClause : {f : Refusal} {n : ℕ} → FirstClause sigs (o .from) (o .to) (o .clauses) f n → IsoFault sigs o f n
-  inSides : {f : Refusal} {n : ℕ} → ((c : Clause) → List·Memᴰ c (o .clauses) → ClauseOk sigs (o .from) (o .to) c) → SideFault o f → n ≡ o .line → IsoFault sigs o f n
-
--- the first faulty iso
-pub data FirstIso (sigs : Sigs) : List Iso → Refusal → ℕ → Type 0 where
-  here : {o : Iso} {os : List Iso} {f : Refusal} {n : ℕ} → IsoFault sigs o f n → FirstIso sigs (o ∷ os) f n
-  later : {o : Iso} {os : List Iso} {f : Refusal} {n : ℕ} → IsoOk sigs o → FirstIso sigs os f n → FirstIso sigs (o ∷ os) f n
-
 -- A run of iso i with a budget on some bytes. "For a run, 15, 16, 17 follow": the iso is there or not; the bytes are exactly one closed
 -- value of the starting type or not; the full count of the reduction passes the budget or not.
 pub data RunIs (os : List Iso) (i budget : ℕ) (bs : List ℕ) : Ran → Type 0 where
@@ -64,11 +34,3 @@ pub data RunIs (os : List Iso) (i budget : ℕ) (bs : List ℕ) : Ran → Type 0
       → Steps os (eapp i (valTerm v)) (valTerm w) k → budget < k → RunIs os i budget bs (failed spent)
   done : (o : Iso) (v w : Val) (k : ℕ) → getElem? os i ≡ some o → bs ≡ letters v → Of v (o .from)
       → Steps os (eapp i (valTerm v)) (valTerm w) k → k ≤ budget → RunIs os i budget bs (gives k (letters w))
-
--- "every value of the to-type is reached from exactly one value of the from-type": w is what `source` reduces to, and no other closed value does
-pub record ReachedOnce (os : List Iso) (i : ℕ) (o : Iso) (w : Val) : Type 0 where
-  pub source : Val
-  pub typed : Of source (o .from)
-  pub count : ℕ
-  pub reduces : Steps os (eapp i (valTerm source)) (valTerm w) count
-  pub one : (v : Val) (k : ℕ) → Of v (o .from) → Steps os (eapp i (valTerm v)) (valTerm w) k → v ≡ source

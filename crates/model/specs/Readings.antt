@@ -3,8 +3,8 @@ use Prim.Native.Nat.{ℕ}
 use mathlib.Core.Path.{_≡_, refl}
 use mathlib.Core.Option.{none}
 use mathlib.Core.List.{List, [], _∷_, _++_}
-use Rattle.model.specs.Trees.{tunit, pvar, vunit, Clause}
-use Rattle.model.specs.Reduction.{reduce}
+use Rattle.calculus.specs.Trees.{tunit, pvar, vunit, Clause}
+use Rattle.calculus.specs.Reduction.{reduce}
 use Rattle.model.specs.Services.{turned}
 use Rattle.model.specs.Desk.{desk}
 use Rattle.model.specs.Cases.{bytes, fileS}

@@ -5,16 +5,16 @@ use mathlib.Core.Option.{Option, none, some}
 use mathlib.Core.List.{List, [], _++_}
 use lib.Dec.{leb, ltb}
 use lib.ListN.{length, drop, replicate, getElem?}
-use Rattle.model.specs.Limits.{maxBytes, maxLines, tableLength, workLength, resultLength}
-use Rattle.model.specs.Tools.{_>>=_, guard}
-use Rattle.model.specs.Trees.{Ty, Val, Iso}
-use Rattle.model.specs.Refusals.{Refusal, number, shortArea, tooLong, noIso, noValue, spent}
-use Rattle.model.specs.Lines.{Row, lines, tableOf, printRows}
-use Rattle.model.specs.Judge.{start, judge, Reading, rows, faulty, readFrom}
-use Rattle.model.specs.Unfold.{isosOf, turnRows}
-use Rattle.model.specs.Clauses.{fault}
-use Rattle.model.specs.Reduction.{reduce}
-use Rattle.model.specs.Letters.{letters, valueOf, inhabits}
+use Rattle.limits.specs.Limits.{maxBytes, maxLines, tableLength, workLength, resultLength}
+use Rattle.calculus.specs.Tools.{_>>=_, guard}
+use Rattle.calculus.specs.Trees.{Ty, Val, Iso}
+use Rattle.calculus.specs.Refusals.{Refusal, number, shortArea, tooLong, noIso, noValue, spent}
+use Rattle.format.specs.Lines.{Row, lines, tableOf, printRows}
+use Rattle.format.specs.Judge.{start, judge, Reading, rows, faulty, readFrom}
+use Rattle.format.specs.Unfold.{isosOf, turnRows}
+use Rattle.calculus.specs.Clauses.{fault}
+use Rattle.calculus.specs.Reduction.{reduce}
+use Rattle.calculus.specs.Letters.{letters, valueOf, inhabits}
 
 -- the file's rows, or its refusal and the line
 pub data Verdict : Type 0 where

@@ -4,8 +4,8 @@ use Prim.Native.Nat.{ℕ, zero, suc, _+_, _<_, _≤_, min}
 use native.Mathlib.Omega.{arith}
 use mathlib.Core.Path.{_≡_, refl, sym, ap, _∙_, subst}
 use mathlib.Core.List.{List}
-use Rattle.model.specs.Trees.{Ty, typeNodes, Pat, nodes, tags}
-use Rattle.model.specs.Judge.{typeNode, patternNode}
+use Rattle.calculus.specs.Trees.{Ty, typeNodes, Pat, nodes, tags}
+use Rattle.format.specs.Judge.{typeNode, patternNode}
 use Rattle.nodes.specs.Unfolding.{cellOf, smallerOf, typeOf, patternOf}
 use Rattle.nodes.proofs.Unfolding.{rank, type-falls, pattern-falls, type-node, type-unit, pattern-node}
 

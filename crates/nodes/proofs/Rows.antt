@@ -6,11 +6,11 @@ use mathlib.Core.Path.{_≡_, refl, sym, ap, ap₂, _∙_, subst}
 use mathlib.Core.Option.{none, some}
 use mathlib.Core.List.{List, [], _∷_, _++_, List·Memᴰ}
 use lib.ListN.{length, getD, getElem?, take, drop, length-append}
-use Rattle.model.specs.Refusals.{Kind, typeLine, patternLine, isoLine, clauseLine, letLine}
-use Rattle.model.specs.Lines.{Row, letter}
-use Rattle.model.specs.Judge.{Seen, typeTree, patternTree, afterKind, after, afterAll}
-use Rattle.model.proofs.Basic.{none≢some, some-inj, each-nil, each-cons}
-use Rattle.model.proofs.Passing.{Passes, done, next, Fit, judge-fit, iso-fit, clause-fit, let-fit}
+use Rattle.calculus.specs.Refusals.{Kind, typeLine, patternLine, isoLine, clauseLine, letLine}
+use Rattle.format.specs.Lines.{Row, letter}
+use Rattle.format.specs.Judge.{Seen, typeTree, patternTree, afterKind, after, afterAll}
+use Rattle.calculus.proofs.Basic.{none≢some, some-inj, each-nil, each-cons}
+use Rattle.format.proofs.Passing.{Passes, done, next, Fit, judge-fit, iso-fit, clause-fit, let-fit}
 use Rattle.nodes.specs.Walk.{whenIso, isoRows}
 
 -- ---- rows by their place

@@ -7,16 +7,16 @@ use mathlib.Core.Logic.{_⊎_, inl, inr}
 use mathlib.Core.Option.{some}
 use mathlib.Core.List.{List, [], _∷_, List·Memᴰ, List·Memᴰ·head, List·Memᴰ·tail}
 use lib.ListN.{length, getD, getElem?, take, drop, length-append}
-use Rattle.model.specs.Limits.{maxIsos, maxClauses, variables}
-use Rattle.model.specs.Trees.{Ty, tunit, Pat, Let, Clause, vars}
-use Rattle.model.specs.Refusals.{Kind, typeLine, patternLine, isoLine, clauseLine, letLine}
-use Rattle.model.specs.Lines.{Row}
-use Rattle.model.specs.Judge.{Seen, start, stage, typeTree, patternTree, afterKind, afterAll}
-use Rattle.model.specs.Unfold.{Tail, place, tailFrom}
-use Rattle.model.specs.Clauses.{Deed, binds, uses, Event, deeds, letEvents, events, sigsOf}
-use Rattle.model.proofs.Basic.{none≢some, some-inj, leb-le, each-nil, each-cons, each-append, each-map}
-use Rattle.model.proofs.Formed.{FormedPat}
-use Rattle.model.proofs.Passing.{Passes, done, next, Fit, judge-fit, iso-fit, clause-fit, AllFormed, formed-unit, patterns-formed}
+use Rattle.limits.specs.Limits.{maxIsos, maxClauses, variables}
+use Rattle.calculus.specs.Trees.{Ty, tunit, Pat, Let, Clause, vars}
+use Rattle.calculus.specs.Refusals.{Kind, typeLine, patternLine, isoLine, clauseLine, letLine}
+use Rattle.format.specs.Lines.{Row}
+use Rattle.format.specs.Judge.{Seen, start, stage, typeTree, patternTree, afterKind, afterAll}
+use Rattle.format.specs.Unfold.{Tail, place, tailFrom}
+use Rattle.calculus.specs.Clauses.{Deed, binds, uses, Event, deeds, letEvents, events, sigsOf}
+use Rattle.calculus.proofs.Basic.{none≢some, some-inj, leb-le, each-nil, each-cons, each-append, each-map}
+use Rattle.calculus.proofs.Formed.{FormedPat}
+use Rattle.format.proofs.Passing.{Passes, done, next, Fit, judge-fit, iso-fit, clause-fit, AllFormed, formed-unit, patterns-formed}
 use Rattle.nodes.specs.Unfolding.{cellOf, typeOf}
 use Rattle.nodes.specs.InTable.{sigsIn}
 use Rattle.nodes.specs.Walk.{whenIso, isoRows, tailAt}

@@ -9,10 +9,10 @@ use mathlib.Core.List.{List}
 use lib.Dec.{ltb}
 use lib.ListN.{getD}
 use borrow.Author.Tests.{lt-ltb, le-ltb, ltb-true, ltb-false}
-use Rattle.model.specs.Limits.{maxLines, rowWidth}
-use Rattle.model.specs.Trees.{Ty, tunit, tsum, tprod, Pat, punit, pvar, pinj, ppair, left, right}
-use Rattle.model.specs.Judge.{typeNode, patternNode}
-use Rattle.model.proofs.Basic.{bool-cases}
+use Rattle.limits.specs.Limits.{maxLines, rowWidth}
+use Rattle.calculus.specs.Trees.{Ty, tunit, tsum, tprod, Pat, punit, pvar, pinj, ppair, left, right}
+use Rattle.format.specs.Judge.{typeNode, patternNode}
+use Rattle.calculus.proofs.Basic.{bool-cases}
 use Rattle.nodes.specs.Unfolding.{cellOf, smallerOf, typeIn, patternIn, typeOf, patternOf}
 
 -- ---- cells and names

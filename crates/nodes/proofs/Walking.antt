@@ -10,15 +10,15 @@ use mathlib.Core.Option.{Option, none, some}
 use mathlib.Core.List.{List, [], _∷_, _++_, map, append-nil, List·Memᴰ}
 use lib.ListN.{length, getD, getElem?, take, drop, length-append, length-map}
 use lib.Seq.{take-length, drop-length}
-use Rattle.model.specs.Limits.{maxLines, maxIsos, maxClauses, variables}
-use Rattle.model.specs.Tools.{firstOf, orElse}
-use Rattle.model.specs.Trees.{Ty, tunit, Pat, punit, Clause}
-use Rattle.model.specs.Refusals.{Kind, isoLine, clauseLine, letLine, Refusal}
-use Rattle.model.specs.Lines.{Row, letter}
-use Rattle.model.specs.Judge.{start, afterAll}
-use Rattle.model.specs.Unfold.{Tail, place, tailFrom, isosOf}
-use Rattle.model.specs.Clauses.{Sigs, Event, events, at, clauseFault, sideFault, isoFault, sigsOf, fault}
-use Rattle.model.proofs.Basic.{index-map, index-mem}
+use Rattle.limits.specs.Limits.{maxLines, maxIsos, maxClauses, variables}
+use Rattle.calculus.specs.Tools.{firstOf, orElse}
+use Rattle.calculus.specs.Trees.{Ty, tunit, Pat, punit, Clause}
+use Rattle.calculus.specs.Refusals.{Kind, isoLine, clauseLine, letLine, Refusal}
+use Rattle.format.specs.Lines.{Row, letter}
+use Rattle.format.specs.Judge.{start, afterAll}
+use Rattle.format.specs.Unfold.{Tail, place, tailFrom, isosOf}
+use Rattle.calculus.specs.Clauses.{Sigs, Event, events, at, clauseFault, sideFault, isoFault, sigsOf, fault}
+use Rattle.calculus.proofs.Basic.{index-map, index-mem}
 use Rattle.nodes.specs.Unfolding.{cellOf, typeOf, patternOf}
 use Rattle.nodes.specs.InTable.{letAt, letsIn, clauseIn, sigsIn, patternsAt, sidesFault}
 use Rattle.nodes.specs.Walk.{FileIn, whenIso, isoRows, tailAt, ownSig, pendingFault, WalkAt}

@@ -2,11 +2,11 @@
 use Prim.Native.Nat.{ℕ, zero, suc, _-_, _^_}
 use mathlib.Core.Option.{Option}
 use mathlib.Core.List.{List, [], _∷_, map}
-use Rattle.model.specs.Limits.{maxTags}
-use Rattle.model.specs.Tools.{firstFailing}
-use Rattle.model.specs.Trees.{Pat, Let, Clause, left, right}
-use Rattle.model.specs.Refusals.{Refusal, overlap, gap}
-use Rattle.model.specs.Clauses.{Sigs, apart, fullWeight}
+use Rattle.limits.specs.Limits.{maxTags}
+use Rattle.calculus.specs.Tools.{firstFailing}
+use Rattle.calculus.specs.Trees.{Pat, Let, Clause, left, right}
+use Rattle.calculus.specs.Refusals.{Refusal, overlap, gap}
+use Rattle.calculus.specs.Clauses.{Sigs, apart, fullWeight}
 use Rattle.nodes.specs.Unfolding.{cellOf, typeOf, patternOf}
 
 -- the L line in row n, and the L lines in `count` rows from n on

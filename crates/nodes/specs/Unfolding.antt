@@ -5,9 +5,9 @@ use mathlib.Core.Bool.{cond}
 use mathlib.Core.List.{List}
 use lib.Dec.{ltb}
 use lib.ListN.{getD}
-use Rattle.model.specs.Limits.{maxLines, rowWidth}
-use Rattle.model.specs.Trees.{Ty, tunit, Pat, punit}
-use Rattle.model.specs.Judge.{typeNode, patternNode}
+use Rattle.limits.specs.Limits.{maxLines, rowWidth}
+use Rattle.calculus.specs.Trees.{Ty, tunit, Pat, punit}
+use Rattle.format.specs.Judge.{typeNode, patternNode}
 
 -- number k of a row, 0 where there is none
 abbrev pub cellOf : List ℕ → ℕ → ℕ → ℕ

@@ -4,14 +4,14 @@ use mathlib.Core.Path.{_≡_}
 use mathlib.Core.Option.{Option, none, some}
 use mathlib.Core.List.{List, [], _∷_, map}
 use lib.ListN.{length, getD, getElem?, take, drop}
-use Rattle.model.specs.Limits.{maxLines, maxClauses}
-use Rattle.model.specs.Tools.{firstOf}
-use Rattle.model.specs.Trees.{Ty, tunit, punit, Clause}
-use Rattle.model.specs.Refusals.{Kind, typeLine, patternLine, isoLine, clauseLine, letLine, Refusal}
-use Rattle.model.specs.Lines.{Row, letter}
-use Rattle.model.specs.Judge.{start, afterAll, Passes}
-use Rattle.model.specs.Unfold.{Tail, tailFrom}
-use Rattle.model.specs.Clauses.{Sigs, at, clauseFault, isoFault}
+use Rattle.limits.specs.Limits.{maxLines, maxClauses}
+use Rattle.calculus.specs.Tools.{firstOf}
+use Rattle.calculus.specs.Trees.{Ty, tunit, punit, Clause}
+use Rattle.calculus.specs.Refusals.{Kind, typeLine, patternLine, isoLine, clauseLine, letLine, Refusal}
+use Rattle.format.specs.Lines.{Row, letter}
+use Rattle.format.specs.Judge.{start, afterAll, Passes}
+use Rattle.format.specs.Unfold.{Tail, tailFrom}
+use Rattle.calculus.specs.Clauses.{Sigs, at, clauseFault, isoFault}
 use Rattle.nodes.specs.Unfolding.{cellOf, typeOf, patternOf}
 use Rattle.nodes.specs.InTable.{letsIn, sigsIn, patternsAt}
 

@@ -15,7 +15,7 @@ use words::wide;
 use words::word_at;
 ghost use mathlib.Core.Path.{_≡_};
 ghost use Prim.Native.Nat.{_+_, _<_, min};
-ghost use Rattle.model.specs.Trees.{typeNodes, nodes, tags};
+ghost use Rattle.calculus.specs.Trees.{typeNodes, nodes, tags};
 ghost use Rattle.nodes.specs.Unfolding.{cellOf, smallerOf, typeOf, patternOf};
 
 // The rows of the table, and the line that unfolds to a unit for want of a row.

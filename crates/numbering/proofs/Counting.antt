@@ -7,11 +7,11 @@ use mathlib.Core.Logic.{_⊎_, inl, inr}
 use mathlib.Core.Bool.{true, false}
 use lib.Dec.{ltb}
 use borrow.Author.Tests.{ltb-true, ltb-false}
-use Rattle.model.specs.Limits.{maxValues}
-use Rattle.model.specs.Trees.{Ty}
-use Rattle.model.specs.Judge.{typeNode}
+use Rattle.limits.specs.Limits.{maxValues}
+use Rattle.calculus.specs.Trees.{Ty}
+use Rattle.format.specs.Judge.{typeNode}
 use Rattle.ranking.specs.Numbering.{count}
-use Rattle.model.proofs.Basic.{bool-cases}
+use Rattle.calculus.proofs.Basic.{bool-cases}
 use Rattle.ranking.proofs.Numbering.{count-positive}
 use Rattle.nodes.proofs.Unfolding.{node-sum, node-prod}
 use Rattle.numbering.specs.Numbers.{Counts}

@@ -3,8 +3,8 @@ use Prim.Native.Nat.{ℕ, _+_, _*_, _<_, max}
 use native.Mathlib.Omega.{arith}
 use mathlib.Core.Path.{_≡_, refl, sym, ap, ap₂, _∙_, subst}
 use mathlib.Core.List.{List}
-use Rattle.model.specs.Trees.{Ty, tsum, tprod}
-use Rattle.model.specs.Judge.{typeNode}
+use Rattle.calculus.specs.Trees.{Ty, tsum, tprod}
+use Rattle.format.specs.Judge.{typeNode}
 use Rattle.nodes.specs.Unfolding.{cellOf, smallerOf, typeOf}
 use Rattle.nodes.proofs.Unfolding.{rank, type-unit, type-node, node-sum, node-prod}
 use Rattle.values.proofs.Typing.{type-call}

@@ -4,11 +4,11 @@ use native.Mathlib.Omega.{arith}
 use mathlib.Core.Path.{_≡_, refl, sym, ap₂, _∙_, subst}
 use mathlib.Core.List.{List}
 use lib.ListN.{length, getD, length-append}
-use Rattle.model.specs.Limits.{maxValues}
-use Rattle.model.specs.Trees.{Ty, tunit, tsum, tprod, Val, vunit, vinj, vpair, left, right}
-use Rattle.model.specs.Letters.{letters, inhabits}
+use Rattle.limits.specs.Limits.{maxValues}
+use Rattle.calculus.specs.Trees.{Ty, tunit, tsum, tprod, Val, vunit, vinj, vpair, left, right}
+use Rattle.calculus.specs.Letters.{letters, inhabits}
 use Rattle.ranking.specs.Numbering.{count}
-use Rattle.model.proofs.Basic.{not-both, and-true}
+use Rattle.calculus.proofs.Basic.{not-both, and-true}
 use Rattle.values.specs.Texts.{At}
 use Rattle.patterns.proofs.Spelling.{at-within, at-first, at-inj, at-left, at-right}
 use Rattle.numbering.specs.Numbers.{Counts, Ranks}

@@ -7,9 +7,9 @@ use mathlib.Core.Bool.{cond}
 use mathlib.Core.List.{List, [], _∷_}
 use lib.ListN.{length, set}
 use borrow.Author.Tests.{lt-ltb, le-ltb}
-use Rattle.model.specs.Limits.{maxValues}
-use Rattle.model.specs.Trees.{Ty, tunit, tsum, tprod, vinj, vpair, left, right}
-use Rattle.model.specs.Letters.{letters}
+use Rattle.limits.specs.Limits.{maxValues}
+use Rattle.calculus.specs.Trees.{Ty, tunit, tsum, tprod, vinj, vpair, left, right}
+use Rattle.calculus.specs.Letters.{letters}
 use Rattle.ranking.specs.Numbering.{count, unrank}
 use Rattle.areas.specs.Areas.{Writes}
 use Rattle.areas.proofs.Writing.{place-in, writes-one, writes-both, writes-as}

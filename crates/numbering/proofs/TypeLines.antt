@@ -5,9 +5,9 @@ use mathlib.Core.Path.{_≡_, sym, ap, _∙_, subst}
 use mathlib.Core.Option.{none, some}
 use mathlib.Core.List.{List}
 use lib.ListN.{getElem?}
-use Rattle.model.specs.Limits.{maxNodes}
-use Rattle.model.specs.Trees.{tunit, typeNodes}
-use Rattle.model.specs.Lines.{Row}
+use Rattle.limits.specs.Limits.{maxNodes}
+use Rattle.calculus.specs.Trees.{tunit, typeNodes}
+use Rattle.format.specs.Lines.{Row}
 use Rattle.ranking.specs.Numbering.{typesOf}
 use Rattle.model.proofs.Sizes.{types-small}
 use Rattle.nodes.specs.Unfolding.{typeOf}

@@ -5,9 +5,9 @@ use mathlib.Core.Bool.{true}
 use mathlib.Core.List.{List}
 use lib.ListN.{length}
 use lib.Seq.{sets}
-use Rattle.model.specs.Limits.{maxValues}
-use Rattle.model.specs.Trees.{Ty, Val}
-use Rattle.model.specs.Letters.{letters, inhabits}
+use Rattle.limits.specs.Limits.{maxValues}
+use Rattle.calculus.specs.Trees.{Ty, Val}
+use Rattle.calculus.specs.Letters.{letters, inhabits}
 use Rattle.ranking.specs.Numbering.{count, rank, unrank}
 use Rattle.values.specs.Texts.{At}
 

@@ -18,10 +18,10 @@ ghost use mathlib.Core.Bool.{true};
 ghost use Prim.Native.Nat.{ℕ, _+_, _*_, _≤_, _<_, min};
 ghost use lib.ListN.{length};
 ghost use lib.Seq.{sets};
-ghost use Rattle.model.specs.Limits.{maxValues};
-ghost use Rattle.model.specs.Trees.{Ty, Val, tsum, tprod};
-ghost use Rattle.model.specs.Judge.{typeNode};
-ghost use Rattle.model.specs.Letters.{letters, inhabits};
+ghost use Rattle.limits.specs.Limits.{maxValues};
+ghost use Rattle.calculus.specs.Trees.{Ty, Val, tsum, tprod};
+ghost use Rattle.format.specs.Judge.{typeNode};
+ghost use Rattle.calculus.specs.Letters.{letters, inhabits};
 ghost use Rattle.ranking.specs.Numbering.{count, rank, unrank};
 ghost use Rattle.nodes.specs.Unfolding.{typeOf};
 ghost use Rattle.values.specs.Texts.{At};
@@ -108,7 +108,11 @@ fn behind(s: &[u8], at: usize) -> usize
 // The number of the closed value of T line i that begins at a place, and where it ends. The type has at
 // most 4,294,967,295 values.
 pub fn rank_at(t: &[u16], i: usize, s: &[u8], at: usize) -> Ranked
-    ensures { λ r. ⌜ ((v : Val) → At (now (s .entry)) at v → inhabits v (typeOf (now (t .entry)) i) ≡ true → count (typeOf (now (t .entry)) i) ≤ maxValues → (r .number ≡ rank v (typeOf (now (t .entry)) i)) × (r .end ≡ at + length (letters v))) ⌝ }
+    ensures { λ r. ⌜
+        ((v : Val) → At (now (s .entry)) at v → inhabits v (typeOf (now (t .entry)) i) ≡ true
+        → count (typeOf (now (t .entry)) i) ≤ maxValues
+        → (r .number ≡ rank v (typeOf (now (t .entry)) i)) × (r .end ≡ at + length (letters v)))
+        ⌝ }
 {
     let left = smaller(cell(t, i, FIRST), i);
     let right = smaller(cell(t, i, SECOND), i);
@@ -124,7 +128,10 @@ pub fn rank_at(t: &[u16], i: usize, s: &[u8], at: usize) -> Ranked
 
 // The same for a left or a right, whose types are T lines `left` and `right`.
 fn rank_tag(t: &[u16], left: usize, right: usize, s: &[u8], at: usize) -> Ranked
-    ensures { λ r. ⌜ Ranks (tsum (typeOf (now (t .entry)) left) (typeOf (now (t .entry)) right)) (now (s .entry)) at (r .number) (r .end) ⌝ }
+    ensures { λ r. ⌜
+        Ranks (tsum (typeOf (now (t .entry)) left) (typeOf (now (t .entry)) right)) (now (s .entry)) at
+        (r .number) (r .end)
+        ⌝ }
 {
     let next = behind(s, at);
     if byte_at(s, at) == LETTER_LEFT {
@@ -139,7 +146,10 @@ fn rank_tag(t: &[u16], left: usize, right: usize, s: &[u8], at: usize) -> Ranked
 
 // The same for a pair.
 fn rank_pair(t: &[u16], left: usize, right: usize, s: &[u8], at: usize) -> Ranked
-    ensures { λ r. ⌜ Ranks (tprod (typeOf (now (t .entry)) left) (typeOf (now (t .entry)) right)) (now (s .entry)) at (r .number) (r .end) ⌝ }
+    ensures { λ r. ⌜
+        Ranks (tprod (typeOf (now (t .entry)) left) (typeOf (now (t .entry)) right)) (now (s .entry)) at
+        (r .number) (r .end)
+        ⌝ }
 {
     let r = rank_at(t, left, s, behind(s, at));
     let u = rank_at(t, right, s, r.end);
@@ -152,7 +162,12 @@ fn rank_pair(t: &[u16], left: usize, right: usize, s: &[u8], at: usize) -> Ranke
 // Writes the letters of the value of T line i with number n from a place on, and gives the place behind
 // them. The type has at most 4,294,967,295 values, n is below their count, and there is room.
 pub fn unrank_at(t: &[u16], i: usize, n: usize, out: &mut [u8], at: usize) -> usize
-    ensures { λ r. ⌜ (count (typeOf (now (t .entry)) i) ≤ maxValues → n < count (typeOf (now (t .entry)) i) → at + length (letters (unrank (typeOf (now (t .entry)) i) n)) ≤ length (now (out .entry)) → (now (out .exit) ≡ sets (now (out .entry)) at (letters (unrank (typeOf (now (t .entry)) i) n))) × (r ≡ at + length (letters (unrank (typeOf (now (t .entry)) i) n)))) ⌝ }
+    ensures { λ r. ⌜
+        (count (typeOf (now (t .entry)) i) ≤ maxValues → n < count (typeOf (now (t .entry)) i)
+        → at + length (letters (unrank (typeOf (now (t .entry)) i) n)) ≤ length (now (out .entry))
+        → (now (out .exit) ≡ sets (now (out .entry)) at (letters (unrank (typeOf (now (t .entry)) i) n)))
+        × (r ≡ at + length (letters (unrank (typeOf (now (t .entry)) i) n))))
+        ⌝ }
 {
     if out.len() <= at {
         return at;
@@ -172,7 +187,10 @@ pub fn unrank_at(t: &[u16], i: usize, n: usize, out: &mut [u8], at: usize) -> us
 // The same for a left or a right, whose types are T lines `left` and `right`.
 fn unrank_tag(t: &[u16], left: usize, right: usize, n: usize, out: &mut [u8], at: usize) -> usize
     requires { ⌜ at < length (now out) ⌝ }
-    ensures { λ r. ⌜ Unranks (tsum (typeOf (now (t .entry)) left) (typeOf (now (t .entry)) right)) n (now (out .entry)) (now (out .exit)) at r ⌝ }
+    ensures { λ r. ⌜
+        Unranks (tsum (typeOf (now (t .entry)) left) (typeOf (now (t .entry)) right)) n (now (out .entry))
+        (now (out .exit)) at r
+        ⌝ }
 {
     let c = count_values(t, left);
     if n < c {
@@ -186,7 +204,10 @@ fn unrank_tag(t: &[u16], left: usize, right: usize, n: usize, out: &mut [u8], at
 // The same for a pair.
 fn unrank_pair(t: &[u16], left: usize, right: usize, n: usize, out: &mut [u8], at: usize) -> usize
     requires { ⌜ at < length (now out) ⌝ }
-    ensures { λ r. ⌜ Unranks (tprod (typeOf (now (t .entry)) left) (typeOf (now (t .entry)) right)) n (now (out .entry)) (now (out .exit)) at r ⌝ }
+    ensures { λ r. ⌜
+        Unranks (tprod (typeOf (now (t .entry)) left) (typeOf (now (t .entry)) right)) n
+        (now (out .entry)) (now (out .exit)) at r
+        ⌝ }
 {
     let c = count_values(t, right);
     out[at] = LETTER_PAIR;

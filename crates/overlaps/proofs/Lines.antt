@@ -7,12 +7,12 @@ use mathlib.Core.Bool.{Bool, false}
 use mathlib.Core.Option.{Option, none, some}
 use mathlib.Core.List.{List}
 use lib.ListN.{getElem?}
-use Rattle.model.specs.Limits.{maxNodes}
-use Rattle.model.specs.Trees.{Pat, punit, nodes}
-use Rattle.model.specs.Refusals.{noIso}
-use Rattle.model.specs.Lines.{Row}
+use Rattle.limits.specs.Limits.{maxNodes}
+use Rattle.calculus.specs.Trees.{Pat, punit, nodes}
+use Rattle.calculus.specs.Refusals.{noIso}
+use Rattle.format.specs.Lines.{Row}
 use Rattle.model.specs.Services.{accepted}
-use Rattle.model.specs.Code.{refusalView, numbered}
+use Rattle.format.specs.Code.{refusalView, numbered}
 use Rattle.nodes.specs.Unfolding.{patternOf}
 use Rattle.nodes.specs.Walk.{FileIn}
 use Rattle.nodes.proofs.Rows.{get-row, past-row}

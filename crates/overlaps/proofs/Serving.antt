@@ -7,14 +7,14 @@ use mathlib.Core.Option.{none}
 use mathlib.Core.List.{List}
 use lib.Dec.{ltb}
 use lib.ListN.{length}
-use Rattle.model.specs.Limits.{tableLength, workLength}
-use Rattle.model.specs.Tools.{isSome}
-use Rattle.model.specs.Refusals.{number}
-use Rattle.model.specs.Lines.{Row}
+use Rattle.limits.specs.Limits.{tableLength, workLength}
+use Rattle.calculus.specs.Tools.{isSome}
+use Rattle.calculus.specs.Refusals.{number}
+use Rattle.format.specs.Lines.{Row}
 use Rattle.model.specs.Services.{Verdict, accepted, refused, verdict, short, unless, answerOf, check}
-use Rattle.model.specs.Code.{refusalView, numberOf, numbered}
-use Rattle.model.specs.declared.Answer as A
-use Rattle.model.proofs.Basic.{isSome-true, ltb-false, neither}
+use Rattle.format.specs.Code.{refusalView, numberOf, numbered}
+use Rattle.format.specs.declared.Answer as A
+use Rattle.calculus.proofs.Basic.{isSome-true, ltb-false, neither}
 use Rattle.model.proofs.Files.{number-positive}
 use Rattle.nodes.specs.Walk.{FileIn}
 use Rattle.checker.specs.CheckSays.{CheckSays, Accepted}

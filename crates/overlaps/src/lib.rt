@@ -3,16 +3,16 @@
 
 use checker::check_file;
 use comparison::compare;
-use model::Answer;
-use model::Refusal;
-use model::is_refused;
+use format::Answer;
+use format::Refusal;
+use format::is_refused;
 ghost use mathlib.Core.Path.{_≡_};
 ghost use mathlib.Core.Bool.{false};
 ghost use mathlib.Core.List.{List};
 ghost use Prim.Native.Nat.{ℕ, _≤_};
 ghost use lib.ListN.{length};
-ghost use Rattle.model.specs.Limits.{tableLength};
-ghost use Rattle.model.specs.Lines.{Row as RowOf};
+ghost use Rattle.limits.specs.Limits.{tableLength};
+ghost use Rattle.format.specs.Lines.{Row as RowOf};
 ghost use Rattle.model.specs.Services.{accepted};
 ghost use Rattle.nodes.specs.Walk.{FileIn};
 ghost use Rattle.comparison.specs.Overlap.{overlapOn};
@@ -38,7 +38,10 @@ fn not_compared(a: Answer) -> Overlapped
 // P lines i and j of a table that holds a checked file with so many T and P lines.
 pub fn overlap_checked(t: &[u16], types: usize, patterns: usize, i: usize, j: usize) -> Overlapped
     requires { ⌜ tableLength ≤ length (now t) ⌝ }
-    ensures { λ r. ⌜ ((lines : ℕ) (rs : List RowOf) → FileIn (now (t .entry)) types patterns lines rs → OverlapAs (overlapOn (accepted rs) i j) r) ⌝ }
+    ensures { λ r. ⌜
+        ((lines : ℕ) (rs : List RowOf) → FileIn (now (t .entry)) types patterns lines rs
+        → OverlapAs (overlapOn (accepted rs) i j) r)
+        ⌝ }
 {
     let absent = Answer {
         place: 0,
@@ -63,7 +66,10 @@ pub fn overlap_checked(t: &[u16], types: usize, patterns: usize, i: usize, j: us
 
 // Checks a file and compares its P lines i and j.
 pub fn overlap(file: &[u8], table: &mut [u16], work: &mut [u8], i: usize, j: usize) -> Overlapped
-    ensures { λ r. ⌜ OverlapSays (now (file .entry)) (now (table .entry)) (now (work .entry)) i j (now (table .exit)) (now (work .exit)) r ⌝ }
+    ensures { λ r. ⌜
+        OverlapSays (now (file .entry)) (now (table .entry)) (now (work .entry)) i j (now (table .exit))
+        (now (work .exit)) r
+        ⌝ }
 {
     let c = check_file(file, table, work);
     let a = c.answer;

@@ -9,21 +9,21 @@ use mathlib.Core.Option.{Option, none, some}
 use mathlib.Core.List.{List, [], _∷_, map, List·Memᴰ, List·Memᴰ·head, List·Memᴰ·tail}
 use lib.Dec.{leb, ltb, eqb}
 use lib.ListN.{length, getElem?}
-use Rattle.model.specs.Limits.{fieldBound, maxPairs, maxClauses, exportLength}
-use Rattle.model.specs.Tools.{_>>=_, guard, all}
-use Rattle.model.specs.Trees.{Ty, Val, Iso, invert}
-use Rattle.model.specs.Refusals.{spent, tooMany}
-use Rattle.model.specs.Lines.{Row, lines}
-use Rattle.model.specs.Unfold.{isosOf}
-use Rattle.model.specs.Reduction.{reduce}
-use Rattle.model.specs.Clauses.{lefts, rights}
+use Rattle.limits.specs.Limits.{fieldBound, maxPairs, maxClauses, exportLength}
+use Rattle.calculus.specs.Tools.{_>>=_, guard, all}
+use Rattle.calculus.specs.Trees.{Ty, Val, Iso, invert}
+use Rattle.calculus.specs.Refusals.{spent, tooMany}
+use Rattle.format.specs.Lines.{Row, lines}
+use Rattle.format.specs.Unfold.{isosOf}
+use Rattle.calculus.specs.Reduction.{reduce}
+use Rattle.calculus.specs.Clauses.{lefts, rights}
 use Rattle.ranking.specs.Numbering.{count, rank, unrank, Outcome, gives, fails, typesOf}
 use Rattle.model.specs.Services.{accepted, verdict}
-use Rattle.model.specs.Paper.{Of, Apart, Distinct, nobody, another}
+use Rattle.calculus.specs.Paper.{Of, Apart, Distinct, nobody, another}
 use Rattle.pairlists.specs.PairLists.{pairLines, tosOf, toFrom, upwards, onPairs, onExported, exportRows, exportOn, importOn}
-use Rattle.model.proofs.Basic.{bind-some, none≢some, some-inj, guard-true, leb-le, ltb-false, index-mem, index-below, mem-index, index-map}
-use Rattle.model.proofs.Letters.{inhabits-of, of-inhabits}
-use Rattle.model.proofs.Inverse.{reduce-inverse}
+use Rattle.calculus.proofs.Basic.{bind-some, none≢some, some-inj, guard-true, leb-le, ltb-false, index-mem, index-below, mem-index, index-map}
+use Rattle.calculus.proofs.Letters.{inhabits-of, of-inhabits}
+use Rattle.calculus.proofs.Inverse.{reduce-inverse}
 use Rattle.model.proofs.Runs.{Good, results, preserves, GoodRows, good, good-invert, accepted-good}
 use Rattle.ranking.proofs.Outcomes.{fails≢gives}
 use Rattle.ranking.proofs.Numbering.{rank-below, unrank-rank, unrank-inhabits, rank-unrank}

@@ -10,16 +10,16 @@ use mathlib.Core.Option.{Option, none, some}
 use mathlib.Core.List.{List, [], _∷_, _++_, append-nil, append-assoc, List·Memᴰ, List·Memᴰ·head, List·Memᴰ·tail}
 use lib.Dec.{eqb, ltb, leb}
 use lib.ListN.{length, getElem?, getD, List·getD-append, length-append}
-use Rattle.model.specs.Limits.{variables, fieldBound, maxTypes, maxPatterns, maxIsos, maxClauses, maxNodes, maxTags}
-use Rattle.model.specs.Trees.{Ty, tunit, tsum, tprod, left, right, Pat, punit, pvar, pinj, ppair, Val, vunit, vinj, vpair, Clause, Iso, typeNodes, nodes, tags}
-use Rattle.model.specs.Refusals.{Kind, typeLine, patternLine, isoLine, clauseLine, letLine}
-use Rattle.model.specs.Lines.{Row, fieldCount}
-use Rattle.model.specs.Judge.{Seen, start, stage, inOrder, typeFields, typeNames, typeNode, typeTree, patternFields, patternNames, patternNode, patternTree, fieldsFit, named, withinCeilings, judge, afterKind, after, afterAll}
-use Rattle.model.specs.Unfold.{Tail, place, tailFrom, isosOf}
+use Rattle.limits.specs.Limits.{variables, fieldBound, maxTypes, maxPatterns, maxIsos, maxClauses, maxNodes, maxTags}
+use Rattle.calculus.specs.Trees.{Ty, tunit, tsum, tprod, left, right, Pat, punit, pvar, pinj, ppair, Val, vunit, vinj, vpair, Clause, Iso, typeNodes, nodes, tags}
+use Rattle.calculus.specs.Refusals.{Kind, typeLine, patternLine, isoLine, clauseLine, letLine}
+use Rattle.format.specs.Lines.{Row, fieldCount}
+use Rattle.format.specs.Judge.{Seen, start, stage, inOrder, typeFields, typeNames, typeNode, typeTree, patternFields, patternNames, patternNode, patternTree, fieldsFit, named, withinCeilings, judge, afterKind, after, afterAll}
+use Rattle.format.specs.Unfold.{Tail, place, tailFrom, isosOf}
 use Rattle.pairlists.specs.PairLists.{Entry, entry, enter, typeRow, patternRow, clauseRow, isoRow, writeType, writeValue, Written, writePairs, fileRows, withinAll}
-use Rattle.model.proofs.Basic.{none≢some, some-inj, and-true, true-and, ltb-lt, lt-ltb, le-leb, leb-le, index-below, index-mem, mem-index, eqb-eq, each-nil, each-cons, each-append}
-use Rattle.model.proofs.Passing.{Passes, done, next, Fit, judge-fit, fit-judge, type-fit, pattern-fit}
-use Rattle.model.proofs.Printing.{WellFormed}
+use Rattle.calculus.proofs.Basic.{none≢some, some-inj, and-true, true-and, ltb-lt, lt-ltb, le-leb, leb-le, index-below, index-mem, mem-index, eqb-eq, each-nil, each-cons, each-append}
+use Rattle.format.proofs.Passing.{Passes, done, next, Fit, judge-fit, fit-judge, type-fit, pattern-fit}
+use Rattle.format.proofs.Printing.{WellFormed}
 use Rattle.pairlists.proofs.Rows.{Stored, nothing, more, Entered, entered, still, after-others, same-length, ok-at, length-snoc, index-default, index-front, enter-length, enter-grows}
 
 -- ---- T rows

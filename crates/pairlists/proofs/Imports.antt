@@ -10,24 +10,24 @@ use mathlib.Core.Option.{Option, none, some}
 use mathlib.Core.List.{List, [], _∷_, _++_, map, List·Memᴰ, List·Memᴰ·head, List·Memᴰ·tail, Memᴰ·map}
 use lib.Dec.{eqb, ltb, leb}
 use lib.ListN.{length, getElem?, take, length-map, length-append}
-use Rattle.model.specs.Limits.{fieldBound, maxBytes, maxLines, maxClauses, maxPatterns, maxNodes, maxTags, maxPairs, exportLength, importLength}
-use Rattle.model.specs.Tools.{_>>=_, guard, total}
-use Rattle.model.specs.Trees.{Ty, Val, Iso, invert, typeNodes}
-use Rattle.model.specs.Refusals.{Kind, typeLine, patternLine, isoLine, clauseLine, letLine, Refusal, spent, noIso, ceiling, tooMany, badList}
-use Rattle.model.specs.Lines.{Row, fieldCount, lines, withoutReturns, decimal, print, printField, printRows}
-use Rattle.model.specs.Judge.{start}
-use Rattle.model.specs.Unfold.{isosOf}
-use Rattle.model.specs.Reduction.{reduce}
+use Rattle.limits.specs.Limits.{fieldBound, maxBytes, maxLines, maxClauses, maxPatterns, maxNodes, maxTags, maxPairs, exportLength, importLength}
+use Rattle.calculus.specs.Tools.{_>>=_, guard, total}
+use Rattle.calculus.specs.Trees.{Ty, Val, Iso, invert, typeNodes}
+use Rattle.calculus.specs.Refusals.{Kind, typeLine, patternLine, isoLine, clauseLine, letLine, Refusal, spent, noIso, ceiling, tooMany, badList}
+use Rattle.format.specs.Lines.{Row, fieldCount, lines, withoutReturns, decimal, print, printField, printRows}
+use Rattle.format.specs.Judge.{start}
+use Rattle.format.specs.Unfold.{isosOf}
+use Rattle.calculus.specs.Reduction.{reduce}
 use Rattle.ranking.specs.Numbering.{count, rank, unrank, Outcome, gives, fails, typesOf}
 use Rattle.model.specs.Services.{Verdict, accepted, refused, verdict, over}
-use Rattle.model.specs.Paper.{Of, Apart, Distinct, nobody, another, FileOk}
-use Rattle.model.specs.Clauses.{lefts, rights}
+use Rattle.calculus.specs.Paper.{Of, Apart, Distinct, nobody, another, FileOk}
+use Rattle.calculus.specs.Clauses.{lefts, rights}
 use Rattle.pairlists.specs.PairLists.{pairLines, toOf, tosOf, pairsUp, listOf, settings, writePairs, fileRows, withinAll, writing, onList, onLines, onTypes, importRows, toFrom, upwards, onPairs, onExported, exportRows, exportOn, importOn}
-use Rattle.model.proofs.Basic.{bind-some, some-bind, none≢some, some-inj, some-pair, guard-true, true-guard, true-and, bool-cases, neither, le-leb, leb-le, ltb-false, not-ltb, eq-eqb, lt-ltb, mem-all, mem-index, index-mem, index-below, index-map, each-nil, each-cons}
-use Rattle.model.proofs.Letters.{inhabits-of, of-inhabits}
-use Rattle.model.proofs.Printing.{WellFormed, shown, printFields, length-print, length-printRows, lines-print, printed-reading, concat-lines}
+use Rattle.calculus.proofs.Basic.{bind-some, some-bind, none≢some, some-inj, some-pair, guard-true, true-guard, true-and, bool-cases, neither, le-leb, leb-le, ltb-false, not-ltb, eq-eqb, lt-ltb, mem-all, mem-index, index-mem, index-below, index-map, each-nil, each-cons}
+use Rattle.calculus.proofs.Letters.{inhabits-of, of-inhabits}
+use Rattle.format.proofs.Printing.{WellFormed, shown, printFields, length-print, length-printRows, lines-print, printed-reading, concat-lines}
 use Rattle.model.proofs.Files.{InForm, accepted-iff}
-use Rattle.model.proofs.Inverse.{reduce-inverse}
+use Rattle.calculus.proofs.Inverse.{reduce-inverse}
 use Rattle.model.proofs.Runs.{Good, results, preserves, GoodRows, good, good-invert, accepted-good}
 use Rattle.ranking.proofs.Outcomes.{fails≢gives, small-type}
 use Rattle.ranking.proofs.Numbering.{count-positive, rank-below, unrank-rank, unrank-inhabits, rank-unrank}

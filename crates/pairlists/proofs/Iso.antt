@@ -10,19 +10,19 @@ use mathlib.Core.Option.{Option, none, some}
 use mathlib.Core.List.{List, [], _∷_, _++_, map, List·Memᴰ, List·Memᴰ·head, List·Memᴰ·tail, List·Memᴰ·not-nil, Memᴰ·map, Memᴰ·of-map, Memᴰ·cast}
 use lib.Dec.{eqb, ltb}
 use lib.ListN.{length, getElem?}
-use Rattle.model.specs.Tools.{_>>=_, guard, isSome, all, select}
-use Rattle.model.specs.Trees.{Ty, tunit, tsum, tprod, Tag, left, right, Pat, punit, pvar, pinj, ppair, Val, vunit, vinj, vpair, Let, Clause, Iso, vars, part, nodes, tags, typeNodes}
-use Rattle.model.specs.Slots.{Slots, empty, allEmpty}
-use Rattle.model.specs.Clauses.{Sigs, sigsOf, lefts, rights, events, history, deeds, binds, uses}
-use Rattle.model.specs.Reduction.{Call, bind, build, runClause, hits, only, apply, reduceTo, reduce}
-use Rattle.model.specs.Letters.{letters, inhabits}
+use Rattle.calculus.specs.Tools.{_>>=_, guard, isSome, all, select}
+use Rattle.calculus.specs.Trees.{Ty, tunit, tsum, tprod, Tag, left, right, Pat, punit, pvar, pinj, ppair, Val, vunit, vinj, vpair, Let, Clause, Iso, vars, part, nodes, tags, typeNodes}
+use Rattle.calculus.specs.Slots.{Slots, empty, allEmpty}
+use Rattle.calculus.specs.Clauses.{Sigs, sigsOf, lefts, rights, events, history, deeds, binds, uses}
+use Rattle.calculus.specs.Reduction.{Call, bind, build, runClause, hits, only, apply, reduceTo, reduce}
+use Rattle.calculus.specs.Letters.{letters, inhabits}
 use Rattle.ranking.specs.Numbering.{count, rank, unrank}
-use Rattle.model.specs.Paper.{Of, Join, Fits, Chain, Linear, Alternate, BoundThenUsed, LetProducts, Orth, Apart, Matched, fill, Covers, ClauseOk, IsoOk, FileOk, Distinct, nobody, another}
-use Rattle.model.proofs.Basic.{bind-some, some-bind, none≢some, some-inj, true-guard, sameTag-refl, and-true, true-and, bool-cases, not-both, eqb-eq, eq-eqb, each-nil, each-cons, all-mem, mem-all, select-true, select-false, select-mem, is-false}
-use Rattle.model.proofs.Letters.{inhabits-of, of-inhabits}
-use Rattle.model.proofs.Slots.{length-empty, allEmpty-empty}
-use Rattle.model.proofs.Running.{run-clause, only-hit}
-use Rattle.model.proofs.Inverse.{reduce-unfold}
+use Rattle.calculus.specs.Paper.{Of, Join, Fits, Chain, Linear, Alternate, BoundThenUsed, LetProducts, Orth, Apart, Matched, fill, Covers, ClauseOk, IsoOk, FileOk, Distinct, nobody, another}
+use Rattle.calculus.proofs.Basic.{bind-some, some-bind, none≢some, some-inj, true-guard, sameTag-refl, and-true, true-and, bool-cases, not-both, eqb-eq, eq-eqb, each-nil, each-cons, all-mem, mem-all, select-true, select-false, select-mem, is-false}
+use Rattle.calculus.proofs.Letters.{inhabits-of, of-inhabits}
+use Rattle.calculus.proofs.Slots.{length-empty, allEmpty-empty}
+use Rattle.calculus.proofs.Running.{run-clause, only-hit}
+use Rattle.calculus.proofs.Inverse.{reduce-unfold}
 use Rattle.ranking.proofs.Numbering.{count-positive, rank-below, unrank-rank, unrank-inhabits, rank-unrank}
 use Rattle.pairlists.proofs.File.{closed, closedClauses, closedIso}
 

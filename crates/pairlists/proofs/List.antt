@@ -9,18 +9,18 @@ use mathlib.Core.Option.{Option, none, some}
 use mathlib.Core.List.{List, [], _∷_, _++_, map, append-assoc, append-nil, List·Memᴰ, List·Memᴰ·head, List·Memᴰ·tail, List·Memᴰ·not-nil, Memᴰ·map, Memᴰ·of-map, Memᴰ·cast}
 use lib.Dec.{eqb, ltb}
 use lib.ListN.{length, getElem?, length-map, length-append}
-use Rattle.model.specs.Limits.{budgetBound, comma, lineFeed, carriageReturn, digitZero}
-use Rattle.model.specs.Tools.{_>>=_, guard, all, select, concat}
-use Rattle.model.specs.Trees.{Ty, Val}
-use Rattle.model.specs.Lines.{lines, text, withoutReturns, isDigit, numeral, skip, ended, decimalOf, decimal}
+use Rattle.limits.specs.Limits.{budgetBound, comma, lineFeed, carriageReturn, digitZero}
+use Rattle.calculus.specs.Tools.{_>>=_, guard, all, select, concat}
+use Rattle.calculus.specs.Trees.{Ty, Val}
+use Rattle.format.specs.Lines.{lines, text, withoutReturns, isDigit, numeral, skip, ended, decimalOf, decimal}
 use Rattle.ranking.specs.Numbering.{count, rank, unrank}
 use Rattle.pairlists.specs.PairLists.{pairLine, pairLines, toIn, toOf, tosOf, noneTwice, pairsUp, listOf, settings}
-use Rattle.model.specs.Paper.{Of, Distinct, nobody, another}
-use Rattle.model.proofs.Basic.{bind-some, some-bind, none≢some, some-inj, guard-true, true-guard, and-true, true-and, bool-cases, not-both, not-true, eqb-eq, eq-eqb, not-eqb, eqb-false, ltb-lt, ltb-false, each-nil, each-cons, each-append, all-mem, mem-all, select-true, select-false, select-mem}
-use Rattle.model.proofs.Letters.{inhabits-of, of-inhabits}
-use Rattle.model.proofs.Numerals.{read-numeral, numeral-decimal, decimal-digits, digit-lower}
-use Rattle.model.proofs.Endings.{feed, NoReturn, Returnless, text-ended, text-feed, without-append, without-line}
-use Rattle.model.proofs.Printing.{skip-some, ended-some, concat-lines, lines-feed, NoFeed, Feedless}
+use Rattle.calculus.specs.Paper.{Of, Distinct, nobody, another}
+use Rattle.calculus.proofs.Basic.{bind-some, some-bind, none≢some, some-inj, guard-true, true-guard, and-true, true-and, bool-cases, not-both, not-true, eqb-eq, eq-eqb, not-eqb, eqb-false, ltb-lt, ltb-false, each-nil, each-cons, each-append, all-mem, mem-all, select-true, select-false, select-mem}
+use Rattle.calculus.proofs.Letters.{inhabits-of, of-inhabits}
+use Rattle.format.proofs.Numerals.{read-numeral, numeral-decimal, decimal-digits, digit-lower}
+use Rattle.format.proofs.Endings.{feed, NoReturn, Returnless, text-ended, text-feed, without-append, without-line}
+use Rattle.format.proofs.Printing.{skip-some, ended-some, concat-lines, lines-feed, NoFeed, Feedless}
 use Rattle.ranking.proofs.Numbering.{rank-below, unrank-rank, unrank-inhabits, rank-unrank}
 use Rattle.pairlists.proofs.Iso.{Differ, alone, beside, Lists, firsts, seconds}
 

@@ -7,16 +7,16 @@ use mathlib.Core.Logic.{_⊎_, inl, inr}
 use mathlib.Core.Option.{Option, none, some}
 use mathlib.Core.List.{List, [], _∷_, _++_, map, List·Memᴰ, List·Memᴰ·head, List·Memᴰ·tail, List·Memᴰ·not-nil}
 use lib.ListN.{length, getElem?}
-use Rattle.model.specs.Limits.{maxNodes, maxClauses, maxPatterns}
-use Rattle.model.specs.Trees.{Ty, Pat, Val, typeNodes}
-use Rattle.model.specs.Refusals.{Kind, typeLine, patternLine, isoLine, clauseLine}
-use Rattle.model.specs.Lines.{Row, letter, lines, rowOf, print, printRows}
-use Rattle.model.specs.Judge.{typeTree, patternTree}
-use Rattle.model.specs.Slots.{empty}
-use Rattle.model.specs.Reduction.{build}
+use Rattle.limits.specs.Limits.{maxNodes, maxClauses, maxPatterns}
+use Rattle.calculus.specs.Trees.{Ty, Pat, Val, typeNodes}
+use Rattle.calculus.specs.Refusals.{Kind, typeLine, patternLine, isoLine, clauseLine}
+use Rattle.format.specs.Lines.{Row, letter, lines, rowOf, print, printRows}
+use Rattle.format.specs.Judge.{typeTree, patternTree}
+use Rattle.calculus.specs.Slots.{empty}
+use Rattle.calculus.specs.Reduction.{build}
 use Rattle.model.specs.Services.{accepted, verdict}
-use Rattle.model.proofs.Basic.{none≢some, some-inj, index-mem, mem-index, index-of-map, each-nil, each-cons, each-append}
-use Rattle.model.proofs.Printing.{WellFormed, print-read, lines-print}
+use Rattle.calculus.proofs.Basic.{none≢some, some-inj, index-mem, mem-index, index-of-map, each-nil, each-cons, each-append}
+use Rattle.format.proofs.Printing.{WellFormed, print-read, lines-print}
 use Rattle.pairlists.specs.PairLists.{Entry, writeType, Written, writePairs, clauseRow, isoRow, settings, fileRows}
 use Rattle.pairlists.proofs.Rows.{nothing, once, ok-at}
 use Rattle.pairlists.proofs.File.{TypeOk, type-keep, type-mono, SmallType, type-written, PatternOk, pattern-keep, pattern-mono, SmallPattern, closed, Named, unnamed, one, SmallPair, pairs-written, FileWritten}

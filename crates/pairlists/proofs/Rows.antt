@@ -9,12 +9,12 @@ use mathlib.Core.Option.{Option, none, some}
 use mathlib.Core.List.{List, [], _∷_, _++_, append-assoc, append-nil, List·Memᴰ, List·Memᴰ·head, List·Memᴰ·tail, List·Memᴰ·not-nil}
 use lib.Dec.{eqb}
 use lib.ListN.{length, getElem?, getD, length-append}
-use Rattle.model.specs.Refusals.{Kind}
-use Rattle.model.specs.Lines.{Row, letter}
+use Rattle.calculus.specs.Refusals.{Kind}
+use Rattle.format.specs.Lines.{Row, letter}
 use Rattle.pairlists.specs.PairLists.{sameRow, find, enter, Entry, entry}
-use Rattle.model.proofs.Basic.{none≢some, some-inj, and-true, true-and, bool-cases, eqb-eq, eq-eqb, not-both, index-mem, index-below}
-use Rattle.model.proofs.Printing.{kindOf-letter}
-use Rattle.model.specs.Lines.{kindOf}
+use Rattle.calculus.proofs.Basic.{none≢some, some-inj, and-true, true-and, bool-cases, eqb-eq, eq-eqb, not-both, index-mem, index-below}
+use Rattle.format.proofs.Printing.{kindOf-letter}
+use Rattle.format.specs.Lines.{kindOf}
 
 -- ---- equal rows
 

@@ -9,23 +9,23 @@ use mathlib.Core.Option.{Option, none, some}
 use mathlib.Core.List.{List, [], _∷_, List·Memᴰ, map}
 use lib.Dec.{ltb, eqb, leb}
 use lib.ListN.{length, getElem?}
-use Rattle.model.specs.Limits.{maxPairs, maxClauses, maxPatterns, maxNodes}
-use Rattle.model.specs.Tools.{_>>=_, guard, all}
-use Rattle.model.specs.Trees.{Ty, Val, Iso}
-use Rattle.model.specs.Refusals.{Refusal, noIso, tooMany, ceiling, clauseLine, patternLine, badList, spent}
-use Rattle.model.specs.Lines.{Row, lines, printRows}
-use Rattle.model.specs.Judge.{start}
-use Rattle.model.specs.Unfold.{isosOf}
-use Rattle.model.specs.Reduction.{reduce}
-use Rattle.model.specs.Letters.{letters, inhabits}
+use Rattle.limits.specs.Limits.{maxPairs, maxClauses, maxPatterns, maxNodes}
+use Rattle.calculus.specs.Tools.{_>>=_, guard, all}
+use Rattle.calculus.specs.Trees.{Ty, Val, Iso}
+use Rattle.calculus.specs.Refusals.{Refusal, noIso, tooMany, ceiling, clauseLine, patternLine, badList, spent}
+use Rattle.format.specs.Lines.{Row, lines, printRows}
+use Rattle.format.specs.Judge.{start}
+use Rattle.format.specs.Unfold.{isosOf}
+use Rattle.calculus.specs.Reduction.{reduce}
+use Rattle.calculus.specs.Letters.{letters, inhabits}
 use Rattle.ranking.specs.Numbering.{count, rank, unrank, Outcome, fails, typesOf}
 use Rattle.ranking.specs.Numbering.{gives as pays}
 use Rattle.model.specs.Services.{Verdict, accepted, verdict, Ran, gives, failed, within, from, onIso, runRows, runOf, run, turned}
-use Rattle.model.specs.Paper.{Of}
+use Rattle.calculus.specs.Paper.{Of}
 use Rattle.model.specs.Answers.{RunIs, done}
 use Rattle.pairlists.specs.PairLists.{upwards, onPairs, onExported, exportRows, tosOf, noneTwice, pairsUp, listOf, settings, writePairs, fileRows, withinAll, toFrom, onList, onLines, onTypes, importRows}
-use Rattle.model.proofs.Basic.{bind-some, not-some, guard-true, leb-le, some-bind, some-inj, none≢some, true-guard, true-and, eq-eqb, lt-ltb, not-ltb, mem-all, index-mem, index-below}
-use Rattle.model.proofs.Letters.{value-letters, inhabits-of, of-inhabits}
+use Rattle.calculus.proofs.Basic.{bind-some, not-some, guard-true, leb-le, some-bind, some-inj, none≢some, true-guard, true-and, eq-eqb, lt-ltb, not-ltb, mem-all, index-mem, index-below}
+use Rattle.calculus.proofs.Letters.{value-letters, inhabits-of, of-inhabits}
 use Rattle.model.proofs.Runs.{accepted-good, good, preserves, reduces-iff, run-iff, there-and-back, run-back}
 use Rattle.ranking.proofs.Numbering.{unrank-inhabits, unrank-rank}
 use Rattle.ranking.proofs.Outcomes.{fails≢gives, small-type}

@@ -8,15 +8,15 @@ use mathlib.Core.List.{List, [], _∷_}
 use lib.Dec.{ltb}
 use lib.ListN.{length, take, drop, getElem?}
 use lib.Seq.{take-append-seam}
-use Rattle.model.specs.Limits.{maxPairs, tableLength, workLength, resultLength, exportLength, importLength}
-use Rattle.model.specs.Trees.{Ty, Iso}
-use Rattle.model.specs.Refusals.{number, spent}
-use Rattle.model.specs.Lines.{Row, lines, withoutReturns}
-use Rattle.model.specs.Unfold.{isosOf}
-use Rattle.model.specs.Letters.{letters}
+use Rattle.limits.specs.Limits.{maxPairs, tableLength, workLength, resultLength, exportLength, importLength}
+use Rattle.calculus.specs.Trees.{Ty, Iso}
+use Rattle.calculus.specs.Refusals.{number, spent}
+use Rattle.format.specs.Lines.{Row, lines, withoutReturns}
+use Rattle.format.specs.Unfold.{isosOf}
+use Rattle.calculus.specs.Letters.{letters}
 use Rattle.model.specs.Services.{Verdict, accepted, refused, verdict, written, tableAfter, workAfter, short, unless, answerOf, Checked, checkBy, check, Ran, run, RunResult, runBy, runService, failed}
 use Rattle.model.specs.Services.{gives as pays}
-use Rattle.model.proofs.Basic.{some-inj, lt-ltb, not-ltb}
+use Rattle.calculus.proofs.Basic.{some-inj, lt-ltb, not-ltb}
 use Rattle.model.proofs.Files.{number-positive}
 use Rattle.model.proofs.Sheets.{long-enough}
 use Rattle.ranking.specs.Numbering.{count, unrank, Outcome, gives, fails, typesOf, refusalOf, lettersFrom}

@@ -1,6 +1,6 @@
 -- Request 07: examples that shut out wrong readings. Each holds by computation.
 use mathlib.Core.Path.{_≡_, refl}
-use Rattle.model.specs.Refusals.{noIso, spent, badList}
+use Rattle.calculus.specs.Refusals.{noIso, spent, badList}
 use Rattle.model.specs.Services.{verdict}
 use Rattle.ranking.specs.Numbering.{Outcome, gives, fails}
 use Rattle.model.specs.Cases.{bytes, fileS}

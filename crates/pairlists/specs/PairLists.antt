@@ -6,14 +6,14 @@ use mathlib.Core.Option.{Option, none, some}
 use mathlib.Core.List.{List, [], _∷_, _++_}
 use lib.Dec.{ltb, leb, eqb}
 use lib.ListN.{length, getElem?}
-use Rattle.model.specs.Limits.{budgetBound, comma, lineFeed, maxClauses, maxPairs, exportLength, importLength}
-use Rattle.model.specs.Tools.{_>>=_, guard, all}
-use Rattle.model.specs.Trees.{Ty, tunit, tsum, tprod, left, right, Val, vunit, vinj, vpair, Iso}
-use Rattle.model.specs.Refusals.{Refusal, number, typeLine, patternLine, isoLine, clauseLine, noIso, spent, ceiling, tooMany, badList}
-use Rattle.model.specs.Lines.{Row, letter, lines, text, numeral, skip, ended, decimal, printRows}
-use Rattle.model.specs.Judge.{Seen, start, withinCeilings, after}
-use Rattle.model.specs.Unfold.{isosOf}
-use Rattle.model.specs.Reduction.{reduce}
+use Rattle.limits.specs.Limits.{budgetBound, comma, lineFeed, maxClauses, maxPairs, exportLength, importLength}
+use Rattle.calculus.specs.Tools.{_>>=_, guard, all}
+use Rattle.calculus.specs.Trees.{Ty, tunit, tsum, tprod, left, right, Val, vunit, vinj, vpair, Iso}
+use Rattle.calculus.specs.Refusals.{Refusal, number, typeLine, patternLine, isoLine, clauseLine, noIso, spent, ceiling, tooMany, badList}
+use Rattle.format.specs.Lines.{Row, letter, lines, text, numeral, skip, ended, decimal, printRows}
+use Rattle.format.specs.Judge.{Seen, start, withinCeilings, after}
+use Rattle.format.specs.Unfold.{isosOf}
+use Rattle.calculus.specs.Reduction.{reduce}
 use Rattle.ranking.specs.Numbering.{count, rank, unrank, Outcome, gives, fails, typesOf, refusalOf, lettersFrom}
 use Rattle.model.specs.Services.{Verdict, accepted, refused, verdict, Answer, written, tableAfter, workAfter, short, unless}
 

@@ -9,16 +9,16 @@ use mathlib.Core.Option.{Option, none, some}
 use mathlib.Core.List.{List, [], _∷_, _++_}
 use lib.ListN.{length, take, drop}
 use lib.Seq.{sets, sets-eq, take-append-seam}
-use Rattle.model.specs.Limits.{maxNodes}
-use Rattle.model.specs.Tools.{_>>=_}
-use Rattle.model.specs.Trees.{Ty, Tag, left, right, Pat, punit, pvar, pinj, ppair, Val, typeNodes, sameTag}
-use Rattle.model.specs.Letters.{letters}
-use Rattle.model.specs.Clauses.{clash}
+use Rattle.limits.specs.Limits.{maxNodes}
+use Rattle.calculus.specs.Tools.{_>>=_}
+use Rattle.calculus.specs.Trees.{Ty, Tag, left, right, Pat, punit, pvar, pinj, ppair, Val, typeNodes, sameTag}
+use Rattle.calculus.specs.Letters.{letters}
+use Rattle.calculus.specs.Clauses.{clash}
 use Rattle.witnesses.specs.Shapes.{Shape}
-use Rattle.model.specs.Paper.{Of}
+use Rattle.calculus.specs.Paper.{Of}
 use Rattle.witnesses.specs.Showing.{sooner}
 use Rattle.witnesses.specs.Seeking.{leastIn, meet, better, inBoth}
-use Rattle.model.proofs.Basic.{none≢some, some-inj, or-true}
+use Rattle.calculus.proofs.Basic.{none≢some, some-inj, or-true}
 use Rattle.model.proofs.Sizes.{of-small}
 use Rattle.witnesses.proofs.Overlaps.{leastIn-of, meet-shape, meet-some}
 use Rattle.areas.specs.Areas.{Writes}

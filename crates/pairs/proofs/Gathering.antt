@@ -9,14 +9,14 @@ use mathlib.Core.Option.{Option, none, some}
 use mathlib.Core.List.{List, [], _∷_, _++_, List·Memᴰ, List·Memᴰ·head, List·Memᴰ·tail}
 use lib.ListN.{length, getD, take, drop, drop-of-length-le, take-append-drop}
 use lib.Seq.{drop-cons}
-use Rattle.model.specs.Limits.{maxNodes}
-use Rattle.model.specs.Trees.{Ty, Pat, Val, typeNodes}
-use Rattle.model.specs.Letters.{letters}
+use Rattle.limits.specs.Limits.{maxNodes}
+use Rattle.calculus.specs.Trees.{Ty, Pat, Val, typeNodes}
+use Rattle.calculus.specs.Letters.{letters}
 use Rattle.model.specs.Services.{written}
 use Rattle.witnesses.specs.Shapes.{Shape}
 use Rattle.witnesses.specs.Showing.{sooner, twice, setting}
 use Rattle.witnesses.specs.Seeking.{better, inBoth, overlapWith, overlapIn}
-use Rattle.model.proofs.Basic.{not-both, bool-cases}
+use Rattle.calculus.proofs.Basic.{not-both, bool-cases}
 use Rattle.witnesses.proofs.Shortlex.{NotAfter, not-after-trans, not-after-sooner, sooner-not-after, total-order}
 use Rattle.witnesses.proofs.Overlaps.{overlap-setting}
 use Rattle.nodes.specs.Unfolding.{cellOf, patternOf}

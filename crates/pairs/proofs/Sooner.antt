@@ -11,7 +11,7 @@ use lib.ListN.{length, getD, set, take, drop, length-set, drop-of-length-le}
 use lib.Seq.{drop-cons, take-suc, getD-set-same, drop-set-lt}
 use Rattle.ranking.specs.Numbering.{before}
 use Rattle.witnesses.specs.Showing.{sooner}
-use Rattle.model.proofs.Basic.{lt-ltb, not-ltb, eq-eqb, not-eqb}
+use Rattle.calculus.proofs.Basic.{lt-ltb, not-ltb, eq-eqb, not-eqb}
 
 pub sooner-fewer : (x y : List ℕ) → length x < length y → true ≡ sooner x y
 sooner-fewer x y h = sym (ap (λ b. b || cond (eqb (length x) (length y)) (before x y) false) (lt-ltb h))

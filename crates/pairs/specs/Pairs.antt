@@ -4,13 +4,13 @@ use mathlib.Core.Path.{_≡_}
 use mathlib.Core.Option.{Option, none, some}
 use mathlib.Core.List.{List, [], _∷_, List·Memᴰ}
 use lib.ListN.{length, take, drop}
-use Rattle.model.specs.Limits.{maxNodes}
-use Rattle.model.specs.Trees.{Ty, Pat, Val, typeNodes}
-use Rattle.model.specs.Letters.{letters}
+use Rattle.limits.specs.Limits.{maxNodes}
+use Rattle.calculus.specs.Trees.{Ty, Pat, Val, typeNodes}
+use Rattle.calculus.specs.Letters.{letters}
 use Rattle.model.specs.Services.{written}
 use Rattle.witnesses.specs.Shapes.{Shape, Side}
 use Rattle.witnesses.specs.Showing.{twice, setting}
-use Rattle.model.specs.Paper.{Of}
+use Rattle.calculus.specs.Paper.{Of}
 use Rattle.witnesses.specs.Seeking.{better, inBoth, overlapIn}
 
 -- the first `best` bytes of an area are the letters of a value of the type; 0 stands for none

@@ -7,7 +7,7 @@ use words::wide;
 ghost use mathlib.Core.Path.{_≡_};
 ghost use Prim.Native.Nat.{_≤_};
 ghost use lib.ListN.{length, take, drop};
-ghost use Rattle.model.specs.Limits.{tableLength};
+ghost use Rattle.limits.specs.Limits.{tableLength};
 ghost use Rattle.witnesses.specs.Showing.{sooner};
 ghost use Rattle.nodes.specs.Unfolding.{typeOf, patternOf};
 ghost use Rattle.nodes.specs.InTable.{patternsAt};
@@ -48,7 +48,8 @@ fn copy_front(from: &[u8], n: usize, out: &mut [u8])
     }
 }
 
-// Keeps in an area the letters of the sooner of two: the value kept there, if any, and the least that P lines p and q both match.
+// Keeps in an area the letters of the sooner of two: the value kept there, if any, and the least that P
+// lines p and q both match.
 pub fn with_pair(
     t: &[u16],
     base: usize,
@@ -59,7 +60,10 @@ pub fn with_pair(
     out: &mut [u8],
 ) -> usize
     requires { ⌜ (tableLength ≤ length (now t)) × (127 ≤ length (now out)) × (best ≤ 127) ⌝ }
-    ensures { λ r. ⌜ (r ≤ 127) × Adds (typeOf (now (t .entry)) i) (patternOf (now (t .entry)) base p) (patternOf (now (t .entry)) base q) (now (out .entry)) (now (out .exit)) best r ⌝ }
+    ensures { λ r. ⌜
+        (r ≤ 127) × Adds (typeOf (now (t .entry)) i) (patternOf (now (t .entry)) base p)
+        (patternOf (now (t .entry)) base q) (now (out .entry)) (now (out .exit)) best r
+        ⌝ }
 {
     let c = compare(t, base, p, q);
     if c.clash {
@@ -81,7 +85,7 @@ pub fn with_pair(
     n
 }
 
-// The same for P line p with each pattern in field f of the rows from place `from` on.
+// The same for P line p with each pattern in field f of the rows.
 pub fn add_row(
     t: &[u16],
     base: usize,
@@ -93,7 +97,11 @@ pub fn add_row(
     out: &mut [u8],
 ) -> usize
     requires { ⌜ (tableLength ≤ length (now t)) × (127 ≤ length (now out)) × (best ≤ 127) ⌝ }
-    ensures { λ r. ⌜ (r ≤ 127) × AddsAll (typeOf (now (t .entry)) i) (patternOf (now (t .entry)) base p) (patternsAt (now (t .entry)) base f (now (rows .entry))) (now (out .entry)) (now (out .exit)) best r ⌝ }
+    ensures { λ r. ⌜
+        (r ≤ 127) × AddsAll (typeOf (now (t .entry)) i) (patternOf (now (t .entry)) base p)
+        (patternsAt (now (t .entry)) base f (now (rows .entry))) (now (out .entry))
+        (now (out .exit)) best r
+        ⌝ }
 {
     let mut b = best;
     let mut y = rows.len();
@@ -105,8 +113,8 @@ pub fn add_row(
     b
 }
 
-// Writes the letters of the least value of T line i that two of the patterns in field f of the rows match, and gives their number; 0 where
-// there is none.
+// Keeps the letters of the least value of T line i that two of the patterns in field f of the rows match,
+// and gives their number; 0 where there is none. What lies behind them may have changed.
 pub fn overlap_value(
     t: &[u16],
     base: usize,
@@ -116,7 +124,11 @@ pub fn overlap_value(
     out: &mut [u8],
 ) -> usize
     requires { ⌜ (tableLength ≤ length (now t)) × (127 ≤ length (now out)) ⌝ }
-    ensures { λ r. ⌜ (r ≤ 127) × Keeps (typeOf (now (t .entry)) i) (patternsAt (now (t .entry)) base f (now (rows .entry))) (now (out .exit)) r ⌝ }
+    ensures { λ r. ⌜
+        (r ≤ 127)
+        × Keeps (typeOf (now (t .entry)) i) (patternsAt (now (t .entry)) base f (now (rows .entry)))
+        (now (out .exit)) r
+        ⌝ }
 {
     let mut best: usize = 0;
     let mut x = rows.len();
@@ -129,7 +141,7 @@ pub fn overlap_value(
     best
 }
 
-// The same, with the bytes past the letters left as they were.
+// Writes the same letters, with the bytes past them left as they were.
 pub fn show_overlap(
     t: &[u16],
     base: usize,
@@ -139,7 +151,10 @@ pub fn show_overlap(
     out: &mut [u8],
 ) -> usize
     requires { ⌜ (tableLength ≤ length (now t)) × (127 ≤ length (now out)) ⌝ }
-    ensures { λ r. ⌜ OverlapValue (typeOf (now (t .entry)) i) (patternsAt (now (t .entry)) base f (now (rows .entry))) (now (out .entry)) (now (out .exit)) r ⌝ }
+    ensures { λ r. ⌜
+        OverlapValue (typeOf (now (t .entry)) i) (patternsAt (now (t .entry)) base f (now (rows .entry)))
+        (now (out .entry)) (now (out .exit)) r
+        ⌝ }
 {
     let mut kept = [0u8; 127];
     let n = overlap_value(t, base, f, rows, i, &mut kept);

@@ -8,8 +8,8 @@ use mathlib.Core.List.{List, _∷_, _++_}
 use lib.Dec.{ltb}
 use lib.ListN.{length, getD, set, take, drop, length-append}
 use lib.Seq.{slice, take-take, take-set-le}
-use Rattle.model.specs.Trees.{Tag, left, right, Pat, punit, pvar, pinj, ppair}
-use Rattle.model.specs.Letters.{letterOf}
+use Rattle.calculus.specs.Trees.{Tag, left, right, Pat, punit, pvar, pinj, ppair}
+use Rattle.calculus.specs.Letters.{letterOf}
 use Rattle.areas.specs.Areas.{Writes}
 use Rattle.areas.proofs.Writing.{writes-one, writes-both, writes-as}
 use Rattle.nodes.specs.Unfolding.{cellOf, smallerOf, patternOf}

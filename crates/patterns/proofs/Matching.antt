@@ -10,9 +10,9 @@ use mathlib.Core.List.{List}
 use lib.Dec.{eqb, ltb}
 use lib.ListN.{length, getD, set, length-append}
 use borrow.Author.Tests.{lt-ltb, le-ltb, eq-eqb, ne-eqb}
-use Rattle.model.specs.Trees.{Tag, left, right, Pat, punit, pvar, pinj, ppair, Val, vunit, vinj, vpair}
-use Rattle.model.specs.Letters.{letters}
-use Rattle.model.proofs.Basic.{and-true, eqb-eq}
+use Rattle.calculus.specs.Trees.{Tag, left, right, Pat, punit, pvar, pinj, ppair, Val, vunit, vinj, vpair}
+use Rattle.calculus.specs.Letters.{letters}
+use Rattle.calculus.proofs.Basic.{and-true, eqb-eq}
 use Rattle.nodes.specs.Unfolding.{cellOf, smallerOf, patternOf}
 use Rattle.nodes.proofs.Unfolding.{pattern-unit, pattern-var, pattern-left, pattern-right, pattern-pair}
 use Rattle.values.specs.declared.Upto as U

@@ -10,8 +10,8 @@ use lib.Dec.{eqb}
 use lib.ListN.{length, getD, drop, length-append, length-drop}
 use lib.Seq.{getD-drop, drop-drop, drop-append-seam}
 use borrow.Author.Tests.{eq-eqb, ne-eqb}
-use Rattle.model.specs.Trees.{Tag, left, right, Val, vunit, vinj, vpair}
-use Rattle.model.specs.Letters.{letters, letterU, letterP, letterOf}
+use Rattle.calculus.specs.Trees.{Tag, left, right, Val, vunit, vinj, vpair}
+use Rattle.calculus.specs.Letters.{letters, letterU, letterP, letterOf}
 use Rattle.values.specs.Texts.{At}
 
 -- ---- the first letter

@@ -28,8 +28,8 @@ ghost use mathlib.Core.Bool.{cond, _&&_};
 ghost use Prim.Native.Nat.{ℕ, _+_, _-_, _≤_, _<_};
 ghost use lib.Dec.{eqb, ltb};
 ghost use lib.ListN.{length, getD, take};
-ghost use Rattle.model.specs.Trees.{pvar, Val};
-ghost use Rattle.model.specs.Letters.{letters};
+ghost use Rattle.calculus.specs.Trees.{pvar, Val};
+ghost use Rattle.calculus.specs.Letters.{letters};
 ghost use Rattle.areas.specs.Areas.{Writes};
 ghost use Rattle.nodes.specs.Unfolding.{cellOf, smallerOf, patternOf};
 ghost use Rattle.values.specs.Texts.{At, Ends, letterFor, alike, matched, putRange, ranges, rangeOf, built, Below};
@@ -93,7 +93,10 @@ fn known_end(s: &[u8], at: usize, end: usize) -> usize
 // Matches variable n with the value that begins at a place.
 fn match_var(s: &[u8], at: usize, end: usize, n: usize, vars: &mut [u16]) -> Upto
     ensures { λ r. ⌜ ((v : Val) → At (now (s .entry)) at v → Ends end at v → r ≡ matched (alike (pvar n) v) (at + length (letters v))) ⌝ }
-    ensures { λ r. ⌜ ((v : Val) → At (now (s .entry)) at v → Ends end at v → now (vars .exit) ≡ ranges (pvar n) v at (now (vars .entry))) ⌝ }
+    ensures { λ r. ⌜
+        ((v : Val) → At (now (s .entry)) at v → Ends end at v
+        → now (vars .exit) ≡ ranges (pvar n) v at (now (vars .entry)))
+        ⌝ }
 {
     let stop = known_end(s, at, end);
     put_range(vars, n, at, stop);
@@ -146,8 +149,14 @@ pub fn match_at(
     end: usize,
     vars: &mut [u16],
 ) -> Upto
-    ensures { λ r. ⌜ ((v : Val) → At (now (s .entry)) at v → Ends end at v → r ≡ matched (alike (patternOf (now (t .entry)) base j) v) (at + length (letters v))) ⌝ }
-    ensures { λ r. ⌜ ((v : Val) → At (now (s .entry)) at v → Ends end at v → now (vars .exit) ≡ ranges (patternOf (now (t .entry)) base j) v at (now (vars .entry))) ⌝ }
+    ensures { λ r. ⌜
+        ((v : Val) → At (now (s .entry)) at v → Ends end at v
+        → r ≡ matched (alike (patternOf (now (t .entry)) base j) v) (at + length (letters v)))
+        ⌝ }
+    ensures { λ r. ⌜
+        ((v : Val) → At (now (s .entry)) at v → Ends end at v
+        → now (vars .exit) ≡ ranges (patternOf (now (t .entry)) base j) v at (now (vars .entry)))
+        ⌝ }
 {
     let kind = pattern_cell(t, base, j, KIND);
     if kind == VARIABLE {
@@ -172,7 +181,11 @@ pub fn match_at(
 // Writes the letters that variable n stands for; gives where they end.
 fn build_var(n: usize, vars: &[u16], work: &mut [u8], at: usize) -> usize
     requires { ⌜ n < 65536 ⌝ }
-    ensures { λ r. ⌜ ((top : ℕ) → Below (now (vars .entry)) top → top ≤ at → Writes (now (work .entry)) (now (work .exit)) at r (rangeOf (take top (now (work .entry))) (now (vars .entry)) n)) ⌝ }
+    ensures { λ r. ⌜
+        ((top : ℕ) → Below (now (vars .entry)) top → top ≤ at
+        → Writes (now (work .entry)) (now (work .exit)) at r
+        (rangeOf (take top (now (work .entry))) (now (vars .entry)) n))
+        ⌝ }
 {
     let from = wide(word_at(vars, n));
     copy_range(work, from, wide(word_at(vars, VARIABLES + n)), at)
@@ -180,7 +193,11 @@ fn build_var(n: usize, vars: &[u16], work: &mut [u8], at: usize) -> usize
 
 // Writes P line j with its variables' values put in; gives where it ends.
 pub fn build_at(t: &[u16], base: usize, j: usize, vars: &[u16], work: &mut [u8], at: usize) -> usize
-    ensures { λ r. ⌜ ((top : ℕ) → Below (now (vars .entry)) top → top ≤ at → Writes (now (work .entry)) (now (work .exit)) at r (built (patternOf (now (t .entry)) base j) (take top (now (work .entry))) (now (vars .entry)))) ⌝ }
+    ensures { λ r. ⌜
+        ((top : ℕ) → Below (now (vars .entry)) top → top ≤ at
+        → Writes (now (work .entry)) (now (work .exit)) at r
+        (built (patternOf (now (t .entry)) base j) (take top (now (work .entry))) (now (vars .entry))))
+        ⌝ }
 {
     let kind = pattern_cell(t, base, j, KIND);
     if kind == VARIABLE {

@@ -8,11 +8,11 @@ use lib.Dec.{ltb}
 use lib.ListN.{length, set, take}
 use Rattle.areas.specs.Areas.{Writes}
 use Rattle.areas.proofs.Writing.{writes-one, writes-both, writes-as}
-use Rattle.model.specs.Limits.{comma, digitZero, lineFeed}
-use Rattle.model.specs.Refusals.{Kind, typeLine, patternLine, isoLine, clauseLine, letLine}
-use Rattle.model.specs.Lines.{Row, letter, fieldCount, decimal, printField, print}
-use Rattle.model.proofs.Numerals.{decimal-small, decimal-snoc}
-use Rattle.model.proofs.Printing.{printFields, print-shape}
+use Rattle.limits.specs.Limits.{comma, digitZero, lineFeed}
+use Rattle.calculus.specs.Refusals.{Kind, typeLine, patternLine, isoLine, clauseLine, letLine}
+use Rattle.format.specs.Lines.{Row, letter, fieldCount, decimal, printField, print}
+use Rattle.format.proofs.Numerals.{decimal-small, decimal-snoc}
+use Rattle.format.proofs.Printing.{printFields, print-shape}
 
 -- ---- numbers
 

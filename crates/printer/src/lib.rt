@@ -3,13 +3,13 @@
 use areas::put_byte;
 use codes::COMMA;
 use codes::LINE_FEED;
+use format::Row;
 use forms::fields_of;
 use forms::letter_of;
-use model::Row;
 ghost use mathlib.Core.Path.{_≡_};
 ghost use Prim.Native.Nat.{_+_, _%_, _<_};
-ghost use Rattle.model.specs.Lines.{decimal, printField, print};
-ghost use Rattle.model.specs.Code.{rowView};
+ghost use Rattle.format.specs.Lines.{decimal, printField, print};
+ghost use Rattle.format.specs.Code.{rowView};
 ghost use Rattle.areas.specs.Areas.{Writes};
 
 // The code of a number's last digit.
@@ -40,7 +40,10 @@ pub fn put_field(out: &mut [u8], at: usize, n: usize) -> usize
 
 // A row as a line of the file.
 pub fn put_row(out: &mut [u8], at: usize, r: Row) -> usize
-    ensures { λ n. ⌜ (r .x < 10000000000 → r .y < 10000000000 → r .z < 10000000000 → Writes (now (out .entry)) (now (out .exit)) at n (print (rowView r))) ⌝ }
+    ensures { λ n. ⌜
+        (r .x < 10000000000 → r .y < 10000000000 → r .z < 10000000000
+        → Writes (now (out .entry)) (now (out .exit)) at n (print (rowView r)))
+        ⌝ }
 {
     let k = r.kind;
     let x = put_byte(out, at, letter_of(k));

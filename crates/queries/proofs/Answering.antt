@@ -8,8 +8,8 @@ use mathlib.Core.List.{List, [], _∷_, _++_, append-assoc}
 use lib.Dec.{ltb}
 use lib.ListN.{length, getD, take, set}
 use lib.Seq.{take-suc, take-all}
-use Rattle.model.specs.Limits.{lineFeed, comma}
-use Rattle.model.specs.Lines.{decimal, printField}
+use Rattle.limits.specs.Limits.{lineFeed, comma}
+use Rattle.format.specs.Lines.{decimal, printField}
 use Rattle.model.specs.Desk.{queryLine, fileLine}
 use Rattle.areas.specs.Areas.{Writes}
 use Rattle.areas.proofs.Writing.{writes-none, writes-one, writes-both, writes-as}

@@ -9,12 +9,12 @@ use lib.Dec.{eqb}
 use lib.ListN.{length, getD, take, drop, length-take}
 use lib.Seq.{slice, take-all, take-take}
 use borrow.Author.Tests.{le-leb}
-use Rattle.model.specs.Limits.{comma, letterQ, fieldBound, budgetBound}
-use Rattle.model.specs.Tools.{_>>=_}
-use Rattle.model.specs.Lines.{text, skip, numeral, fields}
+use Rattle.limits.specs.Limits.{comma, letterQ, fieldBound, budgetBound}
+use Rattle.calculus.specs.Tools.{_>>=_}
+use Rattle.format.specs.Lines.{text, skip, numeral, fields}
 use Rattle.model.specs.Desk.{Query, queryIn, queryOf}
-use Rattle.model.proofs.Basic.{bind-some, some-bind}
-use Rattle.model.proofs.Numerals.{read-numeral}
+use Rattle.calculus.proofs.Basic.{bind-some, some-bind}
+use Rattle.format.proofs.Numerals.{read-numeral}
 use Rattle.fields.specs.Views.{asField}
 use Rattle.fields.proofs.Fields.{onto, fields-some, fields-none}
 use Rattle.queries.proofs.Streaming.{query-cap}

@@ -8,14 +8,14 @@ use mathlib.Core.Option.{none}
 use mathlib.Core.List.{List, [], _∷_, _++_, List·Memᴰ·head, List·Memᴰ·tail, append-assoc, append-nil}
 use lib.Dec.{eqb}
 use lib.ListN.{length, length-append}
-use Rattle.model.specs.Limits.{lineFeed, letterQ, maxBytes}
-use Rattle.model.specs.Tools.{concat}
-use Rattle.model.specs.Refusals.{tooLong}
-use Rattle.model.specs.Lines.{Row, lines, ontoFirst}
+use Rattle.limits.specs.Limits.{lineFeed, letterQ, maxBytes}
+use Rattle.calculus.specs.Tools.{concat}
+use Rattle.calculus.specs.Refusals.{tooLong}
+use Rattle.format.specs.Lines.{Row, lines, ontoFirst}
 use Rattle.model.specs.Services.{Verdict, accepted, refused, verdict, answerOf, answerOfRun}
 use Rattle.model.specs.Desk.{isQuery, fileLines, queryLines, queryOf, answerTo, queryAnswers, queryLine, fileLine, desk}
-use Rattle.model.proofs.Basic.{bool-cases, not-both, and-true, eqb-eq, each-nil, each-cons, each-append, not-leb, ltb-lt}
-use Rattle.model.proofs.Printing.{NoFeed, Feedless, lines-feed, lines-last}
+use Rattle.calculus.proofs.Basic.{bool-cases, not-both, and-true, eqb-eq, each-nil, each-cons, each-append, not-leb, ltb-lt}
+use Rattle.format.proofs.Printing.{NoFeed, Feedless, lines-feed, lines-last}
 use Rattle.model.proofs.Files.{verdict-long}
 use Rattle.queries.specs.Stream.{State, collecting, asking, stopped, Step, opensFrom, opens, begun, close, answered, step, finish, behind, steps, output, settled}
 

@@ -4,8 +4,8 @@ use mathlib.Core.Bool.{Bool, true, false, cond, _&&_}
 use mathlib.Core.List.{List, [], _∷_, _++_}
 use lib.Dec.{eqb, ltb}
 use lib.ListN.{length}
-use Rattle.model.specs.Limits.{lineFeed, letterQ, maxBytes}
-use Rattle.model.specs.Lines.{Row}
+use Rattle.limits.specs.Limits.{lineFeed, letterQ, maxBytes}
+use Rattle.format.specs.Lines.{Row}
 use Rattle.model.specs.Services.{Verdict, accepted, refused, verdict, answerOf, answerOfRun}
 use Rattle.model.specs.Desk.{queryOf, answerTo, queryLine, fileLine}
 

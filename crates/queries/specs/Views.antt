@@ -5,9 +5,9 @@ use mathlib.Core.List.{List, [], _∷_}
 use lib.Dec.{eqb}
 use lib.ListN.{length, getD}
 use lib.Seq.{slice}
-use Rattle.model.specs.Limits.{fieldBound, budgetBound, comma}
-use Rattle.model.specs.Tools.{_>>=_}
-use Rattle.model.specs.Lines.{skip, fields}
+use Rattle.limits.specs.Limits.{fieldBound, budgetBound, comma}
+use Rattle.calculus.specs.Tools.{_>>=_}
+use Rattle.format.specs.Lines.{skip, fields}
 use Rattle.model.specs.Desk.{Query}
 use Rattle.queries.specs.declared.Query as Q
 use Rattle.queries.specs.declared.Asked as A

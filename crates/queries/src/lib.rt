@@ -43,7 +43,11 @@ fn narrow(n: usize) -> u32
 
 // The query of these numbers in a text, where its letters begin at a cursor.
 fn with_letters(iso: usize, direction: usize, budget: usize, c: Cursor, s: &[u8]) -> Asked
-    ensures { λ r. ⌜ (budget < 4294967296 → asQuery (now (s .entry)) r ≡ withLetters iso direction budget (drop (c .at) (now (s .entry)))) × Within (now (s .entry)) r ⌝ }
+    ensures { λ r. ⌜
+        (budget < 4294967296
+        → asQuery (now (s .entry)) r ≡ withLetters iso direction budget (drop (c .at) (now (s .entry))))
+        × Within (now (s .entry)) r
+        ⌝ }
 {
     Asked::Of(Query {
         iso: iso,
@@ -128,7 +132,10 @@ fn widen(n: u32) -> usize
 
 // The line that answers a file: its number and line.
 pub fn put_verdict(out: &mut [u8], at: usize, number: u8, line: usize) -> usize
-    ensures { λ r. ⌜ (line < 10000000000 → Writes (now (out .entry)) (now (out .exit)) at r (fileLine (record { number = number; line = line }))) ⌝ }
+    ensures { λ r. ⌜
+        (line < 10000000000 → Writes (now (out .entry)) (now (out .exit)) at r
+        (fileLine (record { number = number; line = line })))
+        ⌝ }
 {
     let n = wide(number);
     let a = put_number(out, at, n);
@@ -138,7 +145,10 @@ pub fn put_verdict(out: &mut [u8], at: usize, number: u8, line: usize) -> usize
 
 // The line that answers a query: its number, count and letters.
 pub fn put_answer(out: &mut [u8], at: usize, number: u8, count: u32, letters: &[u8]) -> usize
-    ensures { λ r. ⌜ Writes (now (out .entry)) (now (out .exit)) at r (queryLine (record { number = number; count = count; letters = now (letters .entry) })) ⌝ }
+    ensures { λ r. ⌜
+        Writes (now (out .entry)) (now (out .exit)) at r
+        (queryLine (record { number = number; count = count; letters = now (letters .entry) }))
+        ⌝ }
 {
     let n = wide(number);
     let k = widen(count);

@@ -9,13 +9,13 @@ use mathlib.Core.Bool.{Bool, true, false, cond, _||_}
 use mathlib.Core.List.{List, [], _++_, append-assoc, append-nil}
 use lib.Dec.{ltb, eqb}
 use lib.ListN.{length}
-use Rattle.model.specs.Limits.{maxNodes, maxValues}
-use Rattle.model.specs.Trees.{Ty, tunit, tsum, tprod, left, right, Val, vinj, vpair, typeNodes}
-use Rattle.model.specs.Letters.{letters, inhabits}
-use Rattle.model.specs.Paper.{Of}
+use Rattle.limits.specs.Limits.{maxNodes, maxValues}
+use Rattle.calculus.specs.Trees.{Ty, tunit, tsum, tprod, left, right, Val, vinj, vpair, typeNodes}
+use Rattle.calculus.specs.Letters.{letters, inhabits}
+use Rattle.calculus.specs.Paper.{Of}
 use Rattle.ranking.specs.Numbering.{count, rank, unrank, before}
-use Rattle.model.proofs.Basic.{true-and, true-or-left, eq-eqb, not-eqb, lt-ltb, not-ltb, le-or-lt}
-use Rattle.model.proofs.Letters.{inhabits-of}
+use Rattle.calculus.proofs.Basic.{true-and, true-or-left, eq-eqb, not-eqb, lt-ltb, not-ltb, le-or-lt}
+use Rattle.calculus.proofs.Letters.{inhabits-of}
 use Rattle.model.proofs.Sizes.{of-small}
 
 -- ---- counts

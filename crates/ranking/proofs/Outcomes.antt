@@ -9,16 +9,16 @@ use mathlib.Core.Option.{Option, none, some}
 use mathlib.Core.List.{List, [], _∷_}
 use lib.Dec.{ltb}
 use lib.ListN.{length, getD, getElem?}
-use Rattle.model.specs.Limits.{maxNodes, maxValues, resultLength}
-use Rattle.model.specs.Tools.{_>>=_, guard}
-use Rattle.model.specs.Trees.{Ty, tunit, Val, typeNodes}
-use Rattle.model.specs.Refusals.{Refusal, noIso, noValue, tooMany, tooHigh}
-use Rattle.model.specs.Lines.{Row}
-use Rattle.model.specs.Letters.{letters, inhabits}
+use Rattle.limits.specs.Limits.{maxNodes, maxValues, resultLength}
+use Rattle.calculus.specs.Tools.{_>>=_, guard}
+use Rattle.calculus.specs.Trees.{Ty, tunit, Val, typeNodes}
+use Rattle.calculus.specs.Refusals.{Refusal, noIso, noValue, tooMany, tooHigh}
+use Rattle.format.specs.Lines.{Row}
+use Rattle.calculus.specs.Letters.{letters, inhabits}
 use Rattle.model.specs.Services.{Verdict, accepted, refused, verdict, valueIn}
-use Rattle.model.specs.Paper.{Of}
-use Rattle.model.proofs.Basic.{some-bind, none≢some, some-inj, not-some, true-guard, ltb-lt, lt-ltb, ltb-false, not-ltb}
-use Rattle.model.proofs.Letters.{value-letters, inhabits-of, of-inhabits}
+use Rattle.calculus.specs.Paper.{Of}
+use Rattle.calculus.proofs.Basic.{some-bind, none≢some, some-inj, not-some, true-guard, ltb-lt, lt-ltb, ltb-false, not-ltb}
+use Rattle.calculus.proofs.Letters.{value-letters, inhabits-of, of-inhabits}
 use Rattle.model.proofs.Runs.{accepted-good, value-in}
 use Rattle.model.proofs.Sizes.{types-small}
 use Rattle.ranking.specs.Numbering.{count, rank, unrank, before, Outcome, gives, fails, typesOf, onType, numberIn, toNumber, toSetting, numberOn, settingOn}

@@ -8,10 +8,10 @@ use mathlib.Core.List.{List, []}
 use lib.Dec.{ltb}
 use lib.ListN.{length, take, drop}
 use lib.Seq.{take-append-seam, drop-append-seam}
-use Rattle.model.specs.Limits.{tableLength, workLength, resultLength, maxValues}
-use Rattle.model.specs.Lines.{Row}
+use Rattle.limits.specs.Limits.{tableLength, workLength, resultLength, maxValues}
+use Rattle.format.specs.Lines.{Row}
 use Rattle.model.specs.Services.{Verdict, accepted, refused, verdict, written, tableAfter, workAfter, short, unless, answerOf, check}
-use Rattle.model.proofs.Basic.{lt-ltb, not-ltb, ltb-false, neither}
+use Rattle.calculus.proofs.Basic.{lt-ltb, not-ltb, ltb-false, neither}
 use Rattle.model.proofs.Files.{number-positive}
 use Rattle.model.proofs.Sheets.{long-enough, written-length}
 use Rattle.ranking.specs.Numbering.{before, Outcome, gives, fails, numberOn, settingOn, refusalOf, numberFrom, lettersFrom, Numbered, Lettered, numberedBy, letteredBy, numberService, settingService}

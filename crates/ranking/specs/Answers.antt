@@ -4,12 +4,12 @@ use mathlib.Core.Path.{_≡_}
 use mathlib.Core.Option.{none, some}
 use mathlib.Core.List.{List}
 use lib.ListN.{getElem?}
-use Rattle.model.specs.Limits.{maxValues}
-use Rattle.model.specs.Trees.{Ty, Val}
-use Rattle.model.specs.Refusals.{Refusal, noIso, noValue, tooMany, tooHigh}
-use Rattle.model.specs.Lines.{Row}
-use Rattle.model.specs.Letters.{letters}
-use Rattle.model.specs.Paper.{Of}
+use Rattle.limits.specs.Limits.{maxValues}
+use Rattle.calculus.specs.Trees.{Ty, Val}
+use Rattle.calculus.specs.Refusals.{Refusal, noIso, noValue, tooMany, tooHigh}
+use Rattle.format.specs.Lines.{Row}
+use Rattle.calculus.specs.Letters.{letters}
+use Rattle.calculus.specs.Paper.{Of}
 use Rattle.ranking.specs.Numbering.{count, rank, Outcome, gives, fails, typesOf}
 
 -- "An absent T line is 15"; "18 "too many values", a count above 4,294,967,295 …, after 15"

@@ -5,12 +5,12 @@ use mathlib.Core.Option.{Option, none, some}
 use mathlib.Core.List.{List, [], _∷_}
 use lib.Dec.{ltb, eqb}
 use lib.ListN.{length, getElem?}
-use Rattle.model.specs.Limits.{resultLength, maxValues}
-use Rattle.model.specs.Trees.{Ty, tunit, tsum, tprod, Tag, left, right, Val, vunit, vinj, vpair, part}
-use Rattle.model.specs.Refusals.{Refusal, number, noIso, noValue, tooMany, tooHigh}
-use Rattle.model.specs.Lines.{Row}
-use Rattle.model.specs.Judge.{start, afterAll}
-use Rattle.model.specs.Letters.{letters, valueOf}
+use Rattle.limits.specs.Limits.{resultLength, maxValues}
+use Rattle.calculus.specs.Trees.{Ty, tunit, tsum, tprod, Tag, left, right, Val, vunit, vinj, vpair, part}
+use Rattle.calculus.specs.Refusals.{Refusal, number, noIso, noValue, tooMany, tooHigh}
+use Rattle.format.specs.Lines.{Row}
+use Rattle.format.specs.Judge.{start, afterAll}
+use Rattle.calculus.specs.Letters.{letters, valueOf}
 use Rattle.model.specs.Services.{Verdict, accepted, refused, verdict, valueIn, written, tableAfter, workAfter, short, unless}
 
 -- how many closed values a type has

@@ -9,13 +9,13 @@ use mathlib.Core.Logic.{_⊎_, inl, inr}
 use mathlib.Core.List.{List, [], _∷_, _++_, append-assoc}
 use lib.ListN.{length, getD, getElem?, take, drop, replicate, length-append, drop-of-length-le, take-append-drop}
 use lib.Seq.{sets, slice, sets-eq, length-take-le, take-at, drop-at, take-take}
-use Rattle.model.specs.Limits.{variables, maxLets}
-use Rattle.model.specs.Trees.{Pat, Val, Let, Clause, Iso}
-use Rattle.model.specs.Slots.{Slots, empty}
-use Rattle.model.specs.Letters.{letters}
-use Rattle.model.specs.Reduction.{bind, build}
-use Rattle.model.proofs.Basic.{not-both, index-below, le-or-lt}
-use Rattle.model.proofs.Binding.{bind-length, build-length}
+use Rattle.limits.specs.Limits.{variables, maxLets}
+use Rattle.calculus.specs.Trees.{Pat, Val, Let, Clause, Iso}
+use Rattle.calculus.specs.Slots.{Slots, empty}
+use Rattle.calculus.specs.Letters.{letters}
+use Rattle.calculus.specs.Reduction.{bind, build}
+use Rattle.calculus.proofs.Basic.{not-both, index-below, le-or-lt}
+use Rattle.calculus.proofs.Binding.{bind-length, build-length}
 use Rattle.areas.specs.Areas.{Writes}
 use Rattle.nodes.specs.Unfolding.{cellOf, patternOf}
 use Rattle.nodes.specs.InTable.{letAt, clauseIn}

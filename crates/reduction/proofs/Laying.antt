@@ -10,14 +10,14 @@ use mathlib.Core.List.{List, [], _∷_, _++_, map, reverse, reverse-cons}
 use lib.Dec.{ltb}
 use lib.ListN.{length, getD, getElem?, drop, length-map, length-reverse, List·getD-map, List·getD-append, List·getD-eq-default}
 use lib.Seq.{drop-cons, getD-append-seam}
-use Rattle.model.specs.Trees.{Let, Clause, Iso, invertLet, invertClause, invert}
-use Rattle.model.specs.Lines.{Row}
-use Rattle.model.specs.Judge.{start}
-use Rattle.model.specs.Unfold.{isosOf}
+use Rattle.calculus.specs.Trees.{Let, Clause, Iso, invertLet, invertClause, invert}
+use Rattle.format.specs.Lines.{Row}
+use Rattle.format.specs.Judge.{start}
+use Rattle.format.specs.Unfold.{isosOf}
 use Rattle.model.specs.Services.{toward}
-use Rattle.model.proofs.Basic.{none≢some, some-inj, index-of-map, bool-cases, ltb-lt, ltb-false}
-use Rattle.model.proofs.Passing.{Passes}
-use Rattle.model.proofs.Turning.{isos-turn}
+use Rattle.calculus.proofs.Basic.{none≢some, some-inj, index-of-map, bool-cases, ltb-lt, ltb-false}
+use Rattle.format.proofs.Passing.{Passes}
+use Rattle.format.proofs.Turning.{isos-turn}
 use Rattle.nodes.specs.Unfolding.{cellOf, typeOf, patternOf}
 use Rattle.nodes.specs.InTable.{letAt, letsIn, clauseIn}
 use Rattle.index.specs.Index.{placeAt, clausesAt, isoAt, isosAt}

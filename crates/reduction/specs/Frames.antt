@@ -6,10 +6,10 @@ use mathlib.Core.Option.{some}
 use mathlib.Core.List.{List, _++_, map, reverse}
 use lib.ListN.{length, getElem?, take}
 use lib.Seq.{slice}
-use Rattle.model.specs.Limits.{variables}
-use Rattle.model.specs.Trees.{Pat, Val, Let, Clause, Iso, invertLet, invertClause, invert}
-use Rattle.model.specs.Slots.{Slots}
-use Rattle.model.specs.Letters.{letters}
+use Rattle.limits.specs.Limits.{variables}
+use Rattle.calculus.specs.Trees.{Pat, Val, Let, Clause, Iso, invertLet, invertClause, invert}
+use Rattle.calculus.specs.Slots.{Slots}
+use Rattle.calculus.specs.Letters.{letters}
 use Rattle.areas.specs.Areas.{Writes}
 use Rattle.nodes.specs.Unfolding.{cellOf, patternOf}
 use Rattle.nodes.specs.InTable.{letsIn}

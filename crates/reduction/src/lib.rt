@@ -19,10 +19,10 @@ ghost use mathlib.Core.List.{List};
 ghost use mathlib.Core.Option.{some};
 ghost use Prim.Native.Nat.{ℕ, suc, _+_, _-_, _*_, _≤_, _<_};
 ghost use lib.ListN.{length};
-ghost use Rattle.model.specs.Trees.{Val, Let, Iso};
-ghost use Rattle.model.specs.Slots.{Slots};
-ghost use Rattle.model.specs.Letters.{letters};
-ghost use Rattle.model.specs.Reduction.{bind, build};
+ghost use Rattle.calculus.specs.Trees.{Val, Let, Iso};
+ghost use Rattle.calculus.specs.Slots.{Slots};
+ghost use Rattle.calculus.specs.Letters.{letters};
+ghost use Rattle.calculus.specs.Reduction.{bind, build};
 ghost use Rattle.nodes.specs.InTable.{letAt};
 ghost use Rattle.nodes.specs.Unfolding.{cellOf, patternOf};
 ghost use Rattle.index.specs.Index.{placeAt};
@@ -88,7 +88,15 @@ fn choose(
     end: usize,
     vars: &mut [u16],
 ) -> usize
-    ensures { λ r. ⌜ ((v : Val) (n : ℕ) → At (now (work .entry)) at v → end ≡ at + length (letters v) → Below (now (vars .entry)) (at + length (letters v)) → from + n < stop → alike (sideAt (now (t .entry)) base (now (index .entry)) back (from + n)) v ≡ true → ((k : ℕ) → k < n → alike (sideAt (now (t .entry)) base (now (index .entry)) back (from + k)) v ≡ false) → Chosen (sideAt (now (t .entry)) base (now (index .entry)) back (from + n)) v at (now (vars .entry)) (now (vars .exit)) (from + n) r) ⌝ }
+    ensures { λ r. ⌜
+        ((v : Val) (n : ℕ) → At (now (work .entry)) at v → end ≡ at + length (letters v)
+        → Below (now (vars .entry)) (at + length (letters v)) → from + n < stop
+        → alike (sideAt (now (t .entry)) base (now (index .entry)) back (from + n)) v ≡ true
+        → ((k : ℕ) → k < n
+        → alike (sideAt (now (t .entry)) base (now (index .entry)) back (from + k)) v ≡ false)
+        → Chosen (sideAt (now (t .entry)) base (now (index .entry)) back (from + n)) v at
+        (now (vars .entry)) (now (vars .exit)) (from + n) r)
+        ⌝ }
 {
     let field = side(back, 1, 2);
     let mut m = from;
@@ -124,7 +132,10 @@ fn put_result(
     top: usize,
     at: usize,
 ) -> usize
-    ensures { λ r. ⌜ Moved (patternOf (now (t .entry)) base (cellOf (now (t .entry)) row (cond back 1 2))) (now (vars .entry)) (now (work .entry)) (now (work .exit)) top at r ⌝ }
+    ensures { λ r. ⌜
+        Moved (patternOf (now (t .entry)) base (cellOf (now (t .entry)) row (cond back 1 2)))
+        (now (vars .entry)) (now (work .entry)) (now (work .exit)) top at r
+        ⌝ }
 {
     let last = build_at(
         t,
@@ -150,7 +161,15 @@ fn let_step(
     vars: &mut [u16],
     left: u32,
 ) -> Reduced
-    ensures { λ r. ⌜ ((os : List Iso) (d : ℕ) (l : Let) (e f g : Slots Val) (u w : Val) (m : ℕ) → Laid (now (t .entry)) base (now (index .entry)) back os → l ≡ sidedLet back (letAt (now (t .entry)) base row) → l .iso < i → build (l .q) e ≡ some (u, f) → Small u → Runs d os (l .iso) u w m → Small w → bind (l .p) w f ≡ some g → EnvAt (now (work .entry)) top (now (vars .entry)) e → top + i * frame ≤ length (now (work .entry)) → length (now (work .entry)) ≤ 65536 → Stepped (now (work .entry)) (now (work .exit)) (now (vars .exit)) top left w g m r) ⌝ }
+    ensures { λ r. ⌜
+        ((os : List Iso) (d : ℕ) (l : Let) (e f g : Slots Val) (u w : Val) (m : ℕ)
+        → Laid (now (t .entry)) base (now (index .entry)) back os
+        → l ≡ sidedLet back (letAt (now (t .entry)) base row) → l .iso < i → build (l .q) e ≡ some (u, f)
+        → Small u → Runs d os (l .iso) u w m → Small w → bind (l .p) w f ≡ some g
+        → EnvAt (now (work .entry)) top (now (vars .entry)) e
+        → top + i * frame ≤ length (now (work .entry)) → length (now (work .entry)) ≤ 65536
+        → Stepped (now (work .entry)) (now (work .exit)) (now (vars .exit)) top left w g m r)
+        ⌝ }
 {
     let j = cell(t, row, LET_ISO);
     if i <= j {
@@ -189,7 +208,15 @@ fn run_lets(
     budget: u32,
 ) -> Reduced
     requires { ⌜ (from < 65537) × (to < 65536) ⌝ }
-    ensures { λ r. ⌜ ((os : List Iso) (d : ℕ) (ls : List Let) (e g : Slots Val) (m : ℕ) → Laid (now (t .entry)) base (now (index .entry)) back os → ls ≡ sidedLets back (now (t .entry)) base from (to - from) → LetsTrace (Runs d os) i ls e g m → EnvAt (now (work .entry)) end (now (vars .entry)) e → end + length ls * 127 + i * frame ≤ length (now (work .entry)) → length (now (work .entry)) ≤ 65536 → LetsRan (now (work .entry)) (now (work .exit)) (now (vars .exit)) end budget (length ls) g m r) ⌝ }
+    ensures { λ r. ⌜
+        ((os : List Iso) (d : ℕ) (ls : List Let) (e g : Slots Val) (m : ℕ)
+        → Laid (now (t .entry)) base (now (index .entry)) back os
+        → ls ≡ sidedLets back (now (t .entry)) base from (to - from) → LetsTrace (Runs d os) i ls e g m
+        → EnvAt (now (work .entry)) end (now (vars .entry)) e
+        → end + length ls * 127 + i * frame ≤ length (now (work .entry))
+        → length (now (work .entry)) ≤ 65536
+        → LetsRan (now (work .entry)) (now (work .exit)) (now (vars .exit)) end budget (length ls) g m r)
+        ⌝ }
 {
     let n = span(from, to);
     let mut top = end;
@@ -233,7 +260,13 @@ pub fn apply(
     end: usize,
     left: u32,
 ) -> Reduced
-    ensures { λ r. ⌜ ((os : List Iso) (d : ℕ) (v w : Val) (m : ℕ) → Laid (now (t .entry)) base (now (index .entry)) back os → Runs d os i v w m → At (now (work .entry)) at v → Small v → end ≡ at + length (letters v) → at + suc i * frame ≤ length (now (work .entry)) → length (now (work .entry)) ≤ 65536 → Applied (now (work .entry)) (now (work .exit)) at left w m r) ⌝ }
+    ensures { λ r. ⌜
+        ((os : List Iso) (d : ℕ) (v w : Val) (m : ℕ)
+        → Laid (now (t .entry)) base (now (index .entry)) back os → Runs d os i v w m
+        → At (now (work .entry)) at v → Small v → end ≡ at + length (letters v)
+        → at + suc i * frame ≤ length (now (work .entry)) → length (now (work .entry)) ≤ 65536
+        → Applied (now (work .entry)) (now (work .exit)) at left w m r)
+        ⌝ }
 {
     if left == 0 {
         return Reduced::Spent;

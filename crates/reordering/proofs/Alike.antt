@@ -8,17 +8,17 @@ use mathlib.Core.Option.{Option, none, some}
 use mathlib.Core.List.{List, [], _∷_, map, List·Memᴰ, List·Memᴰ·head, List·Memᴰ·tail, Memᴰ·map, Memᴰ·of-map}
 use lib.Dec.{eqb}
 use lib.ListN.{getElem?, length}
-use Rattle.model.specs.Limits.{maxTags}
-use Rattle.model.specs.Tools.{_>>=_, all, select, total, firstOf, orElse, firstFailing}
-use Rattle.model.specs.Trees.{Ty, Tag, left, right, Pat, punit, pvar, pinj, ppair, Val, Clause, Iso, sameTag, invertClause, invert}
-use Rattle.model.specs.Refusals.{Refusal, number, overlap, gap}
-use Rattle.model.specs.Reduction.{Call, runClause, hits, only, apply, reduceTo, reduce}
-use Rattle.model.specs.Clauses.{Sigs, variablesRule, letShapes, typed, clauseFault, clash, apart, weight, fullWeight, lefts, rights, sideFault, at, isoFault, fault, sigsOf}
+use Rattle.limits.specs.Limits.{maxTags}
+use Rattle.calculus.specs.Tools.{_>>=_, all, select, total, firstOf, orElse, firstFailing}
+use Rattle.calculus.specs.Trees.{Ty, Tag, left, right, Pat, punit, pvar, pinj, ppair, Val, Clause, Iso, sameTag, invertClause, invert}
+use Rattle.calculus.specs.Refusals.{Refusal, number, overlap, gap}
+use Rattle.calculus.specs.Reduction.{Call, runClause, hits, only, apply, reduceTo, reduce}
+use Rattle.calculus.specs.Clauses.{Sigs, variablesRule, letShapes, typed, clauseFault, clash, apart, weight, fullWeight, lefts, rights, sideFault, at, isoFault, fault, sigsOf}
 use Rattle.reordering.specs.Reordered.{Permuted, empty, keep, swap, then, bare, AlikeIso, Alike, more}
 use Rattle.reordering.specs.Answers.{FaultsAgree}
-use Rattle.model.proofs.Basic.{none≢some, some-inj, orElse-cases, orElse-none, firstOf-none, none-firstOf}
-use Rattle.model.proofs.Inverse.{reduce-unfold}
-use Rattle.model.proofs.Checking.{at-none}
+use Rattle.calculus.proofs.Basic.{none≢some, some-inj, orElse-cases, orElse-none, firstOf-none, none-firstOf}
+use Rattle.calculus.proofs.Inverse.{reduce-unfold}
+use Rattle.calculus.proofs.Checking.{at-none}
 
 -- ---- permuted lists
 

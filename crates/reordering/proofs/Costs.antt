@@ -4,7 +4,7 @@ use native.Mathlib.Omega.{arith}
 use mathlib.Core.Path.{_≡_, refl, ap, ap₂, _∙_}
 use mathlib.Core.List.{List, [], _∷_, _++_, map}
 use lib.ListN.{length}
-use Rattle.model.specs.Trees.{Iso}
+use Rattle.calculus.specs.Trees.{Iso}
 use Rattle.costs.specs.Costs.{leastOf, greatestOf, clauseCost, isoCost, costsFrom, leastCosts, greatestCosts}
 use Rattle.reordering.specs.Reordered.{Permuted, empty, keep, swap, then, AlikeIso, Alike, more}
 use Rattle.reordering.proofs.Alike.{swapped, perm-length, alike-map}

@@ -6,7 +6,7 @@ use mathlib.Core.Path.{_≡_, refl, sym, ap, _∙_}
 use mathlib.Core.Bool.{false}
 use mathlib.Core.List.{List, [], _∷_, _++_}
 use lib.ListN.{getD}
-use Rattle.model.specs.Lines.{lines}
+use Rattle.format.specs.Lines.{lines}
 use Rattle.model.specs.Services.{verdict, answerOf, gives, run}
 use Rattle.model.specs.Desk.{desk}
 use Rattle.model.specs.Cases.{bytes, fileS}

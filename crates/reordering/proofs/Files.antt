@@ -6,14 +6,14 @@ use mathlib.Core.Bool.{_||_}
 use mathlib.Core.List.{List, [], _∷_, _++_, map}
 use lib.Dec.{ltb}
 use lib.ListN.{length, length-append}
-use Rattle.model.specs.Limits.{maxBytes, maxLines}
-use Rattle.model.specs.Tools.{concat}
-use Rattle.model.specs.Lines.{Row, lines, print}
-use Rattle.model.specs.Judge.{start}
-use Rattle.model.specs.Unfold.{isosOf, turnRows}
+use Rattle.limits.specs.Limits.{maxBytes, maxLines}
+use Rattle.calculus.specs.Tools.{concat}
+use Rattle.format.specs.Lines.{Row, lines, print}
+use Rattle.format.specs.Judge.{start}
+use Rattle.format.specs.Unfold.{isosOf, turnRows}
 use Rattle.model.specs.Services.{accepted, judged, verdict, over, turned}
-use Rattle.model.proofs.Passing.{Passes}
-use Rattle.model.proofs.Printing.{lines-print, concat-lines}
+use Rattle.format.proofs.Passing.{Passes}
+use Rattle.format.proofs.Printing.{lines-print, concat-lines}
 use Rattle.model.proofs.Files.{InForm, passes, accepted-form, verdict-in-form, turned-accepted-bytes}
 use Rattle.ranking.specs.Numbering.{typesOf}
 use Rattle.reordering.specs.Reordered.{Exchanged, Reordered, SameButOrder, Alike}

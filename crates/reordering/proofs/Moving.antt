@@ -5,17 +5,17 @@ use mathlib.Core.Path.{_≡_, refl, sym, ap, ap₂, _∙_, subst}
 use mathlib.Core.Option.{Option, none, some}
 use mathlib.Core.List.{List, [], _∷_, _++_, map, append-nil, append-assoc}
 use lib.ListN.{length, getD}
-use Rattle.model.specs.Limits.{maxClauses}
-use Rattle.model.specs.Trees.{Ty, Pat, punit, Let, Clause}
-use Rattle.model.specs.Refusals.{Kind, typeLine, patternLine, isoLine, clauseLine, letLine}
-use Rattle.model.specs.Lines.{Row}
-use Rattle.model.specs.Judge.{Seen, start, stage, judge, typeTree, patternTree, afterKind, after, afterAll}
-use Rattle.model.specs.Unfold.{Tail, place, tailFrom, isosOf, exchange, turnRow, turnFrom, turnRows}
+use Rattle.limits.specs.Limits.{maxClauses}
+use Rattle.calculus.specs.Trees.{Ty, Pat, punit, Let, Clause}
+use Rattle.calculus.specs.Refusals.{Kind, typeLine, patternLine, isoLine, clauseLine, letLine}
+use Rattle.format.specs.Lines.{Row}
+use Rattle.format.specs.Judge.{Seen, start, stage, judge, typeTree, patternTree, afterKind, after, afterAll}
+use Rattle.format.specs.Unfold.{Tail, place, tailFrom, isosOf, exchange, turnRow, turnFrom, turnRows}
 use Rattle.ranking.specs.Numbering.{typesOf}
 use Rattle.reordering.specs.Reordered.{Permuted, keep, swap, bare, Alike, more}
-use Rattle.model.proofs.Basic.{leb-le, le-leb, lt-ltb}
-use Rattle.model.proofs.Passing.{Passes, done, next, Fit, judge-fit, fit-judge, clause-fit}
-use Rattle.model.proofs.Turning.{AllLets, held-lets, judge-let, let-judge, passes-next, after-let}
+use Rattle.calculus.proofs.Basic.{leb-le, le-leb, lt-ltb}
+use Rattle.format.proofs.Passing.{Passes, done, next, Fit, judge-fit, fit-judge, clause-fit}
+use Rattle.format.proofs.Turning.{AllLets, held-lets, judge-let, let-judge, passes-next, after-let}
 use Rattle.reordering.proofs.Alike.{perm-refl, alike-refl}
 
 abbrev row : Kind → ℕ → ℕ → ℕ → Row

@@ -4,10 +4,10 @@ use mathlib.Core.Path.{_≡_, refl, sym, ap, _∙_, subst}
 use mathlib.Core.Bool.{true, false, not, _&&_, false≢true}
 use mathlib.Core.List.{List, [], _∷_, _++_, map, append-assoc}
 use lib.Dec.{eqb}
-use Rattle.model.specs.Tools.{all, concat}
-use Rattle.model.specs.Refusals.{clauseLine, letLine}
-use Rattle.model.specs.Lines.{letter}
-use Rattle.model.proofs.Basic.{and-true, eqb-eq}
+use Rattle.calculus.specs.Tools.{all, concat}
+use Rattle.calculus.specs.Refusals.{clauseLine, letLine}
+use Rattle.format.specs.Lines.{letter}
+use Rattle.calculus.proofs.Basic.{and-true, eqb-eq}
 use Rattle.reordering.specs.Reordered.{isClause, isLet, isBlock, isWhole, Reordered, Permuted, Section, sectionLines, Shuffled}
 use Rattle.reordering.proofs.Alike.{perm-all}
 use Rattle.reordering.proofs.Files.{reordered-then}

@@ -5,16 +5,16 @@ use mathlib.Core.Bool.{true, not, true≢false, false≢true}
 use mathlib.Core.Option.{some}
 use mathlib.Core.List.{List, [], _∷_, _++_, map, map-append, List·Memᴰ, List·Memᴰ·head, List·Memᴰ·tail}
 use lib.Dec.{eqb}
-use Rattle.model.specs.Tools.{all}
-use Rattle.model.specs.Refusals.{Kind, typeLine, patternLine, isoLine, clauseLine, letLine}
-use Rattle.model.specs.Lines.{Row, letter, withoutReturns, rowOf, print}
-use Rattle.model.specs.Judge.{Seen, start, judge, after, rows, withRow, onRow, onJudged, readFrom}
-use Rattle.model.specs.Unfold.{isosOf, turnRows}
-use Rattle.model.proofs.Basic.{and-true, true-and, not-true, some-inj}
-use Rattle.model.proofs.Endings.{Ended, by-feed, by-both}
-use Rattle.model.proofs.Passing.{Passes, done, next}
-use Rattle.model.proofs.Printing.{AllWellFormed, body, print-shape, print-read, read-line, row-iff, read-rows, read-each}
-use Rattle.model.proofs.Turning.{AllLets}
+use Rattle.calculus.specs.Tools.{all}
+use Rattle.calculus.specs.Refusals.{Kind, typeLine, patternLine, isoLine, clauseLine, letLine}
+use Rattle.format.specs.Lines.{Row, letter, withoutReturns, rowOf, print}
+use Rattle.format.specs.Judge.{Seen, start, judge, after, rows, withRow, onRow, onJudged, readFrom}
+use Rattle.format.specs.Unfold.{isosOf, turnRows}
+use Rattle.calculus.proofs.Basic.{and-true, true-and, not-true, some-inj}
+use Rattle.format.proofs.Endings.{Ended, by-feed, by-both}
+use Rattle.format.proofs.Passing.{Passes, done, next}
+use Rattle.format.proofs.Printing.{AllWellFormed, body, print-shape, print-read, read-line, row-iff, read-rows, read-each}
+use Rattle.format.proofs.Turning.{AllLets}
 use Rattle.ranking.specs.Numbering.{typesOf}
 use Rattle.reordering.specs.Reordered.{beginsWith, isClause, isLet, isBlock, isWhole, Exchanged, Reordered, Alike}
 use Rattle.reordering.proofs.Alike.{alike-refl, alike-then}

@@ -4,10 +4,10 @@ use mathlib.Core.Path.{_≡_, refl, sym, ap, _∙_}
 use mathlib.Core.Logic.{_↔_}
 use mathlib.Core.Bool.{Bool, true, false}
 use mathlib.Core.List.{List}
-use Rattle.model.specs.Refusals.{Refusal, number}
-use Rattle.model.specs.Lines.{Row}
-use Rattle.model.specs.Unfold.{isosOf}
-use Rattle.model.specs.Clauses.{fault, sigsOf}
+use Rattle.calculus.specs.Refusals.{Refusal, number}
+use Rattle.format.specs.Lines.{Row}
+use Rattle.format.specs.Unfold.{isosOf}
+use Rattle.calculus.specs.Clauses.{fault, sigsOf}
 use Rattle.model.specs.Services.{Verdict, accepted, refused, judged, verdict, answerOf, check, short, unless}
 use Rattle.model.proofs.Files.{InForm, verdict-in-form, judged-refused}
 use Rattle.reordering.specs.Reordered.{SameButOrder}

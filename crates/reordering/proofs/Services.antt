@@ -9,21 +9,21 @@ use mathlib.Core.Option.{Option, none, some}
 use mathlib.Core.List.{List, [], _∷_, _++_, map, append-assoc}
 use lib.Dec.{ltb, eqb}
 use lib.ListN.{length, getD, getElem?}
-use Rattle.model.specs.Limits.{resultLength, lineFeed, carriageReturn, letterQ, maxQueries}
-use Rattle.model.specs.Tools.{concat}
-use Rattle.model.specs.Trees.{Val, Iso, invert}
-use Rattle.model.specs.Refusals.{Kind, typeLine, patternLine, isoLine, clauseLine, letLine, tooLong, shortArea}
-use Rattle.model.specs.Lines.{Row, ontoFirst, lines, letter, rowOf}
-use Rattle.model.specs.Judge.{start}
-use Rattle.model.specs.Unfold.{isosOf, turnRows}
+use Rattle.limits.specs.Limits.{resultLength, lineFeed, carriageReturn, letterQ, maxQueries}
+use Rattle.calculus.specs.Tools.{concat}
+use Rattle.calculus.specs.Trees.{Val, Iso, invert}
+use Rattle.calculus.specs.Refusals.{Kind, typeLine, patternLine, isoLine, clauseLine, letLine, tooLong, shortArea}
+use Rattle.format.specs.Lines.{Row, ontoFirst, lines, letter, rowOf}
+use Rattle.format.specs.Judge.{start}
+use Rattle.format.specs.Unfold.{isosOf, turnRows}
 use Rattle.model.specs.Services.{Verdict, accepted, refused, verdict, answerOf, Checked, checkBy, check, Turned, turned, turnedOf, turnBy, turn, onIso, from, within}
 use Rattle.model.specs.Services.{argument, valueIn, runRows, toward, runOf, run, RunAnswer, answerOfRun, RunResult, runBy, runService, written, tableAfter, workAfter, short, unless}
 use Rattle.model.specs.Desk.{isQuery, fileLines, queryLines, Query, queryOf, answerTo, queryLine, fileLine, queryAnswers, desk}
 use Rattle.model.specs.Sheet.{answersTo, numbersAfter, lettersAfter, narrowSheet, Sheet, sheetBy, sheet}
-use Rattle.model.proofs.Basic.{eqb-eq, each-append, each-cons, each-nil}
-use Rattle.model.proofs.Endings.{feed, Ended, by-feed, by-both}
-use Rattle.model.proofs.Turning.{isos-turn}
-use Rattle.model.proofs.Printing.{body, row-iff, NoFeed, Feedless, feedless-body, lines-feed, concat-lines}
+use Rattle.calculus.proofs.Basic.{eqb-eq, each-append, each-cons, each-nil}
+use Rattle.format.proofs.Endings.{feed, Ended, by-feed, by-both}
+use Rattle.format.proofs.Turning.{isos-turn}
+use Rattle.format.proofs.Printing.{body, row-iff, NoFeed, Feedless, feedless-body, lines-feed, concat-lines}
 use Rattle.model.proofs.Files.{accepted-form, number-positive, answer-zero, turned-accepted}
 use Rattle.model.proofs.Runs.{run-accepted}
 use Rattle.model.proofs.Sheets.{desk-same as answers-printed}

@@ -7,20 +7,20 @@ use mathlib.Core.Bool.{Bool, true, false, cond, _||_, true≢false, false≢true
 use mathlib.Core.Option.{Option, none, some}
 use mathlib.Core.List.{List, [], _∷_, _++_}
 use lib.ListN.{length, getElem?}
-use Rattle.model.specs.Tools.{all, firstFailing}
-use Rattle.model.specs.Trees.{Ty, Pat}
-use Rattle.model.specs.Refusals.{Kind, typeLine, patternLine, isoLine, clauseLine, letLine, Refusal, badLine, misplaced, badField, badName, ceiling}
-use Rattle.model.specs.Lines.{Row, lines, rowOf}
-use Rattle.model.specs.Judge.{Seen, start, stage, inOrder, fieldsFit, named, withinCeilings, judge, afterKind, after, afterAll, Reading, rows, faulty, withRow, onRow, onJudged, readFrom}
+use Rattle.calculus.specs.Tools.{all, firstFailing}
+use Rattle.calculus.specs.Trees.{Ty, Pat}
+use Rattle.calculus.specs.Refusals.{Kind, typeLine, patternLine, isoLine, clauseLine, letLine, Refusal, badLine, misplaced, badField, badName, ceiling}
+use Rattle.format.specs.Lines.{Row, lines, rowOf}
+use Rattle.format.specs.Judge.{Seen, start, stage, inOrder, fieldsFit, named, withinCeilings, judge, afterKind, after, afterAll, Reading, rows, faulty, withRow, onRow, onJudged, readFrom}
 use Rattle.model.specs.Services.{refused, over, afterReading, verdict, checkBy, check}
-use Rattle.model.specs.Refusals.{tooLong}
+use Rattle.calculus.specs.Refusals.{tooLong}
 use Rattle.reordering.specs.Reordered.{isClause, isLet, isBlock, isWhole, Reordered, SameButOrder}
-use Rattle.model.proofs.Basic.{some-inj, and-true, le-leb, leb-le, not-leb, none-failing, true-or-left, true-or-right}
-use Rattle.model.proofs.Passing.{Passes, done, next}
-use Rattle.model.proofs.Turning.{passes-next}
+use Rattle.calculus.proofs.Basic.{some-inj, and-true, le-leb, leb-le, not-leb, none-failing, true-or-left, true-or-right}
+use Rattle.format.proofs.Passing.{Passes, done, next}
+use Rattle.format.proofs.Turning.{passes-next}
 use Rattle.reordering.proofs.Moving.{seen, block-after, block-needs, block-pass}
 use Rattle.reordering.proofs.Reading.{Rows, rows-lets, row-clause, no-let}
-use Rattle.model.proofs.Printing.{rows≢faulty}
+use Rattle.format.proofs.Printing.{rows≢faulty}
 use Rattle.reordering.proofs.Files.{same-over}
 
 -- reading stops at a line with a refusal: the rows above it pass, the line is of no form or its row is refused

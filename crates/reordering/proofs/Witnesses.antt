@@ -6,15 +6,15 @@ use mathlib.Core.Option.{Option, none, some}
 use mathlib.Core.List.{List, [], _∷_, map}
 use lib.Dec.{ltb, eqb}
 use lib.ListN.{length}
-use Rattle.model.specs.Limits.{resultLength}
-use Rattle.model.specs.Tools.{total}
-use Rattle.model.specs.Trees.{Ty, Pat, Val, Clause, Iso}
-use Rattle.model.specs.Refusals.{Refusal, number}
-use Rattle.model.specs.Lines.{Row}
-use Rattle.model.specs.Unfold.{isosOf}
-use Rattle.model.specs.Clauses.{Sigs, sigsOf, lefts, rights, clauseFault, isoFault}
+use Rattle.limits.specs.Limits.{resultLength}
+use Rattle.calculus.specs.Tools.{total}
+use Rattle.calculus.specs.Trees.{Ty, Pat, Val, Clause, Iso}
+use Rattle.calculus.specs.Refusals.{Refusal, number}
+use Rattle.format.specs.Lines.{Row}
+use Rattle.format.specs.Unfold.{isosOf}
+use Rattle.calculus.specs.Clauses.{Sigs, sigsOf, lefts, rights, clauseFault, isoFault}
 use Rattle.model.specs.Services.{short, written}
-use Rattle.model.proofs.Checking.{clause-fault-iff}
+use Rattle.calculus.proofs.Checking.{clause-fault-iff}
 use Rattle.model.proofs.Files.{InForm}
 use Rattle.witnesses.specs.Showing.{hit, hits, find, valuesWith, countUp, setting, twice, never, shownBy, shown, shownOr, shownFirst, lettersOf?, showing, showService}
 use Rattle.witnesses.proofs.Spelling.{firstOf-ext}

@@ -5,10 +5,10 @@ use mathlib.Core.Bool.{Bool, true}
 use mathlib.Core.Option.{some}
 use mathlib.Core.List.{List, [], _∷_, List·Memᴰ}
 use lib.Dec.{eqb}
-use Rattle.model.specs.Limits.{letterQ}
-use Rattle.model.specs.Trees.{Clause, Iso}
-use Rattle.model.specs.Refusals.{Refusal, number}
-use Rattle.model.specs.Clauses.{clauseFault, sigsOf}
+use Rattle.limits.specs.Limits.{letterQ}
+use Rattle.calculus.specs.Trees.{Clause, Iso}
+use Rattle.calculus.specs.Refusals.{Refusal, number}
+use Rattle.calculus.specs.Clauses.{clauseFault, sigsOf}
 use Rattle.model.specs.Services.{Checked, Turned, RunResult}
 use Rattle.model.specs.Sheet.{Sheet}
 use Rattle.ranking.specs.Numbering.{Numbered, Lettered}

@@ -4,10 +4,10 @@ use mathlib.Core.Path.{_≡_}
 use mathlib.Core.Bool.{Bool, true, false, not, _&&_}
 use mathlib.Core.List.{List, [], _∷_, _++_, map}
 use lib.Dec.{eqb}
-use Rattle.model.specs.Tools.{all, concat}
-use Rattle.model.specs.Trees.{Clause, Iso}
-use Rattle.model.specs.Refusals.{clauseLine, letLine}
-use Rattle.model.specs.Lines.{lines, letter}
+use Rattle.calculus.specs.Tools.{all, concat}
+use Rattle.calculus.specs.Trees.{Clause, Iso}
+use Rattle.calculus.specs.Refusals.{clauseLine, letLine}
+use Rattle.format.specs.Lines.{lines, letter}
 
 -- ---- files, by their lines
 

@@ -8,19 +8,19 @@ use mathlib.Core.List.{List, [], _∷_, _++_, append-nil, append-assoc, List·Me
 use mathlib.Core.List.{Memᴰ·append-left, Memᴰ·append-right, Memᴰ·map}
 use lib.Dec.{eqb}
 use lib.ListN.{getElem?, length}
-use Rattle.model.specs.Limits.{variables}
-use Rattle.model.specs.Tools.{_>>=_, guard}
-use Rattle.model.specs.Trees.{Ty, tunit, Pat, ppair, Let, Clause, sameType, vars}
-use Rattle.model.specs.Slots.{Slots, get, empty, allEmpty}
-use Rattle.model.specs.Refusals.{badType}
-use Rattle.model.specs.Clauses.{Deed, binds, uses, deeds, letEvents, history, Sigs, learn, spend, typeLets}
-use Rattle.model.specs.Paper.{Join, Fits, Chain, Linear, Alternate, BoundThenUsed, LetProducts, ClauseOk}
-use Rattle.model.specs.Answers.{ClauseFault}
-use Rattle.model.proofs.Basic.{some-bind, none≢some, some-inj, not-some, true-guard, bool-cases, eqb-eq, eqb-false, sameType-refl}
-use Rattle.model.proofs.Formed.{FormedLet, FormedClause}
-use Rattle.model.proofs.Slots.{slot, put-of-get, put-filled, put-empty, slot-allEmpty, slot-empty, length-empty}
-use Rattle.model.proofs.Variables.{mark, history-append, history-hit, history-miss, mem-history, Only, more, only-marks, not-used}
-use Rattle.model.proofs.Typing.{learn-length, spend-length, typed-let, ChainTyped, typed-clause, typed-iff}
+use Rattle.limits.specs.Limits.{variables}
+use Rattle.calculus.specs.Tools.{_>>=_, guard}
+use Rattle.calculus.specs.Trees.{Ty, tunit, Pat, ppair, Let, Clause, sameType, vars}
+use Rattle.calculus.specs.Slots.{Slots, get, empty, allEmpty}
+use Rattle.calculus.specs.Refusals.{badType}
+use Rattle.calculus.specs.Clauses.{Deed, binds, uses, deeds, letEvents, history, Sigs, learn, spend, typeLets}
+use Rattle.calculus.specs.Paper.{Join, Fits, Chain, Linear, Alternate, BoundThenUsed, LetProducts, ClauseOk}
+use Rattle.calculus.specs.Faulty.{ClauseFault}
+use Rattle.calculus.proofs.Basic.{some-bind, none≢some, some-inj, not-some, true-guard, bool-cases, eqb-eq, eqb-false, sameType-refl}
+use Rattle.calculus.proofs.Formed.{FormedLet, FormedClause}
+use Rattle.calculus.proofs.Slots.{slot, put-of-get, put-filled, put-empty, slot-allEmpty, slot-empty, length-empty}
+use Rattle.calculus.proofs.Variables.{mark, history-append, history-hit, history-miss, mem-history, Only, more, only-marks, not-used}
+use Rattle.calculus.proofs.Typing.{learn-length, spend-length, typed-let, ChainTyped, typed-clause, typed-iff}
 use Rattle.reuse.specs.Bindings.{Under, Along, Assigned}
 use Rattle.reuse.proofs.Histories.{marks-append, only-comm, after, history-step, JoinAt, neither, first, second, join-at, linear-variables}
 

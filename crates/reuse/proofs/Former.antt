@@ -8,22 +8,22 @@ use mathlib.Core.List.{List, [], _∷_, _++_, List·Memᴰ, List·Memᴰ·head, 
 use mathlib.Core.List.{List·Memᴰ·not-nil, Memᴰ·append-left, Memᴰ·append-right}
 use lib.Dec.{eqb}
 use lib.ListN.{getElem?, length}
-use Rattle.model.specs.Tools.{all, firstOf, orElse}
-use Rattle.model.specs.Trees.{Ty, tunit, tsum, tprod, Pat, punit, pvar, pinj, ppair, Let, Clause, Iso, sameType, part}
-use Rattle.model.specs.Refusals.{Refusal, variable, letShape, badType, tooLong}
-use Rattle.model.specs.Clauses.{Deed, binds, uses, Event, events, history, alternate, variablesRule, letShapes, Sigs, sigsOf, typed, sideFault, at}
-use Rattle.model.specs.Clauses as today
-use Rattle.model.specs.Lines.{Row, lines}
-use Rattle.model.specs.Judge.{Reading, rows, faulty, start, readFrom}
-use Rattle.model.specs.Unfold.{isosOf}
+use Rattle.calculus.specs.Tools.{all, firstOf, orElse}
+use Rattle.calculus.specs.Trees.{Ty, tunit, tsum, tprod, Pat, punit, pvar, pinj, ppair, Let, Clause, Iso, sameType, part}
+use Rattle.calculus.specs.Refusals.{Refusal, variable, letShape, badType, tooLong}
+use Rattle.calculus.specs.Clauses.{Deed, binds, uses, Event, events, history, alternate, variablesRule, letShapes, Sigs, sigsOf, typed, sideFault, at}
+use Rattle.calculus.specs.Clauses as today
+use Rattle.format.specs.Lines.{Row, lines}
+use Rattle.format.specs.Judge.{Reading, rows, faulty, start, readFrom}
+use Rattle.format.specs.Unfold.{isosOf}
 use Rattle.model.specs.Services.{accepted, refused, judged, over, verdict, checkBy, check, turnBy, turn, runBy, runService}
 use Rattle.model.specs.Desk.{deskBy, filePart, desk}
 use Rattle.model.specs.Sheet.{sheetBy, sheet}
-use Rattle.model.proofs.Basic.{bind-some, none≢some, some-inj, bool-cases, not-true, or-true, eqb-eq, eq-eqb, eqb-false, sameType-eq, none-failing, failing-none, orElse-none, all-mem, mem-all, firstOf-none, none-firstOf, mem-index}
-use Rattle.model.proofs.Formed.{Formed, FormedClause}
+use Rattle.calculus.proofs.Basic.{bind-some, none≢some, some-inj, bool-cases, not-true, or-true, eqb-eq, eq-eqb, eqb-false, sameType-eq, none-failing, failing-none, orElse-none, all-mem, mem-all, firstOf-none, none-firstOf, mem-index}
+use Rattle.calculus.proofs.Formed.{Formed, FormedClause}
 use Rattle.model.proofs.Files.{refused≢accepted, judged-accepted, InForm, formed-of, verdict-in-form}
-use Rattle.model.proofs.Variables.{variables-iff}
-use Rattle.model.proofs.Typing.{typed-iff}
+use Rattle.calculus.proofs.Variables.{variables-iff}
+use Rattle.calculus.proofs.Typing.{typed-iff}
 use Rattle.reuse.specs.Bindings.{Under, Along, Assigned}
 use Rattle.reuse.specs.Former.{once, onceRule, Demands, joined, fit, fitLets, demands, alike, agree, agreeing, typedOnce, clauseFault, isoFault, fault, former, afterReading}
 use Rattle.reuse.proofs.Bindings.{assigned-linear}

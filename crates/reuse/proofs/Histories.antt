@@ -6,13 +6,13 @@ use mathlib.Core.Bool.{true, false}
 use mathlib.Core.Option.{Option, none, some}
 use mathlib.Core.List.{List, [], _∷_, _++_, append-nil, append-assoc, map-append}
 use lib.Dec.{eqb}
-use Rattle.model.specs.Trees.{Ty, Pat, Let, Clause, vars}
-use Rattle.model.specs.Slots.{Slots}
-use Rattle.model.specs.Clauses.{Deed, binds, uses, Event, deeds, letEvents, events, history, Sigs}
-use Rattle.model.specs.Paper.{Join, Fits, Chain, Linear, Alternate, BoundThenUsed}
-use Rattle.model.proofs.Basic.{bool-cases, eqb-eq, eqb-false}
-use Rattle.model.proofs.Slots.{slot, put-filled, slot-allEmpty}
-use Rattle.model.proofs.Variables.{mark, marks, history-append, history-three, history-hit, history-miss, Only, nothing, more}
+use Rattle.calculus.specs.Trees.{Ty, Pat, Let, Clause, vars}
+use Rattle.calculus.specs.Slots.{Slots}
+use Rattle.calculus.specs.Clauses.{Deed, binds, uses, Event, deeds, letEvents, events, history, Sigs}
+use Rattle.calculus.specs.Paper.{Join, Fits, Chain, Linear, Alternate, BoundThenUsed}
+use Rattle.calculus.proofs.Basic.{bool-cases, eqb-eq, eqb-false}
+use Rattle.calculus.proofs.Slots.{slot, put-filled, slot-allEmpty}
+use Rattle.calculus.proofs.Variables.{mark, marks, history-append, history-three, history-hit, history-miss, Only, nothing, more}
 
 -- ---- histories of patterns and of let steps
 

@@ -4,8 +4,8 @@ use mathlib.Core.Path.{_≡_}
 use mathlib.Core.Option.{some}
 use mathlib.Core.List.{List, [], _∷_, List·Memᴰ}
 use lib.ListN.{getElem?}
-use Rattle.model.specs.Trees.{Ty, tunit, tsum, tprod, Tag, Pat, punit, pvar, pinj, ppair, Let, Clause, part, vars}
-use Rattle.model.specs.Clauses.{Sigs}
+use Rattle.calculus.specs.Trees.{Ty, tunit, tsum, tprod, Tag, Pat, punit, pvar, pinj, ppair, Let, Clause, part, vars}
+use Rattle.calculus.specs.Clauses.{Sigs}
 
 -- a pattern fits a type where each number n has the type Γ n
 pub data Under (Γ : ℕ → Ty) : Pat → Ty → Type 0 where

@@ -6,13 +6,13 @@ use mathlib.Core.Option.{Option, none, some}
 use mathlib.Core.List.{List, [], _∷_, _++_}
 use lib.Dec.{eqb}
 use lib.ListN.{getElem?}
-use Rattle.model.specs.Tools.{_>>=_, all, firstFailing, firstOf, orElse}
-use Rattle.model.specs.Trees.{Ty, tunit, tsum, tprod, Pat, punit, pvar, pinj, ppair, Let, Clause, Iso, sameType, part}
-use Rattle.model.specs.Refusals.{Refusal, variable, letShape, badType, tooLong}
-use Rattle.model.specs.Clauses.{Deed, binds, uses, events, history, letShapes, Sigs, sigsOf, sideFault, at}
-use Rattle.model.specs.Lines.{lines}
-use Rattle.model.specs.Judge.{Reading, rows, faulty, start, judge, readFrom}
-use Rattle.model.specs.Unfold.{isosOf}
+use Rattle.calculus.specs.Tools.{_>>=_, all, firstFailing, firstOf, orElse}
+use Rattle.calculus.specs.Trees.{Ty, tunit, tsum, tprod, Pat, punit, pvar, pinj, ppair, Let, Clause, Iso, sameType, part}
+use Rattle.calculus.specs.Refusals.{Refusal, variable, letShape, badType, tooLong}
+use Rattle.calculus.specs.Clauses.{Deed, binds, uses, events, history, letShapes, Sigs, sigsOf, sideFault, at}
+use Rattle.format.specs.Lines.{lines}
+use Rattle.format.specs.Judge.{Reading, rows, faulty, start, judge, readFrom}
+use Rattle.format.specs.Unfold.{isosOf}
 use Rattle.model.specs.Services.{Verdict, refused, judged, over}
 
 -- 8. "each number is bound once and, after that, used once"

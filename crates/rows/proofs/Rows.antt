@@ -6,13 +6,13 @@ use mathlib.Core.Bool.{Bool, true, false}
 use mathlib.Core.Option.{Option, none, some}
 use mathlib.Core.List.{List, [], _∷_}
 use lib.ListN.{getD, drop}
-use Rattle.model.specs.Limits.{fieldBound}
-use Rattle.model.specs.Tools.{_>>=_}
-use Rattle.model.specs.Refusals.{Kind, typeLine, patternLine, isoLine, clauseLine, letLine}
-use Rattle.model.specs.Lines.{Row, fieldCount, kindOf, fields, fieldBounds, text, ended, toRow, rowIn, rowOf}
-use Rattle.model.specs.declared.Kind as K
-use Rattle.model.specs.Code.{kindView}
-use Rattle.model.proofs.Basic.{none≢some, some-bind}
+use Rattle.limits.specs.Limits.{fieldBound}
+use Rattle.calculus.specs.Tools.{_>>=_}
+use Rattle.calculus.specs.Refusals.{Kind, typeLine, patternLine, isoLine, clauseLine, letLine}
+use Rattle.format.specs.Lines.{Row, fieldCount, kindOf, fields, fieldBounds, text, ended, toRow, rowIn, rowOf}
+use Rattle.format.specs.declared.Kind as K
+use Rattle.format.specs.Code.{kindView}
+use Rattle.calculus.proofs.Basic.{none≢some, some-bind}
 use Rattle.forms.specs.declared.Letter as L
 use Rattle.forms.specs.declared.Letter.the-variants as letters
 use Rattle.forms.specs.Views.{asLetter}

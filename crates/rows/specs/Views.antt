@@ -2,10 +2,10 @@
 use Prim.Native.Nat.{ℕ}
 use mathlib.Core.Option.{Option, none, some}
 use mathlib.Core.List.{List}
-use Rattle.model.specs.Tools.{_>>=_}
-use Rattle.model.specs.Refusals.{Kind}
-use Rattle.model.specs.Lines.{Row, fields, fieldBounds, ended, toRow}
-use Rattle.model.specs.Code.{rowView}
+use Rattle.calculus.specs.Tools.{_>>=_}
+use Rattle.calculus.specs.Refusals.{Kind}
+use Rattle.format.specs.Lines.{Row, fields, fieldBounds, ended, toRow}
+use Rattle.format.specs.Code.{rowView}
 use Rattle.rows.specs.declared.Line as R
 use Rattle.rows.specs.declared.Line.the-variants as rows
 

@@ -4,16 +4,16 @@ use areas::byte_at;
 use fields::Cursor;
 use fields::Number;
 use fields::Skipped;
+use format::Kind;
+use format::Row;
 use forms::Letter;
 use forms::fields_of;
 use forms::kind_of;
-use model::Kind;
-use model::Row;
 use parts::front;
 ghost use mathlib.Core.Path.{_≡_};
 ghost use lib.ListN.{drop};
-ghost use Rattle.model.specs.Lines.{rowIn, rowOf};
-ghost use Rattle.model.specs.Code.{kindView};
+ghost use Rattle.format.specs.Lines.{rowIn, rowOf};
+ghost use Rattle.format.specs.Code.{kindView};
 ghost use Rattle.rows.specs.Views.{asLine, closed, behindLetter};
 
 // The greatest number of a field.

@@ -3,8 +3,8 @@ use Prim.Native.Nat.{ℕ}
 use mathlib.Core.Path.{_≡_, _∙_}
 use mathlib.Core.Bool.{Bool}
 use mathlib.Core.List.{List}
-use Rattle.model.specs.Code.{numberOf}
-use Rattle.model.specs.declared.Answer as A
+use Rattle.format.specs.Code.{numberOf}
+use Rattle.format.specs.declared.Answer as A
 use Rattle.checker.specs.CheckSays.{CheckSays}
 use Rattle.turner.specs.TurnSays.{TurnSays}
 use Rattle.turner.specs.declared.Turned as Turned

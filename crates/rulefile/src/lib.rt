@@ -6,8 +6,8 @@
 use bounds::bounds;
 use checker::check;
 use exports::export;
+use format::number_of;
 use imports::import;
-use model::number_of;
 use overlaps::overlap;
 use runner::run::run;
 use settings::to_number;
@@ -119,7 +119,10 @@ pub extern "C" fn rulefile_turn(
     work: &mut [u8],
     output: &mut [u8],
 ) -> TurnAnswer
-    ensures { λ r. ⌜ TurnGiven (now (file .entry)) (now (table .entry)) (now (work .entry)) (now (output .entry)) (now (table .exit)) (now (work .exit)) (now (output .exit)) r ⌝ }
+    ensures { λ r. ⌜
+        TurnGiven (now (file .entry)) (now (table .entry)) (now (work .entry)) (now (output .entry))
+        (now (table .exit)) (now (work .exit)) (now (output .exit)) r
+        ⌝ }
 {
     let turned = turn(file, table, work, output);
     let answer = turned.answer;
@@ -143,7 +146,11 @@ pub extern "C" fn rulefile_run(
     value: &[u8],
     result: &mut [u8],
 ) -> RunAnswer
-    ensures { λ r. ⌜ RunGiven (now (file .entry)) (now (table .entry)) (now (work .entry)) iso back budget (now (value .entry)) (now (result .entry)) (now (table .exit)) (now (work .exit)) (now (result .exit)) r ⌝ }
+    ensures { λ r. ⌜
+        RunGiven (now (file .entry)) (now (table .entry)) (now (work .entry)) iso back budget
+        (now (value .entry)) (now (result .entry)) (now (table .exit)) (now (work .exit))
+        (now (result .exit)) r
+        ⌝ }
 {
     let ran = run(file, table, work, iso as usize, back, budget, value, result);
     let f = ran.refusal;
@@ -164,7 +171,11 @@ pub extern "C" fn rulefile_sheet(
     numbers: &mut [u32],
     letters: &mut [u8],
 ) -> SheetAnswer
-    ensures { λ r. ⌜ SheetGiven (now (file .entry)) (now (table .entry)) (now (work .entry)) (now (queries .entry)) (now (numbers .entry)) (now (letters .entry)) (now (table .exit)) (now (work .exit)) (now (numbers .exit)) (now (letters .exit)) r ⌝ }
+    ensures { λ r. ⌜
+        SheetGiven (now (file .entry)) (now (table .entry)) (now (work .entry)) (now (queries .entry))
+        (now (numbers .entry)) (now (letters .entry)) (now (table .exit)) (now (work .exit))
+        (now (numbers .exit)) (now (letters .exit)) r
+        ⌝ }
 {
     let done = sheet(file, table, work, queries, numbers, letters);
     let verdict = done.answer;
@@ -185,7 +196,10 @@ pub extern "C" fn rulefile_number_of(
     line: u32,
     value: &[u8],
 ) -> NumberAnswer
-    ensures { λ r. ⌜ NumberGiven (now (file .entry)) (now (table .entry)) (now (work .entry)) line (now (value .entry)) (now (table .exit)) (now (work .exit)) r ⌝ }
+    ensures { λ r. ⌜
+        NumberGiven (now (file .entry)) (now (table .entry)) (now (work .entry)) line (now (value .entry))
+        (now (table .exit)) (now (work .exit)) r
+        ⌝ }
 {
     let told = to_number(file, table, work, line as usize, value);
     let f = told.refusal;
@@ -205,7 +219,10 @@ pub extern "C" fn rulefile_setting_of(
     setting: u32,
     result: &mut [u8],
 ) -> SettingAnswer
-    ensures { λ r. ⌜ SettingGiven (now (file .entry)) (now (table .entry)) (now (work .entry)) line setting (now (result .entry)) (now (table .exit)) (now (work .exit)) (now (result .exit)) r ⌝ }
+    ensures { λ r. ⌜
+        SettingGiven (now (file .entry)) (now (table .entry)) (now (work .entry)) line setting
+        (now (result .entry)) (now (table .exit)) (now (work .exit)) (now (result .exit)) r
+        ⌝ }
 {
     let told = to_setting(file, table, work, line as usize, setting, result);
     let f = told.refusal;
@@ -224,7 +241,10 @@ pub extern "C" fn rulefile_overlap(
     left: u32,
     right: u32,
 ) -> OverlapAnswer
-    ensures { λ r. ⌜ OverlapGiven (now (file .entry)) (now (table .entry)) (now (work .entry)) left right (now (table .exit)) (now (work .exit)) r ⌝ }
+    ensures { λ r. ⌜
+        OverlapGiven (now (file .entry)) (now (table .entry)) (now (work .entry)) left right
+        (now (table .exit)) (now (work .exit)) r
+        ⌝ }
 {
     let told = overlap(file, table, work, left as usize, right as usize);
     let judged = told.answer;
@@ -245,7 +265,10 @@ pub extern "C" fn rulefile_bounds(
     work: &mut [u8],
     iso: u32,
 ) -> BoundsAnswer
-    ensures { λ r. ⌜ BoundsGiven (now (file .entry)) (now (table .entry)) (now (work .entry)) iso (now (table .exit)) (now (work .exit)) r ⌝ }
+    ensures { λ r. ⌜
+        BoundsGiven (now (file .entry)) (now (table .entry)) (now (work .entry)) iso (now (table .exit))
+        (now (work .exit)) r
+        ⌝ }
 {
     let told = bounds(file, table, work, iso as usize);
     let f = told.refusal;
@@ -268,7 +291,10 @@ pub extern "C" fn rulefile_export(
     budget: u32,
     output: &mut [u8],
 ) -> TradeAnswer
-    ensures { λ r. ⌜ ExportGiven (now (file .entry)) (now (table .entry)) (now (work .entry)) iso budget (now (output .entry)) (now (table .exit)) (now (work .exit)) (now (output .exit)) r ⌝ }
+    ensures { λ r. ⌜
+        ExportGiven (now (file .entry)) (now (table .entry)) (now (work .entry)) iso budget
+        (now (output .entry)) (now (table .exit)) (now (work .exit)) (now (output .exit)) r
+        ⌝ }
 {
     let listed = export(file, table, work, iso as usize, budget, output);
     let call = listed.answer;
@@ -291,7 +317,11 @@ pub extern "C" fn rulefile_import(
     list: &[u8],
     output: &mut [u8],
 ) -> TradeAnswer
-    ensures { λ r. ⌜ ImportGiven (now (file .entry)) (now (table .entry)) (now (work .entry)) from to (now (list .entry)) (now (output .entry)) (now (table .exit)) (now (work .exit)) (now (output .exit)) r ⌝ }
+    ensures { λ r. ⌜
+        ImportGiven (now (file .entry)) (now (table .entry)) (now (work .entry)) from to
+        (now (list .entry)) (now (output .entry)) (now (table .exit)) (now (work .exit))
+        (now (output .exit)) r
+        ⌝ }
 {
     let written = import(file, table, work, from as usize, to as usize, list, output);
     let outcome = written.answer;
@@ -311,7 +341,10 @@ pub extern "C" fn rulefile_witness(
     work: &mut [u8],
     result: &mut [u8],
 ) -> WitnessAnswer
-    ensures { λ r. ⌜ WitnessGiven (now (file .entry)) (now (table .entry)) (now (work .entry)) (now (result .entry)) (now (table .exit)) (now (work .exit)) (now (result .exit)) r ⌝ }
+    ensures { λ r. ⌜
+        WitnessGiven (now (file .entry)) (now (table .entry)) (now (work .entry)) (now (result .entry))
+        (now (table .exit)) (now (work .exit)) (now (result .exit)) r
+        ⌝ }
 {
     let shown = witness(file, table, work, result);
     let judged = shown.answer;

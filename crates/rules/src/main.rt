@@ -32,7 +32,10 @@ enum Progress {
 
 // Whether the state behind a chunk wants more input.
 fn behind(d: Desk) -> Progress
-    ensures { λ r. ⌜ ((file line table index : List ℕ) (s : State) → DeskAt d file line table index s → TookAll s file line table index r) ⌝ }
+    ensures { λ r. ⌜
+        ((file line table index : List ℕ) (s : State) → DeskAt d file line table index s
+        → TookAll s file line table index r)
+        ⌝ }
 {
     if settled(d) {
         return Progress::Done(d);
@@ -52,7 +55,12 @@ fn answer_chunk(
     out: &mut [u8],
 ) -> Progress
     requires { ⌜ Ready d (now file) (now line) (now table) (now work) (now index) (now out) ⌝ }
-    ensures { λ r. ⌜ ((s : State) → DeskAt d (now (file .entry)) (now (line .entry)) (now (table .entry)) (now (index .entry)) s → TookAll (steps s (now (chunk .entry)) .next) (now (file .exit)) (now (line .exit)) (now (table .exit)) (now (index .exit)) r) ⌝ }
+    ensures { λ r. ⌜
+        ((s : State)
+        → DeskAt d (now (file .entry)) (now (line .entry)) (now (table .entry)) (now (index .entry)) s
+        → TookAll (steps s (now (chunk .entry)) .next) (now (file .exit)) (now (line .exit))
+        (now (table .exit)) (now (index .exit)) r)
+        ⌝ }
 {
     let mut desk = d;
     let mut at: usize = 0;
@@ -78,7 +86,10 @@ fn answer_some(
     out: &mut [u8],
 ) -> Progress
     requires { ⌜ Ready d (now file) (now line) (now table) (now work) (now index) (now out) ⌝ }
-    ensures { λ r. ⌜ Reached (now (file .exit)) (now (line .exit)) (now (table .exit)) (now (work .exit)) (now (index .exit)) (now (out .exit)) r ⌝ }
+    ensures { λ r. ⌜
+        Reached (now (file .exit)) (now (line .exit)) (now (table .exit)) (now (work .exit))
+        (now (index .exit)) (now (out .exit)) r
+        ⌝ }
 {
     let mut chunk = [0u8; 4096];
     let i = read_some(&mut chunk);

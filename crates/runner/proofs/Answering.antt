@@ -11,13 +11,13 @@ use lib.ListN.{length, drop, take, replicate, length-replicate}
 use lib.Seq.{length-take-le, drop-at}
 use borrow.Author.Tests.{lt-ltb, le-ltb}
 use borrow.Rule.Slice.PartMut.{midOf, postOf}
-use Rattle.model.specs.Limits.{resultLength, workLength, tableLength}
-use Rattle.model.specs.Tools.{isSome}
-use Rattle.model.specs.Refusals.{number, shortArea}
+use Rattle.limits.specs.Limits.{resultLength, workLength, tableLength}
+use Rattle.calculus.specs.Tools.{isSome}
+use Rattle.calculus.specs.Refusals.{number, shortArea}
 use Rattle.model.specs.Services.{Verdict, accepted, refused, verdict, filled, written, tableAfter, workAfter, short, unless, answerOf, check, answerOfRun, runOf, runService}
-use Rattle.model.specs.Code.{refusalView, numberOf, numbered}
-use Rattle.model.specs.declared.Answer as A
-use Rattle.model.proofs.Basic.{isSome-true, ltb-false, neither}
+use Rattle.format.specs.Code.{refusalView, numberOf, numbered}
+use Rattle.format.specs.declared.Answer as A
+use Rattle.calculus.proofs.Basic.{isSome-true, ltb-false, neither}
 use Rattle.parts.specs.Cleared.{cleared}
 use Rattle.checker.specs.CheckSays.{CheckSays, Accepted}
 use Rattle.checker.specs.declared.Checked as C

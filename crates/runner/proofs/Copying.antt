@@ -6,8 +6,8 @@ use mathlib.Core.Path.{_≡_, refl, sym, ap, ap₂, _∙_}
 use mathlib.Core.List.{List, _++_}
 use lib.ListN.{length, getD, set, take, drop, length-set}
 use lib.Seq.{paste, paste-zero, paste-suc, take-length}
-use Rattle.model.specs.Trees.{Val}
-use Rattle.model.specs.Letters.{letters}
+use Rattle.calculus.specs.Trees.{Val}
+use Rattle.calculus.specs.Letters.{letters}
 use Rattle.values.specs.Texts.{At}
 
 -- what the copying loop has come to after i bytes

@@ -9,18 +9,18 @@ use mathlib.Core.Logic.{_⊎_, inl, inr}
 use mathlib.Core.List.{List, _++_}
 use lib.ListN.{length, getElem?, take, drop, length-map}
 use lib.Seq.{paste}
-use Rattle.model.specs.Limits.{maxIsos}
-use Rattle.model.specs.Trees.{Val, Iso, invert}
-use Rattle.model.specs.Refusals.{Refusal, noIso, noValue, spent}
-use Rattle.model.specs.Lines.{Row}
-use Rattle.model.specs.Judge.{start}
-use Rattle.model.specs.Unfold.{isosOf}
-use Rattle.model.specs.Letters.{letters}
+use Rattle.limits.specs.Limits.{maxIsos}
+use Rattle.calculus.specs.Trees.{Val, Iso, invert}
+use Rattle.calculus.specs.Refusals.{Refusal, noIso, noValue, spent}
+use Rattle.format.specs.Lines.{Row}
+use Rattle.format.specs.Judge.{start}
+use Rattle.format.specs.Unfold.{isosOf}
+use Rattle.calculus.specs.Letters.{letters}
 use Rattle.model.specs.Services.{Ran, gives, failed, within, argument, from, onIso, runRows, toward, RunAnswer, answerOfRun, written}
-use Rattle.model.specs.Code.{refusalView, numbered}
-use Rattle.model.proofs.Basic.{le-leb, not-leb, le-or-lt}
-use Rattle.model.proofs.Passing.{Passes}
-use Rattle.model.proofs.Turning.{isos-turn}
+use Rattle.format.specs.Code.{refusalView, numbered}
+use Rattle.calculus.proofs.Basic.{le-leb, not-leb, le-or-lt}
+use Rattle.format.proofs.Passing.{Passes}
+use Rattle.format.proofs.Turning.{isos-turn}
 use Rattle.model.proofs.Runs.{good-toward, accepted-good}
 use Rattle.nodes.specs.Unfolding.{cellOf, typeOf}
 use Rattle.nodes.proofs.Tails.{isos-few}

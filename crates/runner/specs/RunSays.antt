@@ -4,10 +4,10 @@ use mathlib.Core.Path.{_≡_}
 use mathlib.Core.Bool.{Bool}
 use mathlib.Core.List.{List}
 use lib.ListN.{length}
-use Rattle.model.specs.Lines.{Row}
-use Rattle.model.specs.Unfold.{isosOf}
+use Rattle.format.specs.Lines.{Row}
+use Rattle.format.specs.Unfold.{isosOf}
 use Rattle.model.specs.Services.{RunAnswer, answerOfRun, toward, runRows, written, runService}
-use Rattle.model.specs.Code.{numberOf}
+use Rattle.format.specs.Code.{numberOf}
 use Rattle.model.specs.Answers.{GoodRows}
 use Rattle.index.specs.Index.{isosAt}
 use Rattle.runner.specs.declared.run.Ran as R

@@ -6,13 +6,13 @@ use checker::Checked;
 use checker::check_file;
 use codes::ISO_FROM;
 use codes::ISO_TO;
+use format::Refusal;
+use format::is_refused;
 use index::index_isos;
 use limits::INDEX_LENGTH;
 use limits::MAX_LINES;
 use limits::RESULT_LENGTH;
 use limits::WORK_LENGTH;
-use model::Refusal;
-use model::is_refused;
 use nodes::cell;
 use parts::clear_bytes;
 use reduction::Reduced;
@@ -25,7 +25,7 @@ ghost use mathlib.Core.List.{List};
 ghost use Prim.Native.Nat.{ℕ, _-_, _≤_};
 ghost use lib.ListN.{length, drop};
 ghost use lib.Seq.{paste};
-ghost use Rattle.model.specs.Lines.{Row as RowOf};
+ghost use Rattle.format.specs.Lines.{Row as RowOf};
 ghost use Rattle.index.specs.Index.{indexLength};
 ghost use Rattle.checker.specs.CheckSays.{Accepted};
 ghost use Rattle.runner.specs.RunSays.{Prepared, answerFor, RanAs, RunSays};
@@ -49,7 +49,10 @@ fn refused(f: Refusal) -> Ran
 
 // Copies the first n bytes of an area to the front of another.
 fn copy_front(from: &[u8], n: usize, to: &mut [u8])
-    ensures { λ r. ⌜ (n ≤ length (now (from .entry)) → n ≤ length (now (to .entry)) → now (to .exit) ≡ paste (now (to .entry)) 0 (now (from .entry)) n) ⌝ }
+    ensures { λ r. ⌜
+        (n ≤ length (now (from .entry)) → n ≤ length (now (to .entry))
+        → now (to .exit) ≡ paste (now (to .entry)) 0 (now (from .entry)) n)
+        ⌝ }
 {
     let mut i: usize = 0;
     while i < n {
@@ -70,7 +73,10 @@ fn used(budget: u32, left: u32) -> u32
 
 // Indexes an accepted file, whose rows a check has left in the table.
 pub fn prepare(table: &[u16], c: Checked, index: &mut [u16])
-    ensures { λ r. ⌜ ((s : List ℕ) (a : Accepted s (now (table .entry)) c) → indexLength ≤ length (now (index .entry)) → Prepared (now (table .entry)) (c .types) (now (index .exit)) (c .isos) (a .file)) ⌝ }
+    ensures { λ r. ⌜
+        ((s : List ℕ) (a : Accepted s (now (table .entry)) c) → indexLength ≤ length (now (index .entry))
+        → Prepared (now (table .entry)) (c .types) (now (index .exit)) (c .isos) (a .file))
+        ⌝ }
 {
     let types = c.types;
     let patterns = c.patterns;
@@ -97,7 +103,13 @@ pub fn run_checked(
     work: &mut [u8],
     result: &mut [u8],
 ) -> Ran
-    ensures { λ r. ⌜ ((rs : List RowOf) → Prepared (now (t .entry)) base (now (index .entry)) isos rs → 40960 ≤ length (now (work .entry)) → length (now (work .entry)) ≤ 65536 → 127 ≤ length (now (result .entry)) → RanAs (answerFor rs i back budget (now (value .entry))) (now (result .entry)) (now (result .exit)) r) ⌝ }
+    ensures { λ r. ⌜
+        ((rs : List RowOf) → Prepared (now (t .entry)) base (now (index .entry)) isos rs
+        → 40960 ≤ length (now (work .entry)) → length (now (work .entry)) ≤ 65536
+        → 127 ≤ length (now (result .entry))
+        → RanAs (answerFor rs i back budget (now (value .entry))) (now (result .entry))
+        (now (result .exit)) r)
+        ⌝ }
 {
     if isos <= i {
         return refused(Refusal::NoIso);
@@ -134,7 +146,12 @@ fn run_accepted(
 ) -> Ran
     requires { ⌜ room ≤ length (now work) ⌝ }
     ensures { λ r. ⌜ drop room (now (work .exit)) ≡ drop room (now (work .entry)) ⌝ }
-    ensures { λ r. ⌜ ((s : List ℕ) (a : Accepted s (now (table .entry)) c) → 40960 ≤ room → room ≤ 65536 → 127 ≤ length (now (result .entry)) → RanAs (answerFor (a .file) i back budget (now (value .entry))) (now (result .entry)) (now (result .exit)) r) ⌝ }
+    ensures { λ r. ⌜
+        ((s : List ℕ) (a : Accepted s (now (table .entry)) c) → 40960 ≤ room → room ≤ 65536
+        → 127 ≤ length (now (result .entry))
+        → RanAs (answerFor (a .file) i back budget (now (value .entry))) (now (result .entry))
+        (now (result .exit)) r)
+        ⌝ }
 {
     let mut index = [0u16; INDEX_LENGTH];
     prepare(table, c, &mut index);
@@ -164,7 +181,11 @@ pub fn run(
     value: &[u8],
     result: &mut [u8],
 ) -> Ran
-    ensures { λ r. ⌜ RunSays (now (file .entry)) (now (table .entry)) (now (work .entry)) i back budget (now (value .entry)) (now (result .entry)) (now (table .exit)) (now (work .exit)) (now (result .exit)) r ⌝ }
+    ensures { λ r. ⌜
+        RunSays (now (file .entry)) (now (table .entry)) (now (work .entry)) i back budget
+        (now (value .entry)) (now (result .entry)) (now (table .exit)) (now (work .exit))
+        (now (result .exit)) r
+        ⌝ }
 {
     if result.len() < RESULT_LENGTH {
         return refused(Refusal::ShortArea);

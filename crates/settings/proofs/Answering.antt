@@ -8,19 +8,19 @@ use mathlib.Core.Option.{Option, none, some}
 use mathlib.Core.List.{List, [], _++_, append-nil}
 use lib.ListN.{length, drop, getElem?}
 use lib.Seq.{sets-eq}
-use Rattle.model.specs.Limits.{maxValues}
-use Rattle.model.specs.Tools.{isSome}
-use Rattle.model.specs.Trees.{Ty, Val}
-use Rattle.model.specs.Refusals.{Refusal, noValue, tooHigh}
-use Rattle.model.specs.Lines.{Row}
-use Rattle.model.specs.Letters.{letters}
+use Rattle.limits.specs.Limits.{maxValues}
+use Rattle.calculus.specs.Tools.{isSome}
+use Rattle.calculus.specs.Trees.{Ty, Val}
+use Rattle.calculus.specs.Refusals.{Refusal, noValue, tooHigh}
+use Rattle.format.specs.Lines.{Row}
+use Rattle.calculus.specs.Letters.{letters}
 use Rattle.model.specs.Services.{accepted, written}
-use Rattle.model.specs.Paper.{Of}
+use Rattle.calculus.specs.Paper.{Of}
 use Rattle.ranking.specs.Numbering.{count, rank, unrank, Outcome, fails, numberOn, settingOn, refusalOf, numberFrom, lettersFrom}
 use Rattle.ranking.specs.Answers.{NumberIs, SettingIs}
-use Rattle.model.specs.Code.{refusalView, numberOf, numbered}
-use Rattle.model.specs.declared.Refusal as F
-use Rattle.model.proofs.Letters.{of-inhabits, inhabits-of}
+use Rattle.format.specs.Code.{refusalView, numberOf, numbered}
+use Rattle.format.specs.declared.Refusal as F
+use Rattle.calculus.proofs.Letters.{of-inhabits, inhabits-of}
 use Rattle.ranking.proofs.Numbering.{rank-below, letters-bound, unrank-inhabits, rank-unrank}
 use Rattle.ranking.proofs.Outcomes.{number-in, setting-in}
 use Rattle.nodes.specs.Unfolding.{typeOf}

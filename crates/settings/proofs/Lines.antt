@@ -7,16 +7,16 @@ use mathlib.Core.Option.{Option, none, some}
 use mathlib.Core.List.{List}
 use lib.Dec.{leb, ltb}
 use lib.ListN.{getElem?}
-use Rattle.model.specs.Limits.{maxValues}
-use Rattle.model.specs.Tools.{isSome}
-use Rattle.model.specs.Trees.{Ty}
-use Rattle.model.specs.Refusals.{Refusal, noIso, tooMany}
-use Rattle.model.specs.Lines.{Row}
+use Rattle.limits.specs.Limits.{maxValues}
+use Rattle.calculus.specs.Tools.{isSome}
+use Rattle.calculus.specs.Trees.{Ty}
+use Rattle.calculus.specs.Refusals.{Refusal, noIso, tooMany}
+use Rattle.format.specs.Lines.{Row}
 use Rattle.ranking.specs.Numbering.{count, typesOf}
 use Rattle.ranking.specs.Answers.{LineFault, LineOf}
-use Rattle.model.specs.Code.{refusalView}
-use Rattle.model.specs.declared.Refusal as F
-use Rattle.model.proofs.Basic.{isSome-true, none≢some, some-inj, leb-le, leb-false, le-leb, not-leb, ltb-lt, ltb-false, lt-ltb, not-ltb}
+use Rattle.format.specs.Code.{refusalView}
+use Rattle.format.specs.declared.Refusal as F
+use Rattle.calculus.proofs.Basic.{isSome-true, none≢some, some-inj, leb-le, leb-false, le-leb, not-leb, ltb-lt, ltb-false, lt-ltb, not-ltb}
 use Rattle.nodes.specs.Unfolding.{typeOf}
 use Rattle.nodes.specs.Walk.{FileIn}
 use Rattle.checker.proofs.Checks.{flag-none}

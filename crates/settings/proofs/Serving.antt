@@ -8,15 +8,15 @@ use mathlib.Core.List.{List, []}
 use lib.Dec.{ltb}
 use lib.ListN.{length}
 use borrow.Author.Tests.{lt-ltb, le-ltb}
-use Rattle.model.specs.Limits.{resultLength}
-use Rattle.model.specs.Tools.{isSome}
-use Rattle.model.specs.Refusals.{number, shortArea}
-use Rattle.model.specs.Lines.{Row}
+use Rattle.limits.specs.Limits.{resultLength}
+use Rattle.calculus.specs.Tools.{isSome}
+use Rattle.calculus.specs.Refusals.{number, shortArea}
+use Rattle.format.specs.Lines.{Row}
 use Rattle.model.specs.Services.{Verdict, accepted, refused, verdict, written, tableAfter, workAfter, short, unless, answerOf, check}
 use Rattle.ranking.specs.Numbering.{Outcome, fails, numberOn, settingOn, refusalOf, numberFrom, lettersFrom, numberService, settingService}
-use Rattle.model.specs.Code.{refusalView, numberOf, numbered}
-use Rattle.model.specs.declared.Answer as A
-use Rattle.model.proofs.Basic.{isSome-true}
+use Rattle.format.specs.Code.{refusalView, numberOf, numbered}
+use Rattle.format.specs.declared.Answer as A
+use Rattle.calculus.proofs.Basic.{isSome-true}
 use Rattle.model.proofs.Files.{number-positive}
 use Rattle.nodes.specs.Walk.{FileIn}
 use Rattle.checker.specs.CheckSays.{CheckSays, Accepted}

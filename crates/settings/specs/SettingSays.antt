@@ -6,12 +6,12 @@ use mathlib.Core.Option.{Option, none, some}
 use mathlib.Core.List.{List}
 use lib.Dec.{leb, ltb}
 use lib.ListN.{length}
-use Rattle.model.specs.Limits.{maxValues}
-use Rattle.model.specs.Trees.{Ty}
-use Rattle.model.specs.Refusals.{Refusal, noIso, tooMany}
+use Rattle.limits.specs.Limits.{maxValues}
+use Rattle.calculus.specs.Trees.{Ty}
+use Rattle.calculus.specs.Refusals.{Refusal, noIso, tooMany}
 use Rattle.model.specs.Services.{written}
 use Rattle.ranking.specs.Numbering.{count, Outcome, refusalOf, numberFrom, lettersFrom, numberService, settingService}
-use Rattle.model.specs.Code.{numberOf}
+use Rattle.format.specs.Code.{numberOf}
 use Rattle.settings.specs.declared.Numbered as N
 use Rattle.settings.specs.declared.Lettered as L
 

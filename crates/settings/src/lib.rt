@@ -2,9 +2,9 @@
 // table and as services.
 
 use checker::check_file;
+use format::Refusal;
+use format::is_refused;
 use limits::RESULT_LENGTH;
-use model::Refusal;
-use model::is_refused;
 use numbering::count_values;
 use numbering::rank_at;
 use numbering::unrank_at;
@@ -13,10 +13,10 @@ ghost use mathlib.Core.Path.{_≡_};
 ghost use mathlib.Core.List.{List};
 ghost use Prim.Native.Nat.{ℕ, _≤_};
 ghost use lib.ListN.{length};
-ghost use Rattle.model.specs.Lines.{Row as RowOf};
+ghost use Rattle.format.specs.Lines.{Row as RowOf};
 ghost use Rattle.model.specs.Services.{accepted};
 ghost use Rattle.ranking.specs.Numbering.{numberOn, settingOn};
-ghost use Rattle.model.specs.Code.{refusalView};
+ghost use Rattle.format.specs.Code.{refusalView};
 ghost use Rattle.nodes.specs.Unfolding.{typeOf};
 ghost use Rattle.nodes.specs.Walk.{FileIn};
 ghost use Rattle.settings.specs.SettingSays.{typeFault, NumberedAs, LetteredAs, NumberSays, SettingSays};
@@ -66,7 +66,10 @@ fn type_fault(t: &[u16], types: usize, i: usize) -> Refusal
 
 // The number of a value of T line i of a table that holds a checked file with so many T lines.
 pub fn number_checked(t: &[u16], types: usize, i: usize, value: &[u8]) -> Numbered
-    ensures { λ r. ⌜ ((patterns lines : ℕ) (rs : List RowOf) → FileIn (now (t .entry)) types patterns lines rs → NumberedAs (numberOn (accepted rs) i (now (value .entry))) r) ⌝ }
+    ensures { λ r. ⌜
+        ((patterns lines : ℕ) (rs : List RowOf) → FileIn (now (t .entry)) types patterns lines rs
+        → NumberedAs (numberOn (accepted rs) i (now (value .entry))) r)
+        ⌝ }
 {
     let f = type_fault(t, types, i);
     if is_refused(f) {
@@ -85,7 +88,11 @@ pub fn number_checked(t: &[u16], types: usize, i: usize, value: &[u8]) -> Number
 // Writes the letters of the value of T line i with number n, on such a table. The result area needs 127
 // bytes; a refusal leaves it untouched.
 pub fn setting_checked(t: &[u16], types: usize, i: usize, n: usize, result: &mut [u8]) -> Lettered
-    ensures { λ r. ⌜ ((patterns lines : ℕ) (rs : List RowOf) → FileIn (now (t .entry)) types patterns lines rs → 127 ≤ length (now (result .entry)) → LetteredAs (settingOn (accepted rs) i n) (now (result .entry)) (now (result .exit)) r) ⌝ }
+    ensures { λ r. ⌜
+        ((patterns lines : ℕ) (rs : List RowOf) → FileIn (now (t .entry)) types patterns lines rs
+        → 127 ≤ length (now (result .entry))
+        → LetteredAs (settingOn (accepted rs) i n) (now (result .entry)) (now (result .exit)) r)
+        ⌝ }
 {
     let f = type_fault(t, types, i);
     if is_refused(f) {
@@ -109,7 +116,10 @@ pub fn to_number(
     i: usize,
     value: &[u8],
 ) -> Numbered
-    ensures { λ r. ⌜ NumberSays (now (file .entry)) (now (table .entry)) (now (work .entry)) i (now (value .entry)) (now (table .exit)) (now (work .exit)) r ⌝ }
+    ensures { λ r. ⌜
+        NumberSays (now (file .entry)) (now (table .entry)) (now (work .entry)) i (now (value .entry))
+        (now (table .exit)) (now (work .exit)) r
+        ⌝ }
 {
     let c = check_file(file, table, work);
     let a = c.answer;
@@ -130,7 +140,10 @@ pub fn to_setting(
     setting: u32,
     result: &mut [u8],
 ) -> Lettered
-    ensures { λ r. ⌜ SettingSays (now (file .entry)) (now (table .entry)) (now (work .entry)) i setting (now (result .entry)) (now (table .exit)) (now (work .exit)) (now (result .exit)) r ⌝ }
+    ensures { λ r. ⌜
+        SettingSays (now (file .entry)) (now (table .entry)) (now (work .entry)) i setting
+        (now (result .entry)) (now (table .exit)) (now (work .exit)) (now (result .exit)) r
+        ⌝ }
 {
     if result.len() < RESULT_LENGTH {
         return not_lettered(Refusal::ShortArea);

@@ -6,13 +6,13 @@ use mathlib.Core.List.{List, [], _∷_, _++_, append-assoc, map}
 use lib.ListN.{length, take, drop, length-append, length-drop, take-append-drop, drop-of-length-le}
 use lib.Seq.{sets, sets-eq, take-at, drop-at, drop-drop, length-take-le}
 use borrow.Rule.Slice.PartMut.{midOf, putMid}
-use Rattle.model.specs.Limits.{resultLength}
-use Rattle.model.specs.Tools.{concat}
-use Rattle.model.specs.Lines.{Row, lines}
+use Rattle.limits.specs.Limits.{resultLength}
+use Rattle.calculus.specs.Tools.{concat}
+use Rattle.format.specs.Lines.{Row, lines}
 use Rattle.model.specs.Services.{accepted, RunAnswer, answerOfRun, written}
 use Rattle.model.specs.Desk.{queryOf, answerTo}
 use Rattle.model.specs.Sheet.{answersTo, three, numbersAfter, lettersAfter}
-use Rattle.model.specs.Code.{numberOf}
+use Rattle.format.specs.Code.{numberOf}
 use Rattle.model.proofs.Sheets.{written-length, written-fits}
 use Rattle.split.specs.Split.{LineEnd}
 use Rattle.runner.specs.RunSays.{Prepared, RanAs}

@@ -6,15 +6,15 @@ use mathlib.Core.Bool.{Bool, true, false, cond, _||_}
 use mathlib.Core.Option.{none, some}
 use mathlib.Core.List.{List, []}
 use lib.ListN.{length, drop, length-map}
-use Rattle.model.specs.Limits.{workLength, maxQueries}
-use Rattle.model.specs.Tools.{isSome}
-use Rattle.model.specs.Refusals.{number, shortArea, tooLong}
-use Rattle.model.specs.Lines.{lines}
+use Rattle.limits.specs.Limits.{workLength, maxQueries}
+use Rattle.calculus.specs.Tools.{isSome}
+use Rattle.calculus.specs.Refusals.{number, shortArea, tooLong}
+use Rattle.format.specs.Lines.{lines}
 use Rattle.model.specs.Services.{Verdict, accepted, refused, verdict, filled, tableAfter, workAfter, short, unless, answerOf, check}
 use Rattle.model.specs.Sheet.{answersTo, numbersAfter, lettersAfter, narrowSheet, sheetVerdict, sheet}
-use Rattle.model.specs.Code.{refusalView, numberOf, numbered}
-use Rattle.model.specs.declared.Answer as A
-use Rattle.model.proofs.Basic.{isSome-true, lt-ltb, not-ltb}
+use Rattle.format.specs.Code.{refusalView, numberOf, numbered}
+use Rattle.format.specs.declared.Answer as A
+use Rattle.calculus.proofs.Basic.{isSome-true, lt-ltb, not-ltb}
 use Rattle.parts.specs.Cleared.{cleared}
 use Rattle.checker.specs.CheckSays.{CheckSays, Accepted}
 use Rattle.checker.specs.declared.Checked as C

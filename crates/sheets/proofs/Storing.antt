@@ -9,11 +9,11 @@ use mathlib.Core.List.{List, [], _∷_}
 use lib.Dec.{ltb}
 use lib.ListN.{length, set}
 use lib.Seq.{sets}
-use Rattle.model.specs.Limits.{resultLength, workLength, tableLength}
+use Rattle.limits.specs.Limits.{resultLength, workLength, tableLength}
 use Rattle.model.specs.Services.{short}
 use Rattle.model.specs.Sheet.{narrowSheet}
 use Rattle.model.proofs.Sheets.{long-enough}
-use Rattle.model.proofs.Basic.{bool-cases, neither, lt-ltb, not-ltb, ltb-lt, ltb-false}
+use Rattle.calculus.proofs.Basic.{bool-cases, neither, lt-ltb, not-ltb, ltb-lt, ltb-false}
 
 -- ---- short areas
 

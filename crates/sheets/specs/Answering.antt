@@ -4,8 +4,8 @@ use mathlib.Core.Path.{_≡_}
 use mathlib.Core.List.{List, _++_}
 use lib.ListN.{length, take, drop}
 use lib.Seq.{sets}
-use Rattle.model.specs.Limits.{resultLength}
-use Rattle.model.specs.Lines.{Row, lines}
+use Rattle.limits.specs.Limits.{resultLength}
+use Rattle.format.specs.Lines.{Row, lines}
 use Rattle.model.specs.Services.{accepted, RunAnswer, written}
 use Rattle.model.specs.Sheet.{answersTo, three, numbersAfter, lettersAfter}
 

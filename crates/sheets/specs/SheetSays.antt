@@ -3,7 +3,7 @@ use Prim.Native.Nat.{ℕ}
 use mathlib.Core.Path.{_≡_}
 use mathlib.Core.List.{List}
 use Rattle.model.specs.Sheet.{sheet}
-use Rattle.model.specs.Code.{numberOf}
+use Rattle.format.specs.Code.{numberOf}
 use Rattle.sheets.specs.declared.Answered as S
 
 -- t, w, n and o are the areas at entry, t′, w′, n′ and o′ at exit

@@ -4,15 +4,15 @@ use answers::answer_line;
 use areas::store_number;
 use checker::Checked;
 use checker::check_file;
+use format::Answer;
+use format::Refusal;
+use format::is_refused;
+use format::number_of;
 use limits::INDEX_LENGTH;
 use limits::MAX_QUERIES;
 use limits::RESULT_LENGTH;
 use limits::TABLE_LENGTH;
 use limits::WORK_LENGTH;
-use model::Answer;
-use model::Refusal;
-use model::is_refused;
-use model::number_of;
 use parts::clear_bytes;
 use runner::run::Ran;
 use runner::run::prepare;
@@ -24,11 +24,11 @@ ghost use mathlib.Core.List.{List, [], _∷_};
 ghost use Prim.Native.Nat.{ℕ, _+_, _*_, _%_, _≤_};
 ghost use lib.ListN.{length, drop};
 ghost use lib.Seq.{sets};
-ghost use Rattle.model.specs.Lines.{Row as RowOf, lines};
+ghost use Rattle.format.specs.Lines.{Row as RowOf, lines};
 ghost use Rattle.model.specs.Services.{short, accepted, answerOfRun};
 ghost use Rattle.model.specs.Desk.{queryOf, answerTo};
 ghost use Rattle.model.specs.Sheet.{narrowSheet};
-ghost use Rattle.model.specs.Code.{numberOf};
+ghost use Rattle.format.specs.Code.{numberOf};
 ghost use Rattle.checker.specs.CheckSays.{Accepted};
 ghost use Rattle.runner.specs.RunSays.{Prepared};
 ghost use Rattle.sheets.specs.Answering.{OneAnswered, AllAnswered};
@@ -86,7 +86,10 @@ fn narrow(n: usize) -> u32
 // Stores a run's number, count and length from place `at` on.
 fn put_three(numbers: &mut [u32], at: usize, r: Ran)
     requires { ⌜ at + 3 ≤ length (now numbers) ⌝ }
-    ensures { λ z. ⌜ now (numbers .exit) ≡ sets (now (numbers .entry)) at (numberOf (r .refusal) ∷ (r .count ∷ (r .length % 4294967296 ∷ []))) ⌝ }
+    ensures { λ z. ⌜
+        now (numbers .exit) ≡ sets (now (numbers .entry)) at
+        (numberOf (r .refusal) ∷ (r .count ∷ (r .length % 4294967296 ∷ [])))
+        ⌝ }
 {
     let f = r.refusal;
     let n = number_of(f);
@@ -108,7 +111,12 @@ fn answer_one(
     letters: &mut [u8],
 )
     requires { ⌜ (k * 3 + 3 ≤ length (now numbers)) × (k * 127 + 127 ≤ length (now letters)) ⌝ }
-    ensures { λ z. ⌜ ((rs : List RowOf) → Prepared (now (t .entry)) base (now (index .entry)) isos rs → 40960 ≤ length (now (work .entry)) → length (now (work .entry)) ≤ 65536 → OneAnswered (answerOfRun (answerTo (accepted rs) (queryOf (now (line .entry))))) k (now (numbers .entry)) (now (letters .entry)) (now (numbers .exit)) (now (letters .exit))) ⌝ }
+    ensures { λ z. ⌜
+        ((rs : List RowOf) → Prepared (now (t .entry)) base (now (index .entry)) isos rs
+        → 40960 ≤ length (now (work .entry)) → length (now (work .entry)) ≤ 65536
+        → OneAnswered (answerOfRun (answerTo (accepted rs) (queryOf (now (line .entry))))) k
+        (now (numbers .entry)) (now (letters .entry)) (now (numbers .exit)) (now (letters .exit)))
+        ⌝ }
 {
     let from = k * RESULT_LENGTH;
     let end = from + RESULT_LENGTH;
@@ -128,7 +136,12 @@ fn answer_lines(
     letters: &mut [u8],
 )
     requires { ⌜ (length (lines (now queries)) * 3 ≤ length (now numbers)) × (length (lines (now queries)) * 127 ≤ length (now letters)) ⌝ }
-    ensures { λ z. ⌜ ((rs : List RowOf) → Prepared (now (t .entry)) base (now (index .entry)) isos rs → 40960 ≤ length (now (work .entry)) → length (now (work .entry)) ≤ 65536 → AllAnswered rs (now (queries .entry)) (now (numbers .entry)) (now (letters .entry)) (now (numbers .exit)) (now (letters .exit))) ⌝ }
+    ensures { λ z. ⌜
+        ((rs : List RowOf) → Prepared (now (t .entry)) base (now (index .entry)) isos rs
+        → 40960 ≤ length (now (work .entry)) → length (now (work .entry)) ≤ 65536
+        → AllAnswered rs (now (queries .entry)) (now (numbers .entry)) (now (letters .entry))
+        (now (numbers .exit)) (now (letters .exit)))
+        ⌝ }
 {
     let mut at: usize = 0;
     let mut k: usize = 0;
@@ -160,9 +173,16 @@ fn answer_all(
     numbers: &mut [u32],
     letters: &mut [u8],
 )
-    requires { ⌜ (room ≤ length (now work)) × (length (lines (now queries)) * 3 ≤ length (now numbers)) × (length (lines (now queries)) * 127 ≤ length (now letters)) ⌝ }
+    requires { ⌜
+        (room ≤ length (now work)) × (length (lines (now queries)) * 3 ≤ length (now numbers))
+        × (length (lines (now queries)) * 127 ≤ length (now letters))
+        ⌝ }
     ensures { λ z. ⌜ drop room (now (work .exit)) ≡ drop room (now (work .entry)) ⌝ }
-    ensures { λ z. ⌜ ((s : List ℕ) (a : Accepted s (now (table .entry)) c) → 40960 ≤ room → room ≤ 65536 → AllAnswered (a .file) (now (queries .entry)) (now (numbers .entry)) (now (letters .entry)) (now (numbers .exit)) (now (letters .exit))) ⌝ }
+    ensures { λ z. ⌜
+        ((s : List ℕ) (a : Accepted s (now (table .entry)) c) → 40960 ≤ room → room ≤ 65536
+        → AllAnswered (a .file) (now (queries .entry)) (now (numbers .entry)) (now (letters .entry))
+        (now (numbers .exit)) (now (letters .exit)))
+        ⌝ }
 {
     let mut index = [0u16; INDEX_LENGTH];
     prepare(table, c, &mut index);
@@ -189,7 +209,11 @@ pub fn sheet(
     numbers: &mut [u32],
     letters: &mut [u8],
 ) -> Answered
-    ensures { λ r. ⌜ SheetSays (now (file .entry)) (now (table .entry)) (now (work .entry)) (now (queries .entry)) (now (numbers .entry)) (now (letters .entry)) (now (table .exit)) (now (work .exit)) (now (numbers .exit)) (now (letters .exit)) r ⌝ }
+    ensures { λ r. ⌜
+        SheetSays (now (file .entry)) (now (table .entry)) (now (work .entry)) (now (queries .entry))
+        (now (numbers .entry)) (now (letters .entry)) (now (table .exit)) (now (work .exit))
+        (now (numbers .exit)) (now (letters .exit)) r
+        ⌝ }
 {
     let n = count_lines(queries);
     if is_short(table, work, numbers, letters, n) {

@@ -12,11 +12,11 @@ use lib.ListN.{length, getD, drop, drop-of-length-le, length-drop, length-map}
 use lib.Seq.{drop-cons, drop-length}
 use lib.Pow.{pow-mono}
 use borrow.Author.Tests.{eq-eqb, ne-eqb}
-use Rattle.model.specs.Limits.{maxTags}
-use Rattle.model.specs.Tools.{all, total}
-use Rattle.model.specs.Trees.{Pat, left, right, tags}
-use Rattle.model.specs.Refusals.{Refusal, overlap, gap}
-use Rattle.model.specs.Clauses.{clash, apart, weight, fullWeight}
+use Rattle.limits.specs.Limits.{maxTags}
+use Rattle.calculus.specs.Tools.{all, total}
+use Rattle.calculus.specs.Trees.{Pat, left, right, tags}
+use Rattle.calculus.specs.Refusals.{Refusal, overlap, gap}
+use Rattle.calculus.specs.Clauses.{clash, apart, weight, fullWeight}
 use Rattle.nodes.specs.Unfolding.{cellOf, patternOf}
 use Rattle.nodes.specs.InTable.{patternsAt, weightAt, sidesFault}
 use Rattle.comparison.specs.Comparison.{compare}

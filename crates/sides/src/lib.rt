@@ -2,8 +2,8 @@
 // field 2 its right one.
 
 use comparison::compare;
-use model::Refusal;
-use model::Side;
+use format::Refusal;
+use format::Side;
 use nodes::cell;
 use nodes::pattern_tags;
 use words::wide;
@@ -11,17 +11,20 @@ ghost use mathlib.Core.Path.{_≡_};
 ghost use Prim.Native.Nat.{_≤_};
 ghost use mathlib.Core.List.{map};
 ghost use lib.ListN.{length, drop};
-ghost use Rattle.model.specs.Limits.{tableLength};
-ghost use Rattle.model.specs.Tools.{all, total};
-ghost use Rattle.model.specs.Code.{refusalView};
-ghost use Rattle.model.specs.Clauses.{clash as clashes, apart as apartAll, weight as weightOf};
+ghost use Rattle.limits.specs.Limits.{tableLength};
+ghost use Rattle.calculus.specs.Tools.{all, total};
+ghost use Rattle.format.specs.Code.{refusalView};
+ghost use Rattle.calculus.specs.Clauses.{clash as clashes, apart as apartAll, weight as weightOf};
 ghost use Rattle.nodes.specs.Unfolding.{patternOf};
 ghost use Rattle.nodes.specs.InTable.{patternsAt, weightAt, sidesFault};
 
 // Whether P line p clashes with field k of each clause row from place `from` on.
 fn clashes_with(t: &[u16], base: usize, p: usize, k: usize, rows: &[u16], from: usize) -> bool
     requires { ⌜ tableLength ≤ length (now t) ⌝ }
-    ensures { λ r. ⌜ r ≡ all (clashes (patternOf (now (t .entry)) base p)) (patternsAt (now (t .entry)) base k (drop from (now (rows .entry)))) ⌝ }
+    ensures { λ r. ⌜
+        r ≡ all (clashes (patternOf (now (t .entry)) base p))
+        (patternsAt (now (t .entry)) base k (drop from (now (rows .entry))))
+        ⌝ }
 {
     let mut i = from;
     while i < rows.len() {
@@ -128,7 +131,10 @@ pub fn weigh(t: &[u16], base: usize, k: usize, rows: &[u16]) -> u64
 // The lowest of 11 to 14, or nothing.
 pub fn side_fault(t: &[u16], base: usize, rows: &[u16]) -> Refusal
     requires { ⌜ (tableLength ≤ length (now t)) × (length (now rows) ≤ 32) ⌝ }
-    ensures { λ r. ⌜ refusalView r ≡ sidesFault (patternsAt (now (t .entry)) base 1 (now (rows .entry))) (patternsAt (now (t .entry)) base 2 (now (rows .entry))) ⌝ }
+    ensures { λ r. ⌜
+        refusalView r ≡ sidesFault (patternsAt (now (t .entry)) base 1 (now (rows .entry)))
+        (patternsAt (now (t .entry)) base 2 (now (rows .entry)))
+        ⌝ }
 {
     if apart(t, base, 1, rows) {
         if apart(t, base, 2, rows) {

@@ -11,9 +11,9 @@ use lib.Dec.{eqb}
 use lib.ListN.{length, getD, take, drop, length-drop, drop-of-length-le}
 use lib.Seq.{take-suc, getD-drop, take-all}
 use borrow.Author.Tests.{eq-eqb, ne-eqb}
-use Rattle.model.specs.Limits.{lineFeed}
-use Rattle.model.specs.Lines.{lines, ontoFirst}
-use Rattle.model.proofs.Basic.{bool-cases, from-byte}
+use Rattle.limits.specs.Limits.{lineFeed}
+use Rattle.format.specs.Lines.{lines, ontoFirst}
+use Rattle.calculus.proofs.Basic.{bool-cases, from-byte}
 use Rattle.split.specs.Split.{LineEnd, oneMore}
 
 -- ---- one byte and the lines behind it

@@ -5,8 +5,8 @@ use mathlib.Core.Bool.{cond}
 use mathlib.Core.List.{List, _∷_}
 use lib.Dec.{eqb}
 use lib.ListN.{length, take, drop}
-use Rattle.model.specs.Limits.{lineFeed}
-use Rattle.model.specs.Lines.{lines}
+use Rattle.limits.specs.Limits.{lineFeed}
+use Rattle.format.specs.Lines.{lines}
 
 pub record LineEnd (s : List ℕ) (from end : ℕ) : Type 0 where
   pub further : from < length s → from < end

@@ -4,7 +4,7 @@ use codes::LINE_FEED;
 ghost use mathlib.Core.Path.{_≡_};
 ghost use Prim.Native.Nat.{_<_};
 ghost use lib.ListN.{length};
-ghost use Rattle.model.specs.Lines.{lines};
+ghost use Rattle.format.specs.Lines.{lines};
 ghost use Rattle.split.specs.Split.{LineEnd, oneMore};
 
 // The place behind the line that begins at `from`: behind its line feed, or the file's end.

@@ -7,7 +7,7 @@ use mathlib.Core.Logic.{_⊎_, inl, inr}
 use mathlib.Core.List.{List, [], _∷_, map}
 use lib.ListN.{length, getD, set, drop, length-set}
 use lib.Seq.{getD-set-same, getD-set-other, drop-cons}
-use Rattle.model.specs.Trees.{Ty, Pat}
+use Rattle.calculus.specs.Trees.{Ty, Pat}
 use Rattle.witnesses.specs.Shapes.{Shape}
 use Rattle.witnesses.specs.Seeking.{howMany, ways}
 use Rattle.nodes.specs.Unfolding.{typeOf, patternOf}

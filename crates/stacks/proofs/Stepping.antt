@@ -10,11 +10,11 @@ use mathlib.Core.List.{List, _∷_, map}
 use lib.Dec.{eqb}
 use lib.ListN.{length, getD, set, drop, length-set}
 use lib.Seq.{getD-set-same, drop-cons, drop-set-lt}
-use Rattle.model.specs.Trees.{Tag, left, right, Pat}
-use Rattle.model.specs.Judge.{patternNode}
+use Rattle.calculus.specs.Trees.{Tag, left, right, Pat}
+use Rattle.format.specs.Judge.{patternNode}
 use Rattle.witnesses.specs.Showing.{Move, unit, both, tag}
 use Rattle.witnesses.specs.Seeking.{after}
-use Rattle.model.proofs.Basic.{not-eqb}
+use Rattle.calculus.proofs.Basic.{not-eqb}
 use Rattle.nodes.specs.Unfolding.{cellOf, smallerOf, typeOf, patternOf}
 use Rattle.nodes.proofs.Unfolding.{pattern-node}
 use Rattle.tallies.specs.Tallies.{partOf}

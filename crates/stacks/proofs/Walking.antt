@@ -9,7 +9,7 @@ use mathlib.Core.List.{List, [], _∷_, map}
 use lib.Dec.{eqb}
 use lib.ListN.{length, getD, set, drop, length-set}
 use lib.Seq.{drop-cons}
-use Rattle.model.specs.Tools.{_>>=_}
+use Rattle.calculus.specs.Tools.{_>>=_}
 use Rattle.witnesses.specs.Seeking.{after}
 use Rattle.nodes.specs.Unfolding.{typeOf, patternOf}
 use Rattle.stacks.specs.Stacks.{typesFrom, rowFrom, moveOf, topAfter, typesAlong, rowAlong}

@@ -5,8 +5,8 @@ use mathlib.Core.Option.{Option, some}
 use mathlib.Core.List.{List, [], _∷_, map}
 use lib.Dec.{eqb}
 use lib.ListN.{drop}
-use Rattle.model.specs.Tools.{_>>=_}
-use Rattle.model.specs.Trees.{Ty, Pat, left, right}
+use Rattle.calculus.specs.Tools.{_>>=_}
+use Rattle.calculus.specs.Trees.{Ty, Pat, left, right}
 use Rattle.witnesses.specs.Showing.{Move, unit, both, tag}
 use Rattle.witnesses.specs.Seeking.{after}
 use Rattle.tallies.specs.Tallies.{partOf}

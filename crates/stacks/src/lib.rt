@@ -46,7 +46,12 @@ pub fn count_types(t: &[u16], ts: &[usize], top: usize, k: &mut [u64])
 // Those that a row of patterns matches.
 pub fn count_row(t: &[u16], base: usize, ps: &[usize], ts: &[usize], top: usize, k: &mut [u64])
     requires { ⌜ (length (now ps) ≡ 128) × (length (now ts) ≡ 128) × (length (now k) ≡ 128) × (top ≤ 128) ⌝ }
-    ensures { λ r. ⌜ (Shapes (rowFrom (now (t .entry)) base (now (ps .entry)) top) (typesFrom (now (t .entry)) (now (ts .entry)) top) → Holds (now (k .exit)) (λ n. ways n (typesFrom (now (t .entry)) (now (ts .entry)) top) (rowFrom (now (t .entry)) base (now (ps .entry)) top))) ⌝ }
+    ensures { λ r. ⌜
+        (Shapes (rowFrom (now (t .entry)) base (now (ps .entry)) top)
+        (typesFrom (now (t .entry)) (now (ts .entry)) top)
+        → Holds (now (k .exit))
+        (λ n. ways n (typesFrom (now (t .entry)) (now (ts .entry)) top) (rowFrom (now (t .entry)) base (now (ps .entry)) top)))
+        ⌝ }
 {
     no_more(k);
     let mut c: usize = 128;
@@ -59,7 +64,10 @@ pub fn count_row(t: &[u16], base: usize, ps: &[usize], ts: &[usize], top: usize,
 // The T lines after one letter more; the place of the next one.
 pub fn step_types(t: &[u16], ts: &mut [usize], top: usize, c: u8) -> usize
     requires { ⌜ (length (now ts) ≡ 128) × (0 < top) × (top < 128) ⌝ }
-    ensures { λ r. ⌜ (r ≡ topAfter c top) × (typesFrom (now (t .entry)) (now (ts .exit)) r ≡ typesAfter (moveOf c) (typesFrom (now (t .entry)) (now (ts .entry)) top)) ⌝ }
+    ensures { λ r. ⌜
+        (r ≡ topAfter c top) × (typesFrom (now (t .entry)) (now (ts .exit)) r ≡ typesAfter (moveOf c)
+        (typesFrom (now (t .entry)) (now (ts .entry)) top))
+        ⌝ }
 {
     if c == 85 {
         return top + 1;
@@ -82,7 +90,11 @@ pub fn step_types(t: &[u16], ts: &mut [usize], top: usize, c: u8) -> usize
 // The P lines after one letter more, if the row begins with it; the next one then stands where the next T line does.
 pub fn step_row(t: &[u16], base: usize, ps: &mut [usize], top: usize, c: u8) -> bool
     requires { ⌜ (length (now ps) ≡ 128) × (0 < top) × (top < 128) ⌝ }
-    ensures { λ r. ⌜ ((r ≡ true → after (moveOf c) (rowFrom (now (t .entry)) base (now (ps .entry)) top) ≡ some (rowFrom (now (t .entry)) base (now (ps .exit)) (topAfter c top))) × (r ≡ false → after (moveOf c) (rowFrom (now (t .entry)) base (now (ps .entry)) top) ≡ none)) ⌝ }
+    ensures { λ r. ⌜
+        ((r ≡ true → after (moveOf c) (rowFrom (now (t .entry)) base (now (ps .entry)) top) ≡ some
+        (rowFrom (now (t .entry)) base (now (ps .exit)) (topAfter c top)))
+        × (r ≡ false → after (moveOf c) (rowFrom (now (t .entry)) base (now (ps .entry)) top) ≡ none))
+        ⌝ }
 {
     let p = ps[top];
     let kind = pattern_cell(t, base, p, 1);
@@ -128,7 +140,10 @@ pub fn step_row(t: &[u16], base: usize, ps: &mut [usize], top: usize, c: u8) -> 
 // The T lines still to come after some letters of a value of T line i, from the place that is given on.
 pub fn walk_types(t: &[u16], i: usize, w: &[u8], ts: &mut [usize]) -> usize
     requires { ⌜ (length (now ts) ≡ 128) × (length (now w) ≤ 127) ⌝ }
-    ensures { λ r. ⌜ (r ≤ 128) × (typesFrom (now (t .entry)) (now (ts .exit)) r ≡ typesAlong (now (w .entry)) (typeOf (now (t .entry)) i ∷ [])) ⌝ }
+    ensures { λ r. ⌜
+        (r ≤ 128) × (typesFrom (now (t .entry)) (now (ts .exit)) r ≡ typesAlong (now (w .entry))
+        (typeOf (now (t .entry)) i ∷ []))
+        ⌝ }
 {
     ts[127] = i;
     let mut top: usize = 127;
@@ -154,7 +169,13 @@ pub fn walk_row(
     ts: &mut [usize],
 ) -> usize
     requires { ⌜ (length (now ps) ≡ 128) × (length (now ts) ≡ 128) × (length (now w) ≤ 127) ⌝ }
-    ensures { λ r. ⌜ (r ≤ 128 → (rowAlong (now (w .entry)) (patternOf (now (t .entry)) base p ∷ []) ≡ some (rowFrom (now (t .entry)) base (now (ps .exit)) r)) × (typesFrom (now (t .entry)) (now (ts .exit)) r ≡ typesAlong (now (w .entry)) (typeOf (now (t .entry)) i ∷ []))) × (128 < r → rowAlong (now (w .entry)) (patternOf (now (t .entry)) base p ∷ []) ≡ none) ⌝ }
+    ensures { λ r. ⌜
+        (r ≤ 128
+        → (rowAlong (now (w .entry)) (patternOf (now (t .entry)) base p ∷ []) ≡ some (rowFrom (now (t .entry)) base (now (ps .exit)) r))
+        ×
+        (typesFrom (now (t .entry)) (now (ts .exit)) r ≡ typesAlong (now (w .entry)) (typeOf (now (t .entry)) i ∷ [])))
+        × (128 < r → rowAlong (now (w .entry)) (patternOf (now (t .entry)) base p ∷ []) ≡ none)
+        ⌝ }
 {
     ps[127] = p;
     ts[127] = i;

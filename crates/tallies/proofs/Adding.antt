@@ -6,7 +6,7 @@ use mathlib.Core.Path.{_≡_, refl, sym, ap, ap₂, _∙_}
 use mathlib.Core.Bool.{Bool, true, false, cond}
 use mathlib.Core.List.{List}
 use lib.ListN.{length}
-use Rattle.model.specs.Trees.{Ty, tunit}
+use Rattle.calculus.specs.Trees.{Ty, tunit}
 use Rattle.nodes.specs.Unfolding.{cellOf, smallerOf, typeOf}
 use Rattle.nodes.proofs.Unfolding.{rank, type-unit}
 use Rattle.tallies.specs.Tallies.{Holds, Shifts, Adds, Copies, Halved, shifted, more}

@@ -3,7 +3,7 @@
 use Prim.Native.Nat.{ℕ, zero, suc, _+_}
 use native.Mathlib.Omega.{arith}
 use mathlib.Core.Path.{_≡_, refl, sym, ap₂, _∙_}
-use Rattle.model.specs.Trees.{Ty, tunit, tsum, tprod}
+use Rattle.calculus.specs.Trees.{Ty, tunit, tsum, tprod}
 use Rattle.tallies.specs.Tallies.{shifted, more}
 
 -- the same counts

@@ -4,7 +4,7 @@ use native.Mathlib.Omega.{arith}
 use mathlib.Core.Path.{_≡_, sym, ap₂, _∙_, subst}
 use mathlib.Core.Bool.{Bool, true, false, cond}
 use mathlib.Core.List.{List}
-use Rattle.model.specs.Trees.{tsum, tprod}
+use Rattle.calculus.specs.Trees.{tsum, tprod}
 use Rattle.nodes.specs.Unfolding.{cellOf, smallerOf, typeOf}
 use Rattle.tallies.specs.Tallies.{Halved}
 use Rattle.nodes.proofs.Unfolding.{rank, type-falls, type-sum, type-prod}

@@ -3,7 +3,7 @@ use Prim.Native.Nat.{ℕ, zero, suc, _+_, _<_, _≤_}
 use native.Mathlib.Omega.{arith}
 use mathlib.Core.Path.{_≡_, refl, sym, ap, ap₂, _∙_, subst}
 use mathlib.Core.List.{List}
-use Rattle.model.specs.Trees.{Ty, tsum, tprod, Tag, left, right, Pat, punit, pvar, pinj, ppair}
+use Rattle.calculus.specs.Trees.{Ty, tsum, tprod, Tag, left, right, Pat, punit, pvar, pinj, ppair}
 use Rattle.nodes.specs.Unfolding.{cellOf, smallerOf, typeOf, patternOf}
 use Rattle.nodes.proofs.Unfolding.{rank, type-unit, type-sum, type-prod, pattern-falls, pattern-unit, pattern-var, pattern-left, pattern-right, pattern-pair}
 use Rattle.tallies.specs.Tallies.{Holds, shifted, more, moreIn, partOf}

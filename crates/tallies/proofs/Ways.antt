@@ -3,7 +3,7 @@ use Prim.Native.Nat.{ℕ, zero, suc, _+_}
 use native.Mathlib.Omega.{arith}
 use mathlib.Core.Path.{_≡_, refl}
 use mathlib.Core.List.{List, _∷_}
-use Rattle.model.specs.Trees.{Ty, tunit, tsum, tprod, left, right, Pat, pvar}
+use Rattle.calculus.specs.Trees.{Ty, tunit, tsum, tprod, left, right, Pat, pvar}
 use Rattle.witnesses.specs.Seeking.{howMany, ways}
 use Rattle.witnesses.specs.Shapes.{Shape}
 use Rattle.tallies.specs.Tallies.{more, moreIn}

@@ -8,7 +8,7 @@ use nodes::type_size;
 ghost use mathlib.Core.Path.{_≡_};
 ghost use Prim.Native.Nat.{ℕ, _+_};
 ghost use lib.ListN.{length};
-ghost use Rattle.model.specs.Trees.{left, right};
+ghost use Rattle.calculus.specs.Trees.{left, right};
 ghost use Rattle.nodes.specs.Unfolding.{cellOf, smallerOf, typeOf, patternOf};
 ghost use Rattle.tallies.specs.Tallies.{plusOf, Holds, Shifts, Adds, Copies, Halved, more, moreIn, partOf};
 
@@ -92,7 +92,10 @@ pub fn count_type(t: &[u16], i: usize, k: &mut [u64])
 // a call and the other one in the loop, so that calls nest no deeper than a type's nodes can be halved.
 fn add_type(t: &[u16], i: usize, w: &[u64], sum: &mut [u64])
     requires { ⌜ (length (now w) ≡ 128) × (length (now sum) ≡ 128) ⌝ }
-    ensures { λ r. ⌜ ((W S : ℕ → ℕ) → Holds (now (w .entry)) W → Holds (now (sum .entry)) S → Holds (now (sum .exit)) (λ n. S n + more (typeOf (now (t .entry)) i) W n)) ⌝ }
+    ensures { λ r. ⌜
+        ((W S : ℕ → ℕ) → Holds (now (w .entry)) W → Holds (now (sum .entry)) S
+        → Holds (now (sum .exit)) (λ n. S n + more (typeOf (now (t .entry)) i) W n))
+        ⌝ }
 {
     let mut k = [0u64; 128];
     copy(w, &mut k);
@@ -138,7 +141,10 @@ pub fn second_part(t: &[u16], i: usize) -> usize
 // k holds the ways to go on; a closed value of T line i that P line p matches before them.
 pub fn count_pattern(t: &[u16], base: usize, p: usize, i: usize, k: &mut [u64])
     requires { ⌜ length (now k) ≡ 128 ⌝ }
-    ensures { λ r. ⌜ ((W : ℕ → ℕ) → Holds (now (k .entry)) W → Holds (now (k .exit)) (moreIn (patternOf (now (t .entry)) base p) (typeOf (now (t .entry)) i) W)) ⌝ }
+    ensures { λ r. ⌜
+        ((W : ℕ → ℕ) → Holds (now (k .entry)) W → Holds (now (k .exit))
+        (moreIn (patternOf (now (t .entry)) base p) (typeOf (now (t .entry)) i) W))
+        ⌝ }
 {
     let kind = pattern_cell(t, base, p, 1);
     if kind == 0 {

@@ -7,11 +7,11 @@ use mathlib.Core.Option.{Option, none, some}
 use mathlib.Core.List.{List, [], _∷_, _++_, append-nil, append-assoc}
 use lib.ListN.{length, take, drop, set, length-append}
 use lib.Seq.{set-split, take-at, length-take-le}
-use Rattle.model.specs.Tools.{_>>=_, isSome}
-use Rattle.model.specs.Trees.{Iso}
-use Rattle.model.specs.Lines.{Row}
-use Rattle.model.specs.Unfold.{isosOf}
-use Rattle.model.proofs.Basic.{isSome-true}
+use Rattle.calculus.specs.Tools.{_>>=_, isSome}
+use Rattle.calculus.specs.Trees.{Iso}
+use Rattle.format.specs.Lines.{Row}
+use Rattle.format.specs.Unfold.{isosOf}
+use Rattle.calculus.proofs.Basic.{isSome-true}
 use Rattle.ranking.specs.Numbering.{count}
 use Rattle.pairlists.specs.PairLists.{toFrom, upwards}
 use Rattle.targets.specs.Targets.{Runnable, withTo, Stores, Found}

@@ -9,19 +9,19 @@ use mathlib.Core.List.{List}
 use lib.Dec.{leb}
 use lib.ListN.{length, getElem?, take, drop, set}
 use lib.Seq.{sets-eq, take-at}
-use Rattle.model.specs.Limits.{maxPairs}
-use Rattle.model.specs.Tools.{_>>=_, guard, isSome}
-use Rattle.model.specs.Trees.{Val, Iso}
-use Rattle.model.specs.Refusals.{number, spent}
-use Rattle.model.specs.Lines.{Row}
-use Rattle.model.specs.Unfold.{isosOf}
-use Rattle.model.specs.Reduction.{reduce}
-use Rattle.model.specs.Letters.{letters, inhabits}
-use Rattle.model.specs.Paper.{Of}
+use Rattle.limits.specs.Limits.{maxPairs}
+use Rattle.calculus.specs.Tools.{_>>=_, guard, isSome}
+use Rattle.calculus.specs.Trees.{Val, Iso}
+use Rattle.calculus.specs.Refusals.{number, spent}
+use Rattle.format.specs.Lines.{Row}
+use Rattle.format.specs.Unfold.{isosOf}
+use Rattle.calculus.specs.Reduction.{reduce}
+use Rattle.calculus.specs.Letters.{letters, inhabits}
+use Rattle.calculus.specs.Paper.{Of}
 use Rattle.model.specs.Services.{Ran, gives, failed, within, argument, from, onIso, runRows, answerOfRun, written}
-use Rattle.model.specs.Code.{refusalView, numbered}
-use Rattle.model.proofs.Basic.{some-bind, isSome-true}
-use Rattle.model.proofs.Letters.{value-letters, of-inhabits, inhabits-of}
+use Rattle.format.specs.Code.{refusalView, numbered}
+use Rattle.calculus.proofs.Basic.{some-bind, isSome-true}
+use Rattle.calculus.proofs.Letters.{value-letters, of-inhabits, inhabits-of}
 use Rattle.model.proofs.Files.{number-positive}
 use Rattle.model.proofs.Runs.{good, good-invert, results}
 use Rattle.ranking.specs.Numbering.{count, rank, unrank}

@@ -5,11 +5,11 @@ use mathlib.Core.Bool.{Bool, cond}
 use mathlib.Core.Option.{Option, none, some}
 use mathlib.Core.List.{List}
 use lib.ListN.{getElem?, take, set}
-use Rattle.model.specs.Limits.{maxPairs}
-use Rattle.model.specs.Trees.{Iso}
-use Rattle.model.specs.Tools.{isSome}
-use Rattle.model.specs.Lines.{Row}
-use Rattle.model.specs.Unfold.{isosOf}
+use Rattle.limits.specs.Limits.{maxPairs}
+use Rattle.calculus.specs.Trees.{Iso}
+use Rattle.calculus.specs.Tools.{isSome}
+use Rattle.format.specs.Lines.{Row}
+use Rattle.format.specs.Unfold.{isosOf}
 use Rattle.ranking.specs.Numbering.{count}
 use Rattle.pairlists.specs.PairLists.{toFrom, upwards}
 use Rattle.runner.specs.RunSays.{Prepared}

@@ -1,6 +1,6 @@
 // The tos of an iso's pairs: what the run of each setting of its from-type gives, as numbers.
 
-use model::is_refused;
+use format::is_refused;
 use nodes::cell;
 use numbering::rank_at;
 use numbering::unrank_at;
@@ -15,10 +15,10 @@ ghost use mathlib.Core.Bool.{false};
 ghost use mathlib.Core.List.{List};
 ghost use Prim.Native.Nat.{_≤_, _<_};
 ghost use lib.ListN.{length};
-ghost use Rattle.model.specs.Trees.{Iso};
-ghost use Rattle.model.specs.Lines.{Row as RowOf};
-ghost use Rattle.model.specs.Unfold.{isosOf};
-ghost use Rattle.model.specs.Letters.{letters};
+ghost use Rattle.calculus.specs.Trees.{Iso};
+ghost use Rattle.format.specs.Lines.{Row as RowOf};
+ghost use Rattle.format.specs.Unfold.{isosOf};
+ghost use Rattle.calculus.specs.Letters.{letters};
 ghost use Rattle.ranking.specs.Numbering.{count, unrank};
 ghost use Rattle.pairlists.specs.PairLists.{toFrom};
 ghost use Rattle.nodes.specs.Unfolding.{cellOf};
@@ -45,7 +45,13 @@ fn run_setting(
     work: &mut [u8],
     result: &mut [u8],
 ) -> Ran
-    ensures { λ r. ⌜ ((rs : List RowOf) (o : Iso) → Runnable (now (t .entry)) base (now (index .entry)) isos rs i o → k < count (o .from) → 40960 ≤ length (now (work .entry)) → length (now (work .entry)) ≤ 65536 → 127 ≤ length (now (result .entry)) → RanAs (answerFor rs i false budget (letters (unrank (o .from) k))) (now (result .entry)) (now (result .exit)) r) ⌝ }
+    ensures { λ r. ⌜
+        ((rs : List RowOf) (o : Iso) → Runnable (now (t .entry)) base (now (index .entry)) isos rs i o
+        → k < count (o .from) → 40960 ≤ length (now (work .entry)) → length (now (work .entry)) ≤ 65536
+        → 127 ≤ length (now (result .entry))
+        → RanAs (answerFor rs i false budget (letters (unrank (o .from) k))) (now (result .entry))
+        (now (result .exit)) r)
+        ⌝ }
 {
     let mut value = [0u8; 127];
     let n = unrank_at(t, iso_cell(t, index, i, 1), k, &mut value, 0);
@@ -75,7 +81,11 @@ fn find_to(
     work: &mut [u8],
     tos: &mut [u16],
 ) -> bool
-    ensures { λ r. ⌜ ((rs : List RowOf) (o : Iso) → Runnable (now (t .entry)) base (now (index .entry)) isos rs i o → k < count (o .from) → 40960 ≤ length (now (work .entry)) → length (now (work .entry)) ≤ 65536 → Stores (toFrom (isosOf rs) i o budget k) k (now (tos .entry)) (now (tos .exit)) r) ⌝ }
+    ensures { λ r. ⌜
+        ((rs : List RowOf) (o : Iso) → Runnable (now (t .entry)) base (now (index .entry)) isos rs i o
+        → k < count (o .from) → 40960 ≤ length (now (work .entry)) → length (now (work .entry)) ≤ 65536
+        → Stores (toFrom (isosOf rs) i o budget k) k (now (tos .entry)) (now (tos .exit)) r)
+        ⌝ }
 {
     let mut result = [0u8; 127];
     let r = run_setting(t, base, index, isos, i, k, budget, work, &mut result);
@@ -100,7 +110,11 @@ pub fn find_tos(
     work: &mut [u8],
     tos: &mut [u16],
 ) -> bool
-    ensures { λ r. ⌜ ((rs : List RowOf) (o : Iso) → Runnable (now (t .entry)) base (now (index .entry)) isos rs i o → n ≤ count (o .from) → n ≤ length (now (tos .entry)) → 40960 ≤ length (now (work .entry)) → length (now (work .entry)) ≤ 65536 → Found rs i o budget n (now (tos .exit)) r) ⌝ }
+    ensures { λ r. ⌜
+        ((rs : List RowOf) (o : Iso) → Runnable (now (t .entry)) base (now (index .entry)) isos rs i o
+        → n ≤ count (o .from) → n ≤ length (now (tos .entry)) → 40960 ≤ length (now (work .entry))
+        → length (now (work .entry)) ≤ 65536 → Found rs i o budget n (now (tos .exit)) r)
+        ⌝ }
 {
     let mut k: usize = 0;
     while k < n {

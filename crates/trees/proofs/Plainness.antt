@@ -4,9 +4,9 @@ use native.Mathlib.Omega.{arith}
 use mathlib.Core.Path.{_≡_, refl, sym, ap, _∙_}
 use mathlib.Core.Bool.{Bool, true, false, _&&_}
 use mathlib.Core.List.{List}
-use Rattle.model.specs.Trees.{Pat}
-use Rattle.model.specs.Judge.{patternNode}
-use Rattle.model.specs.Clauses.{plain}
+use Rattle.calculus.specs.Trees.{Pat}
+use Rattle.format.specs.Judge.{patternNode}
+use Rattle.calculus.specs.Clauses.{plain}
 use Rattle.nodes.specs.Unfolding.{cellOf, smallerOf, patternOf}
 use Rattle.children.proofs.Shapes.{Injects, lefts, rights, injects, Pairs, pairs, paired, opened}
 

@@ -6,8 +6,8 @@ use mathlib.Core.Bool.{Bool, true, false, cond, not, _&&_}
 use mathlib.Core.List.{List}
 use lib.Dec.{eqb}
 use borrow.Author.Tests.{ne-eqb}
-use Rattle.model.specs.Trees.{Ty, tunit, sameType}
-use Rattle.model.specs.Judge.{typeNode}
+use Rattle.calculus.specs.Trees.{Ty, tunit, sameType}
+use Rattle.format.specs.Judge.{typeNode}
 use Rattle.nodes.specs.Unfolding.{cellOf, smallerOf, typeOf}
 use Rattle.nodes.proofs.Unfolding.{type-node, type-unit}
 

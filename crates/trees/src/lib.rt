@@ -13,8 +13,8 @@ use nodes::pattern_cell;
 ghost use mathlib.Core.Path.{_≡_};
 ghost use mathlib.Core.Bool.{cond, not};
 ghost use lib.Dec.{eqb};
-ghost use Rattle.model.specs.Trees.{sameType};
-ghost use Rattle.model.specs.Clauses.{plain};
+ghost use Rattle.calculus.specs.Trees.{sameType};
+ghost use Rattle.calculus.specs.Clauses.{plain};
 ghost use Rattle.nodes.specs.Unfolding.{typeOf, patternOf};
 
 // Whether two kinds of a T line that are no unit are both sums or both products.

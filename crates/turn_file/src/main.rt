@@ -31,7 +31,7 @@ fn print_turned(file: &[u8]) {
     let r = turn(file, &mut table, &mut work, &mut output);
     let a = r.answer;
     let f = a.refusal;
-    if print_answer(model::number_of(f), a.place) {
+    if print_answer(format::number_of(f), a.place) {
         write_front(&output, r.length);
     }
 }

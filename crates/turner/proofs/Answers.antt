@@ -10,13 +10,13 @@ use lib.Dec.{ltb}
 use lib.ListN.{length, drop}
 use lib.Seq.{sets-eq}
 use borrow.Author.Tests.{lt-ltb, le-ltb}
-use Rattle.model.specs.Tools.{isSome}
-use Rattle.model.specs.Refusals.{number, shortArea}
-use Rattle.model.specs.Lines.{Row, printRows}
-use Rattle.model.specs.Unfold.{turnRows}
+use Rattle.calculus.specs.Tools.{isSome}
+use Rattle.calculus.specs.Refusals.{number, shortArea}
+use Rattle.format.specs.Lines.{Row, printRows}
+use Rattle.format.specs.Unfold.{turnRows}
 use Rattle.model.specs.Services.{Verdict, accepted, refused, verdict, written, tableAfter, workAfter, short, unless, answerOf, check, turnedOf, turned, turn}
-use Rattle.model.specs.Code.{refusalView, numberOf, numbered}
-use Rattle.model.proofs.Basic.{isSome-true}
+use Rattle.format.specs.Code.{refusalView, numberOf, numbered}
+use Rattle.calculus.proofs.Basic.{isSome-true}
 use Rattle.model.proofs.Files.{number-positive, turned-fits}
 use Rattle.areas.specs.Areas.{Writes}
 use Rattle.checker.specs.CheckSays.{CheckSays, Accepted}

@@ -6,10 +6,10 @@ use mathlib.Core.Option.{some}
 use mathlib.Core.List.{List, [], _∷_, _++_, map, reverse, append-nil, append-assoc, reverse-cons}
 use lib.ListN.{getElem?, drop, take-append-drop}
 use lib.Seq.{slice}
-use Rattle.model.specs.Refusals.{Kind, typeLine, patternLine, isoLine, clauseLine, letLine}
-use Rattle.model.specs.Lines.{Row, print, printRows}
-use Rattle.model.specs.Unfold.{exchange, turnRow, turnFrom, turnRows}
-use Rattle.model.proofs.Printing.{printRows-cons, printRows-nil}
+use Rattle.calculus.specs.Refusals.{Kind, typeLine, patternLine, isoLine, clauseLine, letLine}
+use Rattle.format.specs.Lines.{Row, print, printRows}
+use Rattle.format.specs.Unfold.{exchange, turnRow, turnFrom, turnRows}
+use Rattle.format.proofs.Printing.{printRows-cons, printRows-nil}
 use Rattle.turner.specs.Written.{turnedRow}
 
 -- ---- printed rows

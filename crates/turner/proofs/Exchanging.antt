@@ -5,13 +5,13 @@ use mathlib.Core.Path.{_≡_, refl, sym, ap, ap₂, _∙_, subst}
 use mathlib.Core.Option.{none, some}
 use mathlib.Core.List.{List}
 use lib.ListN.{getElem?}
-use Rattle.model.specs.Refusals.{Kind, typeLine, patternLine, isoLine, clauseLine, letLine}
-use Rattle.model.specs.Lines.{Row, letter, kindOf, print}
-use Rattle.model.specs.Unfold.{exchange}
-use Rattle.model.specs.Code.{kindView}
-use Rattle.model.specs.declared.Kind as K
-use Rattle.model.proofs.Basic.{none≢some, some-inj}
-use Rattle.model.proofs.Printing.{kindOf-letter}
+use Rattle.calculus.specs.Refusals.{Kind, typeLine, patternLine, isoLine, clauseLine, letLine}
+use Rattle.format.specs.Lines.{Row, letter, kindOf, print}
+use Rattle.format.specs.Unfold.{exchange}
+use Rattle.format.specs.Code.{kindView}
+use Rattle.format.specs.declared.Kind as K
+use Rattle.calculus.proofs.Basic.{none≢some, some-inj}
+use Rattle.format.proofs.Printing.{kindOf-letter}
 use Rattle.forms.specs.Views.{asLetter}
 use Rattle.forms.specs.declared.Letter as L
 use Rattle.forms.specs.declared.Letter.the-variants as letters

@@ -7,9 +7,9 @@ use mathlib.Core.Option.{some}
 use mathlib.Core.List.{List, _∷_, map, reverse}
 use lib.ListN.{length, getD, getElem?}
 use lib.Seq.{slice, slice-empty, slice-cons}
-use Rattle.model.specs.Refusals.{Kind, typeLine, patternLine, isoLine, clauseLine, letLine}
-use Rattle.model.specs.Lines.{Row, letter, printRows}
-use Rattle.model.proofs.Printing.{printRows-nil}
+use Rattle.calculus.specs.Refusals.{Kind, typeLine, patternLine, isoLine, clauseLine, letLine}
+use Rattle.format.specs.Lines.{Row, letter, printRows}
+use Rattle.format.proofs.Printing.{printRows-nil}
 use Rattle.areas.specs.Areas.{Writes}
 use Rattle.areas.proofs.Writing.{writes-none, writes-both, writes-as}
 use Rattle.nodes.specs.Unfolding.{cellOf}

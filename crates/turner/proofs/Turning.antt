@@ -7,13 +7,13 @@ use mathlib.Core.Option.{some}
 use mathlib.Core.List.{List, [], _∷_, _++_, map, reverse, append-nil, append-assoc}
 use lib.ListN.{length, getElem?, drop, drop-of-length-le}
 use lib.Seq.{slice}
-use Rattle.model.specs.Refusals.{letLine}
-use Rattle.model.specs.Lines.{Row, print, printRows}
-use Rattle.model.specs.Judge.{start, inOrder}
-use Rattle.model.specs.Unfold.{turnRows}
-use Rattle.model.proofs.Basic.{index-below}
-use Rattle.model.proofs.Passing.{Passes}
-use Rattle.model.proofs.Printing.{printRows-nil}
+use Rattle.calculus.specs.Refusals.{letLine}
+use Rattle.format.specs.Lines.{Row, print, printRows}
+use Rattle.format.specs.Judge.{start, inOrder}
+use Rattle.format.specs.Unfold.{turnRows}
+use Rattle.calculus.proofs.Basic.{index-below}
+use Rattle.format.proofs.Passing.{Passes}
+use Rattle.format.proofs.Printing.{printRows-nil}
 use Rattle.areas.specs.Areas.{Writes}
 use Rattle.areas.proofs.Writing.{writes-none, writes-both, writes-as}
 use Rattle.nodes.specs.Walk.{FileIn}

@@ -3,7 +3,7 @@ use Prim.Native.Nat.{ℕ}
 use mathlib.Core.Path.{_≡_}
 use mathlib.Core.List.{List}
 use Rattle.model.specs.Services.{turn}
-use Rattle.model.specs.Code.{numberOf}
+use Rattle.format.specs.Code.{numberOf}
 use Rattle.turner.specs.declared.Turned as T
 
 -- t, w and o are the areas at entry, t′, w′ and o′ at exit

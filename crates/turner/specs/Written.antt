@@ -5,9 +5,9 @@ use mathlib.Core.Option.{some}
 use mathlib.Core.List.{List, map, reverse}
 use lib.ListN.{getElem?}
 use lib.Seq.{slice}
-use Rattle.model.specs.Refusals.{letLine}
-use Rattle.model.specs.Lines.{Row, letter, print, printRows}
-use Rattle.model.specs.Unfold.{exchange, turnRows}
+use Rattle.calculus.specs.Refusals.{letLine}
+use Rattle.format.specs.Lines.{Row, letter, print, printRows}
+use Rattle.format.specs.Unfold.{exchange, turnRows}
 use Rattle.areas.specs.Areas.{Writes}
 use Rattle.nodes.specs.Unfolding.{cellOf}
 use Rattle.nodes.specs.Walk.{FileIn}

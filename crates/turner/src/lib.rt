@@ -3,19 +3,19 @@
 use checker::check_file;
 use codes::LET_LINE;
 use codes::ROW_LETTER;
+use format::Answer;
+use format::Kind;
+use format::Refusal;
+use format::Row;
+use format::is_refused;
 use forms::Letter;
 use forms::kind_of;
-use model::Answer;
-use model::Kind;
-use model::Refusal;
-use model::Row;
-use model::is_refused;
 use nodes::cell;
 use printer::put_row;
 ghost use mathlib.Core.Path.{_≡_};
 ghost use Prim.Native.Nat.{_%_};
-ghost use Rattle.model.specs.Unfold.{exchange};
-ghost use Rattle.model.specs.Code.{kindView, rowView};
+ghost use Rattle.format.specs.Unfold.{exchange};
+ghost use Rattle.format.specs.Code.{kindView, rowView};
 ghost use Rattle.turner.specs.Written.{RowWritten, LetsWritten, LetsEnd, FileWritten};
 ghost use Rattle.turner.specs.TurnSays.{TurnSays};
 
@@ -129,7 +129,10 @@ fn put_turned(t: &[u16], lines: usize, out: &mut [u8]) -> usize
 
 // Turns a file. The output area needs the file's length; a refusal leaves it untouched.
 pub fn turn(file: &[u8], table: &mut [u16], work: &mut [u8], output: &mut [u8]) -> Turned
-    ensures { λ r. ⌜ TurnSays (now (file .entry)) (now (table .entry)) (now (work .entry)) (now (output .entry)) (now (table .exit)) (now (work .exit)) (now (output .exit)) r ⌝ }
+    ensures { λ r. ⌜
+        TurnSays (now (file .entry)) (now (table .entry)) (now (work .entry)) (now (output .entry))
+        (now (table .exit)) (now (work .exit)) (now (output .exit)) r
+        ⌝ }
 {
     if output.len() < file.len() {
         return Turned {

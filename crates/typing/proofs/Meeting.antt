@@ -8,12 +8,12 @@ use mathlib.Core.Bool.{Bool, true, false, cond, _&&_}
 use mathlib.Core.Option.{Option, none, some}
 use mathlib.Core.List.{List, [], _∷_, map}
 use lib.ListN.{length, length-map, getD, set, List·getD-map}
-use Rattle.model.specs.Tools.{_>>=_, guard}
-use Rattle.model.specs.Trees.{Ty, tunit, tsum, tprod, Pat, punit, pvar, sameType}
-use Rattle.model.specs.Slots.{Slots, put, get, allEmpty}
-use Rattle.model.specs.Judge.{typeNode, patternNode}
-use Rattle.model.specs.Clauses.{learn, spend, used}
-use Rattle.model.proofs.Basic.{some-bind, bind-assoc, none≢some, not-eqb, same-bind}
+use Rattle.calculus.specs.Tools.{_>>=_, guard}
+use Rattle.calculus.specs.Trees.{Ty, tunit, tsum, tprod, Pat, punit, pvar, sameType}
+use Rattle.calculus.specs.Slots.{Slots, put, get, allEmpty}
+use Rattle.format.specs.Judge.{typeNode, patternNode}
+use Rattle.calculus.specs.Clauses.{learn, spend, used}
+use Rattle.calculus.proofs.Basic.{some-bind, bind-assoc, none≢some, not-eqb, same-bind}
 use Rattle.nodes.specs.Unfolding.{cellOf, smallerOf, typeOf, patternOf}
 use Rattle.nodes.proofs.Unfolding.{rank, type-past, type-node, type-unit, type-sum, type-prod, pattern-unit, pattern-var}
 use Rattle.nodes.proofs.Counts.{pattern-call}

@@ -8,17 +8,17 @@ use mathlib.Core.List.{List, [], _∷_, _++_, List·Memᴰ, List·Memᴰ·head, 
 use lib.Dec.{eqb}
 use lib.ListN.{getElem?, getD, replicate, length, length-set, length-replicate}
 use lib.Seq.{getD-set-same, getD-set-other}
-use Rattle.model.specs.Limits.{variables}
-use Rattle.model.specs.Tools.{_>>=_, firstFailing}
-use Rattle.model.specs.Trees.{Ty, Pat, Let, Clause, vars}
-use Rattle.model.specs.Slots.{Slots, empty}
-use Rattle.model.specs.Refusals.{variable, letShape, badType}
-use Rattle.model.specs.Clauses.{Deed, binds, uses, Event, deeds, letEvents, events, history, variablesRule, letShapes}
-use Rattle.model.specs.Clauses.{learn, spend, Sigs, typeLets, used, typed, clauseFault}
-use Rattle.model.specs.Paper.{Alternate, BoundThenUsed}
-use Rattle.model.proofs.Basic.{bind-assoc, bool-cases, and-true, true-and, eqb-eq, eqb-false, each-nil, each-append, each-map, same-bind}
-use Rattle.model.proofs.Formed.{FormedLet, FormedClause}
-use Rattle.model.proofs.Variables.{mark, history-hit, history-miss, variables-iff}
+use Rattle.limits.specs.Limits.{variables}
+use Rattle.calculus.specs.Tools.{_>>=_, firstFailing}
+use Rattle.calculus.specs.Trees.{Ty, Pat, Let, Clause, vars}
+use Rattle.calculus.specs.Slots.{Slots, empty}
+use Rattle.calculus.specs.Refusals.{variable, letShape, badType}
+use Rattle.calculus.specs.Clauses.{Deed, binds, uses, Event, deeds, letEvents, events, history, variablesRule, letShapes}
+use Rattle.calculus.specs.Clauses.{learn, spend, Sigs, typeLets, used, typed, clauseFault}
+use Rattle.calculus.specs.Paper.{Alternate, BoundThenUsed}
+use Rattle.calculus.proofs.Basic.{bind-assoc, bool-cases, and-true, true-and, eqb-eq, eqb-false, each-nil, each-append, each-map, same-bind}
+use Rattle.calculus.proofs.Formed.{FormedLet, FormedClause}
+use Rattle.calculus.proofs.Variables.{mark, history-hit, history-miss, variables-iff}
 use Rattle.marks.specs.Marks.{nextState, markOne, markEvents, settledAll}
 use Rattle.typing.specs.Rules.{Slotted, marked, shaped, fitLet, fittedLets, fitted}
 

@@ -5,11 +5,11 @@ use mathlib.Core.Bool.{Bool, true, false}
 use mathlib.Core.Option.{Option, none, some}
 use mathlib.Core.List.{List, map}
 use lib.ListN.{replicate}
-use Rattle.model.specs.Limits.{variables}
-use Rattle.model.specs.Tools.{_>>=_}
-use Rattle.model.specs.Trees.{Ty, Pat}
-use Rattle.model.specs.Slots.{Slots}
-use Rattle.model.specs.Clauses.{learn, spend}
+use Rattle.limits.specs.Limits.{variables}
+use Rattle.calculus.specs.Tools.{_>>=_}
+use Rattle.calculus.specs.Trees.{Ty, Pat}
+use Rattle.calculus.specs.Slots.{Slots}
+use Rattle.calculus.specs.Clauses.{learn, spend}
 use Rattle.nodes.specs.Unfolding.{typeOf, cellOf}
 use Rattle.typing.specs.declared.Env as E
 

@@ -5,11 +5,11 @@ use mathlib.Core.Bool.{Bool, true, false, _&&_}
 use mathlib.Core.Option.{Option, none, some}
 use mathlib.Core.List.{List, [], _∷_, List·Memᴰ}
 use lib.ListN.{getElem?, replicate}
-use Rattle.model.specs.Limits.{variables}
-use Rattle.model.specs.Tools.{all}
-use Rattle.model.specs.Trees.{Ty, Let, Clause}
-use Rattle.model.specs.Slots.{Slots}
-use Rattle.model.specs.Clauses.{Event, events, plain, Sigs, used}
+use Rattle.limits.specs.Limits.{variables}
+use Rattle.calculus.specs.Tools.{all}
+use Rattle.calculus.specs.Trees.{Ty, Let, Clause}
+use Rattle.calculus.specs.Slots.{Slots}
+use Rattle.calculus.specs.Clauses.{Event, events, plain, Sigs, used}
 use Rattle.marks.specs.Marks.{markEvents, settledAll}
 use Rattle.typing.specs.Fitting.{fitAll}
 

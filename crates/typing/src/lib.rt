@@ -15,7 +15,7 @@ use trees::same_type;
 use words::wide;
 ghost use mathlib.Core.Path.{_≡_};
 ghost use mathlib.Core.Bool.{true, false, cond, _&&_};
-ghost use Rattle.model.specs.Trees.{pvar};
+ghost use Rattle.calculus.specs.Trees.{pvar};
 ghost use Rattle.marks.specs.Marks.{settledAll};
 ghost use Rattle.nodes.specs.Unfolding.{typeOf, patternOf};
 ghost use Rattle.typing.specs.Fitting.{envView, EntryOf, fitAll, freshEnv, Parted};
@@ -83,7 +83,10 @@ fn assign(t: &[u16], n: usize, a: usize, binds: bool, e: Env) -> Env
 
 // The types of the live variables once P line p, bound or used, fits T line a.
 pub fn fit(t: &[u16], base: usize, p: usize, a: usize, binds: bool, e: Env) -> Env
-    ensures { λ r. ⌜ envView (now (t .entry)) r ≡ fitAll binds (patternOf (now (t .entry)) base p) (typeOf (now (t .entry)) a) (envView (now (t .entry)) e) ⌝ }
+    ensures { λ r. ⌜
+        envView (now (t .entry)) r ≡ fitAll binds (patternOf (now (t .entry)) base p)
+        (typeOf (now (t .entry)) a) (envView (now (t .entry)) e)
+        ⌝ }
 {
     if e.fits {
         let kp = pattern_cell(t, base, p, KIND);
@@ -114,7 +117,10 @@ fn fit_parts(
     e: Env,
 ) -> Env
     requires { ⌜ Parted (now t) base p a kp ka ⌝ }
-    ensures { λ r. ⌜ envView (now (t .entry)) r ≡ fitAll binds (patternOf (now (t .entry)) base p) (typeOf (now (t .entry)) a) (envView (now (t .entry)) e) ⌝ }
+    ensures { λ r. ⌜
+        envView (now (t .entry)) r ≡ fitAll binds (patternOf (now (t .entry)) base p)
+        (typeOf (now (t .entry)) a) (envView (now (t .entry)) e)
+        ⌝ }
 {
     if kp < PAIR {
         let only = pattern_part(t, base, p, FIRST);

@@ -12,18 +12,18 @@ use mathlib.Core.List.{List, [], _∷_, _++_, append-assoc, append-nil}
 use lib.Dec.{eqb, ltb}
 use lib.ListN.{length, getD, set, take, drop, length-append, length-drop, length-set}
 use lib.Seq.{take-nil, take-append-seam, take-append-add, drop-append-seam, getD-set-same, getD-set-other, take-set-le, take-take, drop-drop, drop-at, length-take-le, sets, sets-eq, slice}
-use Rattle.model.specs.Tools.{_>>=_, guard}
-use Rattle.model.specs.Limits.{variables}
-use Rattle.model.specs.Trees.{Ty, tunit, tsum, tprod, Tag, left, right, Pat, punit, pvar, pinj, ppair, Val, vunit, vinj, vpair, Iso, sameTag}
-use Rattle.model.specs.Slots.{Slots, put, empty}
-use Rattle.model.specs.Letters.{letters, letterU, letterP, letterOf, valueOf, inhabits}
-use Rattle.model.specs.Reduction.{bind, build}
-use Rattle.model.specs.Paper.{Of}
+use Rattle.calculus.specs.Tools.{_>>=_, guard}
+use Rattle.limits.specs.Limits.{variables}
+use Rattle.calculus.specs.Trees.{Ty, tunit, tsum, tprod, Tag, left, right, Pat, punit, pvar, pinj, ppair, Val, vunit, vinj, vpair, Iso, sameTag}
+use Rattle.calculus.specs.Slots.{Slots, put, empty}
+use Rattle.calculus.specs.Letters.{letters, letterU, letterP, letterOf, valueOf, inhabits}
+use Rattle.calculus.specs.Reduction.{bind, build}
+use Rattle.calculus.specs.Paper.{Of}
 use Rattle.model.specs.Services.{valueIn}
-use Rattle.model.proofs.Basic.{bind-some, some-bind, none≢some, some-inj, not-some, guard-true, true-guard, true-and, eqb-eq, ltb-lt, lt-ltb}
-use Rattle.model.proofs.Slots.{slot, put-of-get, put-length, Filled, put-filled, filled-keeps, slot-empty}
-use Rattle.model.proofs.Binding.{bind-length}
-use Rattle.model.proofs.Letters.{value-letters, letters-value, inhabits-of, of-inhabits}
+use Rattle.calculus.proofs.Basic.{bind-some, some-bind, none≢some, some-inj, not-some, guard-true, true-guard, true-and, eqb-eq, ltb-lt, lt-ltb}
+use Rattle.calculus.proofs.Slots.{slot, put-of-get, put-length, Filled, put-filled, filled-keeps, slot-empty}
+use Rattle.calculus.proofs.Binding.{bind-length}
+use Rattle.calculus.proofs.Letters.{value-letters, letters-value, inhabits-of, of-inhabits}
 use Rattle.values.specs.Texts.{At, behind, alike, putRange, ranges, rangeOf, built, Below}
 use Rattle.values.specs.Agrees.{Agrees}
 

@@ -8,8 +8,8 @@ use mathlib.Core.Option.{Option, none, some}
 use mathlib.Core.List.{List, [], _∷_}
 use lib.Dec.{leb}
 use lib.ListN.{length, drop, drop-of-length-le}
-use Rattle.model.specs.Trees.{Ty}
-use Rattle.model.proofs.Basic.{bool-cases, leb-le, leb-false}
+use Rattle.calculus.specs.Trees.{Ty}
+use Rattle.calculus.proofs.Basic.{bool-cases, leb-le, leb-false}
 use Rattle.values.specs.declared.Upto as U
 use Rattle.values.specs.declared.Upto.the-variants as upto
 use Rattle.values.specs.Texts.{asUpto, behind, alone}

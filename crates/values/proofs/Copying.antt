@@ -11,7 +11,7 @@ use lib.Dec.{ltb}
 use lib.ListN.{length, getD, set, take, drop, length-set, length-take, length-drop, drop-of-length-le}
 use lib.Seq.{slice, take-suc, drop-append-le, length-take-le, getD-set-other}
 use borrow.Author.Tests.{ltb-true, ltb-false}
-use Rattle.model.proofs.Basic.{bool-cases}
+use Rattle.calculus.proofs.Basic.{bool-cases}
 use Rattle.areas.specs.Areas.{Writes}
 use Rattle.values.specs.Texts.{Span}
 use Rattle.areas.proofs.Writing.{place-in, writes-none, writes-one, writes-both, writes-as}

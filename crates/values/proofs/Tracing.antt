@@ -8,26 +8,26 @@ use mathlib.Core.Bool.{true, false, false≢true}
 use mathlib.Core.Option.{some}
 use mathlib.Core.List.{List, [], _∷_, map, List·Memᴰ, List·Memᴰ·head, List·Memᴰ·tail, Memᴰ·map}
 use lib.ListN.{length, getElem?}
-use Rattle.model.specs.Limits.{maxLets, variables}
-use Rattle.model.specs.Tools.{select}
-use Rattle.model.specs.Trees.{Ty, Pat, punit, pvar, pinj, ppair, Val, vunit, vinj, vpair}
-use Rattle.model.specs.Trees.{Let, Clause, Iso, sameTag}
-use Rattle.model.specs.Slots.{Slots, empty}
-use Rattle.model.specs.Refusals.{Kind, typeLine, patternLine, isoLine, clauseLine, letLine}
-use Rattle.model.specs.Lines.{Row}
-use Rattle.model.specs.Judge.{Seen, start, afterKind, afterAll}
-use Rattle.model.specs.Unfold.{Tail, place, tailFrom, isosOf}
-use Rattle.model.specs.Reduction.{bind, build, Call, runLets, runClause, hits, only, apply, reduceTo, reduce}
-use Rattle.model.specs.Clauses.{sigsOf}
-use Rattle.model.specs.Paper.{Of, Fits, Chain, Product, Orth, Apart}
-use Rattle.model.proofs.Basic.{bind-some, some-bind, none≢some, some-inj, is-false, and-true, sameTag-eq, each-nil, each-cons, mem-index, index-mem, index-of-map}
-use Rattle.model.proofs.Passing.{Passes, done, next, Fit, judge-fit, let-fit}
-use Rattle.model.proofs.Orthogonal.{Alike, matched-alike, orth-alike, apart-head, apart-tail}
-use Rattle.model.proofs.Matching.{bind-matched}
-use Rattle.model.proofs.Running.{let-run, ClauseRun, clause-run, hit-only}
-use Rattle.model.proofs.Inverse.{reduce-unfold}
-use Rattle.model.proofs.Joins.{EnvOf, build-total, build-all, bind-total, lhs-total}
-use Rattle.model.proofs.Totality.{Sound}
+use Rattle.limits.specs.Limits.{maxLets, variables}
+use Rattle.calculus.specs.Tools.{select}
+use Rattle.calculus.specs.Trees.{Ty, Pat, punit, pvar, pinj, ppair, Val, vunit, vinj, vpair}
+use Rattle.calculus.specs.Trees.{Let, Clause, Iso, sameTag}
+use Rattle.calculus.specs.Slots.{Slots, empty}
+use Rattle.calculus.specs.Refusals.{Kind, typeLine, patternLine, isoLine, clauseLine, letLine}
+use Rattle.format.specs.Lines.{Row}
+use Rattle.format.specs.Judge.{Seen, start, afterKind, afterAll}
+use Rattle.format.specs.Unfold.{Tail, place, tailFrom, isosOf}
+use Rattle.calculus.specs.Reduction.{bind, build, Call, runLets, runClause, hits, only, apply, reduceTo, reduce}
+use Rattle.calculus.specs.Clauses.{sigsOf}
+use Rattle.calculus.specs.Paper.{Of, Fits, Chain, Product, Orth, Apart}
+use Rattle.calculus.proofs.Basic.{bind-some, some-bind, none≢some, some-inj, is-false, and-true, sameTag-eq, each-nil, each-cons, mem-index, index-mem, index-of-map}
+use Rattle.format.proofs.Passing.{Passes, done, next, Fit, judge-fit, let-fit}
+use Rattle.calculus.proofs.Orthogonal.{Alike, matched-alike, orth-alike, apart-head, apart-tail}
+use Rattle.calculus.proofs.Matching.{bind-matched}
+use Rattle.calculus.proofs.Running.{let-run, ClauseRun, clause-run, hit-only}
+use Rattle.calculus.proofs.Inverse.{reduce-unfold}
+use Rattle.calculus.proofs.Joins.{EnvOf, build-total, build-all, bind-total, lhs-total}
+use Rattle.calculus.proofs.Totality.{Sound}
 use Rattle.model.proofs.Runs.{GoodRows, good, results, sound}
 use Rattle.model.proofs.Sizes.{of-small, SmallTypes, small-types}
 use Rattle.values.specs.Texts.{alike}

@@ -10,8 +10,8 @@ use lib.Dec.{eqb}
 use lib.ListN.{length, getD, drop, drop-of-length-le}
 use lib.Seq.{drop-cons}
 use borrow.Author.Tests.{eq-eqb, ne-eqb}
-use Rattle.model.specs.Tools.{_>>=_, guard}
-use Rattle.model.specs.Trees.{Ty, tunit, tsum, tprod}
+use Rattle.calculus.specs.Tools.{_>>=_, guard}
+use Rattle.calculus.specs.Trees.{Ty, tunit, tsum, tprod}
 use Rattle.nodes.specs.Unfolding.{cellOf, smallerOf, typeOf}
 use Rattle.nodes.proofs.Unfolding.{rank, type-falls, type-unit, type-sum, type-prod}
 use Rattle.values.specs.declared.Upto as U

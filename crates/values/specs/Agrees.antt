@@ -3,9 +3,9 @@ use Prim.Native.Nat.{ℕ}
 use mathlib.Core.Path.{_≡_}
 use mathlib.Core.Option.{some}
 use mathlib.Core.List.{List}
-use Rattle.model.specs.Trees.{Val}
-use Rattle.model.specs.Slots.{Slots, slot}
-use Rattle.model.specs.Letters.{letters}
+use Rattle.calculus.specs.Trees.{Val}
+use Rattle.calculus.specs.Slots.{Slots, slot}
+use Rattle.calculus.specs.Letters.{letters}
 use Rattle.values.specs.Texts.{rangeOf}
 
 pub record Agrees (s vars : List ℕ) (e : Slots Val) : Type 0 where

@@ -7,10 +7,10 @@ use mathlib.Core.List.{List, [], _∷_, _++_}
 use lib.Dec.{eqb, ltb}
 use lib.ListN.{length, getD, set, drop}
 use lib.Seq.{slice}
-use Rattle.model.specs.Limits.{variables}
-use Rattle.model.specs.Tools.{_>>=_, guard}
-use Rattle.model.specs.Trees.{Ty, tunit, tsum, tprod, Pat, punit, pvar, pinj, ppair, left, right, Val, vunit, vinj, vpair, sameTag}
-use Rattle.model.specs.Letters.{letters, letterU, letterP, letterOf}
+use Rattle.limits.specs.Limits.{variables}
+use Rattle.calculus.specs.Tools.{_>>=_, guard}
+use Rattle.calculus.specs.Trees.{Ty, tunit, tsum, tprod, Pat, punit, pvar, pinj, ppair, left, right, Val, vunit, vinj, vpair, sameTag}
+use Rattle.calculus.specs.Letters.{letters, letterU, letterP, letterOf}
 use Rattle.values.specs.declared.Upto as U
 use Rattle.values.specs.declared.Upto.the-variants as upto
 

@@ -6,11 +6,11 @@ use mathlib.Core.Bool.{false}
 use mathlib.Core.Option.{some}
 use mathlib.Core.List.{List, [], _∷_}
 use lib.ListN.{length, getElem?}
-use Rattle.model.specs.Limits.{maxLets, maxNodes}
-use Rattle.model.specs.Trees.{Val, Let, Clause, Iso}
-use Rattle.model.specs.Slots.{Slots, empty}
-use Rattle.model.specs.Letters.{letters}
-use Rattle.model.specs.Reduction.{bind, build}
+use Rattle.limits.specs.Limits.{maxLets, maxNodes}
+use Rattle.calculus.specs.Trees.{Val, Let, Clause, Iso}
+use Rattle.calculus.specs.Slots.{Slots, empty}
+use Rattle.calculus.specs.Letters.{letters}
+use Rattle.calculus.specs.Reduction.{bind, build}
 use Rattle.values.specs.Texts.{alike}
 
 abbrev pub Small : Val → Type 0

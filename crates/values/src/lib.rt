@@ -94,7 +94,10 @@ fn span(len: usize, from: usize, to: usize, at: usize) -> usize
 // Copies letters to a place behind them or before them.
 pub fn copy_range(work: &mut [u8], from: usize, to: usize, at: usize) -> usize
     ensures { λ r. ⌜ (to ≤ at → Writes (now (work .entry)) (now (work .exit)) at r (slice from to (now (work .entry)))) ⌝ }
-    ensures { λ r. ⌜ (at ≤ from → to ≤ length (now (work .entry)) → Writes (now (work .entry)) (now (work .exit)) at r (slice from to (now (work .entry)))) ⌝ }
+    ensures { λ r. ⌜
+        (at ≤ from → to ≤ length (now (work .entry))
+        → Writes (now (work .entry)) (now (work .exit)) at r (slice from to (now (work .entry))))
+        ⌝ }
 {
     let n = span(work.len(), from, to, at);
     let mut i: usize = 0;

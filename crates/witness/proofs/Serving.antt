@@ -9,17 +9,17 @@ use mathlib.Core.List.{List, [], _++_}
 use lib.Dec.{leb, ltb}
 use lib.ListN.{length, drop}
 use borrow.Author.Tests.{lt-ltb, le-ltb}
-use Rattle.model.specs.Limits.{maxBytes, maxLines, tableLength, workLength, resultLength}
-use Rattle.model.specs.Tools.{isSome}
-use Rattle.model.specs.Refusals.{Refusal, number, shortArea}
-use Rattle.model.specs.Lines.{Row, lines}
-use Rattle.model.specs.Judge.{start, rows, readFrom}
-use Rattle.model.specs.Unfold.{isosOf}
-use Rattle.model.specs.Clauses.{fault}
+use Rattle.limits.specs.Limits.{maxBytes, maxLines, tableLength, workLength, resultLength}
+use Rattle.calculus.specs.Tools.{isSome}
+use Rattle.calculus.specs.Refusals.{Refusal, number, shortArea}
+use Rattle.format.specs.Lines.{Row, lines}
+use Rattle.format.specs.Judge.{start, rows, readFrom}
+use Rattle.format.specs.Unfold.{isosOf}
+use Rattle.calculus.specs.Clauses.{fault}
 use Rattle.model.specs.Services.{refused, afterReading, check, short, written}
-use Rattle.model.specs.Code.{refusalView, numberOf, numbered}
-use Rattle.model.specs.declared.Refusal as F
-use Rattle.model.proofs.Basic.{bool-cases, not-leb, le-leb, leb-le, leb-false, isSome-true}
+use Rattle.format.specs.Code.{refusalView, numberOf, numbered}
+use Rattle.format.specs.declared.Refusal as F
+use Rattle.calculus.proofs.Basic.{bool-cases, not-leb, le-leb, leb-le, leb-false, isSome-true}
 use Rattle.model.proofs.Files.{InForm, judged-refused}
 use Rattle.parts.specs.Cleared.{cleared}
 use Rattle.checker.specs.CheckSays.{CheckSays, Entered, Settled, Early}

@@ -3,8 +3,8 @@ use Prim.Native.Nat.{ℕ, _≤_}
 use mathlib.Core.Path.{_≡_}
 use mathlib.Core.List.{List}
 use lib.ListN.{length}
-use Rattle.model.specs.Limits.{maxBytes, workLength}
-use Rattle.model.specs.Code.{numberOf}
+use Rattle.limits.specs.Limits.{maxBytes, workLength}
+use Rattle.format.specs.Code.{numberOf}
 use Rattle.parts.specs.Cleared.{cleared}
 use Rattle.witnesses.specs.Showing.{showService}
 use Rattle.witness.specs.declared.Witnessed as W

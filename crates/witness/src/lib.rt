@@ -5,16 +5,16 @@ use checker::early;
 use checker::entered;
 use checker::settled;
 use faults::show_fault;
-use model::Answer;
-use model::Refusal;
-use model::is_refused;
-use model::number_of;
+use format::Answer;
+use format::Refusal;
+use format::is_refused;
+use format::number_of;
 use parts::clear_bytes;
 ghost use mathlib.Core.Path.{_≡_};
 ghost use Prim.Native.Nat.{_≤_};
 ghost use lib.ListN.{length};
-ghost use Rattle.model.specs.Limits.{tableLength, maxLines};
-ghost use Rattle.model.specs.Lines.{lines};
+ghost use Rattle.limits.specs.Limits.{tableLength, maxLines};
+ghost use Rattle.format.specs.Lines.{lines};
 ghost use Rattle.witness.specs.WitnessSays.{WitnessSays, Searched};
 
 // A refusal and its line, or none, and the number of letters in the result area.
@@ -56,7 +56,10 @@ fn searched(file: &[u8], table: &mut [u16], result: &mut [u8]) -> Witnessed
 // Checks a file, and with refusals 11 to 14 writes the letters of the least value that shows the fault. The
 // result area needs 127 bytes; with any other answer it is left untouched.
 pub fn witness(file: &[u8], table: &mut [u16], work: &mut [u8], result: &mut [u8]) -> Witnessed
-    ensures { λ r. ⌜ WitnessSays (now (file .entry)) (now (table .entry)) (now (work .entry)) (now (result .entry)) (now (table .exit)) (now (work .exit)) (now (result .exit)) r ⌝ }
+    ensures { λ r. ⌜
+        WitnessSays (now (file .entry)) (now (table .entry)) (now (work .entry)) (now (result .entry))
+        (now (table .exit)) (now (work .exit)) (now (result .exit)) r
+        ⌝ }
 {
     if result.len() < 127 {
         return refused(Refusal::ShortArea);

@@ -8,12 +8,12 @@ use mathlib.Core.Option.{Option, none, some}
 use mathlib.Core.List.{List, [], _∷_, _++_, map}
 use lib.ListN.{length}
 use lib.Pow.{pow-add}
-use Rattle.model.specs.Limits.{maxNodes, resultLength}
-use Rattle.model.specs.Tools.{total, firstOf, orElse}
-use Rattle.model.specs.Trees.{Ty, tunit, tsum, tprod, left, right, Pat, typeNodes}
+use Rattle.limits.specs.Limits.{maxNodes, resultLength}
+use Rattle.calculus.specs.Tools.{total, firstOf, orElse}
+use Rattle.calculus.specs.Trees.{Ty, tunit, tsum, tprod, left, right, Pat, typeNodes}
 use Rattle.witnesses.specs.Showing.{Move, unit, both, tag, letterOn, moves, countUp}
 use Rattle.witnesses.specs.Seeking.{after, orZero, howMany, ways, also, keep, on, lacks, gapFrom, alone, gapIn, pick, gapWord, gapLength}
-use Rattle.model.proofs.Basic.{none≢some, some-inj, ltb-lt, lt-ltb, ltb-false}
+use Rattle.calculus.proofs.Basic.{none≢some, some-inj, ltb-lt, lt-ltb, ltb-false}
 
 -- ---- counts one letter further
 

@@ -9,18 +9,18 @@ use mathlib.Core.Bool.{Bool, true, false, cond, false≢true}
 use mathlib.Core.Option.{Option, none, some}
 use mathlib.Core.List.{List, [], _∷_, _++_, map, List·Memᴰ, List·Memᴰ·head, List·Memᴰ·tail, List·Memᴰ·not-nil, List·Memᴰ·append-cases, Memᴰ·of-map}
 use lib.Dec.{eqb}
-use Rattle.model.specs.Limits.{maxNodes, maxTags, resultLength}
-use Rattle.model.specs.Tools.{concat, total, firstOf, orElse}
-use Rattle.model.specs.Trees.{Ty, tunit, tsum, tprod, Tag, left, right, Pat, punit, pvar, pinj, ppair, Val, vinj, vpair, sameTag, vars, tags, typeNodes}
-use Rattle.model.specs.Letters.{letters}
-use Rattle.model.specs.Slots.{Slots}
-use Rattle.model.specs.Clauses.{fullWeight}
-use Rattle.model.specs.Paper.{Of, Fits, Apart, Matched, Distinct}
+use Rattle.limits.specs.Limits.{maxNodes, maxTags, resultLength}
+use Rattle.calculus.specs.Tools.{concat, total, firstOf, orElse}
+use Rattle.calculus.specs.Trees.{Ty, tunit, tsum, tprod, Tag, left, right, Pat, punit, pvar, pinj, ppair, Val, vinj, vpair, sameTag, vars, tags, typeNodes}
+use Rattle.calculus.specs.Letters.{letters}
+use Rattle.calculus.specs.Slots.{Slots}
+use Rattle.calculus.specs.Clauses.{fullWeight}
+use Rattle.calculus.specs.Paper.{Of, Fits, Apart, Matched, Distinct}
 use Rattle.witnesses.specs.Showing.{Never, hit, hits, Move, unit, both, tag, letterOn, moves, made, spelled, the, valuesWith, find, countUp, never, setting}
 use Rattle.witnesses.specs.Seeking.{after, orZero, howMany, ways, also, keep, on, lacks, gapFrom, alone, gapIn}
-use Rattle.model.proofs.Basic.{none≢some, some-inj, ltb-lt, ltb-false, eqb-eq, eq-eqb, not-eqb, each-nil, each-cons}
+use Rattle.calculus.proofs.Basic.{none≢some, some-inj, ltb-lt, ltb-false, eqb-eq, eq-eqb, not-eqb, each-nil, each-cons}
 use Rattle.model.proofs.Sizes.{of-small}
-use Rattle.model.proofs.Covering.{uncovered}
+use Rattle.calculus.proofs.Covering.{uncovered}
 use Rattle.witnesses.proofs.Hits.{hit-le, matched-hit, hit-matched, hits-le, hit-le-hits}
 use Rattle.witnesses.proofs.Spelling.{Ofs, ends, also as with, allLetters, sound, find-map, find-step, firstOf-ext, one-ofs, one-letters, setting-none}
 

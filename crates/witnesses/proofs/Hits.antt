@@ -8,11 +8,11 @@ use mathlib.Core.Logic.{_⊎_, inl, inr}
 use mathlib.Core.Bool.{Bool, true, false, cond, _||_, false≢true}
 use mathlib.Core.List.{List, [], _∷_, _++_, List·Memᴰ, List·Memᴰ·head, List·Memᴰ·tail}
 use lib.Dec.{eqb}
-use Rattle.model.specs.Trees.{Pat, punit, pvar, pinj, ppair, Val, vunit, vinj, vpair, sameTag, vars}
-use Rattle.model.specs.Paper.{Orth, Apart, Distinct, Matched}
-use Rattle.model.proofs.Basic.{is-false, or-true, true-or-left, true-or-right, eqb-eq, eq-eqb, sameTag-eq, eq-sameTag, distinct-left, distinct-right, distinct-across}
-use Rattle.model.proofs.Orthogonal.{Alike, matched-alike, orth-alike}
-use Rattle.model.proofs.Covering.{fill-ext}
+use Rattle.calculus.specs.Trees.{Pat, punit, pvar, pinj, ppair, Val, vunit, vinj, vpair, sameTag, vars}
+use Rattle.calculus.specs.Paper.{Orth, Apart, Distinct, Matched}
+use Rattle.calculus.proofs.Basic.{is-false, or-true, true-or-left, true-or-right, eqb-eq, eq-eqb, sameTag-eq, eq-sameTag, distinct-left, distinct-right, distinct-across}
+use Rattle.calculus.proofs.Orthogonal.{Alike, matched-alike, orth-alike}
+use Rattle.calculus.proofs.Covering.{fill-ext}
 use Rattle.witnesses.specs.Showing.{hit, hits}
 
 -- ---- the shape of a pattern

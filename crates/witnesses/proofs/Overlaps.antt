@@ -9,17 +9,17 @@ use mathlib.Core.Option.{Option, none, some}
 use mathlib.Core.List.{List, [], _∷_, List·Memᴰ, List·Memᴰ·head, List·Memᴰ·tail}
 use lib.Dec.{leb}
 use lib.ListN.{length}
-use Rattle.model.specs.Limits.{maxNodes}
-use Rattle.model.specs.Tools.{_>>=_, all}
-use Rattle.model.specs.Trees.{Ty, tunit, tsum, tprod, Tag, left, right, Pat, punit, pvar, pinj, ppair, Val, vunit, vinj, vpair, sameTag, part, vars, typeNodes}
-use Rattle.model.specs.Letters.{letterP, letterOf, letters}
-use Rattle.model.specs.Slots.{Slots}
-use Rattle.model.specs.Clauses.{clash, apart}
-use Rattle.model.specs.Paper.{Of, Fits, Distinct}
+use Rattle.limits.specs.Limits.{maxNodes}
+use Rattle.calculus.specs.Tools.{_>>=_, all}
+use Rattle.calculus.specs.Trees.{Ty, tunit, tsum, tprod, Tag, left, right, Pat, punit, pvar, pinj, ppair, Val, vunit, vinj, vpair, sameTag, part, vars, typeNodes}
+use Rattle.calculus.specs.Letters.{letterP, letterOf, letters}
+use Rattle.calculus.specs.Slots.{Slots}
+use Rattle.calculus.specs.Clauses.{clash, apart}
+use Rattle.calculus.specs.Paper.{Of, Fits, Distinct}
 use Rattle.witnesses.specs.Showing.{sooner, Twice, here, there, hit, hits, twice, setting}
 use Rattle.witnesses.specs.Shapes.{Shape}
 use Rattle.witnesses.specs.Seeking.{shorter, least, leastIn, meet, better, inBoth, overlapWith, overlapIn}
-use Rattle.model.proofs.Basic.{none≢some, some-inj, not-some, leb-le, leb-false, ltb-lt, lt-ltb, neither, sameTag-refl}
+use Rattle.calculus.proofs.Basic.{none≢some, some-inj, not-some, leb-le, leb-false, ltb-lt, lt-ltb, neither, sameTag-refl}
 use Rattle.model.proofs.Sizes.{of-small}
 use Rattle.witnesses.proofs.Hits.{hit-le, matched-hit, hit-matched, factors}
 use Rattle.witnesses.proofs.Shortlex.{NotAfter, fewer, earlier, lower, not-after-refl, not-after-trans, not-after-under, not-after-append, not-after-length, not-after-sooner, sooner-not-after, total-order}

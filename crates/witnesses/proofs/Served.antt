@@ -6,15 +6,15 @@ use mathlib.Core.Option.{Option, none, some}
 use mathlib.Core.List.{List, [], _∷_}
 use lib.Dec.{leb, ltb}
 use lib.ListN.{length}
-use Rattle.model.specs.Limits.{resultLength}
-use Rattle.model.specs.Tools.{firstFailing}
-use Rattle.model.specs.Refusals.{Refusal, number, tooLong, misplaced, badField, badName, ceiling}
-use Rattle.model.specs.Lines.{Row, rowOf, lines}
-use Rattle.model.specs.Judge.{Seen, start, inOrder, fieldsFit, named, withinCeilings, judge, after, Reading, rows, faulty, withRow, onRow, onJudged, readFrom}
-use Rattle.model.specs.Unfold.{isosOf}
-use Rattle.model.specs.Clauses.{fault}
+use Rattle.limits.specs.Limits.{resultLength}
+use Rattle.calculus.specs.Tools.{firstFailing}
+use Rattle.calculus.specs.Refusals.{Refusal, number, tooLong, misplaced, badField, badName, ceiling}
+use Rattle.format.specs.Lines.{Row, rowOf, lines}
+use Rattle.format.specs.Judge.{Seen, start, inOrder, fieldsFit, named, withinCeilings, judge, after, Reading, rows, faulty, withRow, onRow, onJudged, readFrom}
+use Rattle.format.specs.Unfold.{isosOf}
+use Rattle.calculus.specs.Clauses.{fault}
 use Rattle.model.specs.Services.{refused, judged, afterReading, over, verdict, Answer, answerOf, tableAfter, workAfter, short, unless, written, check}
-use Rattle.model.proofs.Basic.{none≢some, some-inj, not-both}
+use Rattle.calculus.proofs.Basic.{none≢some, some-inj, not-both}
 use Rattle.model.proofs.Files.{InForm, verdict-in-form}
 use Rattle.witnesses.specs.Showing.{Shows, sided, Shown, showing, shownOf, showService}
 use Rattle.witnesses.proofs.Showing.{shows, silent}

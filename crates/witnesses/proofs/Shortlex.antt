@@ -10,7 +10,7 @@ use lib.Dec.{leb, ltb, eqb}
 use lib.ListN.{length, length-append}
 use Rattle.ranking.specs.Numbering.{before}
 use Rattle.witnesses.specs.Showing.{sooner}
-use Rattle.model.proofs.Basic.{bool-cases, not-both, neither, leb-le, leb-false, ltb-false, not-ltb, eq-eqb, not-eqb}
+use Rattle.calculus.proofs.Basic.{bool-cases, not-both, neither, leb-le, leb-false, ltb-false, not-ltb, eq-eqb, not-eqb}
 
 -- lists of one length, of which the first is the second or stands before it in byte order
 pub data Upto : List ℕ → List ℕ → Type 0 where

@@ -5,17 +5,17 @@ use mathlib.Core.Bool.{true, false, cond, _&&_}
 use mathlib.Core.Option.{Option, none, some}
 use mathlib.Core.List.{List, [], _∷_, List·Memᴰ, List·Memᴰ·head, List·Memᴰ·tail}
 use lib.Dec.{leb}
-use Rattle.model.specs.Tools.{firstOf, orElse}
-use Rattle.model.specs.Trees.{Iso}
-use Rattle.model.specs.Refusals.{Refusal, number}
-use Rattle.model.specs.Lines.{Row, lines}
-use Rattle.model.specs.Judge.{start, readFrom}
-use Rattle.model.specs.Unfold.{isosOf}
+use Rattle.calculus.specs.Tools.{firstOf, orElse}
+use Rattle.calculus.specs.Trees.{Iso}
+use Rattle.calculus.specs.Refusals.{Refusal, number}
+use Rattle.format.specs.Lines.{Row, lines}
+use Rattle.format.specs.Judge.{start, readFrom}
+use Rattle.format.specs.Unfold.{isosOf}
 use Rattle.model.specs.Services.{refused}
-use Rattle.model.specs.Clauses.{Sigs, sigsOf, isoFault, fault}
+use Rattle.calculus.specs.Clauses.{Sigs, sigsOf, isoFault, fault}
 use Rattle.witnesses.specs.Showing.{Shows, sided, shownBy, shown, shownOr, shownFirst, lettersOf?, shownOf, showing}
-use Rattle.model.proofs.Basic.{none≢some, some-inj, not-both, not-eqb}
-use Rattle.model.proofs.Checking.{light-of}
+use Rattle.calculus.proofs.Basic.{none≢some, some-inj, not-both, not-eqb}
+use Rattle.calculus.proofs.Checking.{light-of}
 use Rattle.model.proofs.Sizes.{small-types}
 use Rattle.model.proofs.Files.{InForm, passes, formed-of}
 use Rattle.witnesses.proofs.Sides.{Found, Known, iso-found}

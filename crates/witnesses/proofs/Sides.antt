@@ -6,20 +6,20 @@ use mathlib.Core.Logic.{_↔_}
 use mathlib.Core.Bool.{Bool, true, false}
 use mathlib.Core.Option.{Option, none, some}
 use mathlib.Core.List.{List, List·Memᴰ}
-use Rattle.model.specs.Limits.{maxNodes, maxTags}
-use Rattle.model.specs.Trees.{Ty, left, right, Pat, Val, Let, Clause, Iso, vars, tags, typeNodes}
-use Rattle.model.specs.Refusals.{Refusal, overlap, gap}
+use Rattle.limits.specs.Limits.{maxNodes, maxTags}
+use Rattle.calculus.specs.Trees.{Ty, left, right, Pat, Val, Let, Clause, Iso, vars, tags, typeNodes}
+use Rattle.calculus.specs.Refusals.{Refusal, overlap, gap}
 use Rattle.model.specs.Services.{refused}
-use Rattle.model.specs.Slots.{Slots}
-use Rattle.model.specs.Clauses.{Sigs, lefts, rights, apart, fullWeight, isoFault, fault}
-use Rattle.model.specs.Paper.{Of, Fits, Apart, Covers, Distinct, Chain, ClauseOk}
-use Rattle.model.specs.Answers.{SideFault, IsoFault, FirstClause, ClauseFault}
+use Rattle.calculus.specs.Slots.{Slots}
+use Rattle.calculus.specs.Clauses.{Sigs, lefts, rights, apart, fullWeight, isoFault, fault}
+use Rattle.calculus.specs.Paper.{Of, Fits, Apart, Covers, Distinct, Chain, ClauseOk}
+use Rattle.calculus.specs.Faulty.{SideFault, IsoFault, FirstClause, ClauseFault}
 use Rattle.witnesses.specs.Shapes.{Side}
 use Rattle.witnesses.specs.Showing.{Least, Twice, Never, twice, never, setting, sided}
-use Rattle.model.proofs.Basic.{not-both, is-false, each-map}
-use Rattle.model.proofs.Variables.{distinct-lhs, distinct-rhs}
-use Rattle.model.proofs.Checking.{Light, apart-iff, iso-fault}
-use Rattle.model.proofs.Covering.{covering}
+use Rattle.calculus.proofs.Basic.{not-both, is-false, each-map}
+use Rattle.calculus.proofs.Variables.{distinct-lhs, distinct-rhs}
+use Rattle.calculus.proofs.Checking.{Light, apart-iff, iso-fault}
+use Rattle.calculus.proofs.Covering.{covering}
 use Rattle.model.proofs.Sizes.{of-small}
 use Rattle.model.proofs.Files.{passes}
 use Rattle.witnesses.proofs.Spelling.{setting-least, setting-none}

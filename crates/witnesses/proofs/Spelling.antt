@@ -9,15 +9,15 @@ use mathlib.Core.Bool.{Bool, true, false, cond}
 use mathlib.Core.Option.{Option, none, some}
 use mathlib.Core.List.{List, [], _∷_, _++_, map, append-assoc, append-nil, List·Memᴰ, List·Memᴰ·head, List·Memᴰ·tail, List·Memᴰ·not-nil}
 use lib.ListN.{length}
-use Rattle.model.specs.Limits.{resultLength}
-use Rattle.model.specs.Tools.{concat, firstOf, orElse}
-use Rattle.model.specs.Trees.{Ty, tunit, tsum, tprod, Tag, left, right, Val, part}
-use Rattle.model.specs.Letters.{letterU, letterOf, letterP, letters, valueOf}
-use Rattle.model.specs.Paper.{Of}
+use Rattle.limits.specs.Limits.{resultLength}
+use Rattle.calculus.specs.Tools.{concat, firstOf, orElse}
+use Rattle.calculus.specs.Trees.{Ty, tunit, tsum, tprod, Tag, left, right, Val, part}
+use Rattle.calculus.specs.Letters.{letterU, letterOf, letterP, letters, valueOf}
+use Rattle.calculus.specs.Paper.{Of}
 use Rattle.witnesses.specs.Showing.{Move, unit, both, tag, letterOn, moves, made, spelled, the, valuesWith, find, countUp, setting, Least}
 use Rattle.witnesses.specs.Seeking.{on}
-use Rattle.model.proofs.Basic.{none≢some, some-inj, not-both, each-nil, each-cons}
-use Rattle.model.proofs.Letters.{value-letters}
+use Rattle.calculus.proofs.Basic.{none≢some, some-inj, not-both, each-nil, each-cons}
+use Rattle.calculus.proofs.Letters.{value-letters}
 use Rattle.witnesses.proofs.Shortlex.{Upto, done, lower, same, NotAfter, fewer, earlier, not-after-sooner, sooner-not-after, not-after-antisym}
 
 -- ---- values side by side

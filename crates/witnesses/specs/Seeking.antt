@@ -6,10 +6,10 @@ use mathlib.Core.Option.{Option, none, some}
 use mathlib.Core.List.{List, [], _∷_, _++_, map}
 use lib.Dec.{leb, ltb}
 use lib.ListN.{length}
-use Rattle.model.specs.Limits.{resultLength}
-use Rattle.model.specs.Tools.{_>>=_, total, firstOf}
-use Rattle.model.specs.Trees.{Ty, tunit, tsum, tprod, left, right, Pat, punit, pvar, pinj, ppair, Val, vunit, vinj, vpair, sameTag, part}
-use Rattle.model.specs.Letters.{letters}
+use Rattle.limits.specs.Limits.{resultLength}
+use Rattle.calculus.specs.Tools.{_>>=_, total, firstOf}
+use Rattle.calculus.specs.Trees.{Ty, tunit, tsum, tprod, left, right, Pat, punit, pvar, pinj, ppair, Val, vunit, vinj, vpair, sameTag, part}
+use Rattle.calculus.specs.Letters.{letters}
 use Rattle.witnesses.specs.Showing.{sooner, Move, unit, both, tag, letterOn, moves, countUp}
 
 -- ---- overlap

@@ -1,8 +1,8 @@
 -- A pattern that fits a type as far as its nodes go: what refusal 10 leaves of typing once variables are taken for blanks.
 use Prim.Native.Nat.{ℕ, _≤_}
 use mathlib.Core.List.{List, List·Memᴰ}
-use Rattle.model.specs.Limits.{maxNodes}
-use Rattle.model.specs.Trees.{Ty, tunit, tsum, tprod, Tag, Pat, punit, pvar, pinj, ppair, part, typeNodes}
+use Rattle.limits.specs.Limits.{maxNodes}
+use Rattle.calculus.specs.Trees.{Ty, tunit, tsum, tprod, Tag, Pat, punit, pvar, pinj, ppair, part, typeNodes}
 
 -- a pattern fits a type, whatever its variables are called
 pub data Shape : Pat → Ty → Type 0 where

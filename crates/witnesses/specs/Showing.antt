@@ -7,18 +7,18 @@ use mathlib.Core.Option.{Option, none, some}
 use mathlib.Core.List.{List, [], _∷_, _++_, map, List·Memᴰ}
 use lib.Dec.{leb, ltb, eqb}
 use lib.ListN.{length}
-use Rattle.model.specs.Limits.{resultLength}
-use Rattle.model.specs.Tools.{concat, total, firstOf}
-use Rattle.model.specs.Trees.{Ty, tunit, tsum, tprod, Tag, left, right, Pat, punit, pvar, pinj, ppair, Val, vunit, vinj, vpair, Iso, sameTag}
-use Rattle.model.specs.Refusals.{Refusal, number, overlap, gap}
-use Rattle.model.specs.Lines.{lines}
-use Rattle.model.specs.Judge.{start, judge, Reading, rows, faulty, readFrom}
-use Rattle.model.specs.Unfold.{isosOf}
-use Rattle.model.specs.Clauses.{Sigs, sigsOf, lefts, rights, isoFault, fault}
-use Rattle.model.specs.Letters.{letterU, letterOf, letterP, letters}
+use Rattle.limits.specs.Limits.{resultLength}
+use Rattle.calculus.specs.Tools.{concat, total, firstOf}
+use Rattle.calculus.specs.Trees.{Ty, tunit, tsum, tprod, Tag, left, right, Pat, punit, pvar, pinj, ppair, Val, vunit, vinj, vpair, Iso, sameTag}
+use Rattle.calculus.specs.Refusals.{Refusal, number, overlap, gap}
+use Rattle.format.specs.Lines.{lines}
+use Rattle.format.specs.Judge.{start, judge, Reading, rows, faulty, readFrom}
+use Rattle.format.specs.Unfold.{isosOf}
+use Rattle.calculus.specs.Clauses.{Sigs, sigsOf, lefts, rights, isoFault, fault}
+use Rattle.calculus.specs.Letters.{letterU, letterOf, letterP, letters}
 use Rattle.model.specs.Services.{Answer, Verdict, over, verdict, answerOf, tableAfter, workAfter, short, unless, written}
 use Rattle.ranking.specs.Numbering.{before}
-use Rattle.model.specs.Paper.{Of, Matched}
+use Rattle.calculus.specs.Paper.{Of, Matched}
 
 -- ---- what a reader must believe
 

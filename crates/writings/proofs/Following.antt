@@ -8,14 +8,14 @@ use mathlib.Core.Bool.{Bool, true, false, cond}
 use mathlib.Core.List.{List, [], _∷_, _++_}
 use lib.Dec.{ltb, leb, eqb}
 use lib.ListN.{length}
-use Rattle.model.specs.Limits.{maxValues}
-use Rattle.model.specs.Refusals.{Kind, typeLine, patternLine}
-use Rattle.model.specs.Lines.{Row}
-use Rattle.model.specs.Trees.{Ty, tunit, tsum, tprod, Tag, left, right, Val, vunit, vinj, vpair}
-use Rattle.model.specs.Judge.{typeNode}
+use Rattle.limits.specs.Limits.{maxValues}
+use Rattle.calculus.specs.Refusals.{Kind, typeLine, patternLine}
+use Rattle.format.specs.Lines.{Row}
+use Rattle.calculus.specs.Trees.{Ty, tunit, tsum, tprod, Tag, left, right, Val, vunit, vinj, vpair}
+use Rattle.format.specs.Judge.{typeNode}
 use Rattle.ranking.specs.Numbering.{count, unrank}
 use Rattle.pairlists.specs.PairLists.{find, enter, Entry, entry, typeRow, writeType, writeValue}
-use Rattle.model.proofs.Basic.{bool-cases, leb-le, leb-false, eqb-eq, eqb-false, lt-ltb, not-ltb}
+use Rattle.calculus.proofs.Basic.{bool-cases, leb-le, leb-false, eqb-eq, eqb-false, lt-ltb, not-ltb}
 use Rattle.ranking.proofs.Numbering.{count-positive, count-left, count-right, count-first, count-second}
 use Rattle.pairlists.proofs.File.{type-grows, value-grows}
 use Rattle.pairlists.proofs.Rows.{enter-grows}

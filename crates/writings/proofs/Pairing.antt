@@ -7,10 +7,10 @@ use mathlib.Core.Path.{_≡_, refl, sym, ap, ap₂, _∙_, subst}
 use mathlib.Core.List.{List, [], _∷_, _++_, append-assoc, append-nil}
 use lib.ListN.{length, getD, take, drop, drop-of-length-le}
 use lib.Seq.{drop-cons, getD-take, length-take-le}
-use Rattle.model.specs.Limits.{maxValues}
-use Rattle.model.specs.Refusals.{patternLine, clauseLine}
-use Rattle.model.specs.Trees.{Ty, Val}
-use Rattle.model.specs.Lines.{Row}
+use Rattle.limits.specs.Limits.{maxValues}
+use Rattle.calculus.specs.Refusals.{patternLine, clauseLine}
+use Rattle.calculus.specs.Trees.{Ty, Val}
+use Rattle.format.specs.Lines.{Row}
 use Rattle.ranking.specs.Numbering.{count, unrank}
 use Rattle.pairlists.specs.PairLists.{Entry, writeValue, clauseRow, Written, writePairs, settings}
 use Rattle.pairlists.proofs.File.{value-grows}

@@ -3,10 +3,10 @@ use Prim.Native.Nat.{ℕ, _+_, _≤_, _<_}
 use mathlib.Core.Path.{_≡_}
 use mathlib.Core.List.{List, [], _∷_, _++_}
 use lib.ListN.{length, take}
-use Rattle.model.specs.Limits.{maxValues}
-use Rattle.model.specs.Refusals.{typeLine, patternLine, clauseLine}
-use Rattle.model.specs.Trees.{Ty, Val}
-use Rattle.model.specs.Lines.{Row}
+use Rattle.limits.specs.Limits.{maxValues}
+use Rattle.calculus.specs.Refusals.{typeLine, patternLine, clauseLine}
+use Rattle.calculus.specs.Trees.{Ty, Val}
+use Rattle.format.specs.Lines.{Row}
 use Rattle.ranking.specs.Numbering.{count, unrank}
 use Rattle.pairlists.specs.PairLists.{Entry, writeType, writeValue, clauseRow, writePairs, settings}
 use Rattle.entries.specs.Entries.{entriesAt, Tracks, Room, Follows}

@@ -10,7 +10,7 @@ use words::wide;
 use words::word_at;
 ghost use mathlib.Core.Path.{_≡_};
 ghost use Prim.Native.Nat.{_≤_, _<_};
-ghost use Rattle.model.specs.Trees.{tsum, tprod};
+ghost use Rattle.calculus.specs.Trees.{tsum, tprod};
 ghost use Rattle.nodes.specs.Unfolding.{typeOf};
 ghost use Rattle.writings.specs.Writing.{TypeDone, ValueDone, ClauseDone, PairsDone};
 
@@ -52,7 +52,10 @@ pub fn write_value(t: &[u16], i: usize, n: usize, s: &mut [u16], to: usize) -> E
 
 // The same for a left or a right, whose types are T lines `left` and `right`.
 fn write_tag(t: &[u16], left: usize, right: usize, n: usize, s: &mut [u16], to: usize) -> Entry
-    ensures { λ r. ⌜ ValueDone (tsum (typeOf (now (t .entry)) left) (typeOf (now (t .entry)) right)) n (now (s .entry)) (now (s .exit)) to (r .number) (r .end) ⌝ }
+    ensures { λ r. ⌜
+        ValueDone (tsum (typeOf (now (t .entry)) left) (typeOf (now (t .entry)) right)) n (now (s .entry))
+        (now (s .exit)) to (r .number) (r .end)
+        ⌝ }
 {
     let c = count_values(t, left);
     if n < c {
@@ -65,7 +68,10 @@ fn write_tag(t: &[u16], left: usize, right: usize, n: usize, s: &mut [u16], to: 
 
 // The same for a pair.
 fn write_pair(t: &[u16], left: usize, right: usize, n: usize, s: &mut [u16], to: usize) -> Entry
-    ensures { λ r. ⌜ ValueDone (tprod (typeOf (now (t .entry)) left) (typeOf (now (t .entry)) right)) n (now (s .entry)) (now (s .exit)) to (r .number) (r .end) ⌝ }
+    ensures { λ r. ⌜
+        ValueDone (tprod (typeOf (now (t .entry)) left) (typeOf (now (t .entry)) right)) n
+        (now (s .entry)) (now (s .exit)) to (r .number) (r .end)
+        ⌝ }
 {
     let c = count_values(t, right);
     let v = write_value(t, left, n / c, s, to);
@@ -86,7 +92,10 @@ fn write_clause(
     q: &mut [u16],
 ) -> usize
     requires { ⌜ k < 4096 ⌝ }
-    ensures { λ r. ⌜ ClauseDone (typeOf (now (t .entry)) i) (typeOf (now (t .entry)) j) k n (now (s .entry)) (now (s .exit)) to (now (q .entry)) (now (q .exit)) r ⌝ }
+    ensures { λ r. ⌜
+        ClauseDone (typeOf (now (t .entry)) i) (typeOf (now (t .entry)) j) k n (now (s .entry))
+        (now (s .exit)) to (now (q .entry)) (now (q .exit)) r
+        ⌝ }
 {
     let v = write_value(t, i, k, s, to);
     let w = write_value(t, j, n, s, v.end);
@@ -105,7 +114,10 @@ pub fn write_pairs(
     q: &mut [u16],
 ) -> usize
     requires { ⌜ n ≤ 32 ⌝ }
-    ensures { λ r. ⌜ PairsDone (typeOf (now (t .entry)) i) (typeOf (now (t .entry)) j) (now (tos .entry)) n (now (s .entry)) (now (s .exit)) (now (q .entry)) (now (q .exit)) r ⌝ }
+    ensures { λ r. ⌜
+        PairsDone (typeOf (now (t .entry)) i) (typeOf (now (t .entry)) j) (now (tos .entry)) n
+        (now (s .entry)) (now (s .exit)) (now (q .entry)) (now (q .exit)) r
+        ⌝ }
 {
     let mut k: usize = 0;
     let mut end: usize = 0;

@@ -7,7 +7,7 @@ use Rattle.bounds.proofs.bounds.Lts as lts
 use Rattle.bounds.proofs.bounds_accepted.Reads as bounds-accepted-reads
 use Rattle.bounds.proofs.refused.Reads as refused-reads
 use Rattle.checker.proofs.check_file.Reads as check-file-reads
-use Rattle.model.proofs.is_refused.Reads as is-refused-reads
+use Rattle.format.proofs.is_refused.Reads as is-refused-reads
 
 -- src/lib.rt:93:9
 check-file-requires : tie.Need-check-file-requires

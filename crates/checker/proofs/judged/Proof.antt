@@ -5,7 +5,7 @@ use Rattle.checker.proofs.judged.Statement.{statement}
 use Rattle.checker.proofs.judged.Tie as tie
 use Rattle.checker.proofs.judged.Reads as reads
 use Rattle.checker.proofs.judged.Lts as lts
-use Rattle.model.proofs.is_refused.Reads as is-refused-reads
+use Rattle.format.proofs.is_refused.Reads as is-refused-reads
 use Rattle.checker.proofs.refused.Reads as refused-reads
 use Rattle.isos.proofs.isos_fault.Reads as isos-fault-reads
 use Rattle.lines.proofs.read.read_file.Reads as read-file-reads

@@ -1,5 +1,5 @@
 -- `counts::seen_after` meets its contract, kind by kind.
-use Rattle.model.specs.Code.{kindView}
+use Rattle.format.specs.Code.{kindView}
 use mathlib.Core.Path.{sym, ap}
 use borrow.Author.Needs.{needs}
 use Rattle.counts.specs.Told.{seenAfter}

@@ -2,7 +2,7 @@
 use borrow.Author.Tests.{not-true, not-false}
 use native.Mathlib.Omega.{arith}
 use mathlib.Core.Path.{refl, ap}
-use Rattle.model.specs.Code.{refusalView}
+use Rattle.format.specs.Code.{refusalView}
 use Rattle.exports.proofs.Listing.{no-iso, too-many, some-spent, list-given}
 use borrow.Author.Needs.{needs}
 use Rattle.exports.proofs.export_checked.Statement.{statement}

@@ -1,5 +1,5 @@
 use Rattle.filing.proofs.Printing.{Printed, printed-start, printed-next, printed-end}
-use Rattle.model.specs.Code.{kindView}
+use Rattle.format.specs.Code.{kindView}
 use Prim.Native.Nat.{_-_}
 use borrow.Author.Needs.{needs}
 use Rattle.filing.proofs.put_entries.Statement.{statement}

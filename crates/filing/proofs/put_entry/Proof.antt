@@ -1,5 +1,5 @@
 use Rattle.filing.proofs.Printing.{entry-printed}
-use Rattle.model.specs.Code.{kindView}
+use Rattle.format.specs.Code.{kindView}
 use borrow.Author.Needs.{needs}
 use Rattle.filing.proofs.put_entry.Statement.{statement}
 use Rattle.filing.proofs.put_entry.Tie as tie

@@ -1,7 +1,7 @@
 use Rattle.filing.proofs.Printing.{file-printed}
 use Rattle.entries.specs.Entries.{entriesAt}
 use Rattle.pairlists.specs.PairLists.{isoRow}
-use Rattle.model.specs.Refusals.{typeLine, patternLine, clauseLine}
+use Rattle.calculus.specs.Refusals.{typeLine, patternLine, clauseLine}
 use native.Mathlib.Omega.{arith}
 use borrow.Author.Needs.{needs}
 use Rattle.filing.proofs.put_file.Statement.{statement}

@@ -1,4 +1,4 @@
-use Rattle.model.specs.Code.{kindView}
+use Rattle.format.specs.Code.{kindView}
 use Rattle.forms.proofs.Forms.{within, count-at}
 use native.Mathlib.Omega.{arith}
 use borrow.Author.Needs.{needs}

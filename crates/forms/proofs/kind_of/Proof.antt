@@ -1,5 +1,5 @@
 use Rattle.forms.proofs.Forms.{no-letter}
-use Rattle.model.specs.Lines.{kindOf}
+use Rattle.format.specs.Lines.{kindOf}
 use mathlib.Core.Path.{sym, ap}
 use Rattle.forms.proofs.kind_of.Statement.{statement}
 use Rattle.forms.proofs.kind_of.Tie as tie

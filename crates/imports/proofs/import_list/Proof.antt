@@ -1,7 +1,7 @@
 use borrow.Author.Tests.{not-true, not-false}
 use Rattle.imports.proofs.Listing.{list-long, list-bad, list-good}
 use Rattle.nodes.specs.Unfolding.{typeOf}
-use Rattle.model.specs.Code.{refusalView}
+use Rattle.format.specs.Code.{refusalView}
 use mathlib.Core.Path.{ap}
 use borrow.Author.Needs.{needs}
 use Rattle.imports.proofs.import_list.Statement.{statement}

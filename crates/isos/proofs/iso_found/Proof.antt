@@ -1,5 +1,5 @@
 -- `isos::iso_found` meets its contract: a refused clause stays, where there is none the sides decide.
-use Rattle.model.specs.Code.{refusalView}
+use Rattle.format.specs.Code.{refusalView}
 use Rattle.isos.proofs.Earlier.{by-sides, stays-first}
 use borrow.Author.Needs.{needs}
 use Rattle.isos.proofs.iso_found.Statement.{statement}

@@ -1,5 +1,5 @@
 -- `isos::sooner` meets its contract: a refusal stays, none leaves what was found later.
-use Rattle.model.specs.Code.{refusalView}
+use Rattle.format.specs.Code.{refusalView}
 use Rattle.isos.proofs.Earlier.{goes-on, stays}
 use borrow.Author.Needs.{needs}
 use Rattle.isos.proofs.sooner.Statement.{statement}

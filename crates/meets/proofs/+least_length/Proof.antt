@@ -1,3 +1,4 @@
+-- `meets::least_length` meets its contract: of a sum the shorter part, of a pair both. The measure is the line's rank. Assumes nothing.
 use borrow.Author.Needs.{needs}
 use Prim.Native.Nat.{ℕ, _*_, _<_}
 use mathlib.Core.Path.{sym, _∙_}

@@ -1,3 +1,4 @@
+-- `meets::write_common` meets its contract, node by node of both patterns, a variable by what the other matches.
 use borrow.Author.Needs.{needs}
 use Prim.Native.Nat.{ℕ, _+_, _<_}
 use mathlib.Core.Path.{refl, sym, _∙_}

@@ -1,3 +1,4 @@
+-- `meets::write_least` meets its contract: of a sum the shorter part, the left one where both are as long. The measure is the line's rank.
 use borrow.Author.Needs.{needs}
 use Prim.Native.Nat.{ℕ, _*_, _<_}
 use mathlib.Core.Path.{sym, _∙_}

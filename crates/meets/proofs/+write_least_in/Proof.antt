@@ -1,7 +1,8 @@
+-- `meets::write_least_in` meets its contract, node by node of the pattern, a variable by the least value of its type.
 use borrow.Author.Needs.{needs}
 use Prim.Native.Nat.{ℕ, _+_, _<_}
 use mathlib.Core.Path.{sym, _∙_}
-use Rattle.model.specs.Trees.{left, right}
+use Rattle.calculus.specs.Trees.{left, right}
 use Rattle.nodes.specs.Unfolding.{cellOf}
 use Rattle.nodes.proofs.Unfolding.{rank}
 use Rattle.areas.proofs.Writing.{writes-one}

@@ -1,6 +1,6 @@
 -- `overlaps::overlap_checked` meets its contract: a P line that is absent, on either side, and two that are there. Assumes nothing.
 use mathlib.Core.Path.{refl, ap}
-use Rattle.model.specs.Code.{refusalView}
+use Rattle.format.specs.Code.{refusalView}
 use Rattle.overlaps.proofs.Lines.{left-absent, right-absent, both-there}
 use borrow.Author.Needs.{needs}
 use Rattle.overlaps.proofs.overlap_checked.Statement.{statement}

@@ -1,14 +1,10 @@
+-- `pairs::add_row` meets its contract. The loop's invariant: the patterns from y on are gathered. The measure is y.
 use native.Mathlib.Omega.{arith}
 use Rattle.nodes.specs.Unfolding.{typeOf, patternOf}
 use Rattle.pairs.proofs.Gathering.{Inner, inner-start, inner-more, inner-done}
 use borrow.Author.Needs.{needs}
 use Rattle.pairs.proofs.add_row.Statement.{statement}
 use Rattle.pairs.proofs.add_row.Tie as tie
-use Rattle.pairs.proofs.add_row.Reads as reads
-use Rattle.pairs.proofs.add_row.Lts as lts
-use Rattle.nodes.proofs.cell.Reads as cell-reads
-use Rattle.pairs.proofs.with_pair.Reads as with-pair-reads
-use Rattle.words.proofs.wide.Reads as wide-reads
 
 abbrev Inv-loop : tie.InvT-loop
 Inv-loop t base p f rows i best out₀ b₀ y₀ out b y = Inner t base f rows (typeOf t i) (patternOf t base p) out₀ out best b y

@@ -1,3 +1,4 @@
+-- `pairs::copy_front` meets its contract. The loop's invariant: the first i bytes are copied. The measure is what is left.
 use Prim.Native.Nat.{_-_, _≤_}
 use native.Mathlib.Omega.{arith}
 use mathlib.Core.Path.{refl}
@@ -5,8 +6,6 @@ use Rattle.pairs.proofs.Sooner.{Copied, copied, finished}
 use borrow.Author.Needs.{needs}
 use Rattle.pairs.proofs.copy_front.Statement.{statement}
 use Rattle.pairs.proofs.copy_front.Tie as tie
-use Rattle.pairs.proofs.copy_front.Reads as reads
-use Rattle.pairs.proofs.copy_front.Lts as lts
 
 abbrev Inv-loop : tie.InvT-loop
 Inv-loop from n out₀ i₀ out i = Copied from out₀ out i × (i ≤ n)

@@ -1,3 +1,4 @@
+-- `pairs::is_sooner` meets its contract. The loop's invariant: the first i bytes are alike. The measure is what is left.
 use Prim.Native.Nat.{_-_}
 use native.Mathlib.Omega.{arith}
 use lib.ListN.{length}
@@ -5,8 +6,6 @@ use Rattle.pairs.proofs.Sooner.{Alike, sooner-fewer, sooner-more, alike
 use borrow.Author.Needs.{needs}
 use Rattle.pairs.proofs.is_sooner.Statement.{statement}
 use Rattle.pairs.proofs.is_sooner.Tie as tie
-use Rattle.pairs.proofs.is_sooner.Reads as reads
-use Rattle.pairs.proofs.is_sooner.Lts as lts
 
 abbrev Inv-loop : tie.InvT-loop
 Inv-loop x y i₀ i = Alike x y i

@@ -1,3 +1,4 @@
+-- `pairs::overlap_value` meets its contract. The loop's invariant: all pairs from x on are gathered. The measure is x.
 use Prim.Native.Nat.{ℕ, _-_}
 use native.Mathlib.Omega.{arith}
 use mathlib.Core.Path.{_≡_, refl, sym, ap, _∙_, subst}
@@ -10,11 +11,6 @@ use Rattle.pairs.proofs.Gathering.{Outer, outer-start, outer-more, oute
 use borrow.Author.Needs.{needs}
 use Rattle.pairs.proofs.overlap_value.Statement.{statement}
 use Rattle.pairs.proofs.overlap_value.Tie as tie
-use Rattle.pairs.proofs.overlap_value.Reads as reads
-use Rattle.pairs.proofs.overlap_value.Lts as lts
-use Rattle.nodes.proofs.cell.Reads as cell-reads
-use Rattle.pairs.proofs.add_row.Reads as add-row-reads
-use Rattle.words.proofs.wide.Reads as wide-reads
 
 abbrev Inv-loop : tie.InvT-loop
 Inv-loop t base f rows i out₀ best₀ x₀ out best x = Outer t base f rows (typeOf t i) out₀ out best x

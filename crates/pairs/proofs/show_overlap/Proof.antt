@@ -1,11 +1,8 @@
+-- `pairs::show_overlap` meets its contract: what was kept, and behind it what was there. Assumes nothing.
 use Rattle.pairs.proofs.Gathering.{value-shown}
 use borrow.Author.Needs.{needs}
 use Rattle.pairs.proofs.show_overlap.Statement.{statement}
 use Rattle.pairs.proofs.show_overlap.Tie as tie
-use Rattle.pairs.proofs.show_overlap.Reads as reads
-use Rattle.pairs.proofs.show_overlap.Lts as lts
-use Rattle.pairs.proofs.copy_front.Reads as copy-front-reads
-use Rattle.pairs.proofs.overlap_value.Reads as overlap-value-reads
 
 slice-aggregate-overlap-value : tie.Need-slice-aggregate-overlap-value
 slice-aggregate-overlap-value c = search needs

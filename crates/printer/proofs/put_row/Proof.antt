@@ -1,5 +1,5 @@
 -- `printer::put_row` meets its contract: the letter, two fields, a third one where the form has it, and a line feed. Assumes nothing.
-use Rattle.model.specs.Code.{rowView}
+use Rattle.format.specs.Code.{rowView}
 use Rattle.printer.proofs.Written.{start-bytes, row-two, row-three}
 use borrow.Author.Needs.{needs}
 use Rattle.printer.proofs.put_row.Statement.{statement}

@@ -1,6 +1,6 @@
 use Rattle.fields.proofs.Fields.{value, wrong}
 use Rattle.rows.proofs.Rows.{no-first, no-second, two-fields, no-third, three-fields}
-use Rattle.model.specs.Code.{kindView}
+use Rattle.format.specs.Code.{kindView}
 use lib.ListN.{drop}
 use mathlib.Core.Path.{sym, _∙_}
 use borrow.Author.Needs.{needs}

@@ -1,5 +1,5 @@
 use Rattle.rows.proofs.Rows.{closed-here, not-closed}
-use Rattle.model.specs.Code.{kindView}
+use Rattle.format.specs.Code.{kindView}
 use lib.ListN.{drop}
 use borrow.Author.Needs.{needs}
 use Rattle.rows.proofs.finished.Statement.{statement}

@@ -1,6 +1,6 @@
 -- `rows::row_of` meets its contract: the text before the ending, and the row in it.
 use Rattle.rows.proofs.Rows.{text-row, no-text-row}
-use Rattle.model.specs.Lines.{rowIn}
+use Rattle.format.specs.Lines.{rowIn}
 use Rattle.fields.proofs.Bytes.{text-past, text-other}
 use mathlib.Core.Path.{ap, _∙_}
 use borrow.Author.Needs.{needs}

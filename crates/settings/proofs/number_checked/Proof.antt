@@ -1,7 +1,7 @@
 -- `settings::number_checked` meets its contract: a T line that is absent or too big, letters that are no value, and a value. Assumes nothing.
 use native.Mathlib.Omega.{arith}
 use mathlib.Core.Path.{refl, ap}
-use Rattle.model.specs.Code.{refusalView}
+use Rattle.format.specs.Code.{refusalView}
 use borrow.Author.Tests.{not-true, not-false}
 use Rattle.settings.proofs.Answering.{number-fault, number-strange, number-fits, number-given}
 use borrow.Author.Needs.{needs}

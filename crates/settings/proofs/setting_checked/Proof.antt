@@ -1,6 +1,6 @@
 -- `settings::setting_checked` meets its contract: a T line that is absent or too big, a number too high, and letters. Assumes nothing.
 use mathlib.Core.Path.{refl, ap}
-use Rattle.model.specs.Code.{refusalView}
+use Rattle.format.specs.Code.{refusalView}
 use Rattle.settings.proofs.Answering.{setting-fault, setting-high, setting-given}
 use borrow.Author.Needs.{needs}
 use Rattle.settings.proofs.setting_checked.Statement.{statement}

@@ -1,6 +1,6 @@
 -- `settings::to_setting` meets its contract: a short result area, a refusal of Check, and an accepted file. Assumes nothing.
 use mathlib.Core.Path.{ap}
-use Rattle.model.specs.Code.{refusalView}
+use Rattle.format.specs.Code.{refusalView}
 use Rattle.settings.proofs.Serving.{setting-short, setting-refused, setting-accepted}
 use borrow.Author.Needs.{needs}
 use Rattle.settings.proofs.to_setting.Statement.{statement}

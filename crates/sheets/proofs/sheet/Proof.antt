@@ -1,6 +1,6 @@
 -- `sheets::sheet` meets its contract: a short area, too many queries, a refusal of Check, and an accepted file, whose queries are answered. Assumes nothing.
 use mathlib.Core.Path.{refl, ap}
-use Rattle.model.specs.Code.{refusalView}
+use Rattle.format.specs.Code.{refusalView}
 use Rattle.sheets.proofs.Calling.{sheet-short, sheet-many, sheet-refused, call-room, answers-room, sheet-accepted}
 use borrow.Author.Needs.{needs}
 use Rattle.sheets.proofs.sheet.Statement.{statement}

@@ -1,6 +1,6 @@
 -- `turner::exchanged` meets its contract, kind by kind. Assumes nothing.
 use mathlib.Core.Path.{ap}
-use Rattle.model.specs.Code.{kindView}
+use Rattle.format.specs.Code.{kindView}
 use Rattle.turner.proofs.Exchanging.{kept-type, kept-pattern, exchanged-iso, exchanged-clause, exchanged-let}
 use borrow.Author.Needs.{needs}
 use Rattle.turner.proofs.exchanged.Statement.{statement}

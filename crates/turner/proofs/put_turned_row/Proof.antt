@@ -1,5 +1,5 @@
 -- `turner::put_turned_row` meets its contract: the row's letter and fields, exchanged and written. Assumes nothing.
-use Rattle.model.specs.Code.{rowView}
+use Rattle.format.specs.Code.{rowView}
 use Rattle.turner.proofs.Exchanging.{row-written, row-unwritten}
 use borrow.Author.Needs.{needs}
 use Rattle.turner.proofs.put_turned_row.Statement.{statement}

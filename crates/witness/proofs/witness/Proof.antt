@@ -1,6 +1,6 @@
 -- `witness::witness` meets its contract: a short result area, refusal 1 or 2, or a file that is read. Assumes nothing.
 use mathlib.Core.Path.{ap}
-use Rattle.model.specs.Code.{refusalView}
+use Rattle.format.specs.Code.{refusalView}
 use Rattle.checker.proofs.Checks.{early-passes}
 use Rattle.witness.proofs.Serving.{short-result, early-answer}
 use borrow.Author.Needs.{needs}

@@ -1,5 +1,5 @@
 -- `lines::read::passed` meets its contract: the row, unless a refusal was found.
-use Rattle.model.specs.Code.{rowView, refusalView}
+use Rattle.format.specs.Code.{rowView, refusalView}
 use Rattle.lines.proofs.Forms.{refused-row, passed-row}
 use borrow.Author.Needs.{needs}
 use Rattle.lines.proofs.read.passed.Statement.{statement}

@@ -1,6 +1,6 @@
 -- `runner::run::run` meets its contract: a short result area, a refusal of Check, and an accepted file, whose iso is run. Assumes nothing.
 use mathlib.Core.Path.{ap}
-use Rattle.model.specs.Code.{refusalView}
+use Rattle.format.specs.Code.{refusalView}
 use Rattle.runner.proofs.Answering.{short-result, run-refused, work-room, run-accepted}
 use borrow.Author.Needs.{needs}
 use Rattle.runner.proofs.run.run.Statement.{statement}

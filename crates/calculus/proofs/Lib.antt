@@ -1,0 +1,21 @@
+-- The laws of the calculus, in the order in which they rest on each other.
+pub mod Basic
+pub mod Formed
+pub mod Letters
+pub mod Slots
+pub mod Orthogonal
+pub mod Binding
+pub mod Matching
+pub mod Substitution
+pub mod Valuations
+pub mod Variables
+pub mod Joins
+pub mod Typing
+pub mod Weights
+pub mod Covering
+pub mod Checking
+pub mod Running
+pub mod Inverse
+pub mod Inverted
+pub mod Steps
+pub mod Totality

@@ -1,0 +1,10 @@
+pub mod Tools
+pub mod Trees
+pub mod Slots
+pub mod Refusals
+pub mod Clauses
+pub mod Reduction
+pub mod Letters
+pub mod Paper
+pub mod Terms
+pub mod Faulty

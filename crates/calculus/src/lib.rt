@@ -1,0 +1,1 @@
+// The paper's calculus as definitions, and its laws; no code.

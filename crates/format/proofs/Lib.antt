@@ -1,0 +1,8 @@
+-- The laws of the file: numerals, lines, rows, printing, turning.
+pub mod Refusing
+pub mod Numerals
+pub mod Passing
+pub mod Turning
+pub mod Endings
+pub mod Printing
+pub mod Tables

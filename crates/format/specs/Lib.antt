@@ -1,0 +1,5 @@
+pub mod Lines
+pub mod Judge
+pub mod Unfold
+pub mod Examples
+pub mod Code

@@ -1,0 +1,115 @@
+// The types that every layer shares. What their cases mean stands in specs/Code.antt, by document
+// 01's numbers and words; the definitions that contracts cite stand in specs/, the laws in proofs/.
+
+ghost use mathlib.Core.Path.{_≡_};
+ghost use Rattle.calculus.specs.Refusals.{number, overlap, gap};
+ghost use Rattle.calculus.specs.Tools.{isSome};
+ghost use Rattle.format.specs.Code.{sideView, refusalView, numberOf};
+
+// The five line forms.
+pub enum Kind {
+    Type,
+    Pattern,
+    Iso,
+    Clause,
+    Let,
+}
+
+// A line as the table holds it: its kind and its fields, a missing third one being 0.
+pub struct Row {
+    pub kind: Kind,
+    pub x: usize,
+    pub y: usize,
+    pub z: usize,
+}
+
+// A side of an iso's clauses.
+pub enum Side {
+    Left,
+    Right,
+}
+
+// Why a call is refused; `Nothing` where it is not. A case holds the faulty line's kind where that
+// may be any.
+pub enum Refusal {
+    Nothing,
+    ShortArea,
+    TooLong,
+    BadLine,
+    Misplaced(Kind),
+    BadField(Kind),
+    BadName(Kind),
+    Ceiling(Kind),
+    Variable,
+    LetShape,
+    BadType,
+    Overlap(Side),
+    Gap(Side),
+    NoIso,
+    NoValue,
+    Spent,
+    TooMany,
+    TooHigh,
+    BadList,
+}
+
+// A refusal and its line, counted over the file from 1; 0 where no line is named.
+pub struct Answer {
+    pub place: usize,
+    pub refusal: Refusal,
+}
+
+// Whether a refusal is one.
+pub fn is_refused(f: Refusal) -> bool
+    ensures { λ r. ⌜ r ≡ isSome (refusalView f) ⌝ }
+{
+    match f {
+        Refusal::Nothing => false,
+        _ => true,
+    }
+}
+
+fn overlap_number(s: Side) -> u8
+    ensures { λ n. ⌜ n ≡ number (overlap (sideView s)) ⌝ }
+{
+    match s {
+        Side::Left => 11,
+        Side::Right => 12,
+    }
+}
+
+fn gap_number(s: Side) -> u8
+    ensures { λ n. ⌜ n ≡ number (gap (sideView s)) ⌝ }
+{
+    match s {
+        Side::Left => 13,
+        Side::Right => 14,
+    }
+}
+
+// Document 01's number of a refusal, 0 for none.
+pub fn number_of(r: Refusal) -> u8
+    ensures { λ n. ⌜ n ≡ numberOf r ⌝ }
+{
+    match r {
+        Refusal::Nothing => 0,
+        Refusal::ShortArea => 1,
+        Refusal::TooLong => 2,
+        Refusal::BadLine => 3,
+        Refusal::Misplaced(_) => 4,
+        Refusal::BadField(_) => 5,
+        Refusal::BadName(_) => 6,
+        Refusal::Ceiling(_) => 7,
+        Refusal::Variable => 8,
+        Refusal::LetShape => 9,
+        Refusal::BadType => 10,
+        Refusal::Overlap(s) => overlap_number(s),
+        Refusal::Gap(s) => gap_number(s),
+        Refusal::NoIso => 15,
+        Refusal::NoValue => 16,
+        Refusal::Spent => 17,
+        Refusal::TooMany => 18,
+        Refusal::TooHigh => 19,
+        Refusal::BadList => 20,
+    }
+}
