@@ -11,8 +11,8 @@ use lib.Dec.{ltb, eqb, leb}
 use lib.ListN.{length, getElem?}
 use Rattle.limits.specs.Limits.{maxPairs, maxClauses, maxPatterns, maxNodes}
 use Rattle.calculus.specs.Tools.{_>>=_, guard, all}
-use Rattle.calculus.specs.Trees.{Ty, Val, Iso}
-use Rattle.calculus.specs.Refusals.{Refusal, noIso, tooMany, ceiling, clauseLine, patternLine, badList, spent}
+use Rattle.calculus.specs.Trees.{Ty, Val, Iso, invert}
+use Rattle.calculus.specs.Refusals.{Refusal, noIso, noValue, tooMany, ceiling, clauseLine, patternLine, badList, spent}
 use Rattle.format.specs.Lines.{Row, lines, printRows}
 use Rattle.format.specs.Judge.{start}
 use Rattle.format.specs.Unfold.{isosOf}
@@ -20,13 +20,14 @@ use Rattle.calculus.specs.Reduction.{reduce}
 use Rattle.calculus.specs.Letters.{letters, inhabits}
 use Rattle.ranking.specs.Numbering.{count, rank, unrank, Outcome, fails, typesOf}
 use Rattle.ranking.specs.Numbering.{gives as pays}
-use Rattle.model.specs.Services.{Verdict, accepted, verdict, Ran, gives, failed, within, from, onIso, runRows, runOf, run, turned}
+use Rattle.model.specs.Services.{Verdict, accepted, verdict, Ran, gives, failed, within, from, onIso, runRows, runOf, run, turned, toward}
 use Rattle.calculus.specs.Paper.{Of}
-use Rattle.model.specs.Answers.{RunIs, done}
+use Rattle.model.specs.Answers.{RunIs, strange, done}
 use Rattle.pairlists.specs.PairLists.{upwards, onPairs, onExported, exportRows, tosOf, noneTwice, pairsUp, listOf, settings, writePairs, fileRows, withinAll, toFrom, onList, onLines, onTypes, importRows}
-use Rattle.calculus.proofs.Basic.{bind-some, not-some, guard-true, leb-le, some-bind, some-inj, none≢some, true-guard, true-and, eq-eqb, lt-ltb, not-ltb, mem-all, index-mem, index-below}
+use Rattle.calculus.proofs.Basic.{bind-some, not-some, guard-true, leb-le, some-bind, some-inj, none≢some, true-guard, true-and, eq-eqb, lt-ltb, not-ltb, mem-all, index-mem, index-below, index-map}
 use Rattle.calculus.proofs.Letters.{value-letters, inhabits-of, of-inhabits}
-use Rattle.model.proofs.Runs.{accepted-good, good, preserves, reduces-iff, run-iff, there-and-back, run-back}
+use Rattle.format.proofs.Turning.{isos-turn}
+use Rattle.model.proofs.Runs.{results, accepted-good, good, preserves, reduces-iff, run-iff, there-and-back, run-back}
 use Rattle.ranking.proofs.Numbering.{unrank-inhabits, unrank-rank}
 use Rattle.ranking.proofs.Outcomes.{fails≢gives, small-type}
 use Rattle.pairlists.proofs.File.{closedIso, ceiling-of-patterns}
@@ -95,6 +96,75 @@ answers-back file rs e i budget list x a b out m f g any c p q r =
     let h = there-and-back file rs e i false any c p q .1 (sym (run-back file rs e i any q) ∙ r) in
     run-back out (t .rows) (t .accepts) 0 1 q
     ∙ there-and-back out (t .rows) (t .accepts) 0 false 1 1 p q .0 (answers-alike file rs e i budget list x a b out m f g any c p q h)
+
+-- The import of the export gives nothing else: whatever it gives, under any budget, the exported iso gives under some budget, its count.
+pub answers-only : (file : List ℕ) (rs : List Row) → verdict file ≡ accepted rs → (i budget : ℕ) (list : List ℕ) (x : Exported rs i budget list)
+    → (a b : ℕ) (out : List ℕ) (m : Imported rs a b list out) → m .from ≡ x .iso .from → m .to ≡ x .iso .to
+    → (any c : ℕ) (p q : List ℕ) → run out 0 false any p ≡ gives c q → (k : ℕ) × (run file i false k p ≡ gives k q)
+answers-only file rs e i budget list x a b out m f g any c p q r =
+    let t = import-accepted file rs e a b list out m in go c q t (run-iff out (t .rows) (t .accepts) 0 false any p (gives c q) .0 r)
+  where
+    go : (d : ℕ) (y : List ℕ) → (t : Trades (m .from) (m .to) (m .tos) out) → RunIs (isosOf (t .rows)) 0 any p (gives d y) → (k : ℕ) × (run file i false k p ≡ gives k y)
+    go d n t (done o v w k s y h z l) =
+        let same : o ≡ closedIso (t .line) (m .from) (m .to) (settings (m .from) (m .to) 0 (m .tos)) = some-inj (sym s ∙ ap (λ (os : List Iso). getElem? os 0) (t .isos)) in
+        let hx : Of v (x .iso .from) = subst (Of v) f (subst (λ (n : Iso). Of v (n .from)) same h) in
+        let u = results (isosOf rs) (good rs (accepted-good file rs e)) i (x .iso) (x .there) v hx in
+        let one = export-import file rs e i budget list x a b out m f g t v (u .0) (u .1) hx (u .2) in
+        let two = reduces-iff (isosOf (t .rows)) (good (t .rows) (accepted-good out (t .rows) (t .accepts))) 0 o s v h w k .0 z in
+        let alike : u .0 ≡ w = ap (λ (r : Val × ℕ). r .0) (some-inj (sym one ∙ two)) in (
+          u .1,
+          ap (run file i false (u .1)) y
+              ∙ run-gives file rs e i (x .iso) (x .there) v (u .0) (u .1) (u .1) hx (u .2) (omega arith)
+              ∙ ap (λ (r : Val). gives (u .1) (letters r)) alike,
+        )
+
+-- and back
+pub answers-only-back : (file : List ℕ) (rs : List Row) → verdict file ≡ accepted rs → (i budget : ℕ) (list : List ℕ) (x : Exported rs i budget list)
+    → (a b : ℕ) (out : List ℕ) (m : Imported rs a b list out) → m .from ≡ x .iso .from → m .to ≡ x .iso .to
+    → (any c : ℕ) (p q : List ℕ) → run out 0 true any q ≡ gives c p → (k : ℕ) × (run file i true k q ≡ gives k p)
+answers-only-back file rs e i budget list x a b out m f g any c p q r =
+    let t = import-accepted file rs e a b list out m in
+    let h = there-and-back out (t .rows) (t .accepts) 0 false any c p q .1 (sym (run-back out (t .rows) (t .accepts) 0 any q) ∙ r) in
+    let k = answers-only file rs e i budget list x a b out m f g any c p q h in
+    (k .0, run-back file rs e i (k .0) q ∙ there-and-back file rs e i false (k .0) (k .0) p q .0 (k .1))
+
+-- where an iso takes values of a type, a run of it is 16 exactly for bytes that are no value of that type
+strange-iff : (file : List ℕ) (rs : List Row) → verdict file ≡ accepted rs → (i : ℕ) (back : Bool) (o : Iso) → getElem? (isosOf (toward back rs)) i ≡ some o
+    → (budget : ℕ) (p : List ℕ) → (run file i back budget p ≡ failed noValue) ↔ ((v : Val) → p ≡ letters v → Of v (o .from) → ⊥)
+strange-iff file rs e i back o s budget p =
+    let h = run-iff file rs e i back budget p (failed noValue) in
+    (λ r. go (h .0 r), λ f. h .1 (strange o s f))
+  where
+    go : RunIs (isosOf (toward back rs)) i budget p (failed noValue) → (v : Val) → p ≡ letters v → Of v (o .from) → ⊥
+    go (strange n t none-such) v y k = none-such v y (subst (λ (z : Iso). Of v (z .from)) (some-inj (sym s ∙ t)) k)
+
+-- an iso of the turned rows
+turned-iso : (file : List ℕ) (rs : List Row) → verdict file ≡ accepted rs → (i : ℕ) (o : Iso) → getElem? (isosOf rs) i ≡ some o
+    → getElem? (isosOf (toward true rs)) i ≡ some (invert o)
+turned-iso file rs e i o s =
+    ap (λ (os : List Iso). getElem? os i) (isos-turn rs (accepted-good file rs e .passes)) ∙ index-map invert (isosOf rs) i s
+
+-- The import of the export refuses the same bytes with 16, there and back, under any budgets.
+pub refuses-alike : (file : List ℕ) (rs : List Row) → verdict file ≡ accepted rs → (i budget : ℕ) (list : List ℕ) (x : Exported rs i budget list)
+    → (a b : ℕ) (out : List ℕ) (m : Imported rs a b list out) → m .from ≡ x .iso .from → m .to ≡ x .iso .to
+    → (back : Bool) (any any′ : ℕ) (p : List ℕ) → (run file i back any p ≡ failed noValue) ↔ (run out 0 back any′ p ≡ failed noValue)
+refuses-alike file rs e i budget list x a b out m f g back any any′ p = go back (import-accepted file rs e a b list out m)
+  where
+    own : Trades (m .from) (m .to) (m .tos) out → Iso
+    own t = closedIso (t .line) (m .from) (m .to) (settings (m .from) (m .to) 0 (m .tos))
+
+    first : (t : Trades (m .from) (m .to) (m .tos) out) → getElem? (isosOf (t .rows)) 0 ≡ some (own t)
+    first t = ap (λ (os : List Iso). getElem? os 0) (t .isos)
+
+    go : (c : Bool) → Trades (m .from) (m .to) (m .tos) out → (run file i c any p ≡ failed noValue) ↔ (run out 0 c any′ p ≡ failed noValue)
+    go false t =
+        let h = strange-iff file rs e i false (x .iso) (x .there) any p in
+        let k = strange-iff out (t .rows) (t .accepts) 0 false (own t) (first t) any′ p in
+        (λ r. k .1 (λ v y z. h .0 r v y (subst (Of v) f z)), λ r. h .1 (λ v y z. k .0 r v y (subst (Of v) (sym f) z)))
+    go true t =
+        let h = strange-iff file rs e i true (invert (x .iso)) (turned-iso file rs e i (x .iso) (x .there)) any p in
+        let k = strange-iff out (t .rows) (t .accepts) 0 true (invert (own t)) (turned-iso out (t .rows) (t .accepts) 0 (own t) (first t)) any′ p in
+        (λ r. k .1 (λ v y z. h .0 r v y (subst (Of v) g z)), λ r. h .1 (λ v y z. k .0 r v y (subst (Of v) (sym g) z)))
 
 -- ---- what import refuses, in order
 

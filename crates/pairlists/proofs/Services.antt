@@ -2,6 +2,7 @@
 use Prim.Native.Nat.{ℕ, _≤_, _<_}
 use native.Mathlib.Omega.{arith}
 use mathlib.Core.Path.{_≡_, refl, sym, ap, _∙_, subst}
+use mathlib.Core.Logic.{_↔_}
 use mathlib.Core.Bool.{Bool, true, false, _||_, or-true, or-false}
 use mathlib.Core.Option.{Option, none, some}
 use mathlib.Core.List.{List, [], _∷_}
@@ -10,7 +11,7 @@ use lib.ListN.{length, take, drop, getElem?}
 use lib.Seq.{take-append-seam}
 use Rattle.limits.specs.Limits.{maxPairs, tableLength, workLength, resultLength, exportLength, importLength}
 use Rattle.calculus.specs.Trees.{Ty, Iso}
-use Rattle.calculus.specs.Refusals.{number, spent}
+use Rattle.calculus.specs.Refusals.{number, noValue, spent}
 use Rattle.format.specs.Lines.{Row, lines, withoutReturns}
 use Rattle.format.specs.Unfold.{isosOf}
 use Rattle.calculus.specs.Letters.{letters}
@@ -26,7 +27,7 @@ use Rattle.pairlists.proofs.File.{closedIso}
 use Rattle.pairlists.proofs.List.{Taken, tos-length}
 use Rattle.pairlists.proofs.Imports.{Imported, imported, Trades, import-accepted, written-ceiling, import-export}
 use Rattle.pairlists.proofs.Exports.{Exported, exported, export-taken, export-reads}
-use Rattle.pairlists.proofs.Runs.{import-run, answers-alike, answers-back, export-few, export-spent}
+use Rattle.pairlists.proofs.Runs.{import-run, answers-alike, answers-back, answers-only, answers-only-back, refuses-alike, export-few, export-spent}
 use Rattle.pairlists.proofs.Once.{lines-once}
 
 -- ---- outcomes and verdicts
@@ -238,13 +239,36 @@ module _ (file t w : List ℕ) (i budget : ℕ) (o : List ℕ) (done : exportSer
   abbrev iso : Iso
   iso = export-of file t w i budget o done .2 .iso
 
-  -- T lines a and b have the types of the exported iso: the imported file answers every run as that iso does, the count aside, there and back
-  pub export-imports : getElem? (typesOf rs) a ≡ some (iso .from) → getElem? (typesOf rs) b ≡ some (iso .to) → (any c : ℕ) (p q : List ℕ)
-      → (run file i false any p ≡ pays c q → run out 0 false 1 p ≡ pays 1 q) × (run file i true any q ≡ pays c p → run out 0 true 1 q ≡ pays 1 p)
-  export-imports f g any c p q =
-      let e = export-of file t w i budget o done .1 in
-      let x = export-of file t w i budget o done .2 in
-      let m : Imported rs a b list out = imported rs a b list out (ap (λ v. importOn v a b list) (sym e) ∙ import-given file t₂ w₂ a b list o₂ again) in
-      let from = some-inj (sym (m .first) ∙ f) in
-      let to = some-inj (sym (m .second) ∙ g) in
-      (answers-alike file rs e i budget list x a b out m from to any c p q, answers-back file rs e i budget list x a b out m from to any c p q)
+  -- what was imported, over the lines of the exported file
+  trade : Imported rs a b list out
+  trade =
+      imported rs a b list out (ap (λ v. importOn v a b list) (sym (export-of file t w i budget o done .1)) ∙ import-given file t₂ w₂ a b list o₂ again)
+
+  module _ (f : getElem? (typesOf rs) a ≡ some (iso .from)) (g : getElem? (typesOf rs) b ≡ some (iso .to)) where
+    from-same : trade .from ≡ iso .from
+    from-same = some-inj (sym (trade .first) ∙ f)
+
+    to-same : trade .to ≡ iso .to
+    to-same = some-inj (sym (trade .second) ∙ g)
+
+    -- T lines a and b have the types of the exported iso: the imported file answers every run as that iso does, the count aside, there and back. What that iso
+    -- gives, it gives,
+    pub export-imports : (any c : ℕ) (p q : List ℕ)
+        → (run file i false any p ≡ pays c q → run out 0 false 1 p ≡ pays 1 q) × (run file i true any q ≡ pays c p → run out 0 true 1 q ≡ pays 1 p)
+    export-imports any c p q =
+        let e = export-of file t w i budget o done .1 in
+        let x = export-of file t w i budget o done .2 in
+        (answers-alike file rs e i budget list x a b out trade from-same to-same any c p q, answers-back file rs e i budget list x a b out trade from-same to-same any c p q)
+
+    -- and nothing else: what it gives, that iso gives under some budget;
+    pub export-imports-only : (any c : ℕ) (p q : List ℕ)
+        → (run out 0 false any p ≡ pays c q → (k : ℕ) × (run file i false k p ≡ pays k q)) × (run out 0 true any q ≡ pays c p → (k : ℕ) × (run file i true k q ≡ pays k p))
+    export-imports-only any c p q =
+        let e = export-of file t w i budget o done .1 in
+        let x = export-of file t w i budget o done .2 in
+        (answers-only file rs e i budget list x a b out trade from-same to-same any c p q, answers-only-back file rs e i budget list x a b out trade from-same to-same any c p q)
+
+    -- and what is no value of the starting type for the one is none for the other
+    pub export-imports-strange : (back : Bool) (any any′ : ℕ) (p : List ℕ) → (run file i back any p ≡ failed noValue) ↔ (run out 0 back any′ p ≡ failed noValue)
+    export-imports-strange =
+        refuses-alike file rs (export-of file t w i budget o done .1) i budget list (export-of file t w i budget o done .2) a b out trade from-same to-same
