@@ -13,24 +13,24 @@ use Rattle.calculus.specs.Refusals.{number, noIso}
 use Rattle.format.specs.Lines.{Row}
 use Rattle.format.specs.Unfold.{isosOf}
 use Rattle.model.specs.Services.{accepted, verdict, short, unless, check}
-use Rattle.costs.specs.Costs.{leastOf, greatestOf, costsFrom, leastCosts, greatestCosts}
-use Rattle.costs.specs.Bounds.{maxCount, onIso, boundsOf, boundsService}
+use Rattle.law_costs.specs.Costs.{leastOf, greatestOf, costsFrom, leastCosts, greatestCosts}
+use Rattle.law_costs.specs.Bounds.{maxCount, onIso, boundsOf, boundsService}
 use Rattle.format.specs.Code.{refusalView, numberOf, numbered}
 use Rattle.format.specs.declared.Answer as A
 use Rattle.format.specs.declared.Refusal as F
 use Rattle.calculus.proofs.Basic.{isSome-true, ltb-lt, ltb-false, lt-ltb, not-ltb}
 use Rattle.model.proofs.Files.{number-positive}
-use Rattle.index.specs.Index.{isosAt}
+use Rattle.run_index.specs.Index.{isosAt}
 use Rattle.checker.specs.CheckSays.{CheckSays, Accepted}
 use Rattle.checker.specs.declared.Checked as C
 use Rattle.checker.proofs.Checks.{unless-accepted, flag-none}
 use Rattle.runner.specs.RunSays.{Prepared}
-use Rattle.costs.proofs.Served.{as-check, refused-first}
-use Rattle.costing.specs.Held.{cap, Holds}
+use Rattle.law_costs.proofs.Served.{as-check, refused-first}
+use Rattle.bound_counts.specs.Held.{cap, Holds}
 use Rattle.bounds.specs.declared.Bounded as B
 use Rattle.bounds.specs.BoundsSays.{Told, BoundsSays}
 use Rattle.runner.proofs.Running.{isos-small}
-use Rattle.reduction.proofs.Laying.{inside}
+use Rattle.run_reduction.proofs.Laying.{inside}
 
 -- ---- on a checked table
 

@@ -3,7 +3,7 @@ use Prim.Native.Nat.{ℕ}
 use mathlib.Core.Path.{_≡_}
 use mathlib.Core.List.{List}
 use Rattle.format.specs.Code.{numberOf}
-use Rattle.costs.specs.Bounds.{Bounds, boundsService}
+use Rattle.law_costs.specs.Bounds.{Bounds, boundsService}
 use Rattle.bounds.specs.declared.Bounded as B
 
 pub record Told (b : Bounds) (r : B.Bounded) : Type 0 where

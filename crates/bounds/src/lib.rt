@@ -1,9 +1,9 @@
 // Steps known beforehand: a lower and an upper bound on the count of any run of an iso, without a run.
 
+use bound_counts::number_at;
+use bound_counts::reckon;
 use checker::Checked;
 use checker::check_file;
-use costing::number_at;
-use costing::reckon;
 use format::Refusal;
 use format::is_refused;
 use limits::INDEX_LENGTH;
@@ -16,7 +16,7 @@ ghost use Prim.Native.Nat.{ℕ, min};
 ghost use lib.Dec.{ltb};
 ghost use Rattle.format.specs.Lines.{Row as RowOf};
 ghost use Rattle.model.specs.Services.{accepted};
-ghost use Rattle.costs.specs.Bounds.{maxCount, boundsOf};
+ghost use Rattle.law_costs.specs.Bounds.{maxCount, boundsOf};
 ghost use Rattle.runner.specs.RunSays.{Prepared};
 ghost use Rattle.checker.specs.CheckSays.{Accepted};
 ghost use Rattle.bounds.specs.BoundsSays.{Told, BoundsSays};

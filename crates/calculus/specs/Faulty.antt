@@ -9,7 +9,7 @@ use Rattle.calculus.specs.Terms.{Steps, eapp, valTerm}
 use Rattle.calculus.specs.Clauses.{Sigs, lefts, rights}
 use Rattle.calculus.specs.Paper.{BoundThenUsed, LetProducts, Linear, Of, Apart, Covers, ClauseOk, IsoOk}
 
--- 8 "variables rule broken", 9 "left or right in a let pattern", 10 "no such assignment" (of types to bindings: the crate `reuse`)
+-- 8 "variables rule broken", 9 "left or right in a let pattern", 10 "no such assignment" (of types to bindings: the crate `law_reuse`)
 pub data ClauseFault (sigs : Sigs) (a b : Ty) (c : Clause) : Refusal → Type 0 where
   variables : ¬ BoundThenUsed c → ClauseFault sigs a b c variable
   shapes : BoundThenUsed c → ¬ LetProducts c → ClauseFault sigs a b c letShape

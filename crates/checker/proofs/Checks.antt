@@ -24,14 +24,14 @@ use Rattle.format.specs.declared.Refusal as F
 use Rattle.calculus.proofs.Basic.{none≢some, some-inj, isSome-true}
 use Rattle.format.proofs.Printing.{read-count, rows-inj, rows≢faulty}
 use Rattle.format.proofs.Tables.{length-table}
-use Rattle.parts.specs.Cleared.{cleared}
+use Rattle.area_parts.specs.Cleared.{cleared}
 use lib.Seq.{drop-append-add, drop-drop, drop-at}
-use Rattle.nodes.specs.Walk.{FileIn, isoRows, whenIso}
-use Rattle.nodes.proofs.Rows.{isos-told}
-use Rattle.isos.specs.Answers.{asFault}
-use Rattle.lines.specs.Reads.{Holds, ReadSays}
-use Rattle.lines.specs.declared.read.Read as R
-use Rattle.lines.proofs.Filing.{filed, rows-few}
+use Rattle.table_trees.specs.Walk.{FileIn, isoRows, whenIso}
+use Rattle.table_trees.proofs.Rows.{isos-told}
+use Rattle.check_isos.specs.Answers.{asFault}
+use Rattle.read_lines.specs.Reads.{Holds, ReadSays}
+use Rattle.read_lines.specs.declared.read.Read as R
+use Rattle.read_lines.proofs.Filing.{filed, rows-few}
 use Rattle.checker.specs.declared.Checked as C
 use Rattle.checker.specs.CheckSays.{CheckSays, Outcome, Loaded, Entered, Settled, Accepted, Filed, Early}
 

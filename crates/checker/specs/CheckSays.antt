@@ -14,8 +14,8 @@ use Rattle.model.specs.Services.{check, afterReading, refused, accepted, verdic
 use Rattle.format.specs.Code.{numberOf, refusalView}
 use Rattle.format.specs.declared.Answer as A
 use Rattle.format.specs.declared.Refusal as F
-use Rattle.parts.specs.Cleared.{cleared}
-use Rattle.nodes.specs.Walk.{FileIn}
+use Rattle.area_parts.specs.Cleared.{cleared}
+use Rattle.table_trees.specs.Walk.{FileIn}
 use Rattle.checker.specs.declared.Checked as C
 
 -- t and w are the areas at entry, t′ and w′ at exit

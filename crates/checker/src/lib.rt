@@ -1,17 +1,17 @@
 // Check: the file's bytes, a table area and a work area in; a number and a line out.
 
+use area_parts::clear_bytes;
+use area_parts::clear_words;
+use check_isos::isos_fault;
 use format::Answer;
 use format::Refusal;
 use format::is_refused;
-use isos::isos_fault;
 use limits::MAX_BYTES;
 use limits::MAX_LINES;
 use limits::TABLE_LENGTH;
 use limits::WORK_LENGTH;
-use lines::read::read_file;
-use parts::clear_bytes;
-use parts::clear_words;
-use split::count_lines;
+use read_lines::read::read_file;
+use read_split::count_lines;
 ghost use mathlib.Core.Path.{_≡_};
 ghost use mathlib.Core.Option.{none};
 ghost use mathlib.Core.List.{List};

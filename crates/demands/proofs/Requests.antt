@@ -13,12 +13,12 @@ use Rattle.model.specs.Services.{verdict, written, short, unless, check, turned
 use Rattle.model.specs.Sheet.{three}
 use Rattle.model.proofs.Files.{turned-twice, turned-fits}
 use Rattle.model.proofs.Sheets.{block, Room, as-check, each-query}
-use Rattle.costs.specs.Bounds.{boundsService}
-use Rattle.costs.proofs.Served.{turned-same}
-use Rattle.endings.proofs.Feeds.{turned-returnless}
-use Rattle.reordering.specs.Reordered.{SameButOrder}
-use Rattle.reordering.proofs.Files.{reordered-sym}
-use Rattle.reordering.proofs.Services.{check-both, run-same, turned-same as turned-order}
+use Rattle.law_costs.specs.Bounds.{boundsService}
+use Rattle.law_costs.proofs.Served.{turned-same}
+use Rattle.law_endings.proofs.Feeds.{turned-returnless}
+use Rattle.law_reordering.specs.Reordered.{SameButOrder}
+use Rattle.law_reordering.proofs.Files.{reordered-sym}
+use Rattle.law_reordering.proofs.Services.{check-both, run-same, turned-same as turned-order}
 use Rattle.demands.specs.Words.{Areas, yes, Accepted, turnedBytes}
 use Rattle.demands.specs.Requests.{SheetOfLoneRuns, BoundsOfTurned, TurnedWithFeeds, TurnedTwice, BothAccepted, AnswerAlike, TurnedAlike}
 use Rattle.demands.proofs.Serving.{not-short, accepted-rows, turn-writes, gives-run, run-gives, zero-says}

@@ -11,8 +11,8 @@ use Rattle.format.specs.Lines.{lines, withoutReturns}
 use Rattle.model.specs.Services.{check, RunResult, runService}
 use Rattle.model.specs.Desk.{Query, queryOf}
 use Rattle.model.specs.Sheet.{sheet}
-use Rattle.costs.specs.Bounds.{boundsService}
-use Rattle.reordering.specs.Reordered.{SameButOrder}
+use Rattle.law_costs.specs.Bounds.{boundsService}
+use Rattle.law_reordering.specs.Reordered.{SameButOrder}
 use Rattle.demands.specs.Words.{Areas, yes, Accepted, turnedBytes, Gives}
 
 -- Request 01: "For each query come back number, count and length, three numbers of 32 bits in a lent area, in the same order and equal to those of a lone run, and its

@@ -16,13 +16,13 @@ use Rattle.model.specs.Desk.{queryLine, fileLine}
 use Rattle.format.specs.Code.{refusalView, numberOf, numbered}
 use Rattle.model.proofs.Files.{number-positive}
 use Rattle.model.proofs.Sheets.{written-fits}
-use Rattle.areas.specs.Areas.{Writes}
+use Rattle.area_cells.specs.Areas.{Writes}
 use Rattle.checker.specs.CheckSays.{CheckSays, Accepted}
 use Rattle.checker.specs.declared.Checked as C
-use Rattle.queries.specs.Stream.{begun, stopped, answered}
-use Rattle.queries.specs.declared.Query as Q
-use Rattle.queries.specs.declared.Asked as A
-use Rattle.queries.specs.declared.Asked.the-variants as asked
+use Rattle.query_lines.specs.Stream.{begun, stopped, answered}
+use Rattle.query_lines.specs.declared.Query as Q
+use Rattle.query_lines.specs.declared.Asked as A
+use Rattle.query_lines.specs.declared.Asked.the-variants as asked
 use Rattle.runner.specs.RunSays.{RanAs}
 use Rattle.runner.specs.declared.run.Ran as R
 use Rattle.desk.specs.DeskSays.{answerRoom, Printed, JudgedAs}

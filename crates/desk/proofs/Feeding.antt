@@ -19,12 +19,12 @@ use Rattle.model.specs.Services.{verdict, answerOf}
 use Rattle.model.specs.Desk.{fileLine}
 use Rattle.format.specs.Code.{refusalView}
 use Rattle.calculus.proofs.Basic.{bool-cases, isSome-true, not-both}
-use Rattle.areas.proofs.Writing.{sets-append}
+use Rattle.area_cells.proofs.Writing.{sets-append}
 use Rattle.checker.specs.CheckSays.{Accepted}
 use Rattle.checker.specs.declared.Checked as C
 use Rattle.runner.specs.RunSays.{Prepared}
-use Rattle.queries.specs.Stream.{State, collecting, asking, Step, opens, begun, close, answered, step, finish, steps}
-use Rattle.queries.proofs.Streaming.{steps-more, opens-append, and-false}
+use Rattle.query_lines.specs.Stream.{State, collecting, asking, Step, opens, begun, close, answered, step, finish, steps}
+use Rattle.query_lines.proofs.Streaming.{steps-more, opens-append, and-false}
 use Rattle.desk.specs.declared.Desk as D
 use Rattle.desk.specs.declared.Phase.the-variants as phases
 use Rattle.desk.specs.declared.Next as N

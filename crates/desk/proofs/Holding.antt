@@ -13,8 +13,8 @@ use Rattle.format.specs.Lines.{Row}
 use Rattle.model.specs.Services.{verdict}
 use borrow.Author.Tests.{lt-ltb}
 use Rattle.calculus.proofs.Basic.{bool-cases, leb-le, leb-false}
-use Rattle.queries.specs.Stream.{answered}
-use Rattle.queries.proofs.Streaming.{verdict-cap, answered-cap}
+use Rattle.query_lines.specs.Stream.{answered}
+use Rattle.query_lines.proofs.Streaming.{verdict-cap, answered-cap}
 use Rattle.desk.specs.DeskSays.{fileRoom, lineRoom, Holds}
 
 -- ---- one byte more

@@ -10,7 +10,7 @@ use lib.ListN.{length, take, length-take}
 use borrow.Author.Tests.{lt-ltb, le-ltb, ltb-true, ltb-false}
 use Rattle.limits.specs.Limits.{maxBytes}
 use Rattle.calculus.proofs.Basic.{bool-cases}
-use Rattle.queries.specs.Stream.{State, collecting, asking, stopped, settled}
+use Rattle.query_lines.specs.Stream.{State, collecting, asking, stopped, settled}
 use Rattle.desk.specs.declared.Desk as D
 use Rattle.desk.specs.declared.Phase.the-variants as phases
 use Rattle.desk.specs.DeskSays.{fileRoom, Holds, DeskAt, collects, asks, stops}

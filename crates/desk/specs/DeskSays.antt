@@ -14,9 +14,9 @@ use Rattle.model.specs.Desk.{fileLine}
 use Rattle.format.specs.Code.{refusalView}
 use Rattle.checker.specs.CheckSays.{Accepted}
 use Rattle.checker.specs.declared.Checked as C
-use Rattle.index.specs.Index.{indexLength}
+use Rattle.run_index.specs.Index.{indexLength}
 use Rattle.runner.specs.RunSays.{Prepared}
-use Rattle.queries.specs.Stream.{State, collecting, asking, stopped, Step, opens, begun, steps}
+use Rattle.query_lines.specs.Stream.{State, collecting, asking, stopped, Step, opens, begun, steps}
 use Rattle.desk.specs.declared.Desk as D
 use Rattle.desk.specs.declared.Phase.the-variants as phases
 use Rattle.desk.specs.declared.Next as N

@@ -1,8 +1,8 @@
 // The desk program as a function on slices: bytes of standard input go in as they come, and the
 // answers come out in an output area. The state is a value; the areas are lent at each call.
 
-use answers::answer_line;
-use areas::put_byte;
+use area_cells::put_byte;
+use area_parts::front;
 use checker::Checked;
 use checker::check_file;
 use codes::LETTER_Q;
@@ -12,9 +12,9 @@ use format::number_of;
 use limits::MAX_BYTES;
 use limits::RESULT_LENGTH;
 use limits::WORK_LENGTH;
-use parts::front;
-use queries::put_answer;
-use queries::put_verdict;
+use query_answers::answer_line;
+use query_lines::put_answer;
+use query_lines::put_verdict;
 use runner::run::Ran;
 use runner::run::prepare;
 ghost use mathlib.Core.Path.{_≡_};
@@ -29,10 +29,10 @@ ghost use Rattle.model.specs.Services.{accepted, answerOfRun};
 ghost use Rattle.model.specs.Desk.{queryOf, answerTo, queryLine, fileLine};
 ghost use Rattle.format.specs.Code.{refusalView, numberOf};
 ghost use Rattle.calculus.specs.Tools.{isSome};
-ghost use Rattle.index.specs.Index.{indexLength};
-ghost use Rattle.areas.specs.Areas.{Writes};
+ghost use Rattle.run_index.specs.Index.{indexLength};
+ghost use Rattle.area_cells.specs.Areas.{Writes};
 ghost use Rattle.runner.specs.RunSays.{Prepared, RanAs};
-ghost use Rattle.queries.specs.Stream.{State, collecting, asking, close, answered, step, finish, settled as isSettled};
+ghost use Rattle.query_lines.specs.Stream.{State, collecting, asking, close, answered, step, finish, settled as isSettled};
 ghost use Rattle.desk.specs.declared.Phase.the-variants.{Queries};
 ghost use Rattle.desk.specs.DeskSays.{fileRoom, lineRoom, answerRoom, Roomy, Holds, DeskAt, Printed, Reaches, JudgedAs, FedAs};
 

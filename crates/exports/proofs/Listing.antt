@@ -18,19 +18,19 @@ use Rattle.model.specs.Services.{written}
 use Rattle.format.specs.Code.{refusalView, numbered}
 use Rattle.calculus.proofs.Basic.{lt-ltb, not-ltb}
 use Rattle.model.proofs.Runs.{good, good-invert}
-use Rattle.ranking.specs.Numbering.{count, Outcome, fails, refusalOf, lettersFrom}
-use Rattle.pairlists.specs.PairLists.{pairLines, toFrom, upwards, onPairs, onExported, exportRows}
-use Rattle.pairlists.proofs.List.{pairs-room}
-use Rattle.pairlists.proofs.Exports.{tos-taken}
-use Rattle.areas.specs.Areas.{Writes}
-use Rattle.nodes.specs.Unfolding.{cellOf, typeOf}
-use Rattle.nodes.proofs.Rows.{past-row}
-use Rattle.index.specs.Index.{placeAt}
-use Rattle.numbering.specs.Numbers.{Counts}
-use Rattle.reduction.proofs.Laying.{inside}
+use Rattle.law_ranking.specs.Numbering.{count, Outcome, fails, refusalOf, lettersFrom}
+use Rattle.law_pairlists.specs.PairLists.{pairLines, toFrom, upwards, onPairs, onExported, exportRows}
+use Rattle.law_pairlists.proofs.List.{pairs-room}
+use Rattle.law_pairlists.proofs.Exports.{tos-taken}
+use Rattle.area_cells.specs.Areas.{Writes}
+use Rattle.table_trees.specs.Unfolding.{cellOf, typeOf}
+use Rattle.table_trees.proofs.Rows.{past-row}
+use Rattle.run_index.specs.Index.{placeAt}
+use Rattle.number_values.specs.Numbers.{Counts}
+use Rattle.run_reduction.proofs.Laying.{inside}
 use Rattle.runner.specs.RunSays.{Prepared}
-use Rattle.targets.specs.Targets.{Runnable, Found}
-use Rattle.targets.proofs.Sending.{from-type}
+use Rattle.list_targets.specs.Targets.{Runnable, Found}
+use Rattle.list_targets.proofs.Sending.{from-type}
 use Rattle.exports.specs.ExportSays.{ListedAs}
 use Rattle.exports.specs.declared.Listed as L
 

@@ -10,10 +10,10 @@ use lib.ListN.{length, getD, set, take}
 use lib.Seq.{take-suc, length-take-le}
 use Rattle.limits.specs.Limits.{lineFeed}
 use Rattle.format.specs.Lines.{decimal, printField}
-use Rattle.pairlists.specs.PairLists.{pairLine, pairLines}
-use Rattle.pairlists.proofs.List.{pairLine-shape}
-use Rattle.areas.specs.Areas.{Writes}
-use Rattle.areas.proofs.Writing.{writes-none, writes-one, writes-both, writes-as}
+use Rattle.law_pairlists.specs.PairLists.{pairLine, pairLines}
+use Rattle.law_pairlists.proofs.List.{pairLine-shape}
+use Rattle.area_cells.specs.Areas.{Writes}
+use Rattle.area_cells.proofs.Writing.{writes-none, writes-one, writes-both, writes-as}
 
 -- ---- one pair
 

@@ -15,9 +15,9 @@ use Rattle.model.specs.Services.{Verdict, accepted, refused, verdict, written, 
 use Rattle.format.specs.Code.{refusalView, numberOf, numbered}
 use Rattle.calculus.proofs.Basic.{isSome-true}
 use Rattle.model.proofs.Files.{number-positive}
-use Rattle.ranking.specs.Numbering.{refusalOf, lettersFrom}
-use Rattle.pairlists.specs.PairLists.{exportRows, exportOn, lineOf, exportService}
-use Rattle.parts.specs.Cleared.{cleared}
+use Rattle.law_ranking.specs.Numbering.{refusalOf, lettersFrom}
+use Rattle.law_pairlists.specs.PairLists.{exportRows, exportOn, lineOf, exportService}
+use Rattle.area_parts.specs.Cleared.{cleared}
 use Rattle.checker.specs.CheckSays.{CheckSays, Accepted}
 use Rattle.checker.specs.declared.Checked as C
 use Rattle.checker.proofs.Whole.{whole}

@@ -5,8 +5,8 @@ use mathlib.Core.List.{List}
 use lib.ListN.{length}
 use Rattle.model.specs.Services.{written}
 use Rattle.format.specs.Code.{numberOf}
-use Rattle.ranking.specs.Numbering.{Outcome, refusalOf, lettersFrom}
-use Rattle.pairlists.specs.PairLists.{exportService}
+use Rattle.law_ranking.specs.Numbering.{Outcome, refusalOf, lettersFrom}
+use Rattle.law_pairlists.specs.PairLists.{exportService}
 use Rattle.exports.specs.declared.Listed as L
 use Rattle.exports.specs.declared.Exported as E
 

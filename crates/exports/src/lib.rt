@@ -1,27 +1,27 @@
 // An iso as a list of pairs: a line `from,to` of setting numbers for each value of its from-type.
 
-use areas::put_byte;
+use area_cells::put_byte;
+use area_parts::clear_bytes;
+use area_words::wide;
+use area_words::word_at;
 use checker::Checked;
 use checker::check_file;
 use format::Answer;
 use format::Refusal;
 use format::is_refused;
-use numbering::count_values;
-use parts::clear_bytes;
-use printer::put_field;
-use printer::put_number;
+use list_targets::find_tos;
+use list_targets::iso_cell;
+use number_values::count_values;
+use print_text::put_field;
+use print_text::put_number;
 use runner::run::prepare;
-use targets::find_tos;
-use targets::iso_cell;
-use words::wide;
-use words::word_at;
 ghost use mathlib.Core.Path.{_≡_};
 ghost use mathlib.Core.List.{List};
 ghost use Prim.Native.Nat.{ℕ, _≤_, _<_};
 ghost use lib.ListN.{length, take, drop};
 ghost use Rattle.format.specs.Lines.{Row as RowOf};
-ghost use Rattle.pairlists.specs.PairLists.{pairLine, pairLines, exportRows};
-ghost use Rattle.areas.specs.Areas.{Writes};
+ghost use Rattle.law_pairlists.specs.PairLists.{pairLine, pairLines, exportRows};
+ghost use Rattle.area_cells.specs.Areas.{Writes};
 ghost use Rattle.checker.specs.CheckSays.{Accepted};
 ghost use Rattle.runner.specs.RunSays.{Prepared};
 ghost use Rattle.exports.specs.ExportSays.{ListedAs, ExportSays};

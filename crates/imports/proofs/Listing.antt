@@ -14,12 +14,12 @@ use Rattle.calculus.specs.Refusals.{clauseLine, ceiling, badList}
 use Rattle.format.specs.Lines.{lines}
 use Rattle.format.specs.Code.{refusalView}
 use Rattle.calculus.proofs.Basic.{bind-some, some-inj, guard-true, lt-ltb, not-ltb}
-use Rattle.ranking.specs.Numbering.{count, Outcome, fails}
-use Rattle.pairlists.specs.PairLists.{tosOf, pairsUp, listOf, onList, onLines, settings, fileRows, writing}
-use Rattle.numbering.specs.Numbers.{Counts}
-use Rattle.numbering.proofs.Counting.{counted}
-use Rattle.filing.specs.Filing.{FiledAs, FileMade}
-use Rattle.filing.specs.declared.Filed as D
+use Rattle.law_ranking.specs.Numbering.{count, Outcome, fails}
+use Rattle.law_pairlists.specs.PairLists.{tosOf, pairsUp, listOf, onList, onLines, settings, fileRows, writing}
+use Rattle.number_values.specs.Numbers.{Counts}
+use Rattle.number_values.proofs.Counting.{counted}
+use Rattle.list_file.specs.Filing.{FiledAs, FileMade}
+use Rattle.list_file.specs.declared.Filed as D
 use Rattle.imports.specs.ImportSays.{ListFiled}
 use Rattle.imports.proofs.Types.{filed-refused}
 

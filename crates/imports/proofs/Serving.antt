@@ -17,14 +17,14 @@ use Rattle.format.specs.Code.{refusalView, numberOf, numbered}
 use Rattle.format.specs.declared.Answer as A
 use Rattle.calculus.proofs.Basic.{isSome-true}
 use Rattle.model.proofs.Files.{number-positive}
-use Rattle.ranking.specs.Numbering.{Outcome, refusalOf, lettersFrom}
-use Rattle.pairlists.specs.PairLists.{importRows, importOn, lineOf, importService}
-use Rattle.nodes.specs.Walk.{FileIn}
+use Rattle.law_ranking.specs.Numbering.{Outcome, refusalOf, lettersFrom}
+use Rattle.law_pairlists.specs.PairLists.{importRows, importOn, lineOf, importService}
+use Rattle.table_trees.specs.Walk.{FileIn}
 use Rattle.checker.specs.CheckSays.{CheckSays, Accepted}
 use Rattle.checker.specs.declared.Checked as C
 use Rattle.checker.proofs.Whole.{whole}
-use Rattle.filing.specs.Filing.{FiledAs}
-use Rattle.filing.specs.declared.Filed as D
+use Rattle.list_file.specs.Filing.{FiledAs}
+use Rattle.list_file.specs.declared.Filed as D
 use Rattle.imports.specs.ImportSays.{ImportSays}
 use Rattle.imports.specs.declared.Imported as I
 

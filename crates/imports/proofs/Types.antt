@@ -17,14 +17,14 @@ use Rattle.format.specs.Code.{refusalView, numbered}
 use Rattle.format.specs.declared.Refusal as F
 use Rattle.calculus.proofs.Basic.{isSome-true, none≢some, some-inj, leb-le, leb-false, le-leb, not-leb, ltb-lt, ltb-false, lt-ltb, not-ltb}
 use Rattle.checker.proofs.Checks.{flag-none}
-use Rattle.ranking.specs.Numbering.{count, Outcome, fails, typesOf, refusalOf, lettersFrom}
-use Rattle.pairlists.specs.PairLists.{onTypes, onLines, importRows}
-use Rattle.nodes.specs.Unfolding.{typeOf}
-use Rattle.nodes.specs.Walk.{FileIn}
-use Rattle.numbering.specs.Numbers.{Counts}
-use Rattle.numbering.proofs.TypeLines.{absent, there, line-small}
-use Rattle.filing.specs.Filing.{FiledAs}
-use Rattle.filing.specs.declared.Filed as D
+use Rattle.law_ranking.specs.Numbering.{count, Outcome, fails, typesOf, refusalOf, lettersFrom}
+use Rattle.law_pairlists.specs.PairLists.{onTypes, onLines, importRows}
+use Rattle.table_trees.specs.Unfolding.{typeOf}
+use Rattle.table_trees.specs.Walk.{FileIn}
+use Rattle.number_values.specs.Numbers.{Counts}
+use Rattle.number_values.proofs.TypeLines.{absent, there, line-small}
+use Rattle.list_file.specs.Filing.{FiledAs}
+use Rattle.list_file.specs.declared.Filed as D
 use Rattle.imports.specs.ImportSays.{typesFault, ListFiled}
 
 -- a refusal: nothing is written

@@ -11,10 +11,10 @@ use Rattle.calculus.specs.Trees.{Ty, typeNodes}
 use Rattle.calculus.specs.Refusals.{Refusal, noIso, tooMany}
 use Rattle.format.specs.Lines.{lines}
 use Rattle.format.specs.Code.{numberOf}
-use Rattle.ranking.specs.Numbering.{count}
-use Rattle.pairlists.specs.PairLists.{onLines, importService}
-use Rattle.filing.specs.Filing.{FiledAs}
-use Rattle.filing.specs.declared.Filed as F
+use Rattle.law_ranking.specs.Numbering.{count}
+use Rattle.law_pairlists.specs.PairLists.{onLines, importService}
+use Rattle.list_file.specs.Filing.{FiledAs}
+use Rattle.list_file.specs.declared.Filed as F
 use Rattle.imports.specs.declared.Imported as I
 
 -- 15 for either T line of so many, then 18 for either, a and b being their types

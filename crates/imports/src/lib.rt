@@ -1,25 +1,25 @@
 // A list of pairs as a file with one iso: each line `from,to` is a clause of two closed values.
 
 use checker::check_file;
-use filing::Filed;
-use filing::write_file;
 use format::Answer;
 use format::Kind;
 use format::Refusal;
 use format::is_refused;
-use lists::read_list;
-use numbering::count_values;
-use split::count_lines;
+use list_file::Filed;
+use list_file::write_file;
+use list_lines::read_list;
+use number_values::count_values;
+use read_split::count_lines;
 ghost use mathlib.Core.Path.{_≡_};
 ghost use mathlib.Core.List.{List};
 ghost use Prim.Native.Nat.{ℕ, _≤_};
 ghost use lib.ListN.{length};
 ghost use Rattle.format.specs.Lines.{Row as RowOf};
 ghost use Rattle.format.specs.Code.{refusalView};
-ghost use Rattle.pairlists.specs.PairLists.{importRows};
-ghost use Rattle.nodes.specs.Unfolding.{typeOf};
-ghost use Rattle.nodes.specs.Walk.{FileIn};
-ghost use Rattle.filing.specs.Filing.{FiledAs};
+ghost use Rattle.law_pairlists.specs.PairLists.{importRows};
+ghost use Rattle.table_trees.specs.Unfolding.{typeOf};
+ghost use Rattle.table_trees.specs.Walk.{FileIn};
+ghost use Rattle.list_file.specs.Filing.{FiledAs};
 ghost use Rattle.imports.specs.ImportSays.{typesFault, ListFiled, ImportSays};
 
 // The answer to the call, and the number of bytes in the output area.

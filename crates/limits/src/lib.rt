@@ -38,5 +38,5 @@ pub const QUERY_LENGTH: usize = 200;
 
 pub const MAX_QUERIES: usize = 600;
 
-// An index (crate `index`): a place for each iso and one behind the last, the rows of the I and C lines, and the number of rows.
+// An index (crate `run_index`): a place for each iso and one behind the last, the rows of the I and C lines, and the number of rows.
 pub const INDEX_LENGTH: usize = MAX_ISOS + 1 + MAX_ISOS * (MAX_CLAUSES + 1) + 1;

@@ -13,13 +13,13 @@ use Rattle.calculus.specs.Refusals.{noIso}
 use Rattle.format.specs.Lines.{Row}
 use Rattle.model.specs.Services.{accepted}
 use Rattle.format.specs.Code.{refusalView, numbered}
-use Rattle.nodes.specs.Unfolding.{patternOf}
-use Rattle.nodes.specs.Walk.{FileIn}
-use Rattle.nodes.proofs.Rows.{get-row, past-row}
-use Rattle.comparison.specs.Comparison.{compare}
-use Rattle.comparison.specs.Overlap.{gives, fails, patternsOf, onPatterns, overlapOn, refusalOf, lineOf, clashOf, pairsOf}
-use Rattle.comparison.proofs.Comparing.{compare-most}
-use Rattle.comparison.proofs.Overlapping.{patterns-small}
+use Rattle.table_trees.specs.Unfolding.{patternOf}
+use Rattle.table_trees.specs.Walk.{FileIn}
+use Rattle.table_trees.proofs.Rows.{get-row, past-row}
+use Rattle.check_overlap.specs.Comparison.{compare}
+use Rattle.check_overlap.specs.Overlap.{gives, fails, patternsOf, onPatterns, overlapOn, refusalOf, lineOf, clashOf, pairsOf}
+use Rattle.check_overlap.proofs.Comparing.{compare-most}
+use Rattle.check_overlap.proofs.Overlapping.{patterns-small}
 use Rattle.overlaps.specs.OverlapSays.{OverlapAs}
 use Rattle.overlaps.specs.declared.Overlapped as O
 

@@ -16,12 +16,12 @@ use Rattle.format.specs.Code.{refusalView, numberOf, numbered}
 use Rattle.format.specs.declared.Answer as A
 use Rattle.calculus.proofs.Basic.{isSome-true, ltb-false, neither}
 use Rattle.model.proofs.Files.{number-positive}
-use Rattle.nodes.specs.Walk.{FileIn}
+use Rattle.table_trees.specs.Walk.{FileIn}
 use Rattle.checker.specs.CheckSays.{CheckSays, Accepted}
 use Rattle.checker.specs.declared.Checked as C
 use Rattle.checker.proofs.Checks.{unless-accepted, flag-none}
 use Rattle.checker.proofs.Whole.{whole}
-use Rattle.comparison.specs.Overlap.{overlapOn, refusalOf, lineOf, clashOf, pairsOf, overlapService}
+use Rattle.check_overlap.specs.Overlap.{overlapOn, refusalOf, lineOf, clashOf, pairsOf, overlapService}
 use Rattle.overlaps.specs.OverlapSays.{OverlapAs, OverlapSays}
 use Rattle.overlaps.specs.declared.Overlapped as O
 

@@ -3,7 +3,7 @@ use Prim.Native.Nat.{ℕ}
 use mathlib.Core.Path.{_≡_}
 use mathlib.Core.List.{List}
 use Rattle.format.specs.Code.{numberOf}
-use Rattle.comparison.specs.Overlap.{Outcome, refusalOf, lineOf, clashOf, pairsOf, overlapService}
+use Rattle.check_overlap.specs.Overlap.{Outcome, refusalOf, lineOf, clashOf, pairsOf, overlapService}
 use Rattle.overlaps.specs.declared.Overlapped as O
 
 -- all that is answered, as an outcome says

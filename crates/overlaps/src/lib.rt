@@ -1,8 +1,8 @@
 // The overlap of two P lines: whether they clash, and how many node pairs were compared, on a checked
 // table and as a service.
 
+use check_overlap::compare;
 use checker::check_file;
-use comparison::compare;
 use format::Answer;
 use format::Refusal;
 use format::is_refused;
@@ -14,8 +14,8 @@ ghost use lib.ListN.{length};
 ghost use Rattle.limits.specs.Limits.{tableLength};
 ghost use Rattle.format.specs.Lines.{Row as RowOf};
 ghost use Rattle.model.specs.Services.{accepted};
-ghost use Rattle.nodes.specs.Walk.{FileIn};
-ghost use Rattle.comparison.specs.Overlap.{overlapOn};
+ghost use Rattle.table_trees.specs.Walk.{FileIn};
+ghost use Rattle.check_overlap.specs.Overlap.{overlapOn};
 ghost use Rattle.overlaps.specs.OverlapSays.{OverlapAs, OverlapSays};
 
 // A refusal and its line, or none; whether the patterns clash, and how many node pairs were compared.

@@ -6,11 +6,11 @@ use mathlib.Core.Bool.{Bool}
 use mathlib.Core.List.{List}
 use Rattle.model.specs.Services.{check, turn, runService}
 use Rattle.model.specs.Sheet.{sheet}
-use Rattle.ranking.specs.Numbering.{numberService, settingService}
-use Rattle.comparison.specs.Overlap.{overlapService}
-use Rattle.costs.specs.Bounds.{boundsService}
-use Rattle.pairlists.specs.PairLists.{exportService, importService}
-use Rattle.witnesses.specs.Showing.{showService}
+use Rattle.law_ranking.specs.Numbering.{numberService, settingService}
+use Rattle.check_overlap.specs.Overlap.{overlapService}
+use Rattle.law_costs.specs.Bounds.{boundsService}
+use Rattle.law_pairlists.specs.PairLists.{exportService, importService}
+use Rattle.law_witnesses.specs.Showing.{showService}
 use Rattle.rulefile.specs.declared.CheckAnswer as C
 use Rattle.rulefile.specs.declared.TurnAnswer as T
 use Rattle.rulefile.specs.declared.RunAnswer as R

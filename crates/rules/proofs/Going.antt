@@ -8,8 +8,8 @@ use mathlib.Core.Bool.{Bool, true, false}
 use mathlib.Core.List.{List, [], _++_}
 use lib.ListN.{length, take, drop, length-drop}
 use lib.Seq.{take-add, take-all}
-use Rattle.queries.specs.Stream.{State, collecting, steps, settled}
-use Rattle.queries.proofs.Streaming.{next-append}
+use Rattle.query_lines.specs.Stream.{State, collecting, steps, settled}
+use Rattle.query_lines.proofs.Streaming.{next-append}
 use Rattle.desk.specs.DeskSays.{answerRoom, Roomy, DeskAt, FedAs}
 use Rattle.desk.specs.declared.Desk as D
 use Rattle.desk.specs.declared.Fed as F

@@ -4,7 +4,7 @@ use mathlib.Core.Path.{_≡_}
 use mathlib.Core.Bool.{true, false}
 use mathlib.Core.List.{List, []}
 use lib.ListN.{length}
-use Rattle.queries.specs.Stream.{State, collecting, steps, settled}
+use Rattle.query_lines.specs.Stream.{State, collecting, steps, settled}
 use Rattle.desk.specs.DeskSays.{answerRoom, Roomy, DeskAt}
 use Rattle.desk.specs.declared.Desk as D
 use Rattle.rules.specs.declared.Progress as P

@@ -2,6 +2,8 @@
 // come. It never answers for what it has not read: where a read or a write fails, standard error says so,
 // and nothing more is printed. All but the reading and writing is in `desk`.
 
+use area_parts::front;
+use area_parts::tail;
 use desk::Desk;
 use desk::feed;
 use desk::finished;
@@ -10,15 +12,13 @@ use desk::settled;
 use limits::INDEX_LENGTH;
 use limits::TABLE_LENGTH;
 use limits::WORK_LENGTH;
-use parts::front;
-use parts::tail;
 use stdio::Input;
 use stdio::read_some;
 use stdio::say_endless;
 use stdio::write_front;
 ghost use mathlib.Core.List.{List};
 ghost use Prim.Native.Nat.{ℕ};
-ghost use Rattle.queries.specs.Stream.{State, steps};
+ghost use Rattle.query_lines.specs.Stream.{State, steps};
 ghost use Rattle.desk.specs.DeskSays.{DeskAt};
 ghost use Rattle.rules.specs.Running.{Lent, Ready, TookAll, Reached};
 

@@ -8,7 +8,7 @@ use lib.ListN.{length, getD, set, take, drop, length-set}
 use lib.Seq.{paste, paste-zero, paste-suc, take-length}
 use Rattle.calculus.specs.Trees.{Val}
 use Rattle.calculus.specs.Letters.{letters}
-use Rattle.values.specs.Texts.{At}
+use Rattle.run_values.specs.Texts.{At}
 
 -- what the copying loop has come to after i bytes
 pub record Copied (from : List ℕ) (n : ℕ) (to₀ to : List ℕ) (i : ℕ) : Type 0 where

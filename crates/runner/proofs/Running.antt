@@ -22,24 +22,24 @@ use Rattle.calculus.proofs.Basic.{le-leb, not-leb, le-or-lt}
 use Rattle.format.proofs.Passing.{Passes}
 use Rattle.format.proofs.Turning.{isos-turn}
 use Rattle.model.proofs.Runs.{good-toward, accepted-good}
-use Rattle.nodes.specs.Unfolding.{cellOf, typeOf}
-use Rattle.nodes.proofs.Tails.{isos-few}
-use Rattle.nodes.proofs.Rows.{isos-told, past-row}
-use Rattle.index.specs.Index.{placeAt, isosAt}
-use Rattle.isos.proofs.Collecting.{head-small}
+use Rattle.table_trees.specs.Unfolding.{cellOf, typeOf}
+use Rattle.table_trees.proofs.Tails.{isos-few}
+use Rattle.table_trees.proofs.Rows.{isos-told, past-row}
+use Rattle.run_index.specs.Index.{placeAt, isosAt}
+use Rattle.check_isos.proofs.Collecting.{head-small}
 use Rattle.checker.specs.CheckSays.{Accepted}
 use Rattle.checker.specs.declared.Checked as C
 use Rattle.checker.proofs.Checks.{isos-counted}
-use Rattle.values.specs.Texts.{behind, alone}
-use Rattle.values.specs.Traces.{Small, Runs}
-use Rattle.values.proofs.Alone.{alone-true, alone-false}
-use Rattle.values.proofs.Agreeing.{value-some, value-none}
-use Rattle.values.proofs.Tracing.{traced}
-use Rattle.reduction.specs.declared.Reduced as D
-use Rattle.reduction.specs.declared.Reduced.the-variants as reduced
-use Rattle.reduction.specs.Frames.{Laid, Applied}
-use Rattle.reduction.proofs.Laying.{inside, laid, from-at}
-use Rattle.reduction.proofs.Framing.{ApplySays, done-place, done-left, done≢spent}
+use Rattle.run_values.specs.Texts.{behind, alone}
+use Rattle.run_values.specs.Traces.{Small, Runs}
+use Rattle.run_values.proofs.Alone.{alone-true, alone-false}
+use Rattle.run_values.proofs.Agreeing.{value-some, value-none}
+use Rattle.run_values.proofs.Tracing.{traced}
+use Rattle.run_reduction.specs.declared.Reduced as D
+use Rattle.run_reduction.specs.declared.Reduced.the-variants as reduced
+use Rattle.run_reduction.specs.Frames.{Laid, Applied}
+use Rattle.run_reduction.proofs.Laying.{inside, laid, from-at}
+use Rattle.run_reduction.proofs.Framing.{ApplySays, done-place, done-left, done≢spent}
 use Rattle.runner.specs.declared.run.Ran as R
 use Rattle.runner.specs.RunSays.{Prepared, answerFor, RanAs}
 use Rattle.runner.proofs.Copying.{value-front, paste-front}

@@ -9,7 +9,7 @@ use Rattle.format.specs.Unfold.{isosOf}
 use Rattle.model.specs.Services.{RunAnswer, answerOfRun, toward, runRows, written, runService}
 use Rattle.format.specs.Code.{numberOf}
 use Rattle.model.specs.Answers.{GoodRows}
-use Rattle.index.specs.Index.{isosAt}
+use Rattle.run_index.specs.Index.{isosAt}
 use Rattle.runner.specs.declared.run.Ran as R
 
 -- what a run on a checked table assumes of it: it holds an accepted file's rows, and the index says where its isos and clauses begin

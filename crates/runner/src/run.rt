@@ -1,32 +1,32 @@
 // The run on a checked table, and the service.
 
-use areas::byte_at;
-use areas::put_byte;
+use area_cells::byte_at;
+use area_cells::put_byte;
+use area_parts::clear_bytes;
 use checker::Checked;
 use checker::check_file;
 use codes::ISO_FROM;
 use codes::ISO_TO;
 use format::Refusal;
 use format::is_refused;
-use index::index_isos;
 use limits::INDEX_LENGTH;
 use limits::MAX_LINES;
 use limits::RESULT_LENGTH;
 use limits::WORK_LENGTH;
-use nodes::cell;
-use parts::clear_bytes;
-use reduction::Reduced;
-use reduction::apply;
-use values::is_value;
-use ways::place;
-use ways::side;
+use run_direction::place;
+use run_direction::side;
+use run_index::index_isos;
+use run_reduction::Reduced;
+use run_reduction::apply;
+use run_values::is_value;
+use table_trees::cell;
 ghost use mathlib.Core.Path.{_≡_};
 ghost use mathlib.Core.List.{List};
 ghost use Prim.Native.Nat.{ℕ, _-_, _≤_};
 ghost use lib.ListN.{length, drop};
 ghost use lib.Seq.{paste};
 ghost use Rattle.format.specs.Lines.{Row as RowOf};
-ghost use Rattle.index.specs.Index.{indexLength};
+ghost use Rattle.run_index.specs.Index.{indexLength};
 ghost use Rattle.checker.specs.CheckSays.{Accepted};
 ghost use Rattle.runner.specs.RunSays.{Prepared, answerFor, RanAs, RunSays};
 

@@ -16,21 +16,21 @@ use Rattle.format.specs.Lines.{Row}
 use Rattle.calculus.specs.Letters.{letters}
 use Rattle.model.specs.Services.{accepted, written}
 use Rattle.calculus.specs.Paper.{Of}
-use Rattle.ranking.specs.Numbering.{count, rank, unrank, Outcome, fails, numberOn, settingOn, refusalOf, numberFrom, lettersFrom}
-use Rattle.ranking.specs.Answers.{NumberIs, SettingIs}
+use Rattle.law_ranking.specs.Numbering.{count, rank, unrank, Outcome, fails, numberOn, settingOn, refusalOf, numberFrom, lettersFrom}
+use Rattle.law_ranking.specs.Answers.{NumberIs, SettingIs}
 use Rattle.format.specs.Code.{refusalView, numberOf, numbered}
 use Rattle.format.specs.declared.Refusal as F
 use Rattle.calculus.proofs.Letters.{of-inhabits, inhabits-of}
-use Rattle.ranking.proofs.Numbering.{rank-below, letters-bound, unrank-inhabits, rank-unrank}
-use Rattle.ranking.proofs.Outcomes.{number-in, setting-in}
-use Rattle.nodes.specs.Unfolding.{typeOf}
-use Rattle.nodes.specs.Walk.{FileIn}
-use Rattle.values.specs.Texts.{At, behind, alone}
-use Rattle.values.proofs.Alone.{alone-true, alone-false}
-use Rattle.values.proofs.Agreeing.{value-some, value-behind}
-use Rattle.numbering.specs.Numbers.{Counts, Ranks, Unranks}
-use Rattle.numbering.proofs.Counting.{counted}
-use Rattle.numbering.proofs.TypeLines.{line-small}
+use Rattle.law_ranking.proofs.Numbering.{rank-below, letters-bound, unrank-inhabits, rank-unrank}
+use Rattle.law_ranking.proofs.Outcomes.{number-in, setting-in}
+use Rattle.table_trees.specs.Unfolding.{typeOf}
+use Rattle.table_trees.specs.Walk.{FileIn}
+use Rattle.run_values.specs.Texts.{At, behind, alone}
+use Rattle.run_values.proofs.Alone.{alone-true, alone-false}
+use Rattle.run_values.proofs.Agreeing.{value-some, value-behind}
+use Rattle.number_values.specs.Numbers.{Counts, Ranks, Unranks}
+use Rattle.number_values.proofs.Counting.{counted}
+use Rattle.number_values.proofs.TypeLines.{line-small}
 use Rattle.settings.specs.SettingSays.{typeFault, NumberedAs, LetteredAs}
 use Rattle.settings.specs.declared.Numbered as N
 use Rattle.settings.specs.declared.Lettered as L

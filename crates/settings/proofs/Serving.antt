@@ -13,12 +13,12 @@ use Rattle.calculus.specs.Tools.{isSome}
 use Rattle.calculus.specs.Refusals.{number, shortArea}
 use Rattle.format.specs.Lines.{Row}
 use Rattle.model.specs.Services.{Verdict, accepted, refused, verdict, written, tableAfter, workAfter, short, unless, answerOf, check}
-use Rattle.ranking.specs.Numbering.{Outcome, fails, numberOn, settingOn, refusalOf, numberFrom, lettersFrom, numberService, settingService}
+use Rattle.law_ranking.specs.Numbering.{Outcome, fails, numberOn, settingOn, refusalOf, numberFrom, lettersFrom, numberService, settingService}
 use Rattle.format.specs.Code.{refusalView, numberOf, numbered}
 use Rattle.format.specs.declared.Answer as A
 use Rattle.calculus.proofs.Basic.{isSome-true}
 use Rattle.model.proofs.Files.{number-positive}
-use Rattle.nodes.specs.Walk.{FileIn}
+use Rattle.table_trees.specs.Walk.{FileIn}
 use Rattle.checker.specs.CheckSays.{CheckSays, Accepted}
 use Rattle.checker.specs.declared.Checked as C
 use Rattle.checker.proofs.Whole.{whole}

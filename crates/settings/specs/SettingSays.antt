@@ -10,7 +10,7 @@ use Rattle.limits.specs.Limits.{maxValues}
 use Rattle.calculus.specs.Trees.{Ty}
 use Rattle.calculus.specs.Refusals.{Refusal, noIso, tooMany}
 use Rattle.model.specs.Services.{written}
-use Rattle.ranking.specs.Numbering.{count, Outcome, refusalOf, numberFrom, lettersFrom, numberService, settingService}
+use Rattle.law_ranking.specs.Numbering.{count, Outcome, refusalOf, numberFrom, lettersFrom, numberService, settingService}
 use Rattle.format.specs.Code.{numberOf}
 use Rattle.settings.specs.declared.Numbered as N
 use Rattle.settings.specs.declared.Lettered as L

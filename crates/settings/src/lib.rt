@@ -5,20 +5,20 @@ use checker::check_file;
 use format::Refusal;
 use format::is_refused;
 use limits::RESULT_LENGTH;
-use numbering::count_values;
-use numbering::rank_at;
-use numbering::unrank_at;
-use values::is_value;
+use number_values::count_values;
+use number_values::rank_at;
+use number_values::unrank_at;
+use run_values::is_value;
 ghost use mathlib.Core.Path.{_≡_};
 ghost use mathlib.Core.List.{List};
 ghost use Prim.Native.Nat.{ℕ, _≤_};
 ghost use lib.ListN.{length};
 ghost use Rattle.format.specs.Lines.{Row as RowOf};
 ghost use Rattle.model.specs.Services.{accepted};
-ghost use Rattle.ranking.specs.Numbering.{numberOn, settingOn};
+ghost use Rattle.law_ranking.specs.Numbering.{numberOn, settingOn};
 ghost use Rattle.format.specs.Code.{refusalView};
-ghost use Rattle.nodes.specs.Unfolding.{typeOf};
-ghost use Rattle.nodes.specs.Walk.{FileIn};
+ghost use Rattle.table_trees.specs.Unfolding.{typeOf};
+ghost use Rattle.table_trees.specs.Walk.{FileIn};
 ghost use Rattle.settings.specs.SettingSays.{typeFault, NumberedAs, LetteredAs, NumberSays, SettingSays};
 
 // A refusal or none, and a setting's number.

@@ -14,7 +14,7 @@ use Rattle.model.specs.Desk.{queryOf, answerTo}
 use Rattle.model.specs.Sheet.{answersTo, three, numbersAfter, lettersAfter}
 use Rattle.format.specs.Code.{numberOf}
 use Rattle.model.proofs.Sheets.{written-length, written-fits}
-use Rattle.split.specs.Split.{LineEnd}
+use Rattle.read_split.specs.Split.{LineEnd}
 use Rattle.runner.specs.RunSays.{Prepared, RanAs}
 use Rattle.runner.specs.declared.run.Ran as R
 use Rattle.sheets.specs.Answering.{withPart, OneAnswered, AllAnswered}

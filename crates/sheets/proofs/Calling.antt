@@ -15,7 +15,7 @@ use Rattle.model.specs.Sheet.{answersTo, numbersAfter, lettersAfter, narrowShee
 use Rattle.format.specs.Code.{refusalView, numberOf, numbered}
 use Rattle.format.specs.declared.Answer as A
 use Rattle.calculus.proofs.Basic.{isSome-true, lt-ltb, not-ltb}
-use Rattle.parts.specs.Cleared.{cleared}
+use Rattle.area_parts.specs.Cleared.{cleared}
 use Rattle.checker.specs.CheckSays.{CheckSays, Accepted}
 use Rattle.checker.specs.declared.Checked as C
 use Rattle.model.proofs.Files.{number-positive}

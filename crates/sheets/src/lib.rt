@@ -1,7 +1,7 @@
 // A whole sheet in one call: a file is checked once, and each line of a list of queries answered.
 
-use answers::answer_line;
-use areas::store_number;
+use area_cells::store_number;
+use area_parts::clear_bytes;
 use checker::Checked;
 use checker::check_file;
 use format::Answer;
@@ -13,11 +13,11 @@ use limits::MAX_QUERIES;
 use limits::RESULT_LENGTH;
 use limits::TABLE_LENGTH;
 use limits::WORK_LENGTH;
-use parts::clear_bytes;
+use query_answers::answer_line;
+use read_split::count_lines;
+use read_split::line_end;
 use runner::run::Ran;
 use runner::run::prepare;
-use split::count_lines;
-use split::line_end;
 ghost use mathlib.Core.Path.{_≡_};
 ghost use mathlib.Core.Bool.{_||_};
 ghost use mathlib.Core.List.{List, [], _∷_};

@@ -1,7 +1,7 @@
 // Standard input and output for programs that never answer for what they have not read: the end of the
 // input and a read that failed are two things, and standard error says what failed.
 
-use parts::front;
+use area_parts::front;
 ghost use mathlib.Core.Path.{_≡_};
 ghost use Prim.Native.Nat.{_≤_};
 ghost use lib.ListN.{length};

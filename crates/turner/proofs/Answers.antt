@@ -18,7 +18,7 @@ use Rattle.model.specs.Services.{Verdict, accepted, refused, verdict, written, 
 use Rattle.format.specs.Code.{refusalView, numberOf, numbered}
 use Rattle.calculus.proofs.Basic.{isSome-true}
 use Rattle.model.proofs.Files.{number-positive, turned-fits}
-use Rattle.areas.specs.Areas.{Writes}
+use Rattle.area_cells.specs.Areas.{Writes}
 use Rattle.checker.specs.CheckSays.{CheckSays, Accepted}
 use Rattle.checker.proofs.Checks.{unless-accepted, flag-none}
 use Rattle.checker.specs.declared.Checked as C

@@ -12,12 +12,12 @@ use Rattle.format.specs.Code.{kindView}
 use Rattle.format.specs.declared.Kind as K
 use Rattle.calculus.proofs.Basic.{none≢some, some-inj}
 use Rattle.format.proofs.Printing.{kindOf-letter}
-use Rattle.forms.specs.Views.{asLetter}
-use Rattle.forms.specs.declared.Letter as L
-use Rattle.forms.specs.declared.Letter.the-variants as letters
-use Rattle.areas.specs.Areas.{Writes}
-use Rattle.nodes.specs.Unfolding.{cellOf}
-use Rattle.nodes.specs.Walk.{FileIn}
+use Rattle.read_forms.specs.Views.{asLetter}
+use Rattle.read_forms.specs.declared.Letter as L
+use Rattle.read_forms.specs.declared.Letter.the-variants as letters
+use Rattle.area_cells.specs.Areas.{Writes}
+use Rattle.table_trees.specs.Unfolding.{cellOf}
+use Rattle.table_trees.specs.Walk.{FileIn}
 use Rattle.turner.specs.Written.{turnedRow, RowWritten}
 
 abbrev row : Kind → ℕ → ℕ → ℕ → Row

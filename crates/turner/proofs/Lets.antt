@@ -10,11 +10,11 @@ use lib.Seq.{slice, slice-empty, slice-cons}
 use Rattle.calculus.specs.Refusals.{Kind, typeLine, patternLine, isoLine, clauseLine, letLine}
 use Rattle.format.specs.Lines.{Row, letter, printRows}
 use Rattle.format.proofs.Printing.{printRows-nil}
-use Rattle.areas.specs.Areas.{Writes}
-use Rattle.areas.proofs.Writing.{writes-none, writes-both, writes-as}
-use Rattle.nodes.specs.Unfolding.{cellOf}
-use Rattle.nodes.specs.Walk.{FileIn}
-use Rattle.nodes.proofs.Rows.{get-row}
+use Rattle.area_cells.specs.Areas.{Writes}
+use Rattle.area_cells.proofs.Writing.{writes-none, writes-both, writes-as}
+use Rattle.table_trees.specs.Unfolding.{cellOf}
+use Rattle.table_trees.specs.Walk.{FileIn}
+use Rattle.table_trees.proofs.Rows.{get-row}
 use Rattle.turner.specs.Written.{turnedRow, RowWritten, LetsWritten, LetsEnd}
 use Rattle.turner.proofs.Blocks.{print-more, AllLets}
 

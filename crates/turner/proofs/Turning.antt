@@ -14,10 +14,10 @@ use Rattle.format.specs.Unfold.{turnRows}
 use Rattle.calculus.proofs.Basic.{index-below}
 use Rattle.format.proofs.Passing.{Passes}
 use Rattle.format.proofs.Printing.{printRows-nil}
-use Rattle.areas.specs.Areas.{Writes}
-use Rattle.areas.proofs.Writing.{writes-none, writes-both, writes-as}
-use Rattle.nodes.specs.Walk.{FileIn}
-use Rattle.nodes.proofs.Rows.{drop-row, row-at, row-fit}
+use Rattle.area_cells.specs.Areas.{Writes}
+use Rattle.area_cells.proofs.Writing.{writes-none, writes-both, writes-as}
+use Rattle.table_trees.specs.Walk.{FileIn}
+use Rattle.table_trees.proofs.Rows.{drop-row, row-at, row-fit}
 use Rattle.turner.specs.Written.{turnedRow, RowWritten, LetsWritten, LetsEnd, FileWritten}
 use Rattle.turner.proofs.Blocks.{no-let, print-block, drop-slice}
 use Rattle.turner.proofs.Lets.{is-let, let-cell, all-lets}

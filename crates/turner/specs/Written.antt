@@ -8,9 +8,9 @@ use lib.Seq.{slice}
 use Rattle.calculus.specs.Refusals.{letLine}
 use Rattle.format.specs.Lines.{Row, letter, print, printRows}
 use Rattle.format.specs.Unfold.{exchange, turnRows}
-use Rattle.areas.specs.Areas.{Writes}
-use Rattle.nodes.specs.Unfolding.{cellOf}
-use Rattle.nodes.specs.Walk.{FileIn}
+use Rattle.area_cells.specs.Areas.{Writes}
+use Rattle.table_trees.specs.Unfolding.{cellOf}
+use Rattle.table_trees.specs.Walk.{FileIn}
 
 -- a row as the turned file has it
 abbrev pub turnedRow : Row → Row

@@ -21,13 +21,13 @@ use Rattle.format.specs.Code.{refusalView, numberOf, numbered}
 use Rattle.format.specs.declared.Refusal as F
 use Rattle.calculus.proofs.Basic.{bool-cases, not-leb, le-leb, leb-le, leb-false, isSome-true}
 use Rattle.model.proofs.Files.{InForm, judged-refused}
-use Rattle.parts.specs.Cleared.{cleared}
+use Rattle.area_parts.specs.Cleared.{cleared}
 use Rattle.checker.specs.CheckSays.{CheckSays, Entered, Settled, Early}
 use Rattle.checker.specs.declared.Checked as C
 use Rattle.checker.proofs.Checks.{filed-says, early-says}
-use Rattle.witnesses.specs.Showing.{sided, showing, showService}
-use Rattle.witnesses.proofs.Served.{as-check, short-area, sideAnswer, Given, served-shows, served-silent}
-use Rattle.faults.specs.Faults.{FaultShown}
+use Rattle.law_witnesses.specs.Showing.{sided, showing, showService}
+use Rattle.law_witnesses.proofs.Served.{as-check, short-area, sideAnswer, Given, served-shows, served-silent}
+use Rattle.fault_values.specs.Faults.{FaultShown}
 use Rattle.witness.specs.WitnessSays.{WitnessSays, Searched}
 use Rattle.witness.specs.declared.Witnessed as W
 

@@ -5,8 +5,8 @@ use mathlib.Core.List.{List}
 use lib.ListN.{length}
 use Rattle.limits.specs.Limits.{maxBytes, workLength}
 use Rattle.format.specs.Code.{numberOf}
-use Rattle.parts.specs.Cleared.{cleared}
-use Rattle.witnesses.specs.Showing.{showService}
+use Rattle.area_parts.specs.Cleared.{cleared}
+use Rattle.law_witnesses.specs.Showing.{showService}
 use Rattle.witness.specs.declared.Witnessed as W
 
 -- t, w and out are the areas at entry, t′, w′ and out′ at exit

@@ -1,15 +1,15 @@
 // A setting that shows the fault: Check, and with refusals 11 to 14 the value that shows what is wrong with
 // the side refused. The search reads the table before it is cleared.
 
+use area_parts::clear_bytes;
 use checker::early;
 use checker::entered;
 use checker::settled;
-use faults::show_fault;
+use fault_values::show_fault;
 use format::Answer;
 use format::Refusal;
 use format::is_refused;
 use format::number_of;
-use parts::clear_bytes;
 ghost use mathlib.Core.Path.{_≡_};
 ghost use Prim.Native.Nat.{_≤_};
 ghost use lib.ListN.{length};

@@ -9,8 +9,8 @@ use Rattle.bounds.proofs.bounds_checked.Lts as lts
 use Rattle.bounds.proofs.is_over.Reads as is-over-reads
 use Rattle.bounds.proofs.refused.Reads as refused-reads
 use Rattle.bounds.proofs.stopped.Reads as stopped-reads
-use Rattle.costing.proofs.number_at.Reads as number-at-reads
-use Rattle.costing.proofs.reckon.Reads as reckon-reads
+use Rattle.bound_counts.proofs.number_at.Reads as number-at-reads
+use Rattle.bound_counts.proofs.reckon.Reads as reckon-reads
 
 -- src/lib.rt:64:9
 refused-requires : tie.Need-refused-requires

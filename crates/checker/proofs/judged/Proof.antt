@@ -7,8 +7,8 @@ use Rattle.checker.proofs.judged.Reads as reads
 use Rattle.checker.proofs.judged.Lts as lts
 use Rattle.format.proofs.is_refused.Reads as is-refused-reads
 use Rattle.checker.proofs.refused.Reads as refused-reads
-use Rattle.isos.proofs.isos_fault.Reads as isos-fault-reads
-use Rattle.lines.proofs.read.read_file.Reads as read-file-reads
+use Rattle.check_isos.proofs.isos_fault.Reads as isos-fault-reads
+use Rattle.read_lines.proofs.read.read_file.Reads as read-file-reads
 
 -- src/lib.rt:75:9
 read-file-requires : tie.Need-read-file-requires

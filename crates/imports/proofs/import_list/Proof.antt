@@ -1,6 +1,6 @@
 use borrow.Author.Tests.{not-true, not-false}
 use Rattle.imports.proofs.Listing.{list-long, list-bad, list-good}
-use Rattle.nodes.specs.Unfolding.{typeOf}
+use Rattle.table_trees.specs.Unfolding.{typeOf}
 use Rattle.format.specs.Code.{refusalView}
 use mathlib.Core.Path.{ap}
 use borrow.Author.Needs.{needs}

@@ -1,5 +1,5 @@
 use Rattle.imports.proofs.Types.{first-absent, second-absent, first-many, second-many, none-faulty}
-use Rattle.nodes.specs.Unfolding.{typeOf}
+use Rattle.table_trees.specs.Unfolding.{typeOf}
 use borrow.Author.Needs.{needs}
 use Rattle.imports.proofs.types_fault.Statement.{statement}
 use Rattle.imports.proofs.types_fault.Tie as tie

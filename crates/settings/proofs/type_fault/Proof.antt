@@ -1,5 +1,5 @@
 -- `settings::type_fault` meets its contract: 15, 18 or neither. Assumes nothing.
-use Rattle.nodes.specs.Unfolding.{typeOf}
+use Rattle.table_trees.specs.Unfolding.{typeOf}
 use Rattle.settings.proofs.Lines.{fault-absent, fault-many, fault-none}
 use borrow.Author.Needs.{needs}
 use Rattle.settings.proofs.type_fault.Statement.{statement}

@@ -6,8 +6,8 @@ use Rattle.runner.proofs.run.copy_front.Statement.{statement}
 use Rattle.runner.proofs.run.copy_front.Tie as tie
 use Rattle.runner.proofs.run.copy_front.Reads as reads
 use Rattle.runner.proofs.run.copy_front.Lts as lts
-use Rattle.areas.proofs.byte_at.Reads as byte-at-reads
-use Rattle.areas.proofs.put_byte.Reads as put-byte-reads
+use Rattle.area_cells.proofs.byte_at.Reads as byte-at-reads
+use Rattle.area_cells.proofs.put_byte.Reads as put-byte-reads
 
 abbrev Inv-loop : tie.InvT-loop
 Inv-loop from n to₀ i₀ to i = Copied from n to₀ to i

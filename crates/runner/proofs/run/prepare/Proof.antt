@@ -6,7 +6,7 @@ use Rattle.runner.proofs.run.prepare.Statement.{statement}
 use Rattle.runner.proofs.run.prepare.Tie as tie
 use Rattle.runner.proofs.run.prepare.Reads as reads
 use Rattle.runner.proofs.run.prepare.Lts as lts
-use Rattle.index.proofs.index_isos.Reads as index-isos-reads
+use Rattle.run_index.proofs.index_isos.Reads as index-isos-reads
 
 -- src/run.rt:91:9
 returns : tie.Need-returns

@@ -7,12 +7,12 @@ use Rattle.runner.proofs.run.run_checked.Statement.{statement}
 use Rattle.runner.proofs.run.run_checked.Tie as tie
 use Rattle.runner.proofs.run.run_checked.Reads as reads
 use Rattle.runner.proofs.run.run_checked.Lts as lts
-use Rattle.nodes.proofs.cell.Reads as cell-reads
-use Rattle.reduction.proofs.apply.Reads as apply-reads
-use Rattle.ways.proofs.place.Reads as place-reads
-use Rattle.ways.proofs.side.Reads as side-reads
+use Rattle.table_trees.proofs.cell.Reads as cell-reads
+use Rattle.run_reduction.proofs.apply.Reads as apply-reads
+use Rattle.run_direction.proofs.place.Reads as place-reads
+use Rattle.run_direction.proofs.side.Reads as side-reads
 use Rattle.runner.proofs.run.copy_front.Reads as copy-front-reads
-use Rattle.values.proofs.is_value.Reads as is-value-reads
+use Rattle.run_values.proofs.is_value.Reads as is-value-reads
 use Rattle.runner.proofs.run.refused.Reads as refused-reads
 use Rattle.runner.proofs.run.used.Reads as used-reads
 

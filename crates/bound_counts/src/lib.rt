@@ -1,0 +1,167 @@
+// The least and the greatest count of any run of each iso of a checked table whose isos an index finds: the
+// isos in order, each from the numbers of the earlier ones. A number is held up to 4,294,967,296, which
+// stands for all above 4,294,967,295.
+
+use codes::LET_ISO;
+use run_direction::place;
+use table_trees::cell;
+ghost use mathlib.Core.Path.{_≡_};
+ghost use mathlib.Core.List.{List, [], map};
+ghost use Prim.Native.Nat.{ℕ, suc, _+_, _-_, _≤_, _<_, min, max};
+ghost use lib.ListN.{length, getD, set};
+ghost use Rattle.calculus.specs.Tools.{total};
+ghost use Rattle.law_costs.specs.Costs.{leastOf, greatestOf, letCost, clauseCost, costsFrom};
+ghost use Rattle.table_trees.specs.InTable.{letsIn, clauseIn};
+ghost use Rattle.run_index.specs.Index.{placeAt, clausesAt, isosAt};
+ghost use Rattle.bound_counts.specs.Held.{cap, Holds};
+
+// A number, or 4,294,967,296 for all above.
+fn capped(n: u64) -> u64
+    ensures { λ r. ⌜ r ≡ min n cap ⌝ }
+{
+    if n < 4294967296 {
+        return n;
+    }
+    4294967296
+}
+
+// The sum of two numbers that are held so.
+fn plus(a: u64, b: u64) -> u64
+    ensures { λ r. ⌜ r ≡ min (min a cap + min b cap) cap ⌝ }
+{
+    capped(capped(a) + capped(b))
+}
+
+fn lesser(a: u64, b: u64) -> u64
+    ensures { λ r. ⌜ r ≡ min a b ⌝ }
+{
+    if a < b {
+        return a;
+    }
+    b
+}
+
+fn greater(a: u64, b: u64) -> u64
+    ensures { λ r. ⌜ r ≡ max a b ⌝ }
+{
+    if a < b {
+        return b;
+    }
+    a
+}
+
+// The number of an iso, 0 past the last.
+pub fn number_at(numbers: &[u64], i: usize) -> u64
+    ensures { λ r. ⌜ r ≡ getD (now (numbers .entry)) i 0 ⌝ }
+{
+    if i < numbers.len() {
+        return numbers[i];
+    }
+    0
+}
+
+fn store_number(numbers: &mut [u64], i: usize, v: u64)
+    ensures { λ r. ⌜ now (numbers .exit) ≡ set (now (numbers .entry)) i v ⌝ }
+{
+    if i < numbers.len() {
+        numbers[i] = v;
+    }
+}
+
+// The sum over the L rows from a row up to another, given the numbers of the isos.
+fn let_sum(t: &[u16], known: &[u64], row: usize, end: usize) -> u64
+    ensures { λ r. ⌜
+        ((base : ℕ) (ks : List ℕ) → Holds (now (known .entry)) ks
+        → r ≡ min (total (map (letCost ks) (letsIn (now (t .entry)) base row (end - row)))) cap)
+        ⌝ }
+{
+    if end <= row {
+        return 0;
+    }
+    let mut n = end;
+    let mut sum: u64 = 0;
+    while row < n {
+        n -= 1;
+        sum = plus(number_at(known, cell(t, n, LET_ISO)), sum);
+    }
+    sum
+}
+
+// What the clause at place m of the index needs.
+fn clause_cost(t: &[u16], known: &[u64], index: &[u16], m: usize) -> u64
+    requires { ⌜ m < 65536 ⌝ }
+    ensures { λ r. ⌜
+        ((base : ℕ) (ks : List ℕ) → Holds (now (known .entry)) ks → r ≡ min
+        (clauseCost ks (clauseIn (now (t .entry)) base (placeAt (now (index .entry)) m) (placeAt (now (index .entry)) (suc m))))
+        cap)
+        ⌝ }
+{
+    let row = place(index, m);
+    let end = place(index, m + 1);
+    plus(1, let_sum(t, known, row + 1, end))
+}
+
+// The least over the clauses from place m of the index up to another.
+fn least_cost(t: &[u16], known: &[u64], index: &[u16], m: usize, end: usize) -> u64
+    requires { ⌜ end ≤ 65536 ⌝ }
+    ensures { λ r. ⌜
+        ((base : ℕ) (ks : List ℕ) → Holds (now (known .entry)) ks → r ≡ min
+        (leastOf (map (clauseCost ks) (clausesAt (now (t .entry)) base (now (index .entry)) m (end - m))))
+        cap)
+        ⌝ }
+{
+    if end <= m {
+        return 0;
+    }
+    let mut n = end - 1;
+    let mut best = clause_cost(t, known, index, n);
+    while m < n {
+        n -= 1;
+        best = lesser(clause_cost(t, known, index, n), best);
+    }
+    best
+}
+
+// The greatest over the same.
+fn greatest_cost(t: &[u16], known: &[u64], index: &[u16], m: usize, end: usize) -> u64
+    requires { ⌜ end ≤ 65536 ⌝ }
+    ensures { λ r. ⌜
+        ((base : ℕ) (ks : List ℕ) → Holds (now (known .entry)) ks → r ≡ min
+        (greatestOf (map (clauseCost ks) (clausesAt (now (t .entry)) base (now (index .entry)) m (end - m))))
+        cap)
+        ⌝ }
+{
+    if end <= m {
+        return 0;
+    }
+    let mut n = end - 1;
+    let mut best = clause_cost(t, known, index, n);
+    while m < n {
+        n -= 1;
+        best = greater(clause_cost(t, known, index, n), best);
+    }
+    best
+}
+
+// Reckons both numbers of each iso in order, into areas of zeros.
+pub fn reckon(t: &[u16], index: &[u16], isos: usize, least: &mut [u64], greatest: &mut [u64])
+    ensures { λ r. ⌜
+        ((base : ℕ) → isos ≤ length (now (least .entry)) → Holds (now (least .entry)) []
+        → Holds (now (least .exit))
+        (costsFrom leastOf [] (isosAt (now (t .entry)) base (now (index .entry)) 0 isos)))
+        × ((base : ℕ) → isos ≤ length (now (greatest .entry)) → Holds (now (greatest .entry)) []
+        → Holds (now (greatest .exit))
+        (costsFrom greatestOf [] (isosAt (now (t .entry)) base (now (index .entry)) 0 isos)))
+        ⌝ }
+{
+    let mut i: usize = 0;
+    while i < isos {
+        let m = place(index, i);
+        let end = place(index, i + 1);
+        let low = least_cost(t, least, index, m + 1, end);
+        store_number(least, i, low);
+        let high = greatest_cost(t, greatest, index, m + 1, end);
+        store_number(greatest, i, high);
+        i += 1;
+    }
+}

@@ -1,0 +1,203 @@
+// Refusals 8 to 10 of a clause: its C row, and its L rows up to `end`. `starts` holds the rows of the I
+// lines. Of a C row past the table's 4096 rows nothing is said.
+
+use area_words::wide;
+use check_shapes::is_plain;
+use check_typing::Env;
+use check_typing::all_used;
+use check_typing::fit;
+use check_typing::no_types;
+use check_variables::Marks;
+use check_variables::mark;
+use check_variables::settled;
+use codes::CLAUSE_LEFT;
+use codes::CLAUSE_RIGHT;
+use codes::ISO_FROM;
+use codes::ISO_TO;
+use codes::LET_ISO;
+use codes::LET_P;
+use codes::LET_Q;
+use format::Refusal;
+use limits::MAX_LINES;
+use limits::VARIABLES;
+use table_trees::cell;
+ghost use mathlib.Core.Path.{_≡_};
+ghost use mathlib.Core.List.{List};
+ghost use mathlib.Core.Option.{none};
+ghost use Prim.Native.Nat.{ℕ, _-_, _<_};
+ghost use lib.ListN.{getElem?, replicate};
+ghost use Rattle.limits.specs.Limits.{maxLines, variables};
+ghost use Rattle.format.specs.Code.{refusalView};
+ghost use Rattle.calculus.specs.Clauses.{letEvents, clauseFault};
+ghost use Rattle.table_trees.specs.Unfolding.{cellOf, typeOf};
+ghost use Rattle.check_variables.specs.Marks.{markEvents};
+ghost use Rattle.check_typing.specs.Fitting.{envView};
+ghost use Rattle.check_typing.specs.Rules.{Slotted, marked, shaped, fitLet, fittedLets, fitted};
+ghost use Rattle.table_trees.specs.InTable.{letAt, letsIn, clauseIn, sigsIn};
+
+// No variable is bound yet.
+fn no_marks() -> Marks
+    ensures { λ r. ⌜ r .state ≡ replicate variables 0 ⌝ }
+{
+    Marks {
+        state: [0u8; VARIABLES],
+    }
+}
+
+// The marks after the L rows from `from` up to `to`: each uses the variables of q, then binds those of p.
+fn mark_lets(t: &[u16], base: usize, from: usize, to: usize, m: Marks) -> Marks
+    ensures { λ r. ⌜ r .state ≡ markEvents (letEvents (letsIn (now (t .entry)) base from (to - from))) (m .state) ⌝ }
+{
+    let mut n = from;
+    let mut now = m;
+    while n < to {
+        let used = mark(t, base, cell(t, n, LET_Q), false, now);
+        now = mark(t, base, cell(t, n, LET_P), true, used);
+        n += 1;
+    }
+    now
+}
+
+// The variables rule.
+fn variables_kept(t: &[u16], base: usize, row: usize, end: usize) -> bool
+    ensures { λ r. ⌜ (row < maxLines → r ≡ marked (clauseIn (now (t .entry)) base row end)) ⌝ }
+{
+    if row < MAX_LINES {
+        let bound = mark(t, base, cell(t, row, CLAUSE_LEFT), true, no_marks());
+        let stepped = mark_lets(t, base, row + 1, end, bound);
+        return settled(mark(t, base, cell(t, row, CLAUSE_RIGHT), false, stepped));
+    }
+    true
+}
+
+// Whether the L rows from `from` up to `to` hold only unit, variables and pairs.
+fn shapes_kept(t: &[u16], base: usize, from: usize, to: usize) -> bool
+    ensures { λ r. ⌜ r ≡ shaped (letsIn (now (t .entry)) base from (to - from)) ⌝ }
+{
+    let mut n = from;
+    while n < to {
+        if is_plain(t, base, cell(t, n, LET_P)) {
+            if is_plain(t, base, cell(t, n, LET_Q)) {
+                n += 1;
+            } else {
+                return false;
+            }
+        } else {
+            return false;
+        }
+    }
+    true
+}
+
+// No types fit any more.
+fn misfit(e: Env) -> Env
+    ensures { λ r. ⌜ ((t : List ℕ) → envView t r ≡ none) ⌝ }
+{
+    let mut r = e;
+    r.fits = false;
+    r
+}
+
+// The types after the L row n: q fits the from-type of its iso, p the to-type.
+fn fit_let(t: &[u16], base: usize, starts: &[u16], n: usize, e: Env) -> Env
+    ensures { λ r. ⌜
+        envView (now (t .entry)) r ≡ fitLet
+        (getElem? (sigsIn (now (t .entry)) (now (starts .entry))) (cellOf (now (t .entry)) n 2))
+        (letAt (now (t .entry)) base n) (envView (now (t .entry)) e)
+        ⌝ }
+{
+    let i = cell(t, n, LET_ISO);
+    if i < starts.len() {
+        let head = wide(starts[i]);
+        let used = fit(
+            t,
+            base,
+            cell(t, n, LET_Q),
+            cell(t, head, ISO_FROM),
+            false,
+            e,
+        );
+        return fit(
+            t,
+            base,
+            cell(t, n, LET_P),
+            cell(t, head, ISO_TO),
+            true,
+            used,
+        );
+    }
+    misfit(e)
+}
+
+// The types after the L rows from `from` up to `to`.
+fn fit_lets(t: &[u16], base: usize, starts: &[u16], from: usize, to: usize, e: Env) -> Env
+    ensures { λ r. ⌜
+        envView (now (t .entry)) r ≡ fittedLets (sigsIn (now (t .entry)) (now (starts .entry)))
+        (letsIn (now (t .entry)) base from (to - from)) (envView (now (t .entry)) e)
+        ⌝ }
+{
+    let mut n = from;
+    let mut env = e;
+    while n < to {
+        env = fit_let(t, base, starts, n, env);
+        n += 1;
+    }
+    env
+}
+
+// Whether some types of the variables fit the clause of an iso from T line a to T line b.
+fn types_fit(
+    t: &[u16],
+    base: usize,
+    starts: &[u16],
+    a: usize,
+    b: usize,
+    row: usize,
+    end: usize,
+) -> bool
+    ensures { λ r. ⌜
+        (row < maxLines
+        → r ≡ fitted (sigsIn (now (t .entry)) (now (starts .entry))) (typeOf (now (t .entry)) a)
+        (typeOf (now (t .entry)) b) (clauseIn (now (t .entry)) base row end))
+        ⌝ }
+{
+    if row < MAX_LINES {
+        let bound = fit(t, base, cell(t, row, CLAUSE_LEFT), a, true, no_types());
+        let stepped = fit_lets(t, base, starts, row + 1, end, bound);
+        let done = fit(t, base, cell(t, row, CLAUSE_RIGHT), b, false, stepped);
+        return all_used(done);
+    }
+    false
+}
+
+// The lowest of 8 to 10, or nothing.
+pub fn clause_fault(
+    t: &[u16],
+    base: usize,
+    starts: &[u16],
+    a: usize,
+    b: usize,
+    row: usize,
+    end: usize,
+) -> Refusal
+    ensures { λ r. ⌜
+        (row < maxLines → Slotted (clauseIn (now (t .entry)) base row end)
+        → refusalView r ≡ clauseFault (sigsIn (now (t .entry)) (now (starts .entry)))
+        (typeOf (now (t .entry)) a) (typeOf (now (t .entry)) b)
+        (clauseIn (now (t .entry)) base row end))
+        ⌝ }
+{
+    if MAX_LINES <= row {
+        return Refusal::Nothing;
+    }
+    if variables_kept(t, base, row, end) {
+        if shapes_kept(t, base, row + 1, end) {
+            if types_fit(t, base, starts, a, b, row, end) {
+                return Refusal::Nothing;
+            }
+            return Refusal::BadType;
+        }
+        return Refusal::LetShape;
+    }
+    Refusal::Variable
+}

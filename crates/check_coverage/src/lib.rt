@@ -1,0 +1,152 @@
+// Refusals 11 to 14 of an iso, over the rows of its clauses. Field 1 of a C row is its left pattern,
+// field 2 its right one.
+
+use area_words::wide;
+use check_overlap::compare;
+use format::Refusal;
+use format::Side;
+use table_trees::cell;
+use table_trees::pattern_tags;
+ghost use mathlib.Core.Path.{_≡_};
+ghost use Prim.Native.Nat.{_≤_};
+ghost use mathlib.Core.List.{map};
+ghost use lib.ListN.{length, drop};
+ghost use Rattle.limits.specs.Limits.{tableLength};
+ghost use Rattle.calculus.specs.Tools.{all, total};
+ghost use Rattle.format.specs.Code.{refusalView};
+ghost use Rattle.calculus.specs.Clauses.{clash as clashes, apart as apartAll, weight as weightOf};
+ghost use Rattle.table_trees.specs.Unfolding.{patternOf};
+ghost use Rattle.table_trees.specs.InTable.{patternsAt, weightAt, sidesFault};
+
+// Whether P line p clashes with field k of each clause row from place `from` on.
+fn clashes_with(t: &[u16], base: usize, p: usize, k: usize, rows: &[u16], from: usize) -> bool
+    requires { ⌜ tableLength ≤ length (now t) ⌝ }
+    ensures { λ r. ⌜
+        r ≡ all (clashes (patternOf (now (t .entry)) base p))
+        (patternsAt (now (t .entry)) base k (drop from (now (rows .entry))))
+        ⌝ }
+{
+    let mut i = from;
+    while i < rows.len() {
+        let q = cell(t, wide(rows[i]), k);
+        let c = compare(t, base, p, q);
+        if c.clash {
+            i += 1;
+        } else {
+            return false;
+        }
+    }
+    true
+}
+
+// Whether the patterns in field k of the clause rows are orthogonal, two by two.
+pub fn apart(t: &[u16], base: usize, k: usize, rows: &[u16]) -> bool
+    requires { ⌜ tableLength ≤ length (now t) ⌝ }
+    ensures { λ r. ⌜ r ≡ apartAll (patternsAt (now (t .entry)) base k (now (rows .entry))) ⌝ }
+{
+    let mut i: usize = 0;
+    while i < rows.len() {
+        let p = cell(t, wide(rows[i]), k);
+        if clashes_with(t, base, p, k, rows, i + 1) {
+            i += 1;
+        } else {
+            return false;
+        }
+    }
+    true
+}
+
+// 2 to the power of 40 - k for k left and right nodes.
+pub const WEIGHTS: [u64; 41] = [
+    1099511627776,
+    549755813888,
+    274877906944,
+    137438953472,
+    68719476736,
+    34359738368,
+    17179869184,
+    8589934592,
+    4294967296,
+    2147483648,
+    1073741824,
+    536870912,
+    268435456,
+    134217728,
+    67108864,
+    33554432,
+    16777216,
+    8388608,
+    4194304,
+    2097152,
+    1048576,
+    524288,
+    262144,
+    131072,
+    65536,
+    32768,
+    16384,
+    8192,
+    4096,
+    2048,
+    1024,
+    512,
+    256,
+    128,
+    64,
+    32,
+    16,
+    8,
+    4,
+    2,
+    1,
+];
+
+fn weight(k: usize) -> u64
+    ensures { λ r. ⌜ r ≡ weightAt k ⌝ }
+{
+    if k < 41 {
+        return WEIGHTS[k];
+    }
+    1
+}
+
+// What the patterns of a side weigh together where they leave no gap.
+const FULL: u64 = 1099511627776;
+
+// What the patterns in field k of at most 32 clause rows weigh together.
+pub fn weigh(t: &[u16], base: usize, k: usize, rows: &[u16]) -> u64
+    requires { ⌜ length (now rows) ≤ 32 ⌝ }
+    ensures { λ r. ⌜ r ≡ total (map weightOf (patternsAt (now (t .entry)) base k (now (rows .entry)))) ⌝ }
+{
+    let mut i = rows.len();
+    let mut sum: u64 = 0;
+    while 0 < i {
+        i -= 1;
+        let p = cell(t, wide(rows[i]), k);
+        sum += weight(pattern_tags(t, base, p));
+    }
+    sum
+}
+
+// The lowest of 11 to 14, or nothing.
+pub fn side_fault(t: &[u16], base: usize, rows: &[u16]) -> Refusal
+    requires { ⌜ (tableLength ≤ length (now t)) × (length (now rows) ≤ 32) ⌝ }
+    ensures { λ r. ⌜
+        refusalView r ≡ sidesFault (patternsAt (now (t .entry)) base 1 (now (rows .entry)))
+        (patternsAt (now (t .entry)) base 2 (now (rows .entry)))
+        ⌝ }
+{
+    if apart(t, base, 1, rows) {
+        if apart(t, base, 2, rows) {
+            if weigh(t, base, 1, rows) == FULL {
+                if weigh(t, base, 2, rows) == FULL {
+                    return Refusal::Nothing;
+                }
+                return Refusal::Gap(Side::Right);
+            }
+            return Refusal::Gap(Side::Left);
+        }
+        return Refusal::Overlap(Side::Right);
+    }
+    Refusal::Overlap(Side::Left)
+}

@@ -1,0 +1,65 @@
+-- `check_isos::isos_fault` meets its contract: no guard returns for a file, and the walk ends with the first refusal of its isos.
+use Rattle.check_variables.proofs.Marking.{slots}
+use mathlib.Core.Path.{refl}
+use Rattle.check_isos.proofs.Collecting.{head-small, starts-few, front-part}
+use native.Mathlib.Omega.{arith}
+use borrow.Author.Needs.{needs}
+use Rattle.check_isos.proofs.isos_fault.Statement.{statement}
+use Rattle.check_isos.proofs.isos_fault.Tie as tie
+
+none-requires : tie.Need-none-requires
+none-requires c κs = search needs
+
+returns : tie.Need-returns
+returns c rs f = absurd (omega (arith, head-small f))
+
+none-requires-2 : tie.Need-none-requires-2
+none-requires-2 c κs = search needs
+
+returns-2 : tie.Need-returns-2
+returns-2 c rs f = absurd (omega (arith, head-small f))
+
+add-stop : tie.Need-add-stop
+add-stop c = search needs
+
+iso-rows-requires : tie.Need-iso-rows-requires
+iso-rows-requires c κs = search needs
+
+none-requires-3 : tie.Need-none-requires-3
+none-requires-3 c κs = search needs
+
+returns-3 : tie.Need-returns-3
+returns-3 c rs f = absurd (omega (arith, starts-few f (c .before .before .before .iso-rows .ensures rs _ _ f refl)))
+
+sub-walk-up : tie.Need-sub-walk-up
+sub-walk-up c = search needs
+
+part-walk-up-start : tie.Need-part-walk-up-start
+part-walk-up-start c = search needs
+
+part-walk-up-end : tie.Need-part-walk-up-end
+part-walk-up-end c = let k = c .before .before .before .iso-rows in omega (arith, slots (k .result .rows) (k .ok .1 .1 .0 .1 .0 .1))
+
+walk-up-requires : tie.Need-walk-up-requires
+walk-up-requires c κs = search needs
+
+returns-4 : tie.Need-returns-4
+returns-4 c rs f = let s = c .before .before .before .before .before .iso-rows .ensures rs _ _ f refl in c .walk-up .ensures rs _ f (front-part s) (s .number) refl
+
+pub isos-fault-spec : {M : Type 1} → statement M
+isos-fault-spec =
+    tie.close
+    (tie.spec
+    none-requires
+    returns
+    none-requires-2
+    returns-2
+    add-stop
+    iso-rows-requires
+    none-requires-3
+    returns-3
+    sub-walk-up
+    part-walk-up-start
+    part-walk-up-end
+    walk-up-requires
+    returns-4)

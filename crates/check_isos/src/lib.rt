@@ -1,0 +1,300 @@
+// All isos of a table. The rows are walked from the last to the first, so that L rows are known before
+// their C row and C rows before their I row; an earlier refusal replaces a later one.
+
+use area_words::narrow;
+use area_words::wide;
+use area_words::word_at;
+use check_clauses::clause_fault;
+use check_coverage::side_fault;
+use codes::CLAUSE_LINE;
+use codes::ISO_FROM;
+use codes::ISO_LINE;
+use codes::ISO_TO;
+use codes::ROW_LETTER;
+use format::Answer;
+use format::Refusal;
+use format::is_refused;
+use limits::MAX_CLAUSES;
+use limits::MAX_ISOS;
+use limits::MAX_LINES;
+use table_trees::cell;
+ghost use mathlib.Core.Path.{_≡_};
+ghost use mathlib.Core.Bool.{true};
+ghost use mathlib.Core.List.{List};
+ghost use mathlib.Core.Option.{none as nothing};
+ghost use Prim.Native.Nat.{ℕ, suc, _+_, _≤_, _<_};
+ghost use lib.ListN.{length, take, set};
+ghost use Rattle.limits.specs.Limits.{tableLength};
+ghost use Rattle.format.specs.Lines.{Row as RowOf};
+ghost use Rattle.calculus.specs.Tools.{orElse};
+ghost use Rattle.format.specs.Code.{refusalView};
+ghost use Rattle.format.specs.Unfold.{isosOf};
+ghost use Rattle.calculus.specs.Clauses.{at, fault};
+ghost use Rattle.table_trees.specs.Unfolding.{cellOf};
+ghost use Rattle.table_trees.specs.InTable.{patternsAt, sidesFault};
+ghost use Rattle.table_trees.specs.Walk.{FileIn, isoRows};
+ghost use Rattle.check_isos.specs.Answers.{asFault, OwnFault};
+ghost use Rattle.check_isos.specs.Walked.{StartsOf, Walked};
+
+// The rows of the I lines.
+pub struct Starts {
+    pub rows: [u16; MAX_ISOS],
+    pub count: usize,
+}
+
+// One I line more, where there is room for it.
+fn with_start(s: Starts, n: usize) -> Starts
+    ensures { λ r. ⌜ (s .count < 32 → n < 65536 → (r .rows ≡ set (s .rows) (s .count) n) × (r .count ≡ s .count + 1)) ⌝ }
+{
+    let count = s.count;
+    if count < MAX_ISOS {
+        let mut r = s;
+        r.rows[count] = narrow(n);
+        r.count = count + 1;
+        return r;
+    }
+    s
+}
+
+// The I lines with row n, if it is one.
+fn with_line(t: &[u16], s: Starts, n: usize) -> Starts
+    ensures { λ r. ⌜
+        ((rs : List RowOf) (types patterns lines : ℕ) → FileIn (now (t .entry)) types patterns lines rs
+        → n < lines → StartsOf (take n rs) s → StartsOf (take (suc n) rs) r)
+        ⌝ }
+{
+    if cell(t, n, ROW_LETTER) == ISO_LINE {
+        return with_start(s, n);
+    }
+    s
+}
+
+// The rows of the I lines among the rows from `from` up to `to`.
+fn iso_rows(t: &[u16], from: usize, to: usize) -> Starts
+    ensures { λ r. ⌜
+        ((rs : List RowOf) (types patterns : ℕ) → FileIn (now (t .entry)) types patterns to rs
+        → from ≡ types + patterns → StartsOf rs r)
+        ⌝ }
+{
+    let mut n = from;
+    let mut s = Starts {
+        rows: [0u16; MAX_ISOS],
+        count: 0,
+    };
+    while n < to {
+        s = with_line(t, s, n);
+        n += 1;
+    }
+    s
+}
+
+// What the rows from some place on have come to: the rows of the C lines of an iso above, from place
+// `first` of `clauses` on; the row where the L lines of the next C line above end; how many I lines
+// stand above; the first refusal of those clauses; the first refusal of the isos further down.
+pub struct Walk {
+    pub clauses: [u16; MAX_CLAUSES],
+    pub first: usize,
+    pub below: usize,
+    pub iso: usize,
+    pub pending: Answer,
+    pub found: Answer,
+}
+
+fn none() -> Answer
+    ensures { λ r. ⌜ asFault r ≡ nothing ⌝ }
+{
+    Answer {
+        place: 0,
+        refusal: Refusal::Nothing,
+    }
+}
+
+// The refusal of an earlier row, or else what was found further down.
+fn sooner(f: Refusal, place: usize, later: Answer) -> Answer
+    ensures { λ r. ⌜ asFault r ≡ orElse (at place (refusalView f)) (asFault later) ⌝ }
+{
+    if is_refused(f) {
+        return Answer {
+            place: place,
+            refusal: f,
+        };
+    }
+    later
+}
+
+// The refusal of the clause with its C row at n and its L rows up to `below`, in the iso of place `own`.
+fn own_fault(t: &[u16], base: usize, starts: &[u16], own: usize, n: usize, below: usize) -> Refusal
+    ensures { λ r. ⌜ OwnFault (now (t .entry)) base (now (starts .entry)) own n below (refusalView r) ⌝ }
+{
+    let head = wide(word_at(starts, own));
+    let a = cell(t, head, ISO_FROM);
+    let b = cell(t, head, ISO_TO);
+    clause_fault(t, base, starts, a, b, n, below)
+}
+
+// Whether an I line stands above row n of the table, and place `first` is one of the 32 or their end.
+fn is_inside(i: usize, first: usize, n: usize) -> bool
+    ensures { λ r. ⌜ (r ≡ true → (0 < i) × (first ≤ 32) × (n < 4096)) × (0 < i → first ≤ 32 → n < 4096 → r ≡ true) ⌝ }
+{
+    if i == 0 {
+        return false;
+    }
+    if MAX_CLAUSES < first {
+        return false;
+    }
+    if MAX_LINES <= n {
+        return false;
+    }
+    true
+}
+
+// The walk with the C row n.
+fn with_clause(t: &[u16], base: usize, starts: &[u16], w: Walk, n: usize) -> Walk
+    ensures { λ r. ⌜
+        ((rs : List RowOf) (patterns lines : ℕ) → FileIn (now (t .entry)) base patterns lines rs
+        → now (starts .entry) ≡ isoRows 0 rs → n < lines → cellOf (now (t .entry)) n 0 ≡ 67
+        → Walked (now (t .entry)) base rs (suc n) w → Walked (now (t .entry)) base rs n r)
+        ⌝ }
+{
+    let i = w.iso;
+    let first = w.first;
+    if is_inside(i, first, n) {
+        if 0 < first {
+            let f = own_fault(t, base, starts, i - 1, n, w.below);
+            let slot = first - 1;
+            let mut clauses = w.clauses;
+            clauses[slot] = narrow(n);
+            let found = w.found;
+            let pending = w.pending;
+            return Walk {
+                clauses: clauses,
+                first: slot,
+                below: n,
+                iso: i,
+                pending: sooner(f, n + 1, pending),
+                found: found,
+            };
+        }
+    }
+    w
+}
+
+// The first refusal from an I row n on: at a clause of its iso, or else on the iso's sides, or else
+// what was found further down.
+fn iso_found(
+    t: &[u16],
+    base: usize,
+    rows: &[u16],
+    n: usize,
+    pending: Answer,
+    found: Answer,
+) -> Answer
+    requires { ⌜ (tableLength ≤ length (now t)) × (length (now rows) ≤ 32) × (n < 4096) ⌝ }
+    ensures { λ r. ⌜
+        asFault r ≡ orElse
+        (orElse (asFault pending) (at (suc n) (sidesFault (patternsAt (now (t .entry)) base 1 (now (rows .entry))) (patternsAt (now (t .entry)) base 2 (now (rows .entry))))))
+        (asFault found)
+        ⌝ }
+{
+    let f = pending.refusal;
+    if is_refused(f) {
+        return pending;
+    }
+    sooner(side_fault(t, base, rows), n + 1, found)
+}
+
+// The walk with the I row n.
+fn with_iso(t: &[u16], base: usize, w: Walk, n: usize) -> Walk
+    requires { ⌜ tableLength ≤ length (now t) ⌝ }
+    ensures { λ r. ⌜
+        ((rs : List RowOf) (patterns lines : ℕ) → FileIn (now (t .entry)) base patterns lines rs
+        → n < lines → cellOf (now (t .entry)) n 0 ≡ 73 → Walked (now (t .entry)) base rs (suc n) w
+        → Walked (now (t .entry)) base rs n r)
+        ⌝ }
+{
+    let i = w.iso;
+    let first = w.first;
+    if is_inside(i, first, n) {
+        let clauses = w.clauses;
+        let found = w.found;
+        let pending = w.pending;
+        let clear = none();
+        let above = i - 1;
+        return Walk {
+            clauses: clauses,
+            first: MAX_CLAUSES,
+            below: n,
+            iso: above,
+            pending: clear,
+            found: iso_found(t, base, &clauses[first..MAX_CLAUSES], n, pending, found),
+        };
+    }
+    w
+}
+
+// The walk with row n. An L row leaves it as it is.
+fn with_row(t: &[u16], base: usize, starts: &[u16], w: Walk, n: usize) -> Walk
+    requires { ⌜ tableLength ≤ length (now t) ⌝ }
+    ensures { λ r. ⌜
+        ((rs : List RowOf) (patterns lines : ℕ) → FileIn (now (t .entry)) base patterns lines rs
+        → now (starts .entry) ≡ isoRows 0 rs → n < lines → base + patterns ≤ n
+        → Walked (now (t .entry)) base rs (suc n) w → Walked (now (t .entry)) base rs n r)
+        ⌝ }
+{
+    let letter = cell(t, n, ROW_LETTER);
+    if letter == CLAUSE_LINE {
+        return with_clause(t, base, starts, w, n);
+    }
+    if letter == ISO_LINE {
+        return with_iso(t, base, w, n);
+    }
+    w
+}
+
+// The first refusal of the isos of a table of `lines` rows, of which `types` are T lines and then
+// `patterns` P lines.
+pub fn isos_fault(t: &[u16], types: usize, patterns: usize, lines: usize) -> Answer
+    requires { ⌜ tableLength ≤ length (now t) ⌝ }
+    ensures { λ r. ⌜ ((rs : List RowOf) → FileIn (now (t .entry)) types patterns lines rs → asFault r ≡ fault (isosOf rs)) ⌝ }
+{
+    if MAX_LINES < types {
+        return none();
+    }
+    if MAX_LINES < patterns {
+        return none();
+    }
+    let stop = types + patterns;
+    let s = iso_rows(t, stop, lines);
+    let rows = s.rows;
+    let count = s.count;
+    if MAX_ISOS < count {
+        return none();
+    }
+    walk_up(t, types, &rows[0..count], stop, lines, count)
+}
+
+// The first refusal that the walk from the last row up to row `stop` finds.
+fn walk_up(t: &[u16], base: usize, starts: &[u16], stop: usize, lines: usize, isos: usize) -> Answer
+    requires { ⌜ tableLength ≤ length (now t) ⌝ }
+    ensures { λ r. ⌜
+        ((rs : List RowOf) (patterns : ℕ) → FileIn (now (t .entry)) base patterns lines rs
+        → now (starts .entry) ≡ isoRows 0 rs → isos ≡ length (isoRows 0 rs) → stop ≡ base + patterns
+        → asFault r ≡ fault (isosOf rs))
+        ⌝ }
+{
+    let clean = none();
+    let mut n = lines;
+    let mut w = Walk {
+        clauses: [0u16; MAX_CLAUSES],
+        first: MAX_CLAUSES,
+        below: lines,
+        iso: isos,
+        pending: clean,
+        found: clean,
+    };
+    while stop < n {
+        n -= 1;
+        w = with_row(t, base, starts, w, n);
+    }
+    w.found
+}

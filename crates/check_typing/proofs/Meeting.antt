@@ -1,0 +1,303 @@
+-- Binding and using a variable in the code's entries for types, and the fit of two nodes by their kinds.
+use Prim.Native.Nat.{ℕ, zero, suc, _+_, _-_, _*_, _<_, _≤_}
+use native.Mathlib.Omega.{arith}
+use native.Mathlib.Nat.{suc-ne-zero}
+use native.Mathlib.Numerals.{add-one}
+use mathlib.Core.Path.{_≡_, refl, sym, ap, ap₂, _∙_}
+use mathlib.Core.Bool.{Bool, true, false, cond, _&&_}
+use mathlib.Core.Option.{Option, none, some}
+use mathlib.Core.List.{List, [], _∷_, map}
+use lib.ListN.{length, length-map, getD, set, List·getD-map}
+use Rattle.calculus.specs.Tools.{_>>=_, guard}
+use Rattle.calculus.specs.Trees.{Ty, tunit, tsum, tprod, Pat, punit, pvar, sameType}
+use Rattle.calculus.specs.Slots.{Slots, put, get, allEmpty}
+use Rattle.format.specs.Judge.{typeNode, patternNode}
+use Rattle.calculus.specs.Clauses.{learn, spend, used}
+use Rattle.calculus.proofs.Basic.{some-bind, bind-assoc, none≢some, not-eqb, same-bind}
+use Rattle.table_trees.specs.Unfolding.{cellOf, smallerOf, typeOf, patternOf}
+use Rattle.table_trees.proofs.Unfolding.{rank, type-past, type-node, type-unit, type-sum, type-prod, pattern-unit, pattern-var}
+use Rattle.table_trees.proofs.Counts.{pattern-call}
+use Rattle.check_variables.specs.Marks.{settledAll}
+use Rattle.check_typing.specs.declared.Env.{Env}
+use Rattle.check_typing.specs.Fitting.{fitting, fitAll, entryView, EntryOf, viewIf, envView}
+use Rattle.table_parts.proofs.Shapes.{Injects, lefts, rights, injects, Pairs, pairs, paired, opened}
+
+-- ---- entries
+
+pub entry-within : (a : ℕ) → EntryOf a (a + 1)
+entry-within a t = ap (entryView t) (add-one a)
+
+pub entry-past : (a : ℕ) → 4096 ≤ a → EntryOf a 4097
+entry-past a h t = ap some (type-past t 4096 (omega arith) ∙ sym (type-past t a h))
+
+-- an entry other than 0 is one more than its line
+entry-known : (t : List ℕ) (k : ℕ) → (k ≡ 0 → ⊥) → entryView t k ≡ some (typeOf t (k - 1))
+entry-known t zero h = absurd (h refl)
+entry-known t (suc k) h = let e : k ≡ suc k - 1 = omega arith in ap (λ x. some (typeOf t x)) e
+
+map-set : {A B : Type 0} (f : A → B) (l : List A) (i : ℕ) (a : A) → map f (set l i a) ≡ set (map f l) i (f a)
+map-set f [] i a = refl
+map-set f (x ∷ l) zero a = refl
+map-set f (x ∷ l) (suc i) a = ap (λ r. f x ∷ r) (map-set f l i a)
+
+-- ---- slots by their number
+
+module _ {A : Type 0} where
+  put-free : (n : ℕ) (a : A) (e : Slots A) → n < length e → getD e n none ≡ none → put n a e ≡ some (set e n (some a))
+  put-free n a [] h g = absurd (omega arith)
+  put-free zero a (none ∷ e) h g = refl
+  put-free zero a (some b ∷ e) h g = absurd (none≢some (sym g))
+  put-free (suc n) a (s ∷ e) h g = some-bind (λ r. some (s ∷ r)) (put-free n a e (omega arith) g)
+
+  put-full : (n : ℕ) (a b : A) (e : Slots A) → getD e n none ≡ some b → put n a e ≡ none
+  put-full n a b [] g = refl
+  put-full zero a b (none ∷ e) g = absurd (none≢some g)
+  put-full zero a b (some c ∷ e) g = refl
+  put-full (suc n) a b (s ∷ e) g = ap (λ x. x >>= λ r. some (s ∷ r)) (put-full n a b e g)
+
+  put-out : (n : ℕ) (a : A) (e : Slots A) → length e ≤ n → put n a e ≡ none
+  put-out n a [] h = refl
+  put-out zero a (s ∷ e) h = absurd (omega arith)
+  put-out (suc n) a (s ∷ e) h = ap (λ x. x >>= λ r. some (s ∷ r)) (put-out n a e (omega arith))
+
+  get-full : (n : ℕ) (b : A) (e : Slots A) → getD e n none ≡ some b → get n e ≡ some (b, set e n none)
+  get-full n b [] g = absurd (none≢some g)
+  get-full zero b (none ∷ e) g = absurd (none≢some g)
+  get-full zero b (some c ∷ e) g = ap (λ x. x >>= λ d. some (d, none ∷ e)) g
+  get-full (suc n) b (s ∷ e) g = some-bind (λ r. some (r .0, s ∷ r .1)) (get-full n b e g)
+
+  get-free : (n : ℕ) (e : Slots A) → getD e n none ≡ none → get n e ≡ none
+  get-free n [] g = refl
+  get-free zero (none ∷ e) g = refl
+  get-free zero (some c ∷ e) g = absurd (none≢some (sym g))
+  get-free (suc n) (s ∷ e) g = ap (λ x. x >>= λ r. some (r .0, s ∷ r .1)) (get-free n e g)
+
+  getD-out : (n : ℕ) (e : Slots A) → length e ≤ n → getD e n none ≡ none
+  getD-out n [] h = refl
+  getD-out zero (s ∷ e) h = absurd (omega arith)
+  getD-out (suc n) (s ∷ e) h = getD-out n e (omega arith)
+
+-- ---- types that have fitted so far
+
+pub failed-view : (t : List ℕ) (r : Env) → r .fits ≡ false → envView t r ≡ none
+failed-view t r e = ap (λ b. viewIf b (map (entryView t) (r .line))) e
+
+fitted-view : (t : List ℕ) (e : Env) → e .fits ≡ true → envView t e ≡ some (map (entryView t) (e .line))
+fitted-view t e h = ap (λ b. viewIf b (map (entryView t) (e .line))) h
+
+-- ---- one variable
+
+module _ (t : List ℕ) (n a : ℕ) (e : Env) (wide : length (e .line) ≡ 32) (fits : e .fits ≡ true) where
+  slots : Slots Ty
+  slots = map (entryView t) (e .line)
+
+  one : (b : Bool) → fitting b (pvar n) (typeOf t a) slots ≡ fitAll b (pvar n) (typeOf t a) (envView t e)
+  unfolding slots
+  one b = sym (some-bind (fitting b (pvar n) (typeOf t a)) (fitted-view t e fits))
+
+  slots-wide : length slots ≡ 32
+  unfolding slots
+  slots-wide = length-map (e .line) (entryView t) ∙ wide
+
+  entry : {k : ℕ} → k ≡ getD (e .line) n 0 → getD slots n none ≡ entryView t k
+  unfolding slots
+  entry i = List·getD-map (entryView t) (e .line) n 0 ∙ ap (entryView t) (sym i)
+
+  -- a use gives nothing where no type is known
+  use-free : getD slots n none ≡ none → fitting false (pvar n) (typeOf t a) slots ≡ none
+  use-free g = ap (λ x. x >>= λ r. guard (sameType (r .0) (typeOf t a)) >>= λ _. some (r .1)) (get-free n slots g)
+
+  pub assign-out : (b : Bool) (r : Env) → 32 ≤ n → r .fits ≡ false → envView t r ≡ fitAll b (pvar n) (typeOf t a) (envView t e)
+  assign-out true r h f = failed-view t r f ∙ sym (put-out n (typeOf t a) slots (omega (arith, slots-wide))) ∙ one true
+  assign-out false r h f = failed-view t r f ∙ sym (use-free (getD-out n slots (omega (arith, slots-wide)))) ∙ one false
+
+  pub assign-first : (b : Bool) (r : Env) (v : ℕ) {k : ℕ} → b ≡ true → n < 32 → k ≡ getD (e .line) n 0 → k ≡ 0 → EntryOf a v → r .fits ≡ true
+      → r .line ≡ set (e .line) n v → envView t r ≡ fitAll b (pvar n) (typeOf t a) (envView t e)
+  unfolding slots
+  assign-first b r v q h i z w f s =
+      fitted-view t r f
+      ∙ ap some (ap (map (entryView t)) s ∙ map-set (entryView t) (e .line) n v ∙ ap (set slots n) (w t))
+      ∙ sym (put-free n (typeOf t a) slots (omega (arith, slots-wide)) (entry i ∙ ap (entryView t) z))
+      ∙ one true
+      ∙ ap (λ c. fitAll c (pvar n) (typeOf t a) (envView t e)) (sym q)
+
+  pub assign-live : (b : Bool) (r : Env) {k : ℕ} → b ≡ true → k ≡ getD (e .line) n 0 → (k ≡ 0 → ⊥) → r .fits ≡ false
+      → envView t r ≡ fitAll b (pvar n) (typeOf t a) (envView t e)
+  assign-live b r {k} q i z f =
+      failed-view t r f
+      ∙ sym (put-full n (typeOf t a) (typeOf t (k - 1)) slots (entry i ∙ entry-known t k z))
+      ∙ one true
+      ∙ ap (λ c. fitAll c (pvar n) (typeOf t a) (envView t e)) (sym q)
+
+  pub assign-unknown : (b : Bool) (r : Env) {k : ℕ} → b ≡ false → k ≡ getD (e .line) n 0 → k ≡ 0 → r .fits ≡ false
+      → envView t r ≡ fitAll b (pvar n) (typeOf t a) (envView t e)
+  assign-unknown b r q i z f =
+      failed-view t r f
+      ∙ sym (use-free (entry i ∙ ap (entryView t) z))
+      ∙ one false
+      ∙ ap (λ c. fitAll c (pvar n) (typeOf t a) (envView t e)) (sym q)
+
+  -- a use of a known type: the same, or none fits
+  used-known : {k : ℕ} {s : Bool} → k ≡ getD (e .line) n 0 → (k ≡ 0 → ⊥) → s ≡ sameType (typeOf t (k - 1)) (typeOf t a)
+      → fitting false (pvar n) (typeOf t a) slots ≡ (guard s >>= λ _. some (set slots n none))
+  used-known {k} i z w =
+      some-bind (λ r. guard (sameType (r .0) (typeOf t a)) >>= λ _. some (r .1)) (get-full n (typeOf t (k - 1)) slots (entry i ∙ entry-known t k z))
+      ∙ ap (λ s. guard s >>= λ _. some (set slots n none)) (sym w)
+
+  pub assign-same : (b : Bool) (r : Env) {k : ℕ} {s : Bool} → b ≡ false → k ≡ getD (e .line) n 0 → (k ≡ 0 → ⊥) → s ≡ sameType (typeOf t (k - 1)) (typeOf t a) → s ≡ true
+      → r .fits ≡ true → r .line ≡ set (e .line) n 0 → envView t r ≡ fitAll b (pvar n) (typeOf t a) (envView t e)
+  unfolding slots
+  assign-same b r q i z w y f l =
+      fitted-view t r f
+      ∙ ap some (ap (map (entryView t)) l ∙ map-set (entryView t) (e .line) n 0)
+      ∙ sym (used-known i z w ∙ ap (λ s. guard s >>= λ _. some (set slots n none)) y)
+      ∙ one false
+      ∙ ap (λ c. fitAll c (pvar n) (typeOf t a) (envView t e)) (sym q)
+
+  pub assign-other : (b : Bool) (r : Env) {k : ℕ} {s : Bool} → b ≡ false → k ≡ getD (e .line) n 0 → (k ≡ 0 → ⊥) → s ≡ sameType (typeOf t (k - 1)) (typeOf t a) → s ≡ false
+      → r .fits ≡ false → envView t r ≡ fitAll b (pvar n) (typeOf t a) (envView t e)
+  assign-other b r q i z w y f =
+      failed-view t r f
+      ∙ sym (used-known i z w ∙ ap (λ s. guard s >>= λ _. some (set slots n none)) y)
+      ∙ one false
+      ∙ ap (λ c. fitAll c (pvar n) (typeOf t a) (envView t e)) (sym q)
+
+-- ---- two nodes, by their kinds
+
+unit-misfit : (c : Bool) (k : ℕ) (a b : Ty) → (k ≡ 0 → ⊥) → (e : Slots Ty) → fitting c punit (typeNode k a b) e ≡ none
+unit-misfit c zero a b h e = absurd (h refl)
+unit-misfit true (suc zero) a b h e = refl
+unit-misfit true (suc (suc k)) a b h e = refl
+unit-misfit false (suc zero) a b h e = refl
+unit-misfit false (suc (suc k)) a b h e = refl
+
+tag-misfit : (c : Bool) {j : ℕ} → Injects j → (n : ℕ) (p q : Pat) (k : ℕ) (a b : Ty) → (k ≡ 1 → ⊥) → (e : Slots Ty) → fitting c (patternNode j n p q) (typeNode k a b) e ≡ none
+tag-misfit c i n p q (suc zero) a b h e = absurd (h refl)
+tag-misfit true lefts n p q zero a b h e = refl
+tag-misfit true lefts n p q (suc (suc k)) a b h e = refl
+tag-misfit true rights n p q zero a b h e = refl
+tag-misfit true rights n p q (suc (suc k)) a b h e = refl
+tag-misfit false lefts n p q zero a b h e = refl
+tag-misfit false lefts n p q (suc (suc k)) a b h e = refl
+tag-misfit false rights n p q zero a b h e = refl
+tag-misfit false rights n p q (suc (suc k)) a b h e = refl
+
+tag-fit : (c : Bool) {j : ℕ} → Injects j → (n : ℕ) (p q : Pat) (f : ℕ → Ty) (x : Option (Slots Ty)) → fitAll c p (f j) x ≡ fitAll c (patternNode j n p q) (tsum (f 2) (f 3)) x
+tag-fit true lefts n p q f x = refl
+tag-fit true rights n p q f x = refl
+tag-fit false lefts n p q f x = refl
+tag-fit false rights n p q f x = refl
+
+pair-misfit : (c : Bool) {j : ℕ} → Pairs j → (n : ℕ) (p q : Pat) (k : ℕ) (a b : Ty) → k < 2 → (e : Slots Ty) → fitting c (patternNode j n p q) (typeNode k a b) e ≡ none
+pair-misfit true (pairs j) n p q zero a b h e = refl
+pair-misfit true (pairs j) n p q (suc zero) a b h e = refl
+pair-misfit false (pairs j) n p q zero a b h e = refl
+pair-misfit false (pairs j) n p q (suc zero) a b h e = refl
+pair-misfit c (pairs j) n p q (suc (suc k)) a b h e = absurd (omega arith)
+
+-- the parts one after the other, in the order of the deed
+pair-bind : {j : ℕ} → Pairs j → (n : ℕ) (p q : Pat) (a b : Ty) (x : Option (Slots Ty)) → fitAll true q b (fitAll true p a x) ≡ fitAll true (patternNode j n p q) (tprod a b) x
+pair-bind (pairs j) n p q a b x = bind-assoc x (learn p a) (learn q b)
+
+pair-use : {j : ℕ} → Pairs j → (n : ℕ) (p q : Pat) (a b : Ty) (x : Option (Slots Ty)) → fitAll false p a (fitAll false q b x) ≡ fitAll false (patternNode j n p q) (tprod a b) x
+pair-use (pairs j) n p q a b x = bind-assoc x (spend q b) (spend p a)
+
+none-fits : (c : Bool) (P : Pat) (A : Ty) (x : Option (Slots Ty)) → ((e : Slots Ty) → fitting c P A e ≡ none) → none ≡ fitAll c P A x
+none-fits c P A none h = refl
+none-fits c P A (some e) h = sym (h e)
+
+-- ---- P line p of kind j on T line a of kind k
+
+module _ (t : List ℕ) (base p a : ℕ) (c : Bool) (x : Option (Slots Ty)) {j k : ℕ} (u : j ≡ cellOf t (base + p) 1) (v : k ≡ cellOf t a 1) where
+  kind : typeNode k (typeOf t (smallerOf (cellOf t a 2) a)) (typeOf t (smallerOf (cellOf t a 3) a)) ≡ typeOf t a
+  kind = ap (λ c. typeNode c (typeOf t (smallerOf (cellOf t a 2) a)) (typeOf t (smallerOf (cellOf t a 3) a))) v ∙ sym (type-node t a)
+
+  pub fit-unit : j ≡ 0 → k ≡ 0 → x ≡ fitAll c (patternOf t base p) (typeOf t a) x
+  fit-unit y z = same c ∙ sym (ap₂ (λ q b. fitAll c q b x) (pattern-unit t base p (sym u ∙ y)) (type-unit t a (sym v ∙ z)))
+    where
+      same : (c : Bool) → x ≡ fitAll c punit tunit x
+      same true = same-bind x
+      same false = same-bind x
+
+  pub fit-unit-not : {r : Option (Slots Ty)} → r ≡ none → j ≡ 0 → (k ≡ 0 → ⊥) → r ≡ fitAll c (patternOf t base p) (typeOf t a) x
+  fit-unit-not e y h =
+      e ∙ none-fits c punit _ x (unit-misfit c k _ _ h) ∙ ap₂ (λ q b. fitAll c q b x) (sym (pattern-unit t base p (sym u ∙ y))) kind
+
+  pub fit-var : {n : ℕ} {r : Option (Slots Ty)} → j ≡ 1 → n ≡ cellOf t (base + p) 2 → r ≡ fitAll c (pvar n) (typeOf t a) x
+      → r ≡ fitAll c (patternOf t base p) (typeOf t a) x
+  fit-var y i e = e ∙ ap (λ q. fitAll c q (typeOf t a) x) (ap pvar i ∙ sym (pattern-var t base p (sym u ∙ y)))
+
+  pub fit-tag-not : {r : Option (Slots Ty)} → r ≡ none → 2 ≤ j → j < 4 → (k ≡ 1 → ⊥) → r ≡ fitAll c (patternOf t base p) (typeOf t a) x
+  fit-tag-not e h l y =
+      e ∙ none-fits c _ _ x (tag-misfit c (injects j h l) _ _ _ k _ _ y) ∙ ap₂ (λ q b. fitAll c q b x) (opened t base p u) kind
+
+  pub fit-tag : {q b : ℕ} {r : Option (Slots Ty)} → 2 ≤ j → j < 4 → k ≡ 1 → q ≡ smallerOf (cellOf t (base + p) 2) p → b ≡ smallerOf (cellOf t a j) a
+      → r ≡ fitAll c (patternOf t base q) (typeOf t b) x → r ≡ fitAll c (patternOf t base p) (typeOf t a) x
+  fit-tag h l y s w e =
+      e
+      ∙ ap₂ (λ q b. fitAll c (patternOf t base q) (typeOf t b) x) s w
+      ∙ tag-fit c (injects j h l) _ _ _ (λ i. typeOf t (smallerOf (cellOf t a i) a)) x
+      ∙ ap₂ (λ q b. fitAll c q b x) (opened t base p u) (sym (type-sum t a (sym v ∙ y)))
+
+  pub fit-pair-not : {r : Option (Slots Ty)} → r ≡ none → 4 ≤ j → k < 2 → r ≡ fitAll c (patternOf t base p) (typeOf t a) x
+  fit-pair-not e h l =
+      e ∙ none-fits c _ _ x (pair-misfit c (paired j h) _ _ _ k _ _ l) ∙ ap₂ (λ q b. fitAll c q b x) (opened t base p u) kind
+
+  -- what field i of both lines names
+  abbrev fitField : Bool → ℕ → Option (Slots Ty) → Option (Slots Ty)
+  fitField c i x = fitAll c (patternOf t base (smallerOf (cellOf t (base + p) i) p)) (typeOf t (smallerOf (cellOf t a i) a)) x
+
+  in-turn : 4 ≤ j → 2 ≤ k → fitField c (cond c 3 2) (fitField c (cond c 2 3) x) ≡ fitAll c (patternOf t base p) (typeOf t a) x
+  in-turn h l = go c ∙ ap₂ (λ q b. fitAll c q b x) (opened t base p u) (sym (type-prod t a (omega arith)))
+    where
+      go : (c : Bool) → fitField c (cond c 3 2) (fitField c (cond c 2 3) x)
+          ≡ fitAll c (patternNode j (cellOf t (base + p) 2) (patternOf t base (smallerOf (cellOf t (base + p) 2) p)) (patternOf t base (smallerOf (cellOf t (base + p) 3) p)))
+          (tprod (typeOf t (smallerOf (cellOf t a 2) a)) (typeOf t (smallerOf (cellOf t a 3) a))) x
+      go true = pair-bind (paired j h) _ _ _ _ _ x
+      go false = pair-use (paired j h) _ _ _ _ _ x
+
+  pub fit-pair : {f g q b q′ b′ : ℕ} {m r : Option (Slots Ty)} → 4 ≤ j → 2 ≤ k → f ≡ cond c 2 3 → g ≡ cond c 3 2
+      → q ≡ smallerOf (cellOf t (base + p) f) p → b ≡ smallerOf (cellOf t a f) a → m ≡ fitAll c (patternOf t base q) (typeOf t b) x
+      → q′ ≡ smallerOf (cellOf t (base + p) g) p → b′ ≡ smallerOf (cellOf t a g) a → r ≡ fitAll c (patternOf t base q′) (typeOf t b′) m
+      → r ≡ fitAll c (patternOf t base p) (typeOf t a) x
+  fit-pair {q = q} {b} {q′} {b′} {m = m} h l ef eg s w e s′ w′ e′ =
+      e′
+      ∙ ap₂ (λ q b. fitAll c (patternOf t base q) (typeOf t b) m) (s′ ∙ ap (λ i. smallerOf (cellOf t (base + p) i) p) eg) (w′ ∙ ap (λ i. smallerOf (cellOf t a i) a) eg)
+      ∙ ap (fitField c (cond c 3 2)) (e ∙ ap₂ (λ q b. fitAll c (patternOf t base q) (typeOf t b) x) (s ∙ ap (λ i. smallerOf (cellOf t (base + p) i) p) ef) (w ∙ ap (λ i. smallerOf (cellOf t a i) a) ef))
+      ∙ in-turn h l
+
+-- ---- the recursion: the parts of a line, and from there the lines that it names
+
+pub parts-call : (i : ℕ) {m : ℕ} → 2 * i + 1 ≡ m → 2 * i < m
+parts-call i e = omega arith
+
+twice : {i j m : ℕ} → i < j → 2 * j ≡ m → 2 * i + 1 < m
+twice h e = omega arith
+
+pub part-call : (t : List ℕ) (base p i : ℕ) {k q m : ℕ} → 2 * rank p ≡ m → k ≡ cellOf t (base + p) 1 → 2 ≤ k → q ≡ smallerOf i p → 2 * rank q + 1 < m
+part-call t base p i r e h s = twice (pattern-call t base p i refl e h s) r
+
+-- what has failed stays failed
+pub fit-stopped : (t : List ℕ) (base p a : ℕ) (c : Bool) (e : Env) → e .fits ≡ false → envView t e ≡ fitAll c (patternOf t base p) (typeOf t a) (envView t e)
+fit-stopped t base p a c e h = failed-view t e h ∙ sym (ap (fitAll c (patternOf t base p) (typeOf t a)) (failed-view t e h))
+
+-- ---- once all is fitted
+
+entries-settled : (t l : List ℕ) → settledAll l ≡ allEmpty (map (entryView t) l)
+entries-settled t [] = refl
+entries-settled t (zero ∷ l) = entries-settled t l
+entries-settled t (suc k ∷ l) = ap (λ b. b && settledAll l) (not-eqb (suc-ne-zero k))
+
+-- all fitted, and no entry is live
+pub used-env : (t : List ℕ) (e : Env) → (e .fits && settledAll (e .line)) ≡ used (envView t e)
+used-env t e = go (e .fits)
+  where
+    go : (b : Bool) → (b && settledAll (e .line)) ≡ used (viewIf b (map (entryView t) (e .line)))
+    go true = entries-settled t (e .line)
+    go false = refl
+
+pub fits-and : {f b x : Bool} → f ≡ true → b ≡ x → b ≡ (f && x)
+fits-and {x = x} h q = q ∙ sym (ap (λ f. f && x) h)
+
+pub fails-and : {f : Bool} (x : Bool) → f ≡ false → false ≡ (f && x)
+fails-and x h = sym (ap (λ f. f && x) h)

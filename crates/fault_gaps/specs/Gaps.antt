@@ -1,0 +1,81 @@
+-- The counts of what no pattern matches, after some letters.
+use Prim.Native.Nat.{ℕ, _+_, _-_, _<_, _≤_}
+use mathlib.Core.Path.{_≡_}
+use mathlib.Core.Bool.{true, cond}
+use mathlib.Core.Option.{Option, none, some}
+use mathlib.Core.List.{List, [], _∷_, _++_, map, List·Memᴰ}
+use lib.Dec.{leb}
+use lib.ListN.{length, getD, drop}
+use Rattle.calculus.specs.Tools.{total}
+use Rattle.calculus.specs.Trees.{Ty, Pat, Val}
+use Rattle.calculus.specs.Letters.{letters}
+use Rattle.model.specs.Services.{written}
+use Rattle.calculus.specs.Paper.{Apart}
+use Rattle.law_witnesses.specs.Showing.{letterOn, never, setting}
+use Rattle.law_witnesses.specs.Shapes.{Side}
+use Rattle.law_witnesses.specs.Seeking.{howMany, ways, orZero, keep, alone, lacks, pick, gapWord}
+use Rattle.law_witnesses.proofs.Gaps.{Once}
+use Rattle.law_witnesses.proofs.Descent.{allChoices}
+use Rattle.fault_tallies.specs.Tallies.{modulus, lengths, Holds}
+use Rattle.fault_stacks.specs.Stacks.{Shapes, typesAlong, rowAlong}
+
+abbrev pub minusOf : ℕ → ℕ → ℕ
+minusOf x y = cond (leb y x) (x - y) (modulus - (y - x))
+
+pub record Takes (k o l : List ℕ) : Type 0 where
+  pub at : (j : ℕ) → j < lengths → getD l j 0 ≡ minusOf (getD k j 0) (getD o j 0)
+
+-- a row that is left after some letters fits the types
+abbrev pub Fitting : Option (List Pat) → List Ty → Type 0
+Fitting x ts = (row : List Pat) → x ≡ some row → Shapes row ts
+
+-- one row less
+pub record TakesRow (k l : List ℕ) (ts : List Ty) (x : Option (List Pat)) : Type 0 where
+  pub at : (W : ℕ → ℕ) → Fitting x ts → ((r : ℕ) → orZero (ways r ts) x ≤ W r) → Holds k W → Holds l (λ r. W r - orZero (ways r ts) x)
+
+-- what the rows match together
+abbrev pub matchedBy : ℕ → List Ty → List (List Pat) → ℕ
+matchedBy r ts rows = total (map (ways r ts) rows)
+
+-- all rows less, for patterns whose rows fit and match no more than there is
+pub record TakesAll (l : List ℕ) (w : List ℕ) (ts : List Ty) (ps : List Pat) : Type 0 where
+  pub at : ((p : Pat) → List·Memᴰ p ps → Fitting (rowAlong w (p ∷ [])) ts) → ((r : ℕ) → matchedBy r ts (keep (rowAlong w) (alone ps)) ≤ howMany r ts)
+      → Holds l (λ r. howMany r ts - matchedBy r ts (keep (rowAlong w) (alone ps)))
+
+-- the types still to come after some letters of a value of a type, and the rows of the patterns that begin so
+abbrev pub typesAt : Ty → List ℕ → List Ty
+typesAt a w = typesAlong w (a ∷ [])
+
+abbrev pub rowsAt : List Pat → List ℕ → List (List Pat)
+rowsAt ps w = keep (rowAlong w) (alone ps)
+
+-- no value is matched twice, the rows fit, and the counts are small
+pub record Good (a : Ty) (ps : List Pat) (w : List ℕ) : Type 0 where
+  pub once : Once (typesAt a w) (rowsAt ps w)
+  pub fits : (p : Pat) → List·Memᴰ p ps → Fitting (rowAlong w (p ∷ [])) (typesAt a w)
+  pub small : allChoices (typesAt a w) ≤ 63
+
+-- the letter that a gap with n letters more goes on with, after letters v, the next value being of type b; w is v and an L
+pub record Picks (a : Ty) (ps : List Pat) (w : List ℕ) (b : Ty) (n r : ℕ) : Type 0 where
+  pub at : (v : List ℕ) (ts : List Ty) → Good a ps v → w ≡ v ++ (76 ∷ []) → typesAt a v ≡ b ∷ ts → r ≡ letterOn (pick n b ts (rowsAt ps v) .0)
+
+-- what is asked: a good start, and a gap with n letters
+pub record Asked (a : Ty) (ps : List Pat) (n : ℕ) : Type 0 where
+  pub good : Good a ps []
+  pub lack : lacks n (a ∷ []) (rowsAt ps []) ≡ true
+
+-- what is written
+pub record Writes (a : Ty) (ps : List Pat) (out₀ out : List ℕ) (n : ℕ) : Type 0 where
+  pub at : Asked a ps n → out ≡ gapWord n (a ∷ []) (rowsAt ps []) ++ drop n out₀
+
+-- the first place whose count is not 0
+pub record FirstCount (k : List ℕ) (r : ℕ) : Type 0 where
+  pub before : (j : ℕ) → j < r → getD k j 0 ≡ 0
+  pub here : (r < 128 → getD k r 0 ≡ 0 → ⊥)
+  pub most : r ≤ 128
+
+-- "the value matched … by none (13, 14), with the fewest letters, the first in byte order among those": its letters and their number where there
+-- is one of at most 127 letters, for patterns that fit the type and are orthogonal; 128 elsewhere
+pub record GapValue (a : Ty) (ps : List Pat) (out₀ out : List ℕ) (r : ℕ) : Type 0 where
+  pub given : Side a ps → Apart ps → (v : Val) → setting a (never ps) ≡ some v → (r ≡ length (letters v)) × (out ≡ written (letters v) out₀)
+  pub nothing : Side a ps → Apart ps → setting a (never ps) ≡ none → (r ≡ 128) × (out ≡ out₀)

@@ -1,0 +1,98 @@
+-- The least value of a type: its length, and its letters written.
+use Prim.Native.Nat.{ℕ, _+_, _<_, _≤_, min}
+use native.Mathlib.Nat.{le-trans}
+use native.Mathlib.Omega.{arith}
+use mathlib.Core.Path.{_≡_, refl, sym, ap, ap₂, _∙_, subst}
+use mathlib.Core.Bool.{Bool, true, false, cond}
+use mathlib.Core.List.{List, [], _∷_, _++_}
+use lib.Dec.{leb}
+use lib.ListN.{length, length-append}
+use Rattle.limits.specs.Limits.{maxNodes}
+use Rattle.calculus.specs.Trees.{Ty, tunit, tsum, tprod, left, right, Val, vinj, vpair, typeNodes}
+use Rattle.calculus.specs.Letters.{letters}
+use Rattle.law_witnesses.specs.Seeking.{shorter, least}
+use Rattle.calculus.proofs.Basic.{leb-le, leb-false, le-leb, not-leb}
+use Rattle.model.proofs.Sizes.{of-small}
+use Rattle.law_witnesses.proofs.Overlaps.{least-of}
+use Rattle.area_cells.specs.Areas.{Writes}
+use Rattle.area_cells.proofs.Writing.{writes-both, writes-as}
+use Rattle.fault_meets.specs.Spelled.{SpellsLeast}
+
+abbrev pub size : Ty → ℕ
+size a = length (letters (least a))
+
+size-sum : (x y : Ty) → size (tsum x y) ≡ 1 + min (size x) (size y)
+size-sum x y = go (leb (size x) (size y)) refl
+  where
+    go : (b : Bool) → leb (size x) (size y) ≡ b → length (letters (cond b (vinj left (least x)) (vinj right (least y)))) ≡ 1 + min (size x) (size y)
+    go true e = let l = leb-le (size x) (size y) e in omega arith
+    go false e = let l = leb-false (size x) (size y) e in omega arith
+
+size-pair : (x y : Ty) → size (tprod x y) ≡ 1 + size x + size y
+size-pair x y = let e = length-append (letters (least x)) (letters (least y)) in omega arith
+
+pub length-unit : {a : Ty} → a ≡ tunit → 1 ≡ min 128 (size a)
+length-unit e = sym (ap (λ z. min 128 (size z)) e)
+
+pub length-left : {a x y : Ty} {m n r : ℕ} → a ≡ tsum x y → m ≡ min 128 (size x) → n ≡ min 128 (size y) → m ≤ n → r ≡ min 128 (1 + m + 0) → r ≡ min 128 (size a)
+length-left {a} {x} {y} e p q h c = let s = size-sum x y in capped (size x) (size y) p q h c ∙ ap (min 128) (sym s) ∙ sym (ap (λ z. min 128 (size z)) e)
+  where
+    capped : {m n r : ℕ} (u v : ℕ) → m ≡ min 128 u → n ≡ min 128 v → m ≤ n → r ≡ min 128 (1 + m + 0) → r ≡ min 128 (1 + min u v)
+    capped u v p q h c = omega arith
+
+pub length-right : {a x y : Ty} {m n r : ℕ} → a ≡ tsum x y → m ≡ min 128 (size x) → n ≡ min 128 (size y) → n < m → r ≡ min 128 (1 + n + 0) → r ≡ min 128 (size a)
+length-right {a} {x} {y} e p q h c = let s = size-sum x y in capped (size x) (size y) p q h c ∙ ap (min 128) (sym s) ∙ sym (ap (λ z. min 128 (size z)) e)
+  where
+    capped : {m n r : ℕ} (u v : ℕ) → m ≡ min 128 u → n ≡ min 128 v → n < m → r ≡ min 128 (1 + n + 0) → r ≡ min 128 (1 + min u v)
+    capped u v p q h c = omega arith
+
+pub length-pair : {a x y : Ty} {m n r : ℕ} → a ≡ tprod x y → m ≡ min 128 (size x) → n ≡ min 128 (size y) → r ≡ min 128 (1 + m + n) → r ≡ min 128 (size a)
+length-pair {a} {x} {y} e p q c = let s = size-pair x y in capped (size x) (size y) p q c ∙ ap (min 128) (sym s) ∙ sym (ap (λ z. min 128 (size z)) e)
+  where
+    capped : {m n r : ℕ} (u v : ℕ) → m ≡ min 128 u → n ≡ min 128 v → r ≡ min 128 (1 + m + n) → r ≡ min 128 (1 + u + v)
+    capped u v p q c = omega arith
+
+-- ---- the letters
+
+pub spells-unit : {a : Ty} {l l′ : List ℕ} {at end : ℕ} → a ≡ tunit → Writes l l′ at end (85 ∷ []) → SpellsLeast a l l′ at end
+spells-unit {l = l} {l′ = l′} {at = at} {end = end} e w = subst (λ z. SpellsLeast z l l′ at end) (sym e) (record { by = λ h. w })
+
+module _ {a x y : Ty} {l l₁ l₂ : List ℕ} {at next end : ℕ} where
+  pub spells-left : {m n : ℕ} → a ≡ tsum x y → m ≡ min 128 (size x) → n ≡ min 128 (size y) → m ≤ n → Writes l l₁ at next (76 ∷ []) → SpellsLeast x l₁ l₂ next end → SpellsLeast a l l₂ at end
+  spells-left {m} {n} e p q h w s = subst (λ z. SpellsLeast z l l₂ at end) (sym e) (record {
+    by = λ k.
+        let sx = of-small (least-of x) in
+        let sy = of-small (least-of y) in
+        let t : leb (size x) (size y) ≡ true = le-leb (test k sx sy) in
+        writes-as (ap (λ b. letters (cond b (vinj left (least x)) (vinj right (least y)))) (sym t)) (writes-both w (s .by (part k)));
+  })
+    where
+      test : typeNodes (tsum x y) ≤ maxNodes → size x ≤ typeNodes x → size y ≤ typeNodes y → size x ≤ size y
+      test k u v = omega arith
+
+      part : typeNodes (tsum x y) ≤ maxNodes → typeNodes x ≤ maxNodes
+      part k = omega arith
+
+  pub spells-right : {m n : ℕ} → a ≡ tsum x y → m ≡ min 128 (size x) → n ≡ min 128 (size y) → n < m → Writes l l₁ at next (82 ∷ []) → SpellsLeast y l₁ l₂ next end → SpellsLeast a l l₂ at end
+  spells-right {m} {n} e p q h w s = subst (λ z. SpellsLeast z l l₂ at end) (sym e) (record {
+    by = λ k.
+        let sx = of-small (least-of x) in
+        let sy = of-small (least-of y) in
+        let t : leb (size x) (size y) ≡ false = not-leb (test k sx sy) in
+        writes-as (ap (λ b. letters (cond b (vinj left (least x)) (vinj right (least y)))) (sym t)) (writes-both w (s .by (part k)));
+  })
+    where
+      test : typeNodes (tsum x y) ≤ maxNodes → size x ≤ typeNodes x → size y ≤ typeNodes y → size y < size x
+      test k u v = omega arith
+
+      part : typeNodes (tsum x y) ≤ maxNodes → typeNodes y ≤ maxNodes
+      part k = omega arith
+
+  pub spells-pair : {l₃ : List ℕ} {last : ℕ} → a ≡ tprod x y → Writes l l₁ at next (80 ∷ []) → SpellsLeast x l₁ l₂ next end → SpellsLeast y l₂ l₃ end last → SpellsLeast a l l₃ at last
+  spells-pair {l₃} {last} e w s u = subst (λ z. SpellsLeast z l l₃ at last) (sym e) (record { by = λ k. writes-both w (writes-both (s .by (first k)) (u .by (second k))) })
+    where
+      first : typeNodes (tprod x y) ≤ maxNodes → typeNodes x ≤ maxNodes
+      first k = omega arith
+
+      second : typeNodes (tprod x y) ≤ maxNodes → typeNodes y ≤ maxNodes
+      second k = omega arith

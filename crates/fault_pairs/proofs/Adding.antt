@@ -1,0 +1,120 @@
+-- One pair more.
+use Prim.Native.Nat.{ℕ, zero, suc, _+_, _-_, _<_, _≤_}
+use native.Mathlib.Nat.{le-trans}
+use native.Mathlib.Omega.{arith}
+use mathlib.Core.Path.{_≡_, refl, sym, ap, ap₂, _∙_, subst}
+use mathlib.Core.Logic.{_⊎_, inl, inr}
+use mathlib.Core.Bool.{Bool, true, false, cond, not, _||_, false≢true}
+use mathlib.Core.Option.{Option, none, some}
+use mathlib.Core.List.{List, [], _∷_, _++_}
+use lib.ListN.{length, take, drop}
+use lib.Seq.{sets, sets-eq, take-append-seam}
+use Rattle.limits.specs.Limits.{maxNodes}
+use Rattle.calculus.specs.Tools.{_>>=_}
+use Rattle.calculus.specs.Trees.{Ty, Tag, left, right, Pat, punit, pvar, pinj, ppair, Val, typeNodes, sameTag}
+use Rattle.calculus.specs.Letters.{letters}
+use Rattle.calculus.specs.Clauses.{clash}
+use Rattle.law_witnesses.specs.Shapes.{Shape}
+use Rattle.calculus.specs.Paper.{Of}
+use Rattle.law_witnesses.specs.Showing.{sooner}
+use Rattle.law_witnesses.specs.Seeking.{leastIn, meet, better, inBoth}
+use Rattle.calculus.proofs.Basic.{none≢some, some-inj, or-true}
+use Rattle.model.proofs.Sizes.{of-small}
+use Rattle.law_witnesses.proofs.Overlaps.{leastIn-of, meet-shape, meet-some}
+use Rattle.area_cells.specs.Areas.{Writes}
+use Rattle.check_overlap.specs.Comparison.{compare}
+use Rattle.check_overlap.proofs.Comparing.{compare-clash}
+use Rattle.fault_meets.specs.Spelled.{SpellsBoth}
+use Rattle.fault_pairs.specs.Pairs.{Stored, nothing, text, Adds}
+
+-- patterns that clash have no meet
+clash-none : (p q : Pat) → clash p q ≡ true → meet p q ≡ none
+clash-none punit q e = absurd (false≢true e)
+clash-none (pvar n) q e = absurd (false≢true e)
+clash-none (pinj s p) punit e = absurd (false≢true e)
+clash-none (pinj s p) (pvar m) e = absurd (false≢true e)
+clash-none (pinj left p) (pinj left q) e = ap (λ x. x >>= λ r. some (pinj left r)) (clash-none p q e)
+clash-none (pinj left p) (pinj right q) e = refl
+clash-none (pinj right p) (pinj left q) e = refl
+clash-none (pinj right p) (pinj right q) e = ap (λ x. x >>= λ r. some (pinj right r)) (clash-none p q e)
+clash-none (pinj s p) (ppair q r) e = absurd (false≢true e)
+clash-none (ppair p p′) punit e = absurd (false≢true e)
+clash-none (ppair p p′) (pvar m) e = absurd (false≢true e)
+clash-none (ppair p p′) (pinj t q) e = absurd (false≢true e)
+clash-none (ppair p p′) (ppair q q′) e = go (or-true (clash p q) (clash p′ q′) e) (clash-none p q) (clash-none p′ q′)
+  where
+    second : (x : Option Pat) → (x >>= λ r. none >>= λ r′. some (ppair r r′)) ≡ none
+    second none = refl
+    second (some r) = refl
+
+    go : (clash p q ≡ true) ⊎ (clash p′ q′ ≡ true) → (clash p q ≡ true → meet p q ≡ none) → (clash p′ q′ ≡ true → meet p′ q′ ≡ none)
+        → (meet p q >>= λ r. meet p′ q′ >>= λ r′. some (ppair r r′)) ≡ none
+    go (inl h) f g = ap (λ x. x >>= λ r. meet p′ q′ >>= λ r′. some (ppair r r′)) (f h)
+    go (inr h) f g = ap (λ x. meet p q >>= λ r. x >>= λ r′. some (ppair r r′)) (g h) ∙ second (meet p q)
+
+module _ {a : Ty} {p q : Pat} (out : List ℕ) (best : ℕ) where
+  pub adds-clash : compare p q .clash ≡ true → Adds a p q out out best best
+  adds-clash e =
+      let n : meet p q ≡ none = clash-none p q (sym (compare-clash p q) ∙ e) in
+      record { by = λ s s′ h x k. subst (λ y. Stored a (better y x) out best) (sym (ap (λ m. m >>= λ r. some (leastIn r a)) n)) k }
+
+-- the letters of the common
+pub record Tried (a : Ty) (p q : Pat) (common : List ℕ) (n : ℕ) : Type 0 where
+  pub by : Shape p a → Shape q a → typeNodes a ≤ maxNodes → (v : Val) × Of v a × (inBoth a p q ≡ some v) × (n ≡ length (letters v)) × (take n common ≡ letters v) × (n ≤ 127)
+
+pub tried : {a : Ty} {p q : Pat} {blank common : List ℕ} {n : ℕ} → compare p q .clash ≡ false → length blank ≡ 127 → SpellsBoth p q a blank common 0 n → Tried a p q common n
+tried {a} {p} {q} {blank} {common} {n} c e w = record { by = go }
+  where
+    go : Shape p a → Shape q a → typeNodes a ≤ maxNodes → (v : Val) × Of v a × (inBoth a p q ≡ some v) × (n ≡ length (letters v)) × (take n common ≡ letters v) × (n ≤ 127)
+    go s s′ h =
+        let m = meet-some s s′ (sym (compare-clash p q) ∙ c) in
+        let o = leastIn-of (meet-shape s s′ (m .0) (m .1)) in
+        let ws = w .by (m .0) s s′ (m .1) h in
+        let v = leastIn (m .0) a in
+        let l = le-trans (of-small o) h in
+        let room : 0 + length (letters v) ≤ length blank = omega arith in
+        let n-is : n ≡ length (letters v) = ws .place room ∙ plain (length (letters v)) in (
+          v,
+          o,
+          ap (λ x. x >>= λ r. some (leastIn r a)) (m .1),
+          n-is,
+          ap₂ take n-is (ws .area room ∙ sets-eq (letters v) blank 0 room) ∙ take-append-seam (letters v) (drop (0 + length (letters v)) blank),
+          omega arith,
+        )
+      where
+        plain : (k : ℕ) → 0 + k ≡ k
+        plain k = omega arith
+
+module _ {a : Ty} {p q : Pat} {common : List ℕ} {n : ℕ} (t : Tried a p q common n) where
+  pub adds-never : (out : List ℕ) (best : ℕ) → 127 < n → Adds a p q out out best best
+  adds-never out best h = record { by = λ s s′ k x y. let r = t .by s s′ k in let b = r .5 in absurd (omega arith) }
+
+  some-letters : (v : Val) → 0 < length (letters v)
+  some-letters Val.vunit = omega arith
+  some-letters (Val.vinj u v) = omega arith
+  some-letters (Val.vpair v w) = omega arith
+
+  pub adds-first : {out out′ : List ℕ} {best : ℕ} → best ≡ 0 → take n out′ ≡ take n common → Adds a p q out out′ best n
+  adds-first {out} {out′} {best} z e = record { by = λ s s′ k x y. let r = t .by s s′ k in go x y (r .0) (r .1) (r .2) (r .3) (e ∙ r .4) }
+    where
+      go : (x : Option Val) → Stored a x out best → (v : Val) → Of v a → inBoth a p q ≡ some v → n ≡ length (letters v) → take n out′ ≡ letters v → Stored a (better (inBoth a p q) x) out′ n
+      go none (nothing b) v o i l k = subst (λ y. Stored a (better y none) out′ n) (sym i) (text o l k)
+      go (some w) (text o′ b k′) v o i l k = let h = some-letters w in absurd (omega arith)
+
+  pub adds-old : {out : List ℕ} {best : ℕ} → (best ≡ 0 → ⊥) → true ≡ sooner (take best out) (take n common) → Adds a p q out out best best
+  adds-old {out} {best} z e = record { by = λ s s′ k x y. let r = t .by s s′ k in go x y (r .0) (r .2) (r .4) }
+    where
+      go : (x : Option Val) → Stored a x out best → (v : Val) → inBoth a p q ≡ some v → take n common ≡ letters v → Stored a (better (inBoth a p q) x) out best
+      go none (nothing b) v i k = absurd (z b)
+      go (some w) (text o b k′) v i k =
+          subst (λ y. Stored a (better y (some w)) out best) (sym i)
+          (subst (λ c. Stored a (cond c (some w) (some v)) out best) (e ∙ ap₂ sooner k′ k) (text o b k′))
+
+  pub adds-new : {out out′ : List ℕ} {best : ℕ} → (best ≡ 0 → ⊥) → false ≡ sooner (take best out) (take n common) → take n out′ ≡ take n common → Adds a p q out out′ best n
+  adds-new {out} {out′} {best} z e f = record { by = λ s s′ k x y. let r = t .by s s′ k in go x y (r .0) (r .1) (r .2) (r .3) (r .4) }
+    where
+      go : (x : Option Val) → Stored a x out best → (v : Val) → Of v a → inBoth a p q ≡ some v → n ≡ length (letters v) → take n common ≡ letters v → Stored a (better (inBoth a p q) x) out′ n
+      go none (nothing b) v o i l k = absurd (z b)
+      go (some w) (text o′ b k′) v o i l k =
+          subst (λ y. Stored a (better y (some w)) out′ n) (sym i)
+          (subst (λ c. Stored a (cond c (some w) (some v)) out′ n) (e ∙ ap₂ sooner k′ k) (text o l (f ∙ k)))

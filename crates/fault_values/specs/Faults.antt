@@ -1,0 +1,41 @@
+-- The rows of an iso's clauses as they are collected, and what shows the fault of a side.
+use Prim.Native.Nat.{ℕ, _≤_, _<_}
+use mathlib.Core.Path.{_≡_}
+use mathlib.Core.Bool.{true}
+use mathlib.Core.Option.{some}
+use mathlib.Core.List.{List, map}
+use lib.ListN.{length, drop}
+use Rattle.calculus.specs.Trees.{Ty, Pat}
+use Rattle.calculus.specs.Refusals.{Refusal, number}
+use Rattle.format.specs.Lines.{Row}
+use Rattle.format.specs.Unfold.{isosOf}
+use Rattle.calculus.specs.Clauses.{fault}
+use Rattle.model.specs.Services.{written}
+use Rattle.model.proofs.Files.{InForm}
+use Rattle.law_witnesses.specs.Showing.{sided, showing}
+use Rattle.table_trees.specs.InTable.{patternsAt}
+use Rattle.table_trees.specs.Walk.{FileIn, tailAt}
+use Rattle.fault_pairs.specs.Pairs.{OverlapValue}
+use Rattle.fault_gaps.specs.Gaps.{GapValue}
+use Rattle.fault_values.specs.declared.Clauses as C
+
+-- at row n: the C lines from there on that belong to an iso above, in 32 places, filled from the last
+pub record Collected (t : List ℕ) (base : ℕ) (rs : List Row) (n : ℕ) (c : C.Clauses) : Type 0 where
+  pub places : length (c .rows) ≡ 32
+  pub within : c .first ≤ 32
+  pub lefts : map (λ k. k .lhs) (tailAt rs n .clauses) ≡ patternsAt t base 1 (drop (c .first) (c .rows))
+  pub rights : map (λ k. k .rhs) (tailAt rs n .clauses) ≡ patternsAt t base 2 (drop (c .first) (c .rows))
+
+-- an iso from a to b with the left patterns ls and the right patterns rs, refused with this number
+pub record SideShown (n : ℕ) (a b : Ty) (ls rs : List Pat) (out₀ out : List ℕ) (r : ℕ) : Type 0 where
+  pub overlapLeft : n ≡ 11 → OverlapValue a ls out₀ out r
+  pub overlapRight : n ≡ 12 → OverlapValue b rs out₀ out r
+  pub gapLeft : n ≡ 13 → GapValue a ls out₀ out r
+  pub gapRight : n ≡ 14 → GapValue b rs out₀ out r
+
+-- a file whose first fault is at this line, with this number
+pub record FaultShown (t : List ℕ) (base lines n place : ℕ) (out₀ out : List ℕ) (r : ℕ) : Type 0 where
+  pub given : (s : List ℕ) (rs : List Row) (patterns : ℕ) → InForm s rs → FileIn t base patterns lines rs → (f : Refusal) → number f ≡ n
+      → fault (isosOf rs) ≡ some (f, place) → sided f ≡ true → (r ≡ length (showing s)) × (out ≡ written (showing s) out₀)
+  pub below : n < 11 → (r ≡ 0) × (out ≡ out₀)
+  pub above : 14 < n → (r ≡ 0) × (out ≡ out₀)

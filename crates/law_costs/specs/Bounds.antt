@@ -1,0 +1,64 @@
+-- Request 05: what the service answers for any bytes, areas and iso number, and what every lent area then holds.
+use Prim.Native.Nat.{ℕ, min}
+use mathlib.Core.Bool.{Bool, false}
+use mathlib.Core.Option.{Option, none, some}
+use mathlib.Core.List.{List}
+use lib.Dec.{ltb}
+use lib.ListN.{getD, getElem?}
+use Rattle.calculus.specs.Trees.{Iso}
+use Rattle.calculus.specs.Refusals.{Refusal, number, noIso}
+use Rattle.format.specs.Unfold.{isosOf}
+use Rattle.model.specs.Services.{Verdict, accepted, refused, verdict, tableAfter, workAfter, short, unless}
+use Rattle.law_costs.specs.Costs.{leastCosts, greatestCosts}
+
+-- the greatest number of 32 bits, and so the greatest budget
+abbrev pub maxCount : ℕ
+maxCount = 4294967295
+
+-- "Both stop at 4,294,967,295"
+abbrev pub stopped : ℕ → ℕ
+stopped n = min n maxCount
+
+-- "and a flag for each says when the number so reckoned is above that"
+abbrev pub over : ℕ → Bool
+over n = ltb maxCount n
+
+pub record Bounds : Type 0 where
+  pub number : ℕ
+  pub least : ℕ
+  pub greatest : ℕ
+  pub leastOver : Bool
+  pub greatestOver : Bool
+
+-- "a refusal gives 0 for both, unflagged"
+abbrev pub noBounds : Refusal → Bounds
+noBounds f = record { number = number f; least = 0; greatest = 0; leastOver = false; greatestOver = false }
+
+-- the answer where l and g are the numbers reckoned
+abbrev pub told : ℕ → ℕ → Bounds
+told l g = record { number = 0; least = stopped l; greatest = stopped g; leastOver = over l; greatestOver = over g }
+
+-- "for a given iso (15 if absent)"
+abbrev pub onIso : List Iso → ℕ → Option Iso → Bounds
+onIso os i none = noBounds noIso
+onIso os i (some o) = told (getD (leastCosts os) i 0) (getD (greatestCosts os) i 0)
+
+abbrev pub boundsOf : Verdict → ℕ → Bounds
+boundsOf (accepted rs) i = onIso (isosOf rs) i (getElem? (isosOf rs) i)
+boundsOf (refused f n) i = noBounds f
+
+unfoldable pub bounds : List ℕ → ℕ → Bounds
+unfolding verdict isosOf leastCosts greatestCosts
+bounds file i = boundsOf (verdict file) i
+
+-- the service
+pub record BoundsResult : Type 0 where
+  pub bounds : Bounds
+  pub table : List ℕ
+  pub work : List ℕ
+
+unfoldable pub boundsService : List ℕ → List ℕ → List ℕ → ℕ → BoundsResult
+unfolding bounds
+boundsService file table work i =
+    let v : Verdict = unless (short table work) (verdict file) in
+    record { bounds = boundsOf v i; table = tableAfter v table; work = workAfter v work }

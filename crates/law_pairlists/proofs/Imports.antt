@@ -1,0 +1,239 @@
+-- Request 07, pair lists in and out: an imported file is accepted and answers as its list says, its export is the list, and an exported iso's list
+-- pairs all settings of the two types.
+use Prim.Native.Nat.{ℕ, zero, suc, _+_, _*_, _≤_, _<_}
+use native.Mathlib.Nat.{le-trans, le-antisymm, add-zero, add-suc, suc-add, zero-add}
+use native.Mathlib.Omega.{arith}
+use mathlib.Core.Path.{_≡_, refl, sym, ap, ap₂, _∙_, subst}
+use mathlib.Core.Logic.{_⊎_, inl, inr, _↔_}
+use mathlib.Core.Bool.{Bool, true, false, cond, _||_, false≢true}
+use mathlib.Core.Option.{Option, none, some}
+use mathlib.Core.List.{List, [], _∷_, _++_, map, List·Memᴰ, List·Memᴰ·head, List·Memᴰ·tail, Memᴰ·map}
+use lib.Dec.{eqb, ltb, leb}
+use lib.ListN.{length, getElem?, take, length-map, length-append}
+use Rattle.limits.specs.Limits.{fieldBound, maxBytes, maxLines, maxClauses, maxPatterns, maxNodes, maxTags, maxPairs, exportLength, importLength}
+use Rattle.calculus.specs.Tools.{_>>=_, guard, total}
+use Rattle.calculus.specs.Trees.{Ty, Val, Iso, invert, typeNodes}
+use Rattle.calculus.specs.Refusals.{Kind, typeLine, patternLine, isoLine, clauseLine, letLine, Refusal, spent, noIso, ceiling, tooMany, badList}
+use Rattle.format.specs.Lines.{Row, fieldCount, lines, withoutReturns, decimal, print, printField, printRows}
+use Rattle.format.specs.Judge.{start}
+use Rattle.format.specs.Unfold.{isosOf}
+use Rattle.calculus.specs.Reduction.{reduce}
+use Rattle.law_ranking.specs.Numbering.{count, rank, unrank, Outcome, gives, fails, typesOf}
+use Rattle.model.specs.Services.{Verdict, accepted, refused, verdict, over}
+use Rattle.calculus.specs.Paper.{Of, Apart, Distinct, nobody, another, FileOk}
+use Rattle.calculus.specs.Clauses.{lefts, rights}
+use Rattle.law_pairlists.specs.PairLists.{pairLines, toOf, tosOf, pairsUp, listOf, settings, writePairs, fileRows, withinAll, writing, onList, onLines, onTypes, importRows, toFrom, upwards, onPairs, onExported, exportRows, exportOn, importOn}
+use Rattle.calculus.proofs.Basic.{bind-some, some-bind, none≢some, some-inj, some-pair, guard-true, true-guard, true-and, bool-cases, neither, le-leb, leb-le, ltb-false, not-ltb, eq-eqb, lt-ltb, mem-all, mem-index, index-mem, index-below, index-map, each-nil, each-cons}
+use Rattle.calculus.proofs.Letters.{inhabits-of, of-inhabits}
+use Rattle.format.proofs.Printing.{WellFormed, shown, printFields, length-print, length-printRows, lines-print, printed-reading, concat-lines}
+use Rattle.model.proofs.Files.{InForm, accepted-iff}
+use Rattle.calculus.proofs.Inverse.{reduce-inverse}
+use Rattle.model.proofs.Runs.{Good, results, preserves, GoodRows, good, good-invert, accepted-good}
+use Rattle.law_ranking.proofs.Outcomes.{fails≢gives, small-type}
+use Rattle.law_ranking.proofs.Numbering.{count-positive, rank-below, unrank-rank, unrank-inhabits, rank-unrank}
+use Rattle.law_pairlists.proofs.Rows.{length-snoc}
+use Rattle.law_pairlists.proofs.File.{SmallPair, SmallPattern, closed, closedIso, FileWritten, file-written, ceiling-of-patterns}
+use Rattle.law_pairlists.proofs.Iso.{Lists, firsts, seconds, closed-nodes, closed-tags, closed-ok, closed-run}
+use Rattle.law_pairlists.proofs.List.{Taken, pairs-taken, lefts-all, rights-all, settings-length, settings-at, tos-printed, tos-length, printed-tos, decimal-few, distinct-few, upFrom, pairs-room, twice-none}
+
+pub gives-inj : {A : Type 0} {x y : A} → _≡_ {A = Outcome A} (gives x) (gives y) → x ≡ y
+gives-inj e = cc
+
+-- ---- an import that is not refused
+
+pub record Imported (rs : List Row) (i j : ℕ) (list out : List ℕ) : Type 0 where
+  pub from : Ty
+  pub to : Ty
+  pub first : getElem? (typesOf rs) i ≡ some from
+  pub second : getElem? (typesOf rs) j ≡ some to
+  pub few : count from ≤ maxPairs
+  pub tos : List ℕ
+  pub reads : tosOf 0 (lines list) ≡ some tos
+  pub short : length (lines list) ≤ maxClauses
+  pub taken : Taken from to tos
+  pub within : withinAll start (fileRows from to (settings from to 0 tos)) ≡ true
+  pub bytes : out ≡ printRows (fileRows from to (settings from to 0 tos))
+
+module _ (rs : List Row) (i j : ℕ) (list out : List ℕ) where
+  module _ (a b : Ty) (p : getElem? (typesOf rs) i ≡ some a) (q : getElem? (typesOf rs) j ≡ some b) where
+    on-writing : count a ≤ maxPairs → length (lines list) ≤ maxClauses → (ts : List ℕ) → tosOf 0 (lines list) ≡ some ts → Taken a b ts
+        → (c : Bool) → withinAll start (fileRows a b (settings a b 0 ts)) ≡ c
+        → cond c (gives (printRows (fileRows a b (settings a b 0 ts)))) (fails (ceiling patternLine)) ≡ gives out → Imported rs i j list out
+    on-writing l m ts r t true w e =
+        record { from = a; to = b; first = p; second = q; few = l; tos = ts; reads = r; short = m; taken = t; within = w; bytes = sym (gives-inj e) }
+    on-writing l m ts r t false w e = absurd (fails≢gives e)
+
+    on-tos : count a ≤ maxPairs → length (lines list) ≤ maxClauses → (x : Option (List ℕ)) → listOf a b (lines list) ≡ x → onList a b x ≡ gives out
+        → Imported rs i j list out
+    unfolding listOf
+    on-tos l m none r e = absurd (fails≢gives e)
+    on-tos l m (some ts) r e =
+        let f = bind-some (tosOf 0 (lines list)) (λ us. guard (pairsUp a b us) >>= λ _. some us) r in
+        let g = bind-some (guard (pairsUp a b (f .0))) (λ _. some (f .0)) (f .2) in
+        let s = some-inj (g .2) in
+        on-writing l m ts (f .1 ∙ ap some s) (subst (Taken a b) s (pairs-taken a b (f .0) (guard-true (pairsUp a b (f .0)) (g .1))))
+        (withinAll start (fileRows a b (settings a b 0 ts))) refl e
+
+    on-short : count a ≤ maxPairs → (c : Bool) → ltb maxClauses (length (lines list)) ≡ c
+        → cond c (fails (ceiling clauseLine)) (onList a b (listOf a b (lines list))) ≡ gives out → Imported rs i j list out
+    on-short l true r e = absurd (fails≢gives e)
+    on-short l false r e = on-tos l (ltb-false maxClauses (length (lines list)) r) (listOf a b (lines list)) refl e
+
+    on-few : (c : Bool) → (ltb maxPairs (count a) || ltb maxPairs (count b)) ≡ c → cond c (fails tooMany) (onLines a b (lines list)) ≡ gives out
+        → Imported rs i j list out
+    on-few true r e = absurd (fails≢gives e)
+    on-few false r e =
+        let h = neither (ltb maxPairs (count a)) (ltb maxPairs (count b)) r in
+        on-short (ltb-false maxPairs (count a) (h .0)) (ltb maxClauses (length (lines list))) refl e
+
+  on-types : (x y : Option Ty) → getElem? (typesOf rs) i ≡ x → getElem? (typesOf rs) j ≡ y → onTypes x y (lines list) ≡ gives out → Imported rs i j list out
+  on-types none y p q e = absurd (fails≢gives e)
+  on-types (some a) none p q e = absurd (fails≢gives e)
+  on-types (some a) (some b) p q e = on-few a b p q (ltb maxPairs (count a) || ltb maxPairs (count b)) refl e
+
+  pub imported : importRows rs i j list ≡ gives out → Imported rs i j list out
+  unfolding importRows
+  imported = on-types (getElem? (typesOf rs) i) (getElem? (typesOf rs) j) refl refl
+
+-- ---- printed rows are short
+
+fields-short : (ns : List ℕ) → ((n : ℕ) → List·Memᴰ n ns → n < fieldBound) → length (printFields ns) ≤ length ns * 6
+fields-short [] h = omega arith
+fields-short (n ∷ ns) h =
+    let p = fields-short ns (λ m i. h m (List·Memᴰ·tail i)) in
+    let q = decimal-few 4 n (omega (arith, h n (List·Memᴰ·head refl))) in
+    let r = length-append (decimal n) (printFields ns) in
+    omega arith
+
+shown-short : (k : Kind) (x y z : ℕ) → x < fieldBound → y < fieldBound → z < fieldBound → length (printFields (shown (record { kind = k; x = x; y = y; z = z }))) ≤ 18
+shown-short typeLine x y z p q r = fields-short (x ∷ y ∷ z ∷ []) (each-cons (λ n. n < fieldBound) p (each-cons (λ n. n < fieldBound) q (each-cons (λ n. n < fieldBound) r (each-nil (λ n. n < fieldBound)))))
+shown-short patternLine x y z p q r = fields-short (x ∷ y ∷ z ∷ []) (each-cons (λ n. n < fieldBound) p (each-cons (λ n. n < fieldBound) q (each-cons (λ n. n < fieldBound) r (each-nil (λ n. n < fieldBound)))))
+shown-short isoLine x y z p q r = le-trans (fields-short (x ∷ y ∷ []) (each-cons (λ n. n < fieldBound) p (each-cons (λ n. n < fieldBound) q (each-nil (λ n. n < fieldBound))))) (omega arith)
+shown-short clauseLine x y z p q r = le-trans (fields-short (x ∷ y ∷ []) (each-cons (λ n. n < fieldBound) p (each-cons (λ n. n < fieldBound) q (each-nil (λ n. n < fieldBound))))) (omega arith)
+shown-short letLine x y z p q r = fields-short (x ∷ y ∷ z ∷ []) (each-cons (λ n. n < fieldBound) p (each-cons (λ n. n < fieldBound) q (each-cons (λ n. n < fieldBound) r (each-nil (λ n. n < fieldBound)))))
+
+rows-short : (rs : List Row) → ((r : Row) → List·Memᴰ r rs → WellFormed r) → total (map (λ r. length (print r)) rs) ≤ length rs * 20
+rows-short [] h = omega arith
+rows-short (r ∷ rs) h =
+    let w = h r (List·Memᴰ·head refl) in
+    let p = rows-short rs (λ q m. h q (List·Memᴰ·tail m)) in
+    let q = length-print r in
+    let s = shown-short (r .kind) (r .x) (r .y) (r .z) (w .x) (w .y) (w .z) in
+    omega arith
+
+not-over : (rs : List Row) → length rs ≤ 1311 → ((r : Row) → List·Memᴰ r rs → WellFormed r) → over (printRows rs) ≡ false
+unfolding over
+not-over rs l h =
+    let p = length-printRows rs in
+    let q = rows-short rs h in
+    let m : length (lines (printRows rs)) ≡ length rs = ap length (lines-print rs) ∙ length-map rs print in
+    ap₂ _||_ (not-ltb {m = maxBytes} {n = length (printRows rs)} (omega arith)) (not-ltb {m = maxLines} {n = length (lines (printRows rs))} (omega arith))
+
+-- ---- the imported file
+
+pub small-pairs : {a b : Ty} (cs : List (Val × Val)) → typeNodes a ≤ maxNodes → typeNodes b ≤ maxNodes → count a ≤ maxClauses → count b ≤ maxClauses
+    → Lists a (firsts cs) → Lists b (seconds cs) → (c : Val × Val) → List·Memᴰ c cs → SmallPair c
+small-pairs {a} {b} cs ha hb ca cb h k c m =
+    let p = h .typed (c .0) (Memᴰ·map (λ (d : Val × Val). d .0) m) in
+    let q = k .typed (c .1) (Memᴰ·map (λ (d : Val × Val). d .1) m) in
+    let pt = closed-tags p in
+    let qt = closed-tags q in
+    record { lhs = (le-trans (closed-nodes p) ha, omega arith); rhs = (le-trans (closed-nodes q) hb, omega arith) }
+
+module _ (a b : Ty) (ts : List ℕ) (ha : typeNodes a ≤ maxNodes) (hb : typeNodes b ≤ maxNodes) (l : length ts ≤ maxClauses) (t : Taken a b ts) where
+  pub small : (c : Val × Val) → List·Memᴰ c (settings a b 0 ts) → SmallPair c
+  small = let f = t .froms in let g = t .tos in small-pairs (settings a b 0 ts) ha hb (omega arith) (omega arith) (lefts-all t) (rights-all t)
+
+  few : length (settings a b 0 ts) ≤ maxClauses
+  few = let n = settings-length a b 0 ts in omega arith
+
+  -- "another ceiling passed in the writing": over 1,024 P lines
+  pub written-ceiling : (withinAll start (fileRows a b (settings a b 0 ts)) ≡ true) ↔ (length (writePairs (settings a b 0 ts) [] .patterns) ≤ maxPatterns)
+  written-ceiling = ceiling-of-patterns a b (settings a b 0 ts) ha hb small few
+
+  pub whole : length (writePairs (settings a b 0 ts) [] .patterns) ≤ maxPatterns → FileWritten a b (settings a b 0 ts) (fileRows a b (settings a b 0 ts))
+  whole = file-written a b (settings a b 0 ts) ha hb small few
+
+  -- "into an area of 65,536 bytes"
+  pub written-room : length (writePairs (settings a b 0 ts) [] .patterns) ≤ maxPatterns → length (printRows (fileRows a b (settings a b 0 ts))) ≤ importLength
+  written-room h =
+      let w = whole h in
+      let p = length-printRows (fileRows a b (settings a b 0 ts)) in
+      let q = rows-short (fileRows a b (settings a b 0 ts)) (w .formed) in
+      let r = w .few in
+      omega arith
+
+pub record Trades (a b : Ty) (ts : List ℕ) (out : List ℕ) : Type 0 where
+  pub rows : List Row
+  pub accepts : verdict out ≡ accepted rows
+  pub line : ℕ
+  pub isos : isosOf rows ≡ closedIso line a b (settings a b 0 ts) ∷ []
+
+-- what import writes is accepted, and its one iso has the two types
+pub written-accepted : (a b : Ty) (ts : List ℕ) → typeNodes a ≤ maxNodes → typeNodes b ≤ maxNodes → length ts ≤ maxClauses → Taken a b ts
+    → withinAll start (fileRows a b (settings a b 0 ts)) ≡ true → Trades a b ts (printRows (fileRows a b (settings a b 0 ts)))
+written-accepted a b ts ha hb l t w =
+    let cs : List (Val × Val) = settings a b 0 ts in
+    let rs : List Row = fileRows a b cs in
+    let h = whole a b ts ha hb l t (written-ceiling a b ts ha hb l t .0 w) in
+    record {
+      rows = rs;
+      accepts =
+          accepted-iff (printRows rs) rs .1 (
+            record { fits = not-over rs (h .few) (h .formed); reads = printed-reading (h .passes) (h .formed) },
+            subst FileOk (sym (h .isos)) (closed-ok (h .line) a b cs (lefts-all t) (rights-all t)),
+          );
+      line = h .line;
+      isos = h .isos;
+    }
+
+pub import-accepted : (file : List ℕ) (rs : List Row) → verdict file ≡ accepted rs → (i j : ℕ) (list out : List ℕ) (m : Imported rs i j list out)
+    → Trades (m .from) (m .to) (m .tos) out
+import-accepted file rs e i j list out m =
+    let n = tos-length 0 (lines list) (m .tos) (m .reads) in
+    let s = m .short in
+    subst (Trades (m .from) (m .to) (m .tos)) (sym (m .bytes))
+    (written-accepted (m .from) (m .to) (m .tos) (small-type file rs e i (m .from) (m .first)) (small-type file rs e j (m .to) (m .second)) (omega arith) (m .taken) (m .within))
+
+-- its run of setting k counts 1 and gives setting `to` of line k
+pub traded-run : (a b : Ty) (ts out : List ℕ) → Taken a b ts → (m : Trades a b ts out) → (k t : ℕ) → getElem? ts k ≡ some t
+    → reduce (isosOf (m .rows)) 0 (unrank a k) ≡ some (unrank b t, 1)
+traded-run a b ts out h m k t e =
+    ap (λ os. reduce os 0 (unrank a k)) (m .isos)
+    ∙ closed-run (m .line) a b (settings a b 0 ts) (lefts-all h) (unrank a k) (unrank b t)
+    (subst (λ n. List·Memᴰ (unrank a n, unrank b t) (settings a b 0 ts)) (zero-add k) (settings-at a b 0 ts k t e))
+
+-- ---- its export
+
+upwards-all : (f : ℕ → Option ℕ) (k : ℕ) (ts : List ℕ) → ((i t : ℕ) → getElem? ts i ≡ some t → f (k + i) ≡ some t) → upwards f k (length ts) ≡ some ts
+upwards-all f k [] h = refl
+upwards-all f k (t ∷ ts) h =
+    some-bind (λ u. upwards f (suc k) (length ts) >>= λ us. some (u ∷ us)) (ap f (sym (add-zero k)) ∙ h 0 t refl)
+    ∙ some-bind (λ us. some (t ∷ us)) (upwards-all f (suc k) ts (λ i u e. ap f (suc-add k i ∙ sym (add-suc k i)) ∙ h (suc i) u e))
+
+-- "Exporting an imported list with a budget of 1 or more gives the list"
+pub traded-export : (a b : Ty) (ts out : List ℕ) → Taken a b ts → count a ≤ maxPairs → (m : Trades a b ts out) → (budget : ℕ) → 1 ≤ budget
+    → exportRows (m .rows) 0 budget ≡ gives (pairLines 0 ts)
+unfolding exportRows
+traded-export a b ts out h l m budget p =
+    let os : List Iso = isosOf (m .rows) in
+    let o : Iso = closedIso (m .line) a b (settings a b 0 ts) in
+    ap (onExported os 0 budget) (ap (λ (z : List Iso). getElem? z 0) (m .isos))
+    ∙ ap (λ c. cond c (fails tooMany) (onPairs (upwards (toFrom os 0 o budget) 0 (count a)))) (not-ltb l)
+    ∙ ap onPairs (ap (upwards (toFrom os 0 o budget) 0) (sym (h .froms)) ∙ upwards-all (toFrom os 0 o budget) 0 ts each)
+  where
+    each : (i t : ℕ) → getElem? ts i ≡ some t → toFrom (isosOf (m .rows)) 0 (closedIso (m .line) a b (settings a b 0 ts)) budget (0 + i) ≡ some t
+    each i t e =
+        ap (toFrom (isosOf (m .rows)) 0 (closedIso (m .line) a b (settings a b 0 ts)) budget) (zero-add i)
+        ∙ some-bind (λ r. guard (leb (r .1) budget) >>= λ _. some (rank (r .0) b)) (traded-run a b ts out h m i t e)
+        ∙ some-bind (λ _. some (rank (unrank b t) b)) (true-guard (le-leb p))
+        ∙ ap some (rank-unrank b t (h .below t (index-mem ts i e)))
+
+pub import-export : (file : List ℕ) (rs : List Row) → verdict file ≡ accepted rs → (i j : ℕ) (list out : List ℕ) → importOn (verdict file) i j list ≡ gives out
+    → (budget : ℕ) → 1 ≤ budget → exportOn (verdict out) 0 budget ≡ gives (withoutReturns list)
+import-export file rs e i j list out g budget p =
+    let m = imported rs i j list out (ap (λ v. importOn v i j list) (sym e) ∙ g) in
+    let t = import-accepted file rs e i j list out m in
+    ap (λ v. exportOn v 0 budget) (t .accepts)
+    ∙ traded-export (m .from) (m .to) (m .tos) out (m .taken) (m .few) t budget p
+    ∙ ap gives (sym (tos-printed 0 (lines list) (m .tos) (m .reads)) ∙ ap withoutReturns (concat-lines list))

@@ -1,0 +1,209 @@
+-- Request 07: an iso of closed values, one clause a pair. Where each side lists all values of its type, each once, it keeps the rules of clause and iso,
+-- and each of its runs takes one application.
+use Prim.Native.Nat.{ℕ, zero, suc, _+_, _*_, _≤_, _<_}
+use native.Mathlib.Nat.{lt-irrefl, le-refl, suc-mul, mul-le-mul, mul-one}
+use native.Mathlib.Omega.{arith}
+use mathlib.Core.Path.{_≡_, refl, sym, ap, ap₂, _∙_, subst}
+use mathlib.Core.Logic.{_⊎_, inl, inr}
+use mathlib.Core.Bool.{Bool, true, false, cond, not, _&&_, true≢false, false≢true}
+use mathlib.Core.Option.{Option, none, some}
+use mathlib.Core.List.{List, [], _∷_, _++_, map, List·Memᴰ, List·Memᴰ·head, List·Memᴰ·tail, List·Memᴰ·not-nil, Memᴰ·map, Memᴰ·of-map, Memᴰ·cast}
+use lib.Dec.{eqb, ltb}
+use lib.ListN.{length, getElem?}
+use Rattle.calculus.specs.Tools.{_>>=_, guard, isSome, all, select}
+use Rattle.calculus.specs.Trees.{Ty, tunit, tsum, tprod, Tag, left, right, Pat, punit, pvar, pinj, ppair, Val, vunit, vinj, vpair, Let, Clause, Iso, vars, part, nodes, tags, typeNodes}
+use Rattle.calculus.specs.Slots.{Slots, empty, allEmpty}
+use Rattle.calculus.specs.Clauses.{Sigs, sigsOf, lefts, rights, events, history, deeds, binds, uses}
+use Rattle.calculus.specs.Reduction.{Call, bind, build, runClause, hits, only, apply, reduceTo, reduce}
+use Rattle.calculus.specs.Letters.{letters, inhabits}
+use Rattle.law_ranking.specs.Numbering.{count, rank, unrank}
+use Rattle.calculus.specs.Paper.{Of, Join, Fits, Chain, Linear, Alternate, BoundThenUsed, LetProducts, Orth, Apart, Matched, fill, Covers, ClauseOk, IsoOk, FileOk, Distinct, nobody, another}
+use Rattle.calculus.proofs.Basic.{bind-some, some-bind, none≢some, some-inj, true-guard, sameTag-refl, and-true, true-and, bool-cases, not-both, eqb-eq, eq-eqb, each-nil, each-cons, all-mem, mem-all, select-true, select-false, select-mem, is-false}
+use Rattle.calculus.proofs.Letters.{inhabits-of, of-inhabits}
+use Rattle.calculus.proofs.Slots.{length-empty, allEmpty-empty}
+use Rattle.calculus.proofs.Running.{run-clause, only-hit}
+use Rattle.calculus.proofs.Inverse.{reduce-unfold}
+use Rattle.law_ranking.proofs.Numbering.{count-positive, rank-below, unrank-rank, unrank-inhabits, rank-unrank}
+use Rattle.law_pairlists.proofs.File.{closed, closedClauses, closedIso}
+
+-- ---- closed patterns
+
+pub closed-vars : (v : Val) → vars (closed v) ≡ []
+closed-vars vunit = refl
+closed-vars (vinj t v) = closed-vars v
+closed-vars (vpair v w) = ap₂ _++_ (closed-vars v) (closed-vars w)
+
+join-none : (d : Slots Ty) → allEmpty d ≡ true → Join d d d
+join-none [] e = Join.done
+join-none (none ∷ d) e = Join.neither (join-none d e)
+join-none (some a ∷ d) e = absurd (false≢true e)
+
+-- a closed value's pattern fits its type with no variable
+pub closed-fits : {v : Val} {a : Ty} (d : Slots Ty) → allEmpty d ≡ true → Of v a → Fits d (closed v) a
+closed-fits d e Of.unit = Fits.unit e
+closed-fits d e (Of.inj h) = Fits.inj (closed-fits d e h)
+closed-fits d e (Of.pair h k) = Fits.pair (join-none d e) (closed-fits d e h) (closed-fits d e k)
+
+-- it matches the value
+pub closed-bind : (v : Val) (e : Slots Val) → bind (closed v) v e ≡ some e
+closed-bind vunit e = refl
+closed-bind (vinj t v) e = some-bind (λ _. bind (closed v) v e) (true-guard (sameTag-refl t)) ∙ closed-bind v e
+closed-bind (vpair v w) e = some-bind (λ d. bind (closed w) w d) (closed-bind v e) ∙ closed-bind w e
+
+pub closed-build : (v : Val) (e : Slots Val) → build (closed v) e ≡ some (v, e)
+closed-build vunit e = refl
+closed-build (vinj t v) e = some-bind (λ r. some (vinj t (r .0), r .1)) (closed-build v e)
+closed-build (vpair v w) e =
+    some-bind (λ r. build (closed v) (r .1) >>= λ s. some (vpair (s .0) (r .0), s .1)) (closed-build w e)
+    ∙ some-bind (λ s. some (vpair (s .0) w, s .1)) (closed-build v e)
+
+closed-fill : (χ : ℕ → Val) (v : Val) → fill χ (closed v) ≡ v
+closed-fill χ vunit = refl
+closed-fill χ (vinj t v) = ap (vinj t) (closed-fill χ v)
+closed-fill χ (vpair v w) = ap₂ vpair (closed-fill χ v) (closed-fill χ w)
+
+pub closed-matched : (v : Val) → Matched (closed v) v
+closed-matched v = record { choice = λ n. vunit; turns = closed-fill (λ n. vunit) v }
+
+-- values of a type are equal or not
+pub rank-inj : {v w : Val} {a : Ty} → Of v a → Of w a → rank v a ≡ rank w a → v ≡ w
+rank-inj {v} {w} {a} h k e = sym (unrank-rank v a (of-inhabits h)) ∙ ap (unrank a) e ∙ unrank-rank w a (of-inhabits k)
+
+pub equal-or-not : {v w : Val} {a : Ty} → Of v a → Of w a → (v ≡ w) ⊎ (v ≡ w → ⊥)
+equal-or-not {v} {w} {a} h k = go (bool-cases (eqb (rank v a) (rank w a)))
+  where
+    go : (eqb (rank v a) (rank w a) ≡ true) ⊎ (eqb (rank v a) (rank w a) ≡ false) → (v ≡ w) ⊎ (v ≡ w → ⊥)
+    go (inl e) = inl (rank-inj h k (eqb-eq (rank v a) (rank w a) e))
+    go (inr e) = inr (λ p. not-both (eq-eqb (ap (λ u. rank u a) p)) e)
+
+-- closed patterns of different values of a type are orthogonal
+pub closed-orth : {v w : Val} {a : Ty} → Of v a → Of w a → (v ≡ w → ⊥) → Orth (closed v) (closed w)
+closed-orth Of.unit Of.unit n = absurd (n refl)
+closed-orth (Of.inj {t = left} h) (Of.inj {t = left} k) n = Orth.under refl (closed-orth h k (λ e. n (ap (vinj left) e)))
+closed-orth (Of.inj {t = left} h) (Of.inj {t = right} k) n = Orth.leftRight
+closed-orth (Of.inj {t = right} h) (Of.inj {t = left} k) n = Orth.rightLeft
+closed-orth (Of.inj {t = right} h) (Of.inj {t = right} k) n = Orth.under refl (closed-orth h k (λ e. n (ap (vinj right) e)))
+closed-orth (Of.pair {v} {w} h k) (Of.pair {v = v′} {w = w′} h′ k′) n =
+    go (λ f. closed-orth h h′ f) (λ f. closed-orth k k′ f) (equal-or-not h h′)
+  where
+    go : ((v ≡ v′ → ⊥) → Orth (closed v) (closed v′)) → ((w ≡ w′ → ⊥) → Orth (closed w) (closed w′)) → (v ≡ v′) ⊎ (v ≡ v′ → ⊥)
+        → Orth (ppair (closed v) (closed w)) (ppair (closed v′) (closed w′))
+    go f g (inl e) = Orth.snd (g (λ d. n (ap₂ vpair e d)))
+    go f g (inr e) = Orth.fst (f e)
+
+-- ---- sizes
+
+product-above : {s t m n : ℕ} → s < m → t < n → s + t < m * n
+product-above {s} {t} {m} {n} h k =
+    let p : suc s * suc t ≤ m * n = mul-le-mul h k in
+    let q : suc s * suc t ≡ s * suc t + suc t = suc-mul s (suc t) in
+    let r : s * 1 ≤ s * suc t = mul-le-mul (le-refl s) (omega arith) in
+    omega arith
+
+pub closed-nodes : {v : Val} {a : Ty} → Of v a → nodes (closed v) ≤ typeNodes a
+closed-nodes Of.unit = omega arith
+closed-nodes (Of.inj {t = left} h) = let k = closed-nodes h in omega arith
+closed-nodes (Of.inj {t = right} h) = let k = closed-nodes h in omega arith
+closed-nodes (Of.pair h k) = let p = closed-nodes h in let q = closed-nodes k in omega arith
+
+-- fewer left and right nodes than its type has values: with 32 clauses no closed value passes the ceiling of 40
+pub closed-tags : {v : Val} {a : Ty} → Of v a → tags (closed v) < count a
+closed-tags Of.unit = omega arith
+closed-tags (Of.inj {t = left} {b = b} h) = let k = closed-tags h in let p = count-positive b in omega arith
+closed-tags (Of.inj {t = right} {a = a} h) = let k = closed-tags h in let p = count-positive a in omega arith
+closed-tags (Of.pair h k) = product-above (closed-tags h) (closed-tags k)
+
+-- ---- all values of a type, each once
+
+pub data Differ : List Val → Type 0 where
+  alone : Differ []
+  beside : {v : Val} {vs : List Val} → ((w : Val) → List·Memᴰ w vs → v ≡ w → ⊥) → Differ vs → Differ (v ∷ vs)
+
+pub record Lists (a : Ty) (vs : List Val) : Type 0 where
+  pub typed : (v : Val) → List·Memᴰ v vs → Of v a
+  pub differ : Differ vs
+  pub whole : (v : Val) → Of v a → List·Memᴰ v vs
+
+lists-apart : {a : Ty} (vs : List Val) → ((v : Val) → List·Memᴰ v vs → Of v a) → Differ vs → Apart (map closed vs)
+lists-apart [] t alone = Apart.alone
+lists-apart (v ∷ vs) t (beside h d) =
+    Apart.beside
+    (λ q m. let r = Memᴰ·of-map closed vs m in subst (Orth (closed v)) (r .2) (closed-orth (t v (List·Memᴰ·head refl)) (t (r .0) (List·Memᴰ·tail (r .1))) (h (r .0) (r .1))))
+    (lists-apart vs (λ w m. t w (List·Memᴰ·tail m)) d)
+
+lists-cover : {a : Ty} {vs : List Val} → Lists a vs → Covers a (map closed vs)
+lists-cover l v o = (closed v, Memᴰ·map closed (l .whole v o), closed-matched v)
+
+-- ---- the iso
+
+abbrev pub firsts : List (Val × Val) → List Val
+firsts cs = map (λ c. c .0) cs
+
+abbrev pub seconds : List (Val × Val) → List Val
+seconds cs = map (λ c. c .1) cs
+
+closed-lefts : (n : ℕ) (cs : List (Val × Val)) → map (λ (c : Clause). c .lhs) (closedClauses n cs) ≡ map closed (firsts cs)
+closed-lefts n [] = refl
+closed-lefts n (c ∷ cs) = ap (λ ps. closed (c .0) ∷ ps) (closed-lefts (suc n) cs)
+
+closed-rights : (n : ℕ) (cs : List (Val × Val)) → map (λ (c : Clause). c .rhs) (closedClauses n cs) ≡ map closed (seconds cs)
+closed-rights n [] = refl
+closed-rights n (c ∷ cs) = ap (λ ps. closed (c .1) ∷ ps) (closed-rights (suc n) cs)
+
+closed-clause : (sigs : Sigs) (a b : Ty) (n : ℕ) (v w : Val) → Of v a → Of w b
+    → ClauseOk sigs a b (record { line = n; lhs = closed v; lets = []; rhs = closed w })
+closed-clause sigs a b n v w h k =
+    record {
+      variables = λ m. subst (λ es. Alternate (history m es)) (sym no-events) Alternate.rest;
+      shapes = λ l m. absurd (List·Memᴰ·not-nil m);
+      types =
+          record {
+            context = empty Ty;
+            wide = length-empty Ty;
+            lhs = closed-fits (empty Ty) (allEmpty-empty Ty) h;
+            rest = Chain.value (closed-fits (empty Ty) (allEmpty-empty Ty) k);
+          };
+    }
+  where
+    no-events : events (record { line = n; lhs = closed v; lets = []; rhs = closed w }) ≡ []
+    no-events = ap₂ (λ xs ys. map (λ m. record { deed = binds; name = m }) xs ++ map (λ m. record { deed = uses; name = m }) ys) (closed-vars v) (closed-vars w)
+
+pub closed-clauses : (sigs : Sigs) (a b : Ty) (n : ℕ) (cs : List (Val × Val)) → ((v : Val) → List·Memᴰ v (firsts cs) → Of v a)
+    → ((v : Val) → List·Memᴰ v (seconds cs) → Of v b) → (c : Clause) → List·Memᴰ c (closedClauses n cs) → ClauseOk sigs a b c
+closed-clauses sigs a b n [] h k = each-nil (ClauseOk sigs a b)
+closed-clauses sigs a b n (c ∷ cs) h k =
+    each-cons (ClauseOk sigs a b) (closed-clause sigs a b n (c .0) (c .1) (h (c .0) (List·Memᴰ·head refl)) (k (c .1) (List·Memᴰ·head refl)))
+    (closed-clauses sigs a b (suc n) cs (λ v m. h v (List·Memᴰ·tail m)) (λ v m. k v (List·Memᴰ·tail m)))
+
+-- the judgements hold
+pub closed-ok : (n : ℕ) (a b : Ty) (cs : List (Val × Val)) → Lists a (firsts cs) → Lists b (seconds cs) → FileOk (closedIso n a b cs ∷ [])
+closed-ok n a b cs h k =
+    each-cons (IsoOk (sigsOf (closedIso n a b cs ∷ [])))
+    (record {
+      clauses = closed-clauses (sigsOf (closedIso n a b cs ∷ [])) a b (suc n) cs (h .typed) (k .typed);
+      leftsApart = subst Apart (sym (closed-lefts (suc n) cs)) (lists-apart (firsts cs) (h .typed) (h .differ));
+      rightsApart = subst Apart (sym (closed-rights (suc n) cs)) (lists-apart (seconds cs) (k .typed) (k .differ));
+      leftsCover = subst (Covers a) (sym (closed-lefts (suc n) cs)) (lists-cover h);
+      rightsCover = subst (Covers b) (sym (closed-rights (suc n) cs)) (lists-cover k);
+    })
+    (each-nil (IsoOk (sigsOf (closedIso n a b cs ∷ []))))
+
+-- ---- its runs
+
+mem-clause : (n : ℕ) (cs : List (Val × Val)) (v w : Val) → List·Memᴰ (v, w) cs
+    → (m : ℕ) × List·Memᴰ (record { line = m; lhs = closed v; lets = []; rhs = closed w }) (closedClauses n cs)
+mem-clause n (c ∷ cs) v w (List·Memᴰ·head e) =
+    (n, List·Memᴰ·head (ap (λ (d : Val × Val). record { line = n; lhs = closed (d .0); lets = []; rhs = closed (d .1) }) e))
+mem-clause n (c ∷ cs) v w (List·Memᴰ·tail m) = let r = mem-clause (suc n) cs v w m in (r .0, List·Memᴰ·tail (r .1))
+
+-- "one clause of closed values a pair": the run of a pair's first gives its second, with one application
+pub closed-run : (n : ℕ) (a b : Ty) (cs : List (Val × Val)) → Lists a (firsts cs) → (v w : Val) → List·Memᴰ (v, w) cs
+    → reduce (closedIso n a b cs ∷ []) 0 v ≡ some (w, 1)
+closed-run n a b cs h v w m =
+    let os : List Iso = closedIso n a b cs ∷ [] in
+    let r = mem-clause (suc n) cs v w m in
+    let c : Clause = record { line = r .0; lhs = closed v; lets = []; rhs = closed w } in
+    let ap-lefts = subst Apart (sym (closed-lefts (suc n) cs)) (lists-apart (firsts cs) (h .typed) (h .differ)) in
+    ap (λ f. f 0 v) (reduce-unfold os)
+    ∙ some-bind (λ d. runClause (reduceTo 0 os) d v) (only-hit v {c = c} (closedClauses (suc n) cs) ap-lefts (r .1) (ap isSome (closed-bind v (empty Val))))
+    ∙ run-clause (reduceTo 0 os) c v (closed-bind v (empty Val)) refl (closed-build w (empty Val)) (allEmpty-empty Val)

@@ -1,0 +1,80 @@
+-- Files from raw bytes, by the rule of today and by the former one. Each holds by computation.
+use Prim.Native.Nat.{ℕ}
+use Prim.Native.String.{String}
+use mathlib.Core.Path.{_≡_, refl}
+use mathlib.Core.List.{List, [], _∷_, _++_}
+use Rattle.model.specs.Desk.{desk, deskBy, filePart}
+use Rattle.model.specs.Cases.{bytes, prints, Case, AllHold}
+use Rattle.model.specs.Readings.{retyped}
+use Rattle.law_reuse.specs.Former.{former}
+
+-- what the desk program printed by the former rule
+abbrev pub formerly : List ℕ → List ℕ
+formerly bs = deskBy (former (filePart bs)) bs
+
+-- a swap of the two values of 1 + 1, and an iso that sends x through it to another x, and this one once more
+abbrev pub chained : List ℕ
+chained =
+    bytes "T,0,0,0\nT,1,0,0\nP,0,0,0\nP,2,0,0\nP,3,0,0\nP,1,0,0\nI,1,1\nC,1,2\nC,2,1\nI,1,1\nC,3,3\nL,3,0,3\nL,3,0,3\nQ,1,0,9,LU\nQ,1,1,9,RU\n"
+
+-- "it may have been used up earlier in the clause"; the former rule refused it
+used-again : (desk chained ≡ bytes "0,0\n0,3,LU\n0,3,RU\n") × (formerly chained ≡ bytes "8,11\n")
+unfolding desk former
+used-again = (refl, refl)
+
+-- "Each binding has its own type": accepted (`Readings.bound-again`), and refused by the former rule
+one-type : formerly retyped ≡ bytes "8,10\n"
+unfolding desk former
+one-type = refl
+
+-- "S without line 17 keeps its answer"
+abbrev pub fileSWithout17 : List ℕ
+fileSWithout17 =
+    bytes "T,0,0,0\nT,1,0,0\nT,2,1,1\nP,0,0,0\nP,2,0,0\nP,3,0,0\nP,1,0,0\nP,1,1,0\nP,4,1,3\nP,4,1,4\nP,4,2,3\nI,1,1\nC,1,2\nC,2,1\nI,2,2\nC,5,6\nC,7,7\n"
+
+keeps-answer : (desk fileSWithout17 ≡ bytes "8,16\n") × (formerly fileSWithout17 ≡ bytes "8,16\n")
+unfolding desk former
+keeps-answer = (refl, refl)
+
+-- Near misses, each with the one fault named, all 8 at line 13. Patterns: 0 is x, 1 is y, 2 is z, 3 is ⟨x, y⟩, 4 is ⟨x, x⟩, 5 is (), 6 is ⟨y, z⟩. Iso 0
+-- is the identity on the unit.
+abbrev nearMiss : String → Case
+nearMiss iso =
+    prints
+    (bytes "T,0,0,0\nT,2,0,0\nP,1,0,0\nP,1,1,0\nP,1,2,0\nP,4,0,1\nP,4,0,0\nP,0,0,0\nP,4,1,2\nI,0,0\nC,0,0\n" ++ bytes iso)
+    (bytes "8,13\n")
+
+-- bound while live, by the left pattern and a p, by two ps, by one p, by the left pattern alone
+abbrev pub boundLive : List Case
+boundLive =
+    nearMiss "I,1,0\nC,3,1\nL,1,0,0\n"
+    ∷ nearMiss "I,1,0\nC,3,2\nL,2,0,0\nL,2,0,1\n"
+    ∷ nearMiss "I,0,0\nC,0,0\nL,4,0,0\n"
+    ∷ nearMiss "I,1,0\nC,4,0\n"
+    ∷ []
+
+bound-live : AllHold boundLive
+unfolding desk
+bound-live = (refl, (refl, (refl, (refl, tt))))
+
+-- used while not live: twice by the right pattern, by a q and the right pattern, by two qs; by the q of the L line that binds it, by a q above that
+abbrev pub usedFree : List Case
+usedFree =
+    nearMiss "I,0,1\nC,0,4\n"
+    ∷ nearMiss "I,0,1\nC,0,3\nL,1,0,0\n"
+    ∷ nearMiss "I,0,1\nC,0,6\nL,1,0,0\nL,2,0,0\n"
+    ∷ nearMiss "I,0,1\nC,0,3\nL,1,0,1\n"
+    ∷ nearMiss "I,0,1\nC,0,3\nL,2,0,1\nL,1,0,2\n"
+    ∷ []
+
+used-free : AllHold usedFree
+unfolding desk
+used-free = (refl, (refl, (refl, (refl, (refl, tt)))))
+
+-- live at the end, bound by the left pattern, and bound again
+abbrev pub liveLast : List Case
+liveLast = nearMiss "I,1,0\nC,3,0\n" ∷ nearMiss "I,0,0\nC,0,5\nL,0,0,0\n" ∷ []
+
+live-last : AllHold liveLast
+unfolding desk
+live-last = (refl, (refl, tt))

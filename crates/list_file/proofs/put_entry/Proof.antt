@@ -1,0 +1,28 @@
+use Rattle.list_file.proofs.Printing.{entry-printed}
+use Rattle.format.specs.Code.{kindView}
+use borrow.Author.Needs.{needs}
+use Rattle.list_file.proofs.put_entry.Statement.{statement}
+use Rattle.list_file.proofs.put_entry.Tie as tie
+
+cell-requires : tie.Need-cell-requires
+cell-requires c κs = search needs
+
+cell-requires-2 : tie.Need-cell-requires-2
+cell-requires-2 c κs = search needs
+
+cell-requires-3 : tie.Need-cell-requires-3
+cell-requires-3 c κs = search needs
+
+put-row-requires : tie.Need-put-row-requires
+put-row-requires c κs = search needs
+
+same-length : tie.Need-same-length
+same-length c = search needs
+
+returns : tie.Need-returns
+returns c = let a = c .before .before .before .before .before .before .before .before .before .args in entry-printed (kindView (a .kind)) (a .s .now) (a .row) (c .before .before .before .before .before .cell .ensures) (c .before .before .before .before .cell2 .ensures) (c .before .before .before .cell3 .ensures) (c .before .before .put-row .ensures)
+
+pub put-entry-spec : {M : Type 1} → statement M
+put-entry-spec =
+    tie.close
+    (tie.spec cell-requires cell-requires-2 cell-requires-3 put-row-requires same-length returns)

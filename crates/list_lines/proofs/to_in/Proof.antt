@@ -1,0 +1,58 @@
+use Rattle.list_lines.proofs.Line.{no-from, other-from, no-to, to-there, no-end}
+use Rattle.read_fields.proofs.Fields.{value, wrong}
+use borrow.Author.Needs.{needs}
+use Rattle.list_lines.proofs.to_in.Statement.{statement}
+use Rattle.list_lines.proofs.to_in.Tie as tie
+
+number-requires : tie.Need-number-requires
+number-requires c κs = search needs
+
+enum-known-from : tie.Need-enum-known-from
+enum-known-from c = search needs
+
+enum-told : tie.Need-enum-told
+enum-told c = search needs
+
+returns : tie.Need-returns
+returns c = let s = c .before .before .before .before .args .s .now in no-from (c .before .before .before .before .args .k) s (wrong s (c .enum-told .given .1) (c .before .before .number .ensures))
+
+returns-2 : tie.Need-returns-2
+returns-2 c = let s = c .before .before .before .before .before .before .args .s .now in other-from (c .before .before .before .before .before .before .args .k) s (value s (c .before .before .from .given .1) (c .before .before .before .before .number .ensures)) (c .if1 .taken)
+
+field-requires : tie.Need-field-requires
+field-requires c κs = search needs
+
+enum-known-to : tie.Need-enum-known-to
+enum-known-to c = search needs
+
+enum-told-2 : tie.Need-enum-told-2
+enum-told-2 c = search needs
+
+returns-3 : tie.Need-returns-3
+returns-3 c = let s = c .before .before .before .before .before .before .before .before .before .args .s .now in no-to (c .before .before .before .before .before .before .before .before .before .args .k) s (value s (c .before .before .before .before .before .from .given .1) (c .before .before .before .before .before .before .before .number .ensures)) (c .before .before .before .if1 .left) (wrong s (c .enum-told2 .given .1) (c .before .before .field .ensures))
+
+ends-requires : tie.Need-ends-requires
+ends-requires c κs = search needs
+
+returns-4 : tie.Need-returns-4
+returns-4 c = let s = c .before .before .before .before .before .before .before .before .before .before .before .before .args .s .now in to-there (c .before .before .before .before .before .before .before .before .before .before .before .before .args .k) s (value s (c .before .before .before .before .before .before .before .before .from .given .1) (c .before .before .before .before .before .before .before .before .before .before .number .ensures)) (c .before .before .before .before .before .before .if1 .left) (value s (c .before .before .before .to .given .1) (c .before .before .before .before .before .field .ensures)) _ (c .before .ends .ensures) (c .if2 .taken)
+
+returns-5 : tie.Need-returns-5
+returns-5 c = let s = c .before .before .before .before .before .before .before .before .before .before .before .before .args .s .now in no-end (c .before .before .before .before .before .before .before .before .before .before .before .before .args .k) s (value s (c .before .before .before .before .before .before .before .before .from .given .1) (c .before .before .before .before .before .before .before .before .before .before .number .ensures)) (c .before .before .before .before .before .before .if1 .left) (value s (c .before .before .before .to .given .1) (c .before .before .before .before .before .field .ensures)) _ (c .before .ends .ensures) (c .if2 .left)
+
+pub to-in-spec : {M : Type 1} → statement M
+to-in-spec =
+    tie.close
+    (tie.spec
+    number-requires
+    enum-known-from
+    enum-told
+    returns
+    returns-2
+    field-requires
+    enum-known-to
+    enum-told-2
+    returns-3
+    ends-requires
+    returns-4
+    returns-5)

@@ -1,0 +1,127 @@
+// The tos of an iso's pairs: what the run of each setting of its from-type gives, as numbers.
+
+use area_parts::front;
+use area_words::narrow;
+use area_words::store_word;
+use format::is_refused;
+use number_values::rank_at;
+use number_values::unrank_at;
+use run_direction::place;
+use runner::run::Ran;
+use runner::run::run_checked;
+use table_trees::cell;
+ghost use mathlib.Core.Path.{_≡_};
+ghost use mathlib.Core.Bool.{false};
+ghost use mathlib.Core.List.{List};
+ghost use Prim.Native.Nat.{_≤_, _<_};
+ghost use lib.ListN.{length};
+ghost use Rattle.calculus.specs.Trees.{Iso};
+ghost use Rattle.format.specs.Lines.{Row as RowOf};
+ghost use Rattle.format.specs.Unfold.{isosOf};
+ghost use Rattle.calculus.specs.Letters.{letters};
+ghost use Rattle.law_ranking.specs.Numbering.{count, unrank};
+ghost use Rattle.law_pairlists.specs.PairLists.{toFrom};
+ghost use Rattle.table_trees.specs.Unfolding.{cellOf};
+ghost use Rattle.run_index.specs.Index.{placeAt};
+ghost use Rattle.runner.specs.RunSays.{answerFor, RanAs};
+ghost use Rattle.list_targets.specs.Targets.{Runnable, Stores, Found};
+
+// Field k of the I row of iso i, as the index finds it.
+pub fn iso_cell(t: &[u16], index: &[u16], i: usize, k: usize) -> usize
+    ensures { λ r. ⌜ r ≡ cellOf (now (t .entry)) (placeAt (now (index .entry)) (placeAt (now (index .entry)) i)) k ⌝ }
+{
+    cell(t, place(index, place(index, i)), k)
+}
+
+// Runs iso i on the setting of its from-type with number k, within the budget.
+fn run_setting(
+    t: &[u16],
+    base: usize,
+    index: &[u16],
+    isos: usize,
+    i: usize,
+    k: usize,
+    budget: u32,
+    work: &mut [u8],
+    result: &mut [u8],
+) -> Ran
+    ensures { λ r. ⌜
+        ((rs : List RowOf) (o : Iso) → Runnable (now (t .entry)) base (now (index .entry)) isos rs i o
+        → k < count (o .from) → 40960 ≤ length (now (work .entry)) → length (now (work .entry)) ≤ 65536
+        → 127 ≤ length (now (result .entry))
+        → RanAs (answerFor rs i false budget (letters (unrank (o .from) k))) (now (result .entry))
+        (now (result .exit)) r)
+        ⌝ }
+{
+    let mut value = [0u8; 127];
+    let n = unrank_at(t, iso_cell(t, index, i, 1), k, &mut value, 0);
+    run_checked(
+        t,
+        base,
+        index,
+        isos,
+        i,
+        false,
+        budget,
+        front(&value, n),
+        work,
+        result,
+    )
+}
+
+// Stores the to of pair k; false, and nothing stored, where its run passes the budget.
+fn find_to(
+    t: &[u16],
+    base: usize,
+    index: &[u16],
+    isos: usize,
+    i: usize,
+    k: usize,
+    budget: u32,
+    work: &mut [u8],
+    tos: &mut [u16],
+) -> bool
+    ensures { λ r. ⌜
+        ((rs : List RowOf) (o : Iso) → Runnable (now (t .entry)) base (now (index .entry)) isos rs i o
+        → k < count (o .from) → 40960 ≤ length (now (work .entry)) → length (now (work .entry)) ≤ 65536
+        → Stores (toFrom (isosOf rs) i o budget k) k (now (tos .entry)) (now (tos .exit)) r)
+        ⌝ }
+{
+    let mut result = [0u8; 127];
+    let r = run_setting(t, base, index, isos, i, k, budget, work, &mut result);
+    let f = r.refusal;
+    if is_refused(f) {
+        return false;
+    }
+    let x = rank_at(t, iso_cell(t, index, i, 2), &result, 0);
+    store_word(tos, k, narrow(x.number));
+    true
+}
+
+// Stores the tos of the first n pairs of iso i; false where some pair's run passes the budget.
+pub fn find_tos(
+    t: &[u16],
+    base: usize,
+    index: &[u16],
+    isos: usize,
+    i: usize,
+    n: usize,
+    budget: u32,
+    work: &mut [u8],
+    tos: &mut [u16],
+) -> bool
+    ensures { λ r. ⌜
+        ((rs : List RowOf) (o : Iso) → Runnable (now (t .entry)) base (now (index .entry)) isos rs i o
+        → n ≤ count (o .from) → n ≤ length (now (tos .entry)) → 40960 ≤ length (now (work .entry))
+        → length (now (work .entry)) ≤ 65536 → Found rs i o budget n (now (tos .exit)) r)
+        ⌝ }
+{
+    let mut k: usize = 0;
+    while k < n {
+        if !find_to(t, base, index, isos, i, k, budget, work, tos) {
+            return false;
+        }
+        k += 1;
+    }
+    true
+}

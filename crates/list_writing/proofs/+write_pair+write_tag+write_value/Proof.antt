@@ -1,0 +1,112 @@
+-- The recursion of `list_writing::write_value`, `write_tag` and `write_pair` meets its contract. The measure is twice the T line's rank; of two
+-- lines one more than twice the higher rank.
+use borrow.Author.Needs.{needs}
+use mathlib.Core.Path.{sym, _∙_, subst}
+use Rattle.table_trees.specs.Unfolding.{typeOf}
+use Rattle.table_trees.proofs.Unfolding.{rank, type-unit}
+use Rattle.number_values.proofs.Counting.{counted-some}
+use Rattle.number_values.proofs.Lines.{line-sum, line-product, one-not, both, parts-call, left-call, right-call}
+use Rattle.list_writing.specs.Writing.{ValueDone}
+use Rattle.list_writing.proofs.Following.{value-unit, value-left, value-right, value-pair}
+use Prim.Native.Nat.{ℕ, _*_, _<_}
+use borrow.Fn.Kinds.{In}
+use borrow.Fn.PlainCycle.{Measures, is, falls, and}
+use Rattle.list_writing.proofs.write_pair.Reads as write-pair
+use Rattle.list_writing.proofs.write_pair.Kinds as write-pair-kinds
+use Rattle.list_writing.proofs.+write_pair+write_tag+write_value.Lts-write_pair as write-pair-lts
+use Rattle.list_writing.proofs.write_tag.Reads as write-tag
+use Rattle.list_writing.proofs.write_tag.Kinds as write-tag-kinds
+use Rattle.list_writing.proofs.+write_pair+write_tag+write_value.Lts-write_tag as write-tag-lts
+use Rattle.list_writing.proofs.write_value.Reads as write-value
+use Rattle.list_writing.proofs.write_value.Kinds as write-value-kinds
+use Rattle.list_writing.proofs.+write_pair+write_tag+write_value.Lts-write_value as write-value-lts
+use Rattle.list_entries.proofs.enter_entry.Reads as enter-entry-reads
+use Rattle.table_trees.proofs.cell.Reads as cell-reads
+use Rattle.table_trees.proofs.smaller.Reads as smaller-reads
+use Rattle.number_values.proofs.count_values.Reads as count-values-reads
+use Rattle.list_writing.proofs.+write_pair+write_tag+write_value.{statement}
+use Rattle.list_writing.proofs.+write_pair+write_tag+write_value.Tie.{close}
+
+abbrev μ-write-pair : Measures 2 write-pair-kinds.ps ℕ
+μ-write-pair κs a = both (a .1 .0) (a .1 .1 .0)
+
+abbrev μ-write-tag : Measures 2 write-tag-kinds.ps ℕ
+μ-write-tag κs a = both (a .1 .0) (a .1 .1 .0)
+
+abbrev μ-write-value : Measures 2 write-value-kinds.ps ℕ
+μ-write-value κs a = 2 * rank (a .1 .0)
+
+abbrev write-pair-at : ℕ → In 2 write-pair-kinds.ps
+write-pair-at t =
+    and 2 write-pair-kinds.ps (is 2 write-pair-kinds.ps μ-write-pair t) write-pair.Pre
+
+abbrev write-pair-below : ℕ → In 2 write-pair-kinds.ps
+write-pair-below t =
+    and 2 write-pair-kinds.ps (falls 2 write-pair-kinds.ps _<_ μ-write-pair t) write-pair.Pre
+
+abbrev write-tag-at : ℕ → In 2 write-tag-kinds.ps
+write-tag-at t = and 2 write-tag-kinds.ps (is 2 write-tag-kinds.ps μ-write-tag t) write-tag.Pre
+
+abbrev write-tag-below : ℕ → In 2 write-tag-kinds.ps
+write-tag-below t =
+    and 2 write-tag-kinds.ps (falls 2 write-tag-kinds.ps _<_ μ-write-tag t) write-tag.Pre
+
+abbrev write-value-at : ℕ → In 2 write-value-kinds.ps
+write-value-at t =
+    and 2 write-value-kinds.ps (is 2 write-value-kinds.ps μ-write-value t) write-value.Pre
+
+abbrev write-value-below : ℕ → In 2 write-value-kinds.ps
+write-value-below t =
+    and 2 write-value-kinds.ps (falls 2 write-value-kinds.ps _<_ μ-write-value t) write-value.Pre
+
+abbrev ks-write-pair : ℕ → write-pair-lts.Claims
+ks-write-pair t = (count-values-reads.Asked, count-values-reads.Learnt, write-value-below t, write-value.Post, enter-entry-reads.Asked, enter-entry-reads.Learnt)
+
+abbrev ks-write-tag : ℕ → write-tag-lts.Claims
+ks-write-tag t = (count-values-reads.Asked, count-values-reads.Learnt, write-value-below t, write-value.Post, enter-entry-reads.Asked, enter-entry-reads.Learnt)
+
+abbrev ks-write-value : ℕ → write-value-lts.Claims
+ks-write-value t = (cell-reads.Asked, cell-reads.Learnt, smaller-reads.Asked, smaller-reads.Learnt, enter-entry-reads.Asked, enter-entry-reads.Learnt, write-tag-below t, write-tag.Post, write-pair-below t, write-pair.Post)
+
+pub +write-pair+write-tag+write-value-spec : {M : Type 1} → statement M
++write-pair+write-tag+write-value-spec =
+    close μ-write-pair μ-write-tag μ-write-value (λ t. write-pair-lts.spec (ks-write-pair t)
+    (write-pair-at t)
+    write-pair.Post
+    (λ c κs. search needs)
+    (λ c. counted-some (typeOf (c .before .before .before .args .t .now) (c .before .before .before .args .right)) (c .count-values .ensures))
+    (λ c κs. (left-call (c .before .before .before .before .args .left) (c .before .before .before .before .args .right) (c .before .before .before .before .pre .0), tt))
+    (λ c. counted-some (typeOf (c .before .before .before .before .before .before .before .args .t .now) (c .before .before .before .before .before .before .before .args .right)) (c .before .before .before .before .count-values .ensures))
+    (λ c κs. (right-call (c .before .before .before .before .before .before .before .before .args .left) (c .before .before .before .before .before .before .before .before .args .right) (c .before .before .before .before .before .before .before .before .pre .0), tt))
+    (λ c κs. search needs)
+    (λ c. search needs)
+    (λ c. value-pair (c .before .before .before .before .before .before .before .before .before .before .before .before .before .before .before .args .n) (typeOf (c .before .before .before .before .before .before .before .before .before .before .before .before .before .before .before .args .t .now) (c .before .before .before .before .before .before .before .before .before .before .before .before .before .before .before .args .left)) (typeOf (c .before .before .before .before .before .before .before .before .before .before .before .before .before .before .before .args .t .now) (c .before .before .before .before .before .before .before .before .before .before .before .before .before .before .before .args .right)) (c .before .before .before .before .before .before .before .before .before .before .before .before .count-values .ensures) (c .before .before .before .before .before .before .before .before .before .before .write-value .ensures) (c .before .before .before .before .before .before .write-value2 .ensures) (c .before .before .enter-entry .ensures)))
+    (λ t. write-tag-lts.spec (ks-write-tag t)
+    (write-tag-at t)
+    write-tag.Post
+    (λ c κs. search needs)
+    (λ c κs. (left-call (c .before .before .before .before .before .args .left) (c .before .before .before .before .before .args .right) (c .before .before .before .before .before .pre .0), tt))
+    (λ c κs. search needs)
+    (λ c. search needs)
+    (λ c. value-left (c .before .before .before .before .before .before .before .before .before .before .before .before .args .n) (typeOf (c .before .before .before .before .before .before .before .before .before .before .before .before .args .t .now) (c .before .before .before .before .before .before .before .before .before .before .before .before .args .left)) (typeOf (c .before .before .before .before .before .before .before .before .before .before .before .before .args .t .now) (c .before .before .before .before .before .before .before .before .before .before .before .before .args .right)) (c .before .before .before .before .before .before .before .before .before .count-values .ensures) (c .before .before .before .before .before .before .before .before .if1 .taken) (c .before .before .before .before .before .before .write-value .ensures) (c .before .before .enter-entry .ensures))
+    (λ c κs. (right-call (c .before .before .before .before .before .args .left) (c .before .before .before .before .before .args .right) (c .before .before .before .before .before .pre .0), tt))
+    (λ c κs. search needs)
+    (λ c. search needs)
+    (λ c. value-right (c .before .before .before .before .before .before .before .before .before .before .before .before .args .n) (typeOf (c .before .before .before .before .before .before .before .before .before .before .before .before .args .t .now) (c .before .before .before .before .before .before .before .before .before .before .before .before .args .left)) (typeOf (c .before .before .before .before .before .before .before .before .before .before .before .before .args .t .now) (c .before .before .before .before .before .before .before .before .before .before .before .before .args .right)) (c .before .before .before .before .before .before .before .before .before .count-values .ensures) (c .before .before .before .before .before .before .before .before .if1 .left) (c .before .before .before .before .before .before .write-value2 .ensures) (c .before .before .enter-entry2 .ensures)))
+    λ t. write-value-lts.spec (ks-write-value t)
+    (write-value-at t)
+    write-value.Post
+    (λ c κs. search needs)
+    (λ c κs. search needs)
+    (λ c κs. search needs)
+    (λ c κs. search needs)
+    (λ c κs. search needs)
+    (λ c κs. search needs)
+    (λ c κs. (parts-call (c .before .before .before .before .before .before .before .before .before .args .t .now) (c .before .before .before .before .before .before .before .before .before .args .i) (c .before .before .before .before .before .before .cell .result) (c .before .before .before .before .cell2 .result) (c .before .before .before .before .before .before .before .before .before .pre .0) (c .before .before .cell3 .ensures .0) (one-not (c .before .match .keys2)) (c .before .before .before .before .before .smaller .ensures) (c .before .before .before .smaller2 .ensures), tt))
+    (λ c κs. (parts-call (c .before .before .before .before .before .before .before .before .before .args .t .now) (c .before .before .before .before .before .before .before .before .before .args .i) (c .before .before .before .before .before .before .cell .result) (c .before .before .before .before .cell2 .result) (c .before .before .before .before .before .before .before .before .before .pre .0) (c .before .before .cell3 .ensures .0) (c .before .match .rest .0 .1) (c .before .before .before .before .before .smaller .ensures) (c .before .before .before .smaller2 .ensures), tt))
+    (λ c. search needs)
+    (λ c. subst (λ x. ValueDone x (c .before .before .before .before .before .before .before .before .before .before .before .before .args .n) (c .before .before .before .before .before .before .before .before .before .before .before .before .args .s .now) (c .before .before .enter-entry .last .0) (c .before .before .before .before .before .before .before .before .before .before .before .before .args .to) (c .before .before .enter-entry .result .number) (c .before .before .enter-entry .result .end)) (sym (type-unit (c .before .before .before .before .before .before .before .before .before .before .before .before .args .t .now) (c .before .before .before .before .before .before .before .before .before .before .before .before .args .i) (sym (c .before .before .before .before .before .cell3 .ensures .0) ∙ c .before .before .before .before .match .keys1))) (value-unit (c .before .before .enter-entry .ensures)))
+    (λ c. search needs)
+    (λ c. subst (λ x. ValueDone x (c .before .before .before .before .before .before .before .before .before .before .before .before .args .n) (c .before .before .before .before .before .before .before .before .before .before .before .before .args .s .now) (c .before .before .write-tag .last .1 .1 .1 .1 .0) (c .before .before .before .before .before .before .before .before .before .before .before .before .args .to) (c .before .before .write-tag .result .number) (c .before .before .write-tag .result .end)) (sym (line-sum (c .before .before .before .before .before .before .before .before .before .before .before .before .args .t .now) (c .before .before .before .before .before .before .before .before .before .before .before .before .args .i) (c .before .before .before .before .before .cell3 .ensures .0) (c .before .before .before .before .before .before .before .before .before .cell .ensures .0) (c .before .before .before .before .before .before .before .before .smaller .ensures) (c .before .before .before .before .before .before .before .cell2 .ensures .0) (c .before .before .before .before .before .before .smaller2 .ensures) (c .before .before .before .before .match .keys2))) (c .before .before .write-tag .ensures))
+    (λ c. search needs)
+    (λ c. subst (λ x. ValueDone x (c .before .before .before .before .before .before .before .before .before .before .before .before .args .n) (c .before .before .before .before .before .before .before .before .before .before .before .before .args .s .now) (c .before .before .write-pair .last .1 .1 .1 .1 .0) (c .before .before .before .before .before .before .before .before .before .before .before .before .args .to) (c .before .before .write-pair .result .number) (c .before .before .write-pair .result .end)) (sym (line-product (c .before .before .before .before .before .before .before .before .before .before .before .before .args .t .now) (c .before .before .before .before .before .before .before .before .before .before .before .before .args .i) (c .before .before .before .before .before .cell3 .ensures .0) (c .before .before .before .before .before .before .before .before .before .cell .ensures .0) (c .before .before .before .before .before .before .before .before .smaller .ensures) (c .before .before .before .before .before .before .before .cell2 .ensures .0) (c .before .before .before .before .before .before .smaller2 .ensures) (c .before .before .before .before .match .rest .0 .1) (c .before .before .before .before .match .rest .1))) (c .before .before .write-pair .ensures))

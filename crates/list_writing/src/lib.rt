@@ -1,0 +1,129 @@
+// The rows of an imported file: those of its types and of its closed values, parts before wholes, each once, and the clauses that name them.
+
+use area_words::wide;
+use area_words::word_at;
+use list_entries::Entry;
+use list_entries::enter_entry;
+use list_entries::store_entry;
+use number_values::count_values;
+use table_trees::cell;
+use table_trees::smaller;
+ghost use mathlib.Core.Path.{_≡_};
+ghost use Prim.Native.Nat.{_≤_, _<_};
+ghost use Rattle.calculus.specs.Trees.{tsum, tprod};
+ghost use Rattle.table_trees.specs.Unfolding.{typeOf};
+ghost use Rattle.list_writing.specs.Writing.{TypeDone, ValueDone, ClauseDone, PairsDone};
+
+// 1 for a sum, 2 for a product.
+fn type_kind(kind: usize) -> usize
+    ensures { λ r. ⌜ (kind ≡ 1 → r ≡ 1) × ((kind ≡ 1 → ⊥) → r ≡ 2) × (r ≤ 2) ⌝ }
+{
+    if kind == 1 {
+        return 1;
+    }
+    2
+}
+
+// Writes the rows of T line i behind the rows that stand up to row `to`.
+pub fn write_type(t: &[u16], i: usize, s: &mut [u16], to: usize) -> Entry
+    ensures { λ r. ⌜ TypeDone (typeOf (now (t .entry)) i) (now (s .entry)) (now (s .exit)) to (r .number) (r .end) ⌝ }
+{
+    let kind = cell(t, i, 1);
+    if kind == 0 {
+        return enter_entry(s, to, 0, 0, 0);
+    }
+    let a = write_type(t, smaller(cell(t, i, 2), i), s, to);
+    let b = write_type(t, smaller(cell(t, i, 3), i), s, a.end);
+    enter_entry(s, b.end, type_kind(kind), a.number, b.number)
+}
+
+// Writes the rows of the value of T line i with number n behind the rows that stand up to row `to`.
+pub fn write_value(t: &[u16], i: usize, n: usize, s: &mut [u16], to: usize) -> Entry
+    ensures { λ r. ⌜ ValueDone (typeOf (now (t .entry)) i) n (now (s .entry)) (now (s .exit)) to (r .number) (r .end) ⌝ }
+{
+    let left = smaller(cell(t, i, 2), i);
+    let right = smaller(cell(t, i, 3), i);
+    match cell(t, i, 1) {
+        0 => enter_entry(s, to, 0, 0, 0),
+        1 => write_tag(t, left, right, n, s, to),
+        _ => write_pair(t, left, right, n, s, to),
+    }
+}
+
+// The same for a left or a right, whose types are T lines `left` and `right`.
+fn write_tag(t: &[u16], left: usize, right: usize, n: usize, s: &mut [u16], to: usize) -> Entry
+    ensures { λ r. ⌜
+        ValueDone (tsum (typeOf (now (t .entry)) left) (typeOf (now (t .entry)) right)) n (now (s .entry))
+        (now (s .exit)) to (r .number) (r .end)
+        ⌝ }
+{
+    let c = count_values(t, left);
+    if n < c {
+        let v = write_value(t, left, n, s, to);
+        return enter_entry(s, v.end, 2, v.number, 0);
+    }
+    let w = write_value(t, right, n - c, s, to);
+    enter_entry(s, w.end, 3, w.number, 0)
+}
+
+// The same for a pair.
+fn write_pair(t: &[u16], left: usize, right: usize, n: usize, s: &mut [u16], to: usize) -> Entry
+    ensures { λ r. ⌜
+        ValueDone (tprod (typeOf (now (t .entry)) left) (typeOf (now (t .entry)) right)) n
+        (now (s .entry)) (now (s .exit)) to (r .number) (r .end)
+        ⌝ }
+{
+    let c = count_values(t, right);
+    let v = write_value(t, left, n / c, s, to);
+    let w = write_value(t, right, n % c, s, v.end);
+    enter_entry(s, w.end, 4, v.number, w.number)
+}
+
+// Writes the P rows of pair k, left before right, behind those up to row `to`, and its C row; n is the number of its right value. Gives the
+// end of the P rows.
+fn write_clause(
+    t: &[u16],
+    i: usize,
+    j: usize,
+    k: usize,
+    n: usize,
+    s: &mut [u16],
+    to: usize,
+    q: &mut [u16],
+) -> usize
+    requires { ⌜ k < 4096 ⌝ }
+    ensures { λ r. ⌜
+        ClauseDone (typeOf (now (t .entry)) i) (typeOf (now (t .entry)) j) k n (now (s .entry))
+        (now (s .exit)) to (now (q .entry)) (now (q .exit)) r
+        ⌝ }
+{
+    let v = write_value(t, i, k, s, to);
+    let w = write_value(t, j, n, s, v.end);
+    store_entry(q, k, v.number, w.number, 0);
+    w.end
+}
+
+// Writes the P and C rows of n pairs: pair k is of the values of T lines i and j with numbers k and tos[k]. Gives the end of the P rows.
+pub fn write_pairs(
+    t: &[u16],
+    i: usize,
+    j: usize,
+    tos: &[u16],
+    n: usize,
+    s: &mut [u16],
+    q: &mut [u16],
+) -> usize
+    requires { ⌜ n ≤ 32 ⌝ }
+    ensures { λ r. ⌜
+        PairsDone (typeOf (now (t .entry)) i) (typeOf (now (t .entry)) j) (now (tos .entry)) n
+        (now (s .entry)) (now (s .exit)) (now (q .entry)) (now (q .exit)) r
+        ⌝ }
+{
+    let mut k: usize = 0;
+    let mut end: usize = 0;
+    while k < n {
+        end = write_clause(t, i, j, k, wide(word_at(tos, k)), s, end, q);
+        k += 1;
+    }
+    end
+}

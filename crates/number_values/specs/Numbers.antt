@@ -1,0 +1,27 @@
+-- What counting, numbering and spelling the values of a type come to.
+use Prim.Native.Nat.{ℕ, _+_, _≤_, _<_, min}
+use mathlib.Core.Path.{_≡_}
+use mathlib.Core.Bool.{true}
+use mathlib.Core.List.{List}
+use lib.ListN.{length}
+use lib.Seq.{sets}
+use Rattle.limits.specs.Limits.{maxValues}
+use Rattle.calculus.specs.Trees.{Ty, Val}
+use Rattle.calculus.specs.Letters.{letters, inhabits}
+use Rattle.law_ranking.specs.Numbering.{count, rank, unrank}
+use Rattle.run_values.specs.Texts.{At}
+
+-- how many values a type has, one above the most that are numbered for all above
+abbrev pub Counts : Ty → ℕ → Type 0
+Counts a n = n ≡ min (count a) 4294967296
+
+-- the number of the value of a type that begins at a place, and the place behind it
+abbrev pub Ranks : Ty → List ℕ → ℕ → ℕ → ℕ → Type 0
+Ranks a s at number end =
+    (v : Val) → At s at v → inhabits v a ≡ true → count a ≤ maxValues → (number ≡ rank v a) × (end ≡ at + length (letters v))
+
+-- the area l is l′ once the value of a type with number n is written from place `at` on, `end` the place behind it
+abbrev pub Unranks : Ty → ℕ → List ℕ → List ℕ → ℕ → ℕ → Type 0
+Unranks a n l l′ at end =
+    count a ≤ maxValues → n < count a → at + length (letters (unrank a n)) ≤ length l
+    → (l′ ≡ sets l at (letters (unrank a n))) × (end ≡ at + length (letters (unrank a n)))

@@ -1,0 +1,58 @@
+-- `read_ceilings::within_ceilings` meets its contract, kind by kind.
+use borrow.Author.Needs.{needs}
+use Rattle.read_ceilings.proofs.Ceilings.{within-type, within-pattern, within-iso, within-clause, within-let}
+use Rattle.read_ceilings.proofs.within_ceilings.Statement.{statement}
+use Rattle.read_ceilings.proofs.within_ceilings.Tie as tie
+
+enum-told : tie.Need-enum-told
+enum-told c = search needs
+
+type-within-requires : tie.Need-type-within-requires
+type-within-requires c κs = search needs
+
+enum-told-2 : tie.Need-enum-told-2
+enum-told-2 c = search needs
+
+pattern-within-requires : tie.Need-pattern-within-requires
+pattern-within-requires c κs = search needs
+
+enum-told-3 : tie.Need-enum-told-3
+enum-told-3 c = search needs
+
+enum-told-4 : tie.Need-enum-told-4
+enum-told-4 c = search needs
+
+enum-told-5 : tie.Need-enum-told-5
+enum-told-5 c = search needs
+
+returns : tie.Need-returns
+returns c = let a = c .before .before .before .before .args in within-type (a .t .now) (a .c) (a .r) (c .before .enum-told .given .1) (c .type-within .ensures)
+
+returns-2 : tie.Need-returns-2
+returns-2 c = let a = c .before .before .before .before .args in within-pattern (a .t .now) (a .c) (a .r) (c .before .enum-told2 .given .1) (c .pattern-within .ensures)
+
+returns-3 : tie.Need-returns-3
+returns-3 c = let a = c .before .before .before .before .args in within-iso (a .t .now) (a .c) (a .r) (c .before .enum-told3 .given .1)
+
+returns-4 : tie.Need-returns-4
+returns-4 c = let a = c .before .before .before .before .args in within-clause (a .t .now) (a .c) (a .r) (c .before .enum-told4 .given .1)
+
+returns-5 : tie.Need-returns-5
+returns-5 c = let a = c .before .before .before .before .args in within-let (a .t .now) (a .c) (a .r) (c .before .enum-told5 .given .1)
+
+pub within-ceilings-spec : {M : Type 1} → statement M
+within-ceilings-spec =
+    tie.close
+    (tie.spec
+    enum-told
+    type-within-requires
+    enum-told-2
+    pattern-within-requires
+    enum-told-3
+    enum-told-4
+    enum-told-5
+    returns
+    returns-2
+    returns-3
+    returns-4
+    returns-5)

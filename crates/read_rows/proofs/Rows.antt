@@ -1,0 +1,118 @@
+-- The row of a line: its fields one by one, its end, its letter, and its ending.
+use Prim.Native.Nat.{ℕ}
+use native.Mathlib.Omega.{arith}
+use mathlib.Core.Path.{_≡_, refl, sym, ap, _∙_}
+use mathlib.Core.Bool.{Bool, true, false}
+use mathlib.Core.Option.{Option, none, some}
+use mathlib.Core.List.{List, [], _∷_}
+use lib.ListN.{getD, drop}
+use Rattle.limits.specs.Limits.{fieldBound}
+use Rattle.calculus.specs.Tools.{_>>=_}
+use Rattle.calculus.specs.Refusals.{Kind, typeLine, patternLine, isoLine, clauseLine, letLine}
+use Rattle.format.specs.Lines.{Row, fieldCount, kindOf, fields, fieldBounds, text, ended, toRow, rowIn, rowOf}
+use Rattle.format.specs.declared.Kind as K
+use Rattle.format.specs.Code.{kindView}
+use Rattle.calculus.proofs.Basic.{none≢some, some-bind}
+use Rattle.read_forms.specs.declared.Letter as L
+use Rattle.read_forms.specs.declared.Letter.the-variants as letters
+use Rattle.read_forms.specs.Views.{asLetter}
+use Rattle.read_fields.specs.Views.{asField, asEnd}
+use Rattle.read_fields.proofs.Fields.{onto, fields-some, fields-none}
+use Rattle.read_rows.specs.Views.{closed, behindLetter}
+
+-- ---- the end of a line
+
+module _ (k : Kind) (x y z : ℕ) {b : Bool} (bs : List ℕ) (e : asEnd b ≡ ended bs) where
+  pub closed-here : b ≡ true → some (record { kind = k; x = x; y = y; z = z }) ≡ closed k x y z bs
+  closed-here t = rw (← e, t)
+
+  pub not-closed : b ≡ false → none ≡ closed k x y z bs
+  not-closed t = rw (← e, t)
+
+-- ---- the fields
+
+-- the bounds behind the first two: none, or one more
+abbrev third : Kind → List ℕ
+third k = drop 2 (fieldBounds k)
+
+bounds-shape : (k : Kind) → fieldBounds k ≡ fieldBound ∷ fieldBound ∷ third k
+bounds-shape typeLine = refl
+bounds-shape patternLine = refl
+bounds-shape isoLine = refl
+bounds-shape clauseLine = refl
+bounds-shape letLine = refl
+
+no-more : (k : Kind) → fieldCount k ≡ 2 → third k ≡ []
+no-more typeLine e = absurd (omega arith)
+no-more patternLine e = absurd (omega arith)
+no-more isoLine e = refl
+no-more clauseLine e = refl
+no-more letLine e = absurd (omega arith)
+
+one-more : (k : Kind) → (fieldCount k ≡ 2 → ⊥) → third k ≡ fieldBound ∷ []
+one-more typeLine h = refl
+one-more patternLine h = refl
+one-more isoLine h = absurd (h refl)
+one-more clauseLine h = absurd (h refl)
+one-more letLine h = refl
+
+-- what follows the fields of a line
+abbrev finish : Kind → Option (List ℕ × List ℕ) → Option Row
+finish k o = o >>= λ r. ended (r .1) >>= λ _. some (toRow k (r .0))
+
+module _ (k : Kind) (bs : List ℕ) where
+  by-first : behindLetter k bs ≡ finish k (fields (fieldBound ∷ fieldBound ∷ third k) bs)
+  by-first = ap (λ bounds. finish k (fields bounds bs)) (bounds-shape k)
+
+  pub no-first : asField fieldBound bs ≡ none → none ≡ behindLetter k bs
+  no-first e = sym (by-first ∙ ap (finish k) (fields-none fieldBound (fieldBound ∷ third k) bs e))
+
+  module _ {x : ℕ} {cs : List ℕ} (first : asField fieldBound bs ≡ some (x, cs)) where
+    by-second : behindLetter k bs ≡ finish k (onto x (fields (fieldBound ∷ third k) cs))
+    by-second = by-first ∙ ap (finish k) (fields-some fieldBound (fieldBound ∷ third k) bs first)
+
+    pub no-second : asField fieldBound cs ≡ none → none ≡ behindLetter k bs
+    no-second e = sym (by-second ∙ ap (λ o. finish k (onto x o)) (fields-none fieldBound (third k) cs e))
+
+    module _ {y : ℕ} {ds : List ℕ} (second : asField fieldBound cs ≡ some (y, ds)) where
+      by-third : (bounds : List ℕ) → third k ≡ bounds → behindLetter k bs ≡ finish k (onto x (onto y (fields bounds ds)))
+      by-third bounds t =
+          by-second
+          ∙ ap (λ o. finish k (onto x o)) (fields-some fieldBound (third k) cs second)
+          ∙ ap (λ l. finish k (onto x (onto y (fields l ds)))) t
+
+      pub two-fields : fieldCount k ≡ 2 → closed k x y 0 ds ≡ behindLetter k bs
+      two-fields e = sym (by-third [] (no-more k e))
+
+      module _ (more : fieldCount k ≡ 2 → ⊥) where
+        pub no-third : asField fieldBound ds ≡ none → none ≡ behindLetter k bs
+        no-third e = sym (by-third (fieldBound ∷ []) (one-more k more) ∙ ap (λ o. finish k (onto x (onto y o))) (fields-none fieldBound [] ds e))
+
+        pub three-fields : {z : ℕ} {es : List ℕ} → asField fieldBound ds ≡ some (z, es) → closed k x y z es ≡ behindLetter k bs
+        three-fields e = sym (by-third (fieldBound ∷ []) (one-more k more) ∙ ap (λ o. finish k (onto x (onto y o))) (fields-some fieldBound [] ds e))
+
+-- ---- the letter
+
+known-row : (s : List ℕ) (k : Kind) → some k ≡ kindOf (getD s 0 0) → behindLetter k (drop 1 s) ≡ rowIn s
+known-row [] k e = absurd (none≢some (sym e))
+known-row (b ∷ bs) k e = ap (λ o. o >>= λ j. behindLetter j bs) e
+
+unknown-row : (s : List ℕ) → none ≡ kindOf (getD s 0 0) → none ≡ rowIn s
+unknown-row [] e = refl
+unknown-row (b ∷ bs) e = ap (λ o. o >>= λ j. behindLetter j bs) e
+
+module _ (s : List ℕ) {b : ℕ} (first : b ≡ getD s 0 0) {r : L.Letter} (e : asLetter r ≡ kindOf b) where
+  pub row-known : (k : K.Kind) → r ≡ letters.Of k → behindLetter (kindView k) (drop 1 s) ≡ rowIn s
+  row-known k p = known-row s (kindView k) (sym (ap asLetter p) ∙ e ∙ ap kindOf first)
+
+  pub row-unknown : r ≡ letters.Unknown → none ≡ rowIn s
+  row-unknown p = unknown-row s (sym (ap asLetter p) ∙ e ∙ ap kindOf first)
+
+-- ---- the ending
+
+-- the text of a line and its row, or none
+pub text-row : (s : List ℕ) {t : List ℕ} {o : Option Row} → text s ≡ some t → o ≡ rowIn t → o ≡ rowOf s
+text-row s e p = p ∙ sym (some-bind rowIn e)
+
+pub no-text-row : (s : List ℕ) → text s ≡ none → none ≡ rowOf s
+no-text-row s e = sym (ap (λ o. o >>= rowIn) e)

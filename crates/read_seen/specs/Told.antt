@@ -1,0 +1,58 @@
+-- The code's counts and table against what the rows above tell in the model.
+use Prim.Native.Nat.{ℕ, _+_, _<_}
+use mathlib.Core.Path.{_≡_}
+use mathlib.Core.List.{List}
+use lib.ListN.{length, getD}
+use Rattle.calculus.specs.Trees.{Ty, tunit, Pat, punit}
+use Rattle.calculus.specs.Refusals.{Kind, typeLine, patternLine, isoLine, clauseLine, letLine}
+use Rattle.format.specs.Judge.{Seen, stage, typeNode, patternNode}
+use Rattle.table_trees.specs.Unfolding.{typeOf, patternOf}
+use Rattle.read_seen.specs.declared.Seen as C
+
+abbrev pub startSeen : C.Seen
+startSeen = record { stage = 0; types = 0; patterns = 0; isos = 0; clauses = 0; lets = 0 }
+
+-- a row of a kind more
+abbrev pub seenAfter : Kind → C.Seen → C.Seen
+seenAfter typeLine c = record { stage = 0; types = c .types + 1; patterns = c .patterns; isos = c .isos; clauses = c .clauses; lets = c .lets }
+seenAfter patternLine c = record { stage = 1; types = c .types; patterns = c .patterns + 1; isos = c .isos; clauses = c .clauses; lets = c .lets }
+seenAfter isoLine c = record { stage = 2; types = c .types; patterns = c .patterns; isos = c .isos + 1; clauses = 0; lets = 0 }
+seenAfter clauseLine c = record { stage = 3; types = c .types; patterns = c .patterns; isos = c .isos; clauses = c .clauses + 1; lets = 0 }
+seenAfter letLine c = record { stage = 4; types = c .types; patterns = c .patterns; isos = c .isos; clauses = c .clauses; lets = c .lets + 1 }
+
+-- counts that one more does not carry past a word
+pub record SmallCounts (c : C.Seen) : Type 0 where
+  pub types : c .types < 65536
+  pub patterns : c .patterns < 65536
+  pub isos : c .isos < 65536
+  pub clauses : c .clauses < 65536
+  pub lets : c .lets < 65536
+
+-- the counts are those of the rows above
+pub record Counts (c : C.Seen) (s : Seen) : Type 0 where
+  pub stage : c .stage ≡ stage (s .above)
+  pub types : c .types ≡ length (s .types)
+  pub patterns : c .patterns ≡ length (s .patterns)
+  pub isos : c .isos ≡ s .isos
+  pub clauses : c .clauses ≡ s .clauses
+  pub lets : c .lets ≡ s .lets
+
+-- the table's T lines, and its P lines from a row on, unfold to these trees
+abbrev pub TypesAt : List ℕ → List Ty → Type 0
+TypesAt t ts = (i : ℕ) → i < length ts → typeOf t i ≡ getD ts i tunit
+
+abbrev pub PatternsAt : List ℕ → ℕ → List Pat → Type 0
+PatternsAt t base ps = (j : ℕ) → j < length ps → patternOf t base j ≡ getD ps j punit
+
+-- the tree of a line that stands next, by its fields
+abbrev pub nextType : List Ty → ℕ → ℕ → ℕ → Ty
+nextType ts k a b = typeNode k (getD ts a tunit) (getD ts b tunit)
+
+abbrev pub nextPattern : List Pat → ℕ → ℕ → ℕ → Pat
+nextPattern ps k a b = patternNode k a (getD ps a punit) (getD ps b punit)
+
+-- and the table's lines unfold to their trees
+pub record Told (t : List ℕ) (c : C.Seen) (s : Seen) : Type 0 where
+  pub counts : Counts c s
+  pub types : TypesAt t (s .types)
+  pub patterns : PatternsAt t (length (s .types)) (s .patterns)

@@ -1,0 +1,70 @@
+-- `run_index::index_isos` meets its contract. The loop's invariant: the index holds at row n. The measure is n.
+use mathlib.Core.Path.{_∙_}
+use native.Mathlib.Omega.{arith}
+use Rattle.run_index.proofs.Indexing.{Indexing, indexing-start, indexing-step, indexing-end}
+use borrow.Author.Needs.{needs}
+use Rattle.run_index.proofs.index_isos.Statement.{statement}
+use Rattle.run_index.proofs.index_isos.Tie as tie
+
+abbrev Inv-loop : tie.InvT-loop
+Inv-loop t above lines isos index₀ n₀ l₀ index n l = Indexing t above lines isos index₀ n index (l .first) (l .isos)
+
+abbrev μ-loop : tie.MeasureT-loop
+μ-loop t above lines isos index₀ n₀ l₀ index n l = n
+
+narrow-requires : tie.Need-narrow-requires Inv-loop μ-loop
+narrow-requires c κs = search needs
+
+store-word-requires : tie.Need-store-word-requires Inv-loop μ-loop
+store-word-requires c κs = search needs
+
+store-word-requires-2 : tie.Need-store-word-requires-2 Inv-loop μ-loop
+store-word-requires-2 c κs = search needs
+
+loop-holds : tie.Need-loop-holds Inv-loop μ-loop
+loop-holds c =
+    let b = c .before .before .before .before .before .before in
+    let a = b .before .before .before .before .before .args in
+    indexing-start _ _ (a .index .now) (b .before .narrow .ensures) (b .store-word .ensures) (c .before .before .store-word2 .ensures)
+
+sub-n : tie.Need-sub-n Inv-loop μ-loop
+sub-n c = search needs
+
+with-row-requires : tie.Need-with-row-requires Inv-loop μ-loop
+with-row-requires c κs = search needs
+
+loop-less : tie.Need-loop-less Inv-loop μ-loop
+loop-less c = omega arith
+
+loop-again : tie.Need-loop-again Inv-loop μ-loop
+loop-again c =
+    let b = c .before .before .before .before in
+    indexing-step (b .before .loop .inv) (b .loop-test .taken) (c .before .before .with-row .kept .1 .0) (c .before .before .with-row .ensures)
+
+same-length : tie.Need-same-length Inv-loop μ-loop
+same-length c =
+    let b = c .before .before .before .before in
+    c .before .loop .inv .kept ∙ b .store-word2 .kept .0 ∙ b .before .before .before .before .store-word .kept .0
+
+returns : tie.Need-returns Inv-loop μ-loop
+returns c rs types patterns f ea ei long =
+    let b = c .before .before .before .before in
+    let same = b .store-word2 .kept .0 ∙ b .before .before .before .before .store-word .kept .0 in
+    indexing-end (c .before .loop .inv) (c .loop-test .left) rs types patterns f ea ei (omega arith)
+
+pub index-isos-spec : {M : Type 1} → statement M
+index-isos-spec =
+    tie.close
+    (tie.spec
+    Inv-loop
+    μ-loop
+    narrow-requires
+    store-word-requires
+    store-word-requires-2
+    loop-holds
+    sub-n
+    with-row-requires
+    loop-less
+    loop-again
+    same-length
+    returns)

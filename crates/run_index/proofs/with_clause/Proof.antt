@@ -1,0 +1,29 @@
+-- `run_index::with_clause` meets its contract: there is room in a file's C row, and its number is stored whole.
+use native.Mathlib.Omega.{arith}
+use Rattle.run_index.proofs.Indexing.{clause-room, clause-row}
+use borrow.Author.Needs.{needs}
+use Rattle.run_index.proofs.with_clause.Statement.{statement}
+use Rattle.run_index.proofs.with_clause.Tie as tie
+
+returns : tie.Need-returns
+returns c t rs types patterns lines f h e s = let room = clause-room f h s in absurd (omega arith)
+
+sub-slot : tie.Need-sub-slot
+sub-slot c = search needs
+
+narrow-requires : tie.Need-narrow-requires
+narrow-requires c κs = search needs
+
+store-word-requires : tie.Need-store-word-requires
+store-word-requires c κs = search needs
+
+same-length : tie.Need-same-length
+same-length c = search needs
+
+returns-2 : tie.Need-returns-2
+returns-2 c t rs types patterns lines f h e s = clause-row f h s e (c .before .before .before .narrow .ensures) (c .before .before .store-word .ensures)
+
+pub with-clause-spec : {M : Type 1} → statement M
+with-clause-spec =
+    tie.close
+    (tie.spec returns sub-slot narrow-requires store-word-requires same-length returns-2)

@@ -1,0 +1,61 @@
+-- `run_index::with_iso` meets its contract: there is room in a file's I row and an iso above, and both numbers are stored whole.
+use native.Mathlib.Omega.{arith}
+use Rattle.run_index.proofs.Indexing.{clause-room, iso-room, iso-row}
+use borrow.Author.Needs.{needs}
+use Rattle.run_index.proofs.with_iso.Statement.{statement}
+use Rattle.run_index.proofs.with_iso.Tie as tie
+
+returns : tie.Need-returns
+returns c t rs types patterns lines f h e s = let room = clause-room f h s in absurd (omega arith)
+
+returns-2 : tie.Need-returns-2
+returns-2 c t rs types patterns lines f h e s = let room = iso-room f h s e in absurd (omega arith)
+
+sub-slot : tie.Need-sub-slot
+sub-slot c = search needs
+
+sub-own : tie.Need-sub-own
+sub-own c = search needs
+
+narrow-requires : tie.Need-narrow-requires
+narrow-requires c κs = search needs
+
+store-word-requires : tie.Need-store-word-requires
+store-word-requires c κs = search needs
+
+narrow-requires-2 : tie.Need-narrow-requires-2
+narrow-requires-2 c κs = search needs
+
+store-word-requires-2 : tie.Need-store-word-requires-2
+store-word-requires-2 c κs = search needs
+
+same-length : tie.Need-same-length
+same-length c = search needs
+
+returns-3 : tie.Need-returns-3
+returns-3 c t rs types patterns lines f h e s =
+    let b = c .before .before .before .before .before .before .before in
+    iso-row
+    f
+    h
+    s
+    e
+    (b .before .narrow .ensures)
+    (b .store-word .ensures)
+    (c .before .before .before .narrow2 .ensures)
+    (c .before .before .store-word2 .ensures)
+
+pub with-iso-spec : {M : Type 1} → statement M
+with-iso-spec =
+    tie.close
+    (tie.spec
+    returns
+    returns-2
+    sub-slot
+    sub-own
+    narrow-requires
+    store-word-requires
+    narrow-requires-2
+    store-word-requires-2
+    same-length
+    returns-3)

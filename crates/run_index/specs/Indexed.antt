@@ -1,0 +1,37 @@
+-- The index as a walk over the rows, from the last to the first, holds it at some row.
+use Prim.Native.Nat.{ℕ, suc, _+_, _-_, _≤_, _<_}
+use mathlib.Core.Path.{_≡_}
+use mathlib.Core.List.{List, [], _∷_}
+use lib.ListN.{length, take}
+use Rattle.limits.specs.Limits.{maxIsos}
+use Rattle.calculus.specs.Refusals.{Kind, typeLine, patternLine, isoLine, clauseLine, letLine}
+use Rattle.format.specs.Lines.{Row}
+use Rattle.table_trees.specs.InTable.{letsIn}
+use Rattle.table_trees.specs.Walk.{isoRows, tailAt}
+use Rattle.run_index.specs.Index.{indexLength, placeAt, clausesAt, isosAt}
+
+-- how many of the rows are I or C lines
+abbrev pub placesOf : Kind → ℕ
+placesOf typeLine = 0
+placesOf patternLine = 0
+placesOf isoLine = 1
+placesOf clauseLine = 1
+placesOf letLine = 0
+
+abbrev pub places : List Row → ℕ
+places [] = 0
+places (r ∷ rs) = placesOf (r .kind) + places rs
+
+-- the index at row n, filled from place `first` on, with `left` isos above: room for the I and C rows above, the L rows from row n on, the
+-- clauses from place `first` on, and the isos further down, all of which begin there
+pub record Indexed (t : List ℕ) (base : ℕ) (rs : List Row) (n : ℕ) (index : List ℕ) (first left : ℕ) : Type 0 where
+  pub long : indexLength ≤ length index
+  pub within : first < indexLength
+  pub room : suc maxIsos + places (take n rs) ≤ first
+  pub number : left ≡ length (isoRows 0 (take n rs))
+  pub few : left + length (tailAt rs n .isos) ≤ maxIsos
+  pub further : n ≤ placeAt index first
+  pub lets : tailAt rs n .lets ≡ letsIn t base n (placeAt index first - n)
+  pub begins : (i : ℕ) → left ≤ i → i ≤ left + length (tailAt rs n .isos) → first ≤ placeAt index i
+  pub clauses : tailAt rs n .clauses ≡ clausesAt t base index first (placeAt index left - first)
+  pub isos : tailAt rs n .isos ≡ isosAt t base index left (length (tailAt rs n .isos))

@@ -1,0 +1,19 @@
+use Rattle.run_patterns.proofs.Matching.{var-told}
+use borrow.Author.Needs.{needs}
+use Rattle.run_patterns.proofs.match_var.Statement.{statement}
+use Rattle.run_patterns.proofs.match_var.Tie as tie
+
+known-end-requires : tie.Need-known-end-requires
+known-end-requires c κs = search needs
+
+put-range-requires : tie.Need-put-range-requires
+put-range-requires c κs = search needs
+
+same-length : tie.Need-same-length
+same-length c = search needs
+
+returns : tie.Need-returns
+returns c = let a = c .before .before .before .before .before .before .before .args in var-told (a .vars .now) (a .n) (c .before .before .before .before .known-end .ensures) (c .before .before .put-range .ensures)
+
+pub match-var-spec : {M : Type 1} → statement M
+match-var-spec = tie.close (tie.spec known-end-requires put-range-requires same-length returns)

@@ -1,0 +1,736 @@
+-- The reduction in the work area, function by function: what each assumes, what it finds, what it leaves.
+use Prim.Native.Nat.{ℕ, zero, suc, _+_, _-_, _*_, _≤_, _<_}
+use native.Mathlib.Nat.{zero-add}
+use native.Mathlib.Omega.{arith}
+use mathlib.Core.Path.{_≡_, refl, sym, ap, ap₂, _∙_, subst}
+use mathlib.Core.Bool.{Bool, true, false, cond, true≢false}
+use mathlib.Core.Option.{some}
+use mathlib.Core.Logic.{_⊎_, inl, inr}
+use mathlib.Core.List.{List, [], _∷_, _++_, append-assoc}
+use lib.ListN.{length, getD, getElem?, take, drop, replicate, length-append, drop-of-length-le, take-append-drop}
+use lib.Seq.{sets, slice, sets-eq, length-take-le, take-at, drop-at, take-take}
+use Rattle.limits.specs.Limits.{variables, maxLets}
+use Rattle.calculus.specs.Trees.{Pat, Val, Let, Clause, Iso}
+use Rattle.calculus.specs.Slots.{Slots, empty}
+use Rattle.calculus.specs.Letters.{letters}
+use Rattle.calculus.specs.Reduction.{bind, build}
+use Rattle.calculus.proofs.Basic.{not-both, index-below, le-or-lt}
+use Rattle.calculus.proofs.Binding.{bind-length, build-length}
+use Rattle.area_cells.specs.Areas.{Writes}
+use Rattle.table_trees.specs.Unfolding.{cellOf, patternOf}
+use Rattle.table_trees.specs.InTable.{letAt, clauseIn}
+use Rattle.run_index.specs.Index.{placeAt, isoAt}
+use Rattle.run_values.specs.declared.Upto as U
+use Rattle.run_values.specs.declared.Upto.the-variants as upto
+use Rattle.run_values.specs.Texts.{At, Ends, alike, matched, Below, ranges, built}
+use Rattle.run_values.specs.Agrees.{Agrees}
+use Rattle.run_values.specs.Traces.{Small, LetsTrace, done, step, Runs}
+use Rattle.run_patterns.proofs.Matching.{place-alike, nothing-alike}
+use Rattle.run_values.proofs.Agreeing.{at-within, at-take, at-sets, take-sets, bind-alike, length-ranges, below-ranges, below-more, agrees-empty, agrees-more, agrees-bind, built-build, at-slice}
+use Rattle.run_reduction.specs.declared.Reduced as R
+use Rattle.run_reduction.specs.declared.Reduced.the-variants as reduced
+use Rattle.run_values.proofs.Tracing.{runs-least}
+use Rattle.run_reduction.specs.Frames.{frame, EnvAt, Moved, sided, sidedClause, sidedLet, sidedLets, sideAt, Laid, Chosen, Applied, Stepped, LetsRan}
+use Rattle.run_reduction.proofs.Laying.{inside, clause-at, lhs-at, rhs-at, lets-at, length-sided, let-at, let-q, let-p, let-iso}
+
+-- ---- answers
+
+pub done-place : {a b c d : ℕ} → reduced.Done a b ≡ reduced.Done c d → a ≡ c
+done-place {a} e = ap place e
+  where
+    place : R.Reduced → ℕ
+    place (reduced.Done x y) = x
+    place reduced.Spent = a
+
+pub done-left : {a b c d : ℕ} → reduced.Done a b ≡ reduced.Done c d → b ≡ d
+done-left {a} {b} e = ap rest e
+  where
+    rest : R.Reduced → ℕ
+    rest (reduced.Done x y) = y
+    rest reduced.Spent = b
+
+pub done≢spent : {a b : ℕ} → reduced.Done a b ≡ reduced.Spent → ⊥
+done≢spent e = true≢false (ap isDone e)
+  where
+    isDone : R.Reduced → Bool
+    isDone (reduced.Done x y) = true
+    isDone reduced.Spent = false
+
+-- ---- the choice of a clause
+
+-- the pattern that is read for the clause at place m
+pub side-found : (t : List ℕ) (base : ℕ) (index : List ℕ) (back : Bool) (m : ℕ) {j p f : ℕ} → j ≡ cellOf t p f → p ≡ placeAt index m → f ≡ cond back 2 1
+    → patternOf t base j ≡ sideAt t base index back m
+side-found t base index back m {j} {p} {f} e h k = ap (patternOf t base) (e ∙ ap₂ (cellOf t) h k)
+
+-- no clause from place `from` up to place m matches
+pub record Choosing (S : ℕ → Pat) (work : List ℕ) (at end from stop : ℕ) (vars₀ vars : List ℕ) (m : ℕ) : Type 0 where
+  pub onward : from ≤ m
+  pub wide : length vars ≡ length vars₀
+  pub notYet : (v : Val) (n : ℕ) → At work at v → end ≡ at + length (letters v) → Below vars₀ (at + length (letters v)) → from + n < stop → alike (S (from + n)) v ≡ true
+      → ((k : ℕ) → k < n → alike (S (from + k)) v ≡ false) → (m ≤ from + n) × Below vars (at + length (letters v))
+
+pub choosing-start : (S : ℕ → Pat) (work : List ℕ) (at end from stop : ℕ) (vars : List ℕ) → Choosing S work at end from stop vars vars from
+choosing-start S work at end from stop vars =
+    record { onward = omega arith; wide = refl; notYet = λ v n a z b h hit miss. (omega arith, b) }
+
+pub choosing-next : {S : ℕ → Pat} {work : List ℕ} {at end from stop : ℕ} {vars₀ vars vars′ : List ℕ} {m : ℕ} (q : Pat) → Choosing S work at end from stop vars₀ vars m
+    → q ≡ S m → length vars′ ≡ length vars → ((v : Val) → At work at v → Ends end at v → upto.Nothing ≡ matched (alike q v) (at + length (letters v)))
+    → ((v : Val) → At work at v → Ends end at v → vars′ ≡ ranges q v at vars) → Choosing S work at end from stop vars₀ vars′ (m + 1)
+choosing-next {S} {work} {at} {end} {from} {stop} {vars₀} {vars} {vars′} {m} q c e wide missed range =
+    let o = c .onward in
+    record {
+      onward = omega (arith, o);
+      wide = wide ∙ c .wide;
+      notYet = λ v n a z b h hit miss.
+          let r = c .notYet v n a z b h hit miss in
+          let r₀ = r .0 in
+          let f : alike (S m) v ≡ false = subst (λ p. alike p v ≡ false) e (nothing-alike _ _ (missed v a (λ _. z))) in
+          let other : m ≡ from + n → ⊥ = λ k. not-both hit (subst (λ x. alike (S x) v ≡ false) k f) in
+          let later : m < from + n = further m (from + n) r₀ other in
+          (omega (arith, later), subst (λ u. Below u (at + length (letters v))) (sym (range v a (λ _. z))) (below-ranges q v at vars _ (r .1) (omega arith)));
+    }
+  where
+    further : (x y : ℕ) → x ≤ y → (x ≡ y → ⊥) → x < y
+    further x y h k = go (le-or-lt y x)
+      where
+        go : (y ≤ x) ⊎ (x < y) → x < y
+        go (inl b) = absurd (k (omega arith))
+        go (inr b) = b
+
+pub choosing-found : {S : ℕ → Pat} {work : List ℕ} {at end from stop : ℕ} {vars₀ vars vars′ : List ℕ} {m : ℕ} {x : ℕ} (q : Pat) → Choosing S work at end from stop vars₀ vars m
+    → q ≡ S m → ((v : Val) → At work at v → Ends end at v → upto.Place x ≡ matched (alike q v) (at + length (letters v)))
+    → ((v : Val) → At work at v → Ends end at v → vars′ ≡ ranges q v at vars)
+    → (v : Val) (n : ℕ) → At work at v → end ≡ at + length (letters v) → Below vars₀ (at + length (letters v)) → from + n < stop → alike (S (from + n)) v ≡ true
+    → ((k : ℕ) → k < n → alike (S (from + k)) v ≡ false) → Chosen (S (from + n)) v at vars₀ vars′ (from + n) m
+choosing-found {S} {work} {at} {end} {from} {stop} {vars₀} {vars} {vars′} {m} q c e took range v n a z b h hit miss =
+    let r = c .notYet v n a z b h hit miss in
+    let hits : alike (S m) v ≡ true = subst (λ p. alike p v ≡ true) e (place-alike _ _ _ (took v a (λ _. z)) .0) in
+    let same : m ≡ from + n = here (le-or-lt (from + n) m) (r .0) (c .onward) hits in
+    record {
+      place = same;
+      earlier = vars;
+      below = r .1;
+      wide = c .wide;
+      matched = range v a (λ _. z) ∙ ap (λ p. ranges p v at vars) (e ∙ ap S same);
+    }
+  where
+    here : (from + n ≤ m) ⊎ (m < from + n) → m ≤ from + n → from ≤ m → alike (S m) v ≡ true → m ≡ from + n
+    here (inl x) y o z = omega arith
+    here (inr x) y o z =
+        let k : from + (m - from) ≡ m = omega arith in
+        absurd (not-both z (subst (λ w. alike (S w) v ≡ false) k (miss (m - from) (omega arith))))
+
+pub choosing-end : {S : ℕ → Pat} {work : List ℕ} {at end from stop : ℕ} {vars₀ vars : List ℕ} {m : ℕ} → Choosing S work at end from stop vars₀ vars m → stop ≤ m
+    → (v : Val) (n : ℕ) → At work at v → end ≡ at + length (letters v) → Below vars₀ (at + length (letters v)) → from + n < stop → alike (S (from + n)) v ≡ true
+    → ((k : ℕ) → k < n → alike (S (from + k)) v ≡ false) → Chosen (S (from + n)) v at vars₀ vars (from + n) stop
+choosing-end c past v n a z b h hit miss = let r = c .notYet v n a z b h hit miss in let r₀ = r .0 in absurd (omega (arith, r₀))
+
+-- ---- a pattern built on top of the letters
+
+-- its letters stand at `top`, what is below is as it was
+pub record Ready (w₀ w₁ vars : List ℕ) (top end : ℕ) (u : Val) (f : Slots Val) : Type 0 where
+  pub spelled : At w₁ top u
+  pub ends : end ≡ top + length (letters u)
+  pub kept : take top w₁ ≡ take top w₀
+  pub wide : length w₁ ≡ length w₀
+  pub rest : EnvAt w₀ top vars f
+
+pub ready : {w₀ w₁ vars : List ℕ} {top end : ℕ} (q : Pat) {e f : Slots Val} {u : Val} → EnvAt w₀ top vars e → build q e ≡ some (u, f)
+    → top + length (letters u) ≤ length w₀ → ((n : ℕ) → Below vars n → n ≤ top → Writes w₀ w₁ top end (built q (take n w₀) vars))
+    → Ready w₀ w₁ vars top end u f
+ready {w₀} {w₁} {vars} {top} {end} q {e} {f} {u} env b room writes =
+    let w = writes top (env .below) (omega arith) in
+    let same = built-build q e (take top w₀) vars b (env .agrees) in
+    let fits : top + length (built q (take top w₀) vars) ≤ length w₀ = subst (λ bs. top + length bs ≤ length w₀) (sym (same .0)) room in
+    let is : w₁ ≡ sets w₀ top (letters u) = w .area fits ∙ ap (sets w₀ top) (same .0) in
+    record {
+      spelled = subst (λ l. At l top u) (sym is) (at-sets w₀ (letters u) top u refl room);
+      ends = w .place fits ∙ ap (λ bs. top + length bs) (same .0);
+      kept = ap (take top) is ∙ take-sets w₀ (letters u) top top (omega arith);
+      wide = w .kept;
+      rest = record { agrees = same .1; below = env .below; wide = env .wide; slots = build-length q e b ∙ env .slots };
+    }
+
+-- ---- a let step
+
+-- the result of an application, seen from below it
+below-result : (w w′ : List ℕ) (at : ℕ) (bs : List ℕ) → at ≤ length w → take (at + length bs) w′ ≡ take at w ++ bs → take at w′ ≡ take at w
+below-result w w′ at bs h e =
+    let n : length (take at w) ≡ at = length-take-le at w h in
+    sym (take-take at (at + length bs) w′ (omega arith)) ∙ ap (take at) e ∙ take-at (take at w) bs at n
+
+at-result : (w w′ : List ℕ) (at : ℕ) (v : Val) → at ≤ length w → at + length (letters v) ≤ length w′ → take (at + length (letters v)) w′ ≡ take at w ++ letters v → At w′ at v
+at-result w w′ at v h k e =
+    let n : length (take at w) ≡ at = length-take-le at w h in
+    let whole : w′ ≡ take at w ++ letters v ++ drop (at + length (letters v)) w′ =
+    sym (take-append-drop (at + length (letters v)) w′) ∙ ap (λ l. l ++ drop (at + length (letters v)) w′) e in
+    record {
+      rest = drop (at + length (letters v)) w′;
+      spells = ap (drop at) (whole ∙ append-assoc (take at w) (letters v) (drop (at + length (letters v)) w′))
+          ∙ drop-at (take at w) (letters v ++ drop (at + length (letters v)) w′) at n;
+    }
+
+-- the letters up to the result's end, and the environment with the result matched
+pub stepped-done : {w₀ w₁ w₂ vars vars′ : List ℕ} {top end left : ℕ} {u w : Val} {f g : Slots Val} {m x y : ℕ} {r : R.Reduced} (p : Pat) → Ready w₀ w₁ vars top end u f
+    → Applied w₁ w₂ top left w m r → r ≡ reduced.Done x y → length w₂ ≡ length w₁ → bind p w f ≡ some g → top + length (letters w) ≤ length w₀ → top + length (letters w) < 65536
+    → ((v : Val) → At w₂ top v → Ends x top v → vars′ ≡ ranges p v top vars) → Stepped w₀ w₂ vars′ top left w g m (reduced.Done x y)
+stepped-done {w₀} {w₁} {w₂} {vars} {vars′} {top} {end} {left} {u} {w} {f} {g} {m} {x} {y} {r} p rd ap′ is wide b room small range =
+    record {
+      done = λ h. sym is ∙ ap′ .done h;
+      kept = λ h. below-result w₁ w₂ top (letters w) top≤ (ap′ .result h) ∙ rd .kept;
+      env = env;
+      spent = λ h. absurd (done≢spent (sym is ∙ ap′ .spent h));
+    }
+  where
+    top≤ : top ≤ length w₁
+    top≤ = let k = rd .wide in omega (arith, k)
+
+    env : m ≤ left → EnvAt w₂ (top + length (letters w)) vars′ g
+    env h =
+        let k = rd .wide in
+        let a : At w₂ top w = at-result w₁ w₂ top w top≤ (omega (arith, k, wide)) (ap′ .result h) in
+        let e = range w a (λ _. done-place (sym is ∙ ap′ .done h)) in
+        let same : take top w₀ ≡ take top w₂ = sym (below-result w₁ w₂ top (letters w) top≤ (ap′ .result h) ∙ rd .kept) in
+        let next : ℕ = top + length (letters w) in
+        let older : Agrees (take next w₂) vars f =
+        agrees-more w₂ vars f top next (subst (λ l. Agrees l vars f) same (rd .rest .agrees)) (rd .rest .below) (omega arith) in
+        let n = length-take-le next w₂ (omega (arith, k, wide)) in
+        record {
+          agrees = subst (λ l. Agrees (take next w₂) l g) (sym e)
+              (agrees-bind p w f (take next w₂) vars top (rd .rest .wide) (rd .rest .slots) (omega (arith, n)) (at-take w₂ top next w a (omega arith)) b older);
+          below = subst (λ l. Below l next) (sym e) (below-ranges p w top vars next (below-more vars top next (rd .rest .below) (omega arith)) (omega arith));
+          wide = ap length e ∙ length-ranges p w top vars ∙ rd .rest .wide;
+          slots = bind-length p w f b ∙ rd .rest .slots;
+        }
+
+pub stepped-spent : {w₀ w₁ w₂ vars′ : List ℕ} {top left : ℕ} {w : Val} {g : Slots Val} {m : ℕ} {r : R.Reduced} → Applied w₁ w₂ top left w m r → r ≡ reduced.Spent
+    → Stepped w₀ w₂ vars′ top left w g m reduced.Spent
+stepped-spent a is =
+    record {
+      done = λ h. absurd (done≢spent (sym (a .done h) ∙ is));
+      kept = λ h. absurd (done≢spent (sym (a .done h) ∙ is));
+      env = λ h. absurd (done≢spent (sym (a .done h) ∙ is));
+      spent = λ h. refl;
+    }
+
+-- what a let step ensures, for whatever trace there is
+abbrev pub StepSays : List ℕ → ℕ → List ℕ → Bool → ℕ → ℕ → List ℕ → List ℕ → ℕ → List ℕ → List ℕ → ℕ → R.Reduced → Type 0
+StepSays t base index back i row work work′ top vars vars′ left r =
+    (os : List Iso) (d : ℕ) (l : Let) (e f g : Slots Val) (u w : Val) (m : ℕ) → Laid t base index back os → l ≡ sidedLet back (letAt t base row)
+    → l .iso < i → build (l .q) e ≡ some (u, f) → Small u → Runs d os (l .iso) u w m → Small w → bind (l .p) w f ≡ some g → EnvAt work top vars e
+    → top + i * frame ≤ length work → length work ≤ 65536 → Stepped work work′ vars′ top left w g m r
+
+-- a let step that names no earlier iso is in no trace
+pub stepped-late : {P : Type 0} (t : List ℕ) (base : ℕ) (back : Bool) (i j row : ℕ) (l : Let) → l ≡ sidedLet back (letAt t base row) → l .iso < i → j ≡ cellOf t row 2 → i ≤ j → P
+stepped-late t base back i j row l is less e late =
+    let same : l .iso ≡ j = ap (λ x. x .iso) is ∙ let-iso t base back row ∙ sym e in absurd (omega (arith, same))
+
+-- what an application ensures, for whatever trace there is
+abbrev pub ApplySays : List ℕ → ℕ → List ℕ → Bool → ℕ → List ℕ → List ℕ → ℕ → ℕ → ℕ → R.Reduced → Type 0
+ApplySays t base index back i work work′ at end left r =
+    (os : List Iso) (d : ℕ) (v w : Val) (m : ℕ) → Laid t base index back os → Runs d os i v w m → At work at v → Small v → end ≡ at + length (letters v)
+    → at + suc i * frame ≤ length work → length work ≤ 65536 → Applied work work′ at left w m r
+
+-- q is built, and the iso applied to it
+step-ready : (t : List ℕ) (base : ℕ) (back : Bool) (row i : ℕ) {jq : ℕ} {w₀ w₁ vars : List ℕ} {top end : ℕ} (l : Let) (e : Slots Val) {f : Slots Val} {u : Val}
+    → l ≡ sidedLet back (letAt t base row) → l .iso < i → build (l .q) e ≡ some (u, f) → Small u → EnvAt w₀ top vars e → top + i * frame ≤ length w₀
+    → jq ≡ cellOf t row (cond back 1 3)
+    → ((n : ℕ) → Below vars n → n ≤ top → Writes w₀ w₁ top end (built (patternOf t base jq) (take n w₀) vars)) → Ready w₀ w₁ vars top end u f
+step-ready t base back row i {jq} {w₀} {w₁} {vars} {top} {end} l e {f} {u} is less b small env room cell writes =
+    let same : l .q ≡ patternOf t base jq = ap (λ x. x .q) is ∙ let-q t base back row ∙ ap (patternOf t base) (sym cell) in
+    ready (patternOf t base jq) env (subst (λ p. build p e ≡ some (u, f)) same b) (omega (arith, small, room, less)) writes
+
+step-applied : (t : List ℕ) (base : ℕ) (index : List ℕ) (back : Bool) (row i j : ℕ) {w₀ w₁ w₂ vars : List ℕ} {top end left : ℕ} {r : R.Reduced} (os : List Iso) (d : ℕ) (l : Let) {f : Slots Val} {u : Val} (w : Val) (m : ℕ)
+    → Laid t base index back os → l ≡ sidedLet back (letAt t base row) → l .iso < i → Small u → Runs d os (l .iso) u w m → top + i * frame ≤ length w₀ → length w₀ ≤ 65536
+    → j ≡ cellOf t row 2 → Ready w₀ w₁ vars top end u f → ApplySays t base index back j w₁ w₂ top end left r → Applied w₁ w₂ top left w m r
+step-applied t base index back row i j os d l {f} {u} w m laid is less small run room most cell rd says =
+    let same : l .iso ≡ j = ap (λ x. x .iso) is ∙ let-iso t base back row ∙ sym cell in
+    let wide = rd .wide in
+    says os d u w m laid (subst (λ k. Runs d os k u w m) same run) (rd .spelled) small (rd .ends) (omega (arith, room, wide, same, less)) (omega (arith, wide, most))
+
+pub step-done : (t : List ℕ) (base : ℕ) (index : List ℕ) (back : Bool) (row i j : ℕ) {jq jp : ℕ} {w₀ w₁ w₂ vars vars′ : List ℕ} {top end left x y : ℕ} {r : R.Reduced} → j ≡ cellOf t row 2
+    → jq ≡ cellOf t row (cond back 1 3)
+    → ((n : ℕ) → Below vars n → n ≤ top → Writes w₀ w₁ top end (built (patternOf t base jq) (take n w₀) vars))
+    → ApplySays t base index back j w₁ w₂ top end left r → length w₂ ≡ length w₁ → r ≡ reduced.Done x y → jp ≡ cellOf t row (cond back 3 1)
+    → ((v : Val) → At w₂ top v → Ends x top v → vars′ ≡ ranges (patternOf t base jp) v top vars) → StepSays t base index back i row w₀ w₂ top vars vars′ left (reduced.Done x y)
+step-done t base index back row i j {jq} {jp} cell cellq writes says wide told cellp range os d l e f g u w m laid is less b small run little bound env room most =
+    let rd = step-ready t base back row i l e is less b small env room cellq writes in
+    let same : l .p ≡ patternOf t base jp = ap (λ x. x .p) is ∙ let-p t base back row ∙ ap (patternOf t base) (sym cellp) in
+    stepped-done (patternOf t base jp) rd (step-applied t base index back row i j os d l w m laid is less small run room most cell rd says) told wide
+    (subst (λ p. bind p w f ≡ some g) same bound) (omega (arith, little, room, less)) (omega (arith, little, room, most, less)) range
+
+pub step-spent : (t : List ℕ) (base : ℕ) (index : List ℕ) (back : Bool) (row i j : ℕ) {jq : ℕ} {w₀ w₁ w₂ vars vars′ : List ℕ} {top end left : ℕ} {r : R.Reduced} → j ≡ cellOf t row 2
+    → jq ≡ cellOf t row (cond back 1 3)
+    → ((n : ℕ) → Below vars n → n ≤ top → Writes w₀ w₁ top end (built (patternOf t base jq) (take n w₀) vars))
+    → ApplySays t base index back j w₁ w₂ top end left r → r ≡ reduced.Spent → StepSays t base index back i row w₀ w₂ top vars vars′ left reduced.Spent
+step-spent t base index back row i j cell cellq writes says told os d l e f g u w m laid is less b small run little bound env room most =
+    let rd = step-ready t base back row i l e is less b small env room cellq writes in
+    stepped-spent (step-applied t base index back row i j os d l w m laid is less small run room most cell rd says) told
+
+-- ---- the let steps of a clause
+
+-- the first of some let steps
+pub record FirstLet (call : ℕ → Val → Val → ℕ → Type 0) (i : ℕ) (l : Let) (ls : List Let) (e g : Slots Val) (m : ℕ) : Type 0 where
+  pub earlier : l .iso < i
+  pub given : Val
+  pub rest : Slots Val
+  pub built : build (l .q) e ≡ some (given, rest)
+  pub small : Small given
+  pub gives : Val
+  pub count : ℕ
+  pub called : call (l .iso) given gives count
+  pub less : Small gives
+  pub next : Slots Val
+  pub bound : bind (l .p) gives rest ≡ some next
+  pub after : ℕ
+  pub follows : LetsTrace call i ls next g after
+  pub counts : count + after ≡ m
+
+first-let : {call : ℕ → Val → Val → ℕ → Type 0} {i : ℕ} {l : Let} {ls : List Let} {e g : Slots Val} {m : ℕ} → LetsTrace call i (l ∷ ls) e g m → FirstLet call i l ls e g m
+first-let (step h b s c z n t) =
+    record {
+      earlier = h;
+      given = _;
+      rest = _;
+      built = b;
+      small = s;
+      gives = _;
+      count = _;
+      called = c;
+      less = z;
+      next = _;
+      bound = n;
+      after = _;
+      follows = t;
+      counts = refl;
+    }
+
+-- no let steps
+no-lets : {call : ℕ → Val → Val → ℕ → Type 0} {i : ℕ} {e g : Slots Val} {m : ℕ} → LetsTrace call i [] e g m → (e ≡ g) × (m ≡ 0)
+no-lets done = (refl, refl)
+
+-- what let steps have come to before step k
+pub record LetsAt (call : ℕ → Val → Val → ℕ → Type 0) (i : ℕ) (ls : List Let) (g : Slots Val) (m budget end : ℕ) (w₀ : List ℕ) (k top left : ℕ) (work vars : List ℕ) : Type 0 where
+  pub now : Slots Val
+  pub past : ℕ
+  pub rest : ℕ
+  pub counts : past + rest ≡ m
+  pub paid : past + left ≡ budget
+  pub trace : LetsTrace call i (drop k ls) now g rest
+  pub env : EnvAt work top vars now
+  pub kept : take end work ≡ take end w₀
+  pub further : end ≤ top
+  pub near : top ≤ end + k * 127
+
+-- the same for whatever trace there is
+pub record Letting (t : List ℕ) (base : ℕ) (index : List ℕ) (back : Bool) (i from n end budget : ℕ) (w₀ vars₀ : List ℕ) (k top left : ℕ) (work vars : List ℕ) : Type 0 where
+  pub within : k ≤ n
+  pub wide : length work ≡ length w₀
+  pub holds : (os : List Iso) (d : ℕ) (ls : List Let) (e g : Slots Val) (m : ℕ) → Laid t base index back os → ls ≡ sidedLets back t base from n
+      → LetsTrace (Runs d os) i ls e g m → EnvAt w₀ end vars₀ e → end + length ls * 127 + i * frame ≤ length w₀ → length w₀ ≤ 65536
+      → LetsAt (Runs d os) i ls g m budget end w₀ k top left work vars
+
+pub letting-start : (t : List ℕ) (base : ℕ) (index : List ℕ) (back : Bool) (i from n end budget : ℕ) (w₀ vars₀ : List ℕ)
+    → Letting t base index back i from n end budget w₀ vars₀ 0 end budget w₀ vars₀
+letting-start t base index back i from n end budget w₀ vars₀ =
+    record {
+      within = omega arith;
+      wide = refl;
+      holds = λ os d ls e g m laid is trace env room most.
+          record {
+            now = e;
+            past = 0;
+            rest = m;
+            counts = zero-add m;
+            paid = zero-add budget;
+            trace = trace;
+            env = env;
+            kept = refl;
+            further = omega arith;
+            near = omega arith;
+          };
+    }
+
+-- the let step at k, in a trace
+record OneStep (call : ℕ → Val → Val → ℕ → Type 0) (i : ℕ) (ls : List Let) (g : Slots Val) (m budget end : ℕ) (w₀ : List ℕ) (k top left : ℕ) (work work′ vars vars′ : List ℕ) (r : R.Reduced) : Type 0 where
+  pub before : LetsAt call i ls g m budget end w₀ k top left work vars
+  pub l : Let
+  pub first : FirstLet call i l (drop (suc k) ls) (before .now) g (before .rest)
+  pub says : Stepped work work′ vars′ top left (first .gives) (first .next) (first .count) r
+
+one-step : {t : List ℕ} {base : ℕ} {index : List ℕ} {back : Bool} {i from n end budget : ℕ} {w₀ vars₀ : List ℕ} {k top left row : ℕ} {work work′ vars vars′ : List ℕ} {r : R.Reduced}
+    → Letting t base index back i from n end budget w₀ vars₀ k top left work vars → k < n → row ≡ from + cond back (n - suc k) k
+    → StepSays t base index back i row work work′ top vars vars′ left r
+    → (os : List Iso) (d : ℕ) (ls : List Let) (e g : Slots Val) (m : ℕ) → Laid t base index back os → ls ≡ sidedLets back t base from n
+    → LetsTrace (Runs d os) i ls e g m → EnvAt w₀ end vars₀ e → end + length ls * 127 + i * frame ≤ length w₀ → length w₀ ≤ 65536
+    → OneStep (Runs d os) i ls g m budget end w₀ k top left work work′ vars vars′ r
+one-step {t} {base} {index} {back} {i} {from} {n} {end} {budget} {w₀} {vars₀} {k} {top} {left} {row} {work} {work′} {vars} {vars′} {r} inv below where′ says os d ls e g m laid is trace env room most =
+    let b = inv .holds os d ls e g m laid is trace env room most in
+    let l : Let = sidedLet back (letAt t base (from + cond back (n - suc k) k)) in
+    let parts : drop k ls ≡ l ∷ drop (suc k) ls = ap (drop k) is ∙ let-at back t base from n k below ∙ ap (λ x. l ∷ drop (suc k) x) (sym is) in
+    let f = first-let (subst (λ x. LetsTrace (Runs d os) i x (b .now) g (b .rest)) parts (b .trace)) in
+    let many : length ls ≡ n = ap length is ∙ length-sided back t base from n in
+    let near = b .near in
+    let wide = inv .wide in
+    record {
+      before = b;
+      l = l;
+      first = f;
+      says = says os d l (b .now) (f .rest) (f .next) (f .given) (f .gives) (f .count) laid (ap (λ x. sidedLet back (letAt t base x)) (sym where′)) (f .earlier) (f .built)
+          (f .small) (f .called) (f .less) (f .bound) (b .env) (omega (arith, near, wide, many)) (omega (arith, wide));
+    }
+
+pub letting-next : {t : List ℕ} {base : ℕ} {index : List ℕ} {back : Bool} {i from n end budget : ℕ} {w₀ vars₀ : List ℕ} {k top left row x y : ℕ} {work work′ vars vars′ : List ℕ} {r : R.Reduced} → r ≡ reduced.Done x y
+    → Letting t base index back i from n end budget w₀ vars₀ k top left work vars → k < n → row ≡ from + cond back (n - suc k) k → length work′ ≡ length work
+    → StepSays t base index back i row work work′ top vars vars′ left r
+    → Letting t base index back i from n end budget w₀ vars₀ (k + 1) x y work′ vars′
+letting-next {t} {base} {index} {back} {i} {from} {n} {end} {budget} {w₀} {vars₀} {k} {top} {left} {row} {x} {y} {work} {work′} {vars} {vars′} {r} told inv below where′ wide says′ =
+    let says = subst (StepSays t base index back i row work work′ top vars vars′ left) told says′ in
+    record {
+      within = omega arith;
+      wide = wide ∙ inv .wide;
+      holds = λ os d ls e g m laid is trace env room most.
+          onward os d ls g m (one-step inv below where′ says os d ls e g m laid is trace env room most);
+    }
+  where
+    onward : (os : List Iso) (d : ℕ) (ls : List Let) (g : Slots Val) (m : ℕ) → OneStep (Runs d os) i ls g m budget end w₀ k top left work work′ vars vars′ (reduced.Done x y)
+        → LetsAt (Runs d os) i ls g m budget end w₀ (k + 1) x y work′ vars′
+    onward os d ls g m o = go (le-or-lt (o .first .count) left)
+      where
+        go : (o .first .count ≤ left) ⊎ (left < o .first .count) → LetsAt (Runs d os) i ls g m budget end w₀ (k + 1) x y work′ vars′
+        go (inr h) = absurd (done≢spent (o .says .spent h))
+        go (inl h) =
+            let place = done-place (o .says .done h) in
+            let rest = done-left (o .says .done h) in
+            let b = o .before in
+            let counts = b .counts in
+            let paid = b .paid in
+            let split = o .first .counts in
+            let near = b .near in
+            let further = b .further in
+            let less = o .first .less in
+            let up : suc k ≡ k + 1 = omega arith in
+            let lower : take end work′ ≡ take end work =
+            sym (take-take end top work′ further) ∙ ap (take end) (o .says .kept h) ∙ take-take end top work further in
+            record {
+              now = o .first .next;
+              past = b .past + o .first .count;
+              rest = o .first .after;
+              counts = omega (arith, counts, split);
+              paid = omega (arith, paid, rest);
+              trace = subst (λ q. LetsTrace (Runs d os) i (drop q ls) (o .first .next) g (o .first .after)) up (o .first .follows);
+              env = subst (λ q. EnvAt work′ q vars′ (o .first .next)) (sym place) (o .says .env h);
+              kept = lower ∙ b .kept;
+              further = omega (arith, further, place);
+              near = omega (arith, near, place, less);
+            }
+
+pub lets-spent : {t : List ℕ} {base : ℕ} {index : List ℕ} {back : Bool} {i from n end budget : ℕ} {w₀ vars₀ : List ℕ} {k top left row : ℕ} {work work′ vars vars′ : List ℕ} {r : R.Reduced} → r ≡ reduced.Spent
+    → Letting t base index back i from n end budget w₀ vars₀ k top left work vars → k < n → row ≡ from + cond back (n - suc k) k
+    → StepSays t base index back i row work work′ top vars vars′ left r
+    → (os : List Iso) (d : ℕ) (ls : List Let) (e g : Slots Val) (m : ℕ) → Laid t base index back os → ls ≡ sidedLets back t base from n
+    → LetsTrace (Runs d os) i ls e g m → EnvAt w₀ end vars₀ e → end + length ls * 127 + i * frame ≤ length w₀ → length w₀ ≤ 65536
+    → LetsRan w₀ work′ vars′ end budget (length ls) g m reduced.Spent
+lets-spent {t} {base} {index} {back} {i} {from} {n} {end} {budget} {w₀} {vars₀} {k} {top} {left} {row} {work} {work′} {vars} {vars′} {r} told inv below where′ says′ os d ls e g m laid is trace env room most =
+    let says = subst (StepSays t base index back i row work work′ top vars vars′ left) told says′ in
+    let o = one-step inv below where′ says os d ls e g m laid is trace env room most in
+    let counts = o .before .counts in
+    let paid = o .before .paid in
+    let split = o .first .counts in
+    let more : m ≤ budget → o .first .count ≤ left = λ h. omega (arith, counts, paid, split) in
+    let not : m ≤ budget → ⊥ = λ h. done≢spent (sym (o .says .done (more h))) in
+    record {
+      top = end;
+      further = omega arith;
+      near = omega arith;
+      done = λ h. absurd (not h);
+      kept = λ h. absurd (not h);
+      env = λ h. absurd (not h);
+      spent = λ h. refl;
+    }
+
+pub lets-end : {t : List ℕ} {base : ℕ} {index : List ℕ} {back : Bool} {i from n end budget : ℕ} {w₀ vars₀ : List ℕ} {k top left : ℕ} {work vars : List ℕ}
+    → Letting t base index back i from n end budget w₀ vars₀ k top left work vars → n ≤ k
+    → (os : List Iso) (d : ℕ) (ls : List Let) (e g : Slots Val) (m : ℕ) → Laid t base index back os → ls ≡ sidedLets back t base from n
+    → LetsTrace (Runs d os) i ls e g m → EnvAt w₀ end vars₀ e → end + length ls * 127 + i * frame ≤ length w₀ → length w₀ ≤ 65536
+    → LetsRan w₀ work vars end budget (length ls) g m (reduced.Done top left)
+lets-end {t} {base} {index} {back} {i} {from} {n} {end} {budget} {w₀} {vars₀} {k} {top} {left} {work} {vars} inv past os d ls e g m laid is trace env room most =
+    let b = inv .holds os d ls e g m laid is trace env room most in
+    let many : length ls ≡ n = ap length is ∙ length-sided back t base from n in
+    let within = inv .within in
+    let short : length ls ≤ k = omega (arith, many) in
+    let none′ : drop k ls ≡ [] = drop-of-length-le ls short in
+    let z = no-lets (subst (λ q. LetsTrace (Runs d os) i q (b .now) g (b .rest)) none′ (b .trace)) in
+    let zero′ = z .1 in
+    let counts = b .counts in
+    let paid = b .paid in
+    let near = b .near in
+    let left′ : left ≡ budget - m = omega (arith, counts, paid, zero′) in
+    record {
+      top = top;
+      further = b .further;
+      near = omega (arith, near, many, within);
+      done = λ h. ap (reduced.Done top) left′;
+      kept = λ h. b .kept;
+      env = λ h. subst (EnvAt work top vars) (z .0) (b .env);
+      spent = λ h. absurd (omega (arith, counts, paid, zero′));
+    }
+
+-- ---- an application
+
+-- the clause that is chosen for a trace, as the code finds it: its C row at `row`, its L rows up to row `below`, the environment that matching
+-- left
+pub record Picked (t : List ℕ) (base : ℕ) (back : Bool) (os : List Iso) (i row below : ℕ) (w₀ : List ℕ) (end : ℕ) (vars : List ℕ) (w : Val) (m : ℕ) : Type 0 where
+  pub depth : ℕ
+  pub lets : List Let
+  pub rows : lets ≡ sidedLets back t base (row + 1) (below - (row + 1))
+  pub few : length lets ≤ maxLets
+  pub first : Slots Val
+  pub env : EnvAt w₀ end vars first
+  pub last : Slots Val
+  pub count : ℕ
+  pub trace : LetsTrace (Runs depth os) i lets first last count
+  pub rest : Slots Val
+  pub built : build (patternOf t base (cellOf t row (cond back 1 2))) last ≡ some (w, rest)
+  pub small : Small w
+  pub counts : suc count ≡ m
+
+-- what the choice of a clause ensures
+abbrev pub ChoiceSays : List ℕ → ℕ → List ℕ → Bool → ℕ → ℕ → List ℕ → ℕ → ℕ → List ℕ → List ℕ → ℕ → Type 0
+ChoiceSays t base index back from stop work at end vars vars′ r =
+    (v : Val) (n : ℕ) → At work at v → end ≡ at + length (letters v) → Below vars (at + length (letters v)) → from + n < stop → alike (sideAt t base index back (from + n)) v ≡ true
+    → ((k : ℕ) → k < n → alike (sideAt t base index back (from + k)) v ≡ false)
+    → Chosen (sideAt t base index back (from + n)) v at vars vars′ (from + n) r
+
+getD-zeros : (k n : ℕ) → _≡_ {A = ℕ} (getD (replicate {A = ℕ} k 0) n 0) 0
+getD-zeros zero n = refl
+getD-zeros (suc k) zero = refl
+getD-zeros (suc k) (suc n) = getD-zeros k n
+
+below-zeros : (k top : ℕ) → Below (replicate k 0) top
+below-zeros k top = record { ends = λ n. let z = getD-zeros k (variables + n) in omega (arith, z) }
+
+length-empty : length (empty Val) ≡ variables
+unfolding empty
+length-empty = refl
+
+-- a clause's place in the index, as a trace has it
+record Placed (t : List ℕ) (base : ℕ) (index : List ℕ) (back : Bool) (i place : ℕ) (v : Val) (c : Clause) : Type 0 where
+  pub within : placeAt index i + 1 + place < placeAt index (suc i)
+  pub is : c ≡ sidedClause back (clauseIn t base (placeAt index (placeAt index i + 1 + place)) (placeAt index (placeAt index i + 1 + place + 1)))
+  pub hit : alike (sideAt t base index back (placeAt index i + 1 + place)) v ≡ true
+  pub miss : (k : ℕ) → k < place → alike (sideAt t base index back (placeAt index i + 1 + k)) v ≡ false
+
+placed : (t : List ℕ) (base : ℕ) (index : List ℕ) (back : Bool) (i : ℕ) (o : Iso) (v : Val) (place : ℕ) (c : Clause) {first : Slots Val} → o ≡ sided back (isoAt t base index i)
+    → getElem? (o .clauses) place ≡ some c → bind (c .lhs) v (empty Val) ≡ some first
+    → ((k : ℕ) (b : Clause) → k < place → getElem? (o .clauses) k ≡ some b → alike (b .lhs) v ≡ false) → Placed t base index back i place v c
+placed t base index back i o v place c {first} e chosen bound before =
+    let at : (k : ℕ) (b : Clause) → getElem? (o .clauses) k ≡ some b → getElem? (sided back (isoAt t base index i) .clauses) k ≡ some b =
+    λ k b h. subst (λ x. getElem? (x .clauses) k ≡ some b) e h in
+    let here = clause-at t base index back i place (at place c chosen) in
+    let hits = bind-alike (c .lhs) v (empty Val) bound in
+    record {
+      within = here .0;
+      is = here .1;
+      hit = subst (λ p. alike p v ≡ true) (ap (λ x. x .lhs) (here .1) ∙ lhs-at t base back _ _) hits;
+      miss = λ k h. missed k h (inside (o .clauses) k (let b = index-below (o .clauses) place chosen in omega (arith, b)));
+    }
+  where
+    missed : (k : ℕ) → k < place → (b : Clause) × (getElem? (o .clauses) k ≡ some b) → alike (sideAt t base index back (placeAt index i + 1 + k)) v ≡ false
+    missed k h b =
+        let there = clause-at t base index back i k (subst (λ x. getElem? (x .clauses) k ≡ some (b .0)) e (b .1)) in
+        subst (λ p. alike p v ≡ false) (ap (λ x. x .lhs) (there .1) ∙ lhs-at t base back _ _) (before k (b .0) h (b .1))
+
+-- the choice comes out at the trace's clause
+picked : {t : List ℕ} {base : ℕ} {index : List ℕ} {back : Bool} {i first stop r row below at end : ℕ} {w₀ vars′ : List ℕ}
+    → ChoiceSays t base index back first stop w₀ at end (replicate 64 0) vars′ r → first ≡ placeAt index i + 1 → stop ≡ placeAt index (i + 1)
+    → row ≡ placeAt index r → below ≡ placeAt index (r + 1)
+    → (os : List Iso) (d : ℕ) (v w : Val) (m : ℕ) → Laid t base index back os → Runs d os i v w m → At w₀ at v → end ≡ at + length (letters v) → end < 65536
+    → (r < stop) × Picked t base back os i row below w₀ end vars′ w m
+picked says f s row′ below′ os zero v w m laid run a e small = absurd run
+picked {t} {base} {index} {back} {i} {first} {stop} {r} {row} {below} {at} {end} {w₀} {vars′} says f s row′ below′ os (suc d) v w m laid run a e small =
+    let o = run .0 in
+    let c = run .2 in
+    let p = placed t base index back i o v (c .place) (c .clause) (laid .isos i o (run .1)) (c .chosen) (c .bound) (c .before) in
+    let n : ℕ = c .place in
+    let same : placeAt index i + 1 + n ≡ first + n = ap (λ x. x + n) (sym f) in
+    let stops : placeAt index (suc i) ≡ stop = ap (placeAt index) (omega arith) ∙ sym s in
+    let inside : first + n < stop = subst (λ x. first + n < x) stops (subst (λ x. x < placeAt index (suc i)) same (p .within)) in
+    let ch = says v n a e (below-zeros 64 _) inside (subst (λ x. alike (sideAt t base index back x) v ≡ true) same (p .hit))
+    (λ k h. subst (λ x. alike (sideAt t base index back (x + k)) v ≡ false) (sym f) (p .miss k h)) in
+    let here : placeAt index i + 1 + n ≡ r = same ∙ sym (ch .place) in
+    let is : c .clause ≡ sidedClause back (clauseIn t base row below) =
+    p .is ∙ ap₂ (λ x y. sidedClause back (clauseIn t base x y)) (ap (placeAt index) here ∙ sym row′) (ap (λ x. placeAt index (x + 1)) here ∙ sym below′) in
+    let side : c .clause .lhs ≡ sideAt t base index back (first + n) =
+    ap (λ x. x .lhs) is ∙ lhs-at t base back row below ∙ ap (λ x. patternOf t base (cellOf t x (cond back 2 1))) (row′ ∙ ap (placeAt index) (ch .place)) in
+    let lets′ : c .clause .lets ≡ sidedLets back t base (row + 1) (below - (row + 1)) = ap (λ x. x .lets) is ∙ lets-at t base back row below in
+    let within = at-within a in
+    let long = length-take-le end w₀ (omega (arith, within, e)) in
+    let q : Pat = sideAt t base index back (first + n) in (
+      subst (λ x. x < stop) (sym (ch .place)) inside,
+      record {
+        depth = d;
+        lets = c .clause .lets;
+        rows = lets′;
+        few = c .few;
+        first = c .first;
+        env = record {
+          agrees = subst (λ x. Agrees (take end w₀) x (c .first)) (sym (ch .matched))
+              (agrees-bind q v (empty Val) (take end w₀) (ch .earlier) at (ch .wide ∙ refl) length-empty (omega (arith, long)) (at-take w₀ at end v a (omega (arith, e)))
+              (subst (λ x. bind x v (empty Val) ≡ some (c .first)) side (c .bound)) (agrees-empty (take end w₀) (ch .earlier)));
+          below = subst (λ x. Below x end) (sym (ch .matched))
+              (below-ranges q v at (ch .earlier) end (subst (Below (ch .earlier)) (sym e) (ch .below)) (omega (arith, e)));
+          wide = ap length (ch .matched) ∙ length-ranges q v at (ch .earlier) ∙ ch .wide;
+          slots = bind-length (c .clause .lhs) v (empty Val) (c .bound) ∙ length-empty;
+        };
+        last = c .last;
+        count = c .count;
+        trace = c .lets;
+        rest = c .rest;
+        built = subst (λ x. build x (c .last) ≡ some (w, c .rest)) (ap (λ x. x .rhs) is ∙ rhs-at t base back row below) (c .built);
+        small = c .small;
+        counts = c .counts;
+      },
+    )
+
+-- no budget
+pub applied-none : {work : List ℕ} {at left : ℕ} {w : Val} → left ≡ 0 → (os : List Iso) (d i : ℕ) (v : Val) (m : ℕ) → Runs d os i v w m → Applied work work at left w m reduced.Spent
+applied-none z os d i v m run =
+    let least = runs-least d os i v _ m run in
+    record { done = λ h. absurd (omega (arith, z, least)); result = λ h. absurd (omega (arith, z, least)); spent = λ h. refl }
+
+-- what the let steps ensure
+abbrev pub LetsSay : List ℕ → ℕ → List ℕ → Bool → ℕ → ℕ → ℕ → List ℕ → List ℕ → ℕ → List ℕ → List ℕ → ℕ → R.Reduced → Type 0
+LetsSay t base index back i from to work work′ end vars vars′ budget r =
+    (os : List Iso) (d : ℕ) (ls : List Let) (e g : Slots Val) (m : ℕ) → Laid t base index back os → ls ≡ sidedLets back t base from (to - from)
+    → LetsTrace (Runs d os) i ls e g m → EnvAt work end vars e → end + length ls * 127 + i * frame ≤ length work → length work ≤ 65536
+    → LetsRan work work′ vars′ end budget (length ls) g m r
+
+-- the let steps of the picked clause
+ran : {t : List ℕ} {base : ℕ} {index : List ℕ} {back : Bool} {os : List Iso} {i row below end left : ℕ} {w₀ w₁ vars vars′ : List ℕ} {w : Val} {m : ℕ} {r : R.Reduced} (at : ℕ) (v : Val)
+    → Laid t base index back os → LetsSay t base index back i (row + 1) below w₀ w₁ end vars vars′ left r → (p : Picked t base back os i row below w₀ end vars w m) → Small v
+    → end ≡ at + length (letters v) → at + suc i * frame ≤ length w₀ → length w₀ ≤ 65536 → LetsRan w₀ w₁ vars′ end left (length (p .lets)) (p .last) (p .count) r
+ran {i = i} at v laid says p small e room most =
+    let few = p .few in
+    let more : suc i * frame ≡ frame + i * frame = suc-mul-frame i in
+    says _ (p .depth) (p .lets) (p .first) (p .last) (p .count) laid (p .rows) (p .trace) (p .env) (omega (arith, few, small, e, room, more)) most
+  where
+    suc-mul-frame : (n : ℕ) → suc n * frame ≡ frame + n * frame
+    suc-mul-frame n = omega arith
+
+applied-spent : {t : List ℕ} {base : ℕ} {back : Bool} {os : List Iso} {i row below at end left rest : ℕ} {w₀ w₁ vars vars′ : List ℕ} {w : Val} {m n : ℕ} {r : R.Reduced}
+    → (p : Picked t base back os i row below w₀ end vars w m) → LetsRan w₀ w₁ vars′ end rest n (p .last) (p .count) r → r ≡ reduced.Spent → rest + 1 ≡ left
+    → Applied w₀ w₁ at left w m reduced.Spent
+applied-spent {left = left} {m = m} p l is e =
+    let counts = p .counts in
+    let not : m ≤ left → ⊥ = λ h. done≢spent (sym (l .done (omega (arith, counts, e))) ∙ is) in
+    record { done = λ h. absurd (not h); result = λ h. absurd (not h); spent = λ h. refl }
+
+applied-done : {t : List ℕ} {base : ℕ} {back : Bool} {os : List Iso} {i row below end left rest top after last x : ℕ} {w₀ w₁ w₂ w₃ vars vars′ : List ℕ} {w : Val} {m n : ℕ} {r : R.Reduced} (at : ℕ) (v : Val) (q : Pat)
+    → (p : Picked t base back os i row below w₀ end vars w m) → LetsRan w₀ w₁ vars′ end rest n (p .last) (p .count) r → r ≡ reduced.Done top x → rest + 1 ≡ left
+    → n ≤ maxLets → Small v → end ≡ at + length (letters v) → at + suc i * frame ≤ length w₀ → length w₁ ≡ length w₀
+    → q ≡ patternOf t base (cellOf t row (cond back 1 2))
+    → ((k : ℕ) → Below vars′ k → k ≤ top → Writes w₁ w₂ top last (built q (take k w₁) vars′))
+    → (at ≤ top → last ≤ length w₂ → Writes w₂ w₃ at after (slice top last w₂))
+    → Applied w₀ w₃ at left w m (reduced.Done after x)
+applied-done {i = i} {end = end} {left = left} {rest = rest} {top = top} {after = after} {last = last} {x = x} {w₀ = w₀} {w₁ = w₁} {w₂ = w₂} {w₃ = w₃} {vars′ = vars′} {w = w} {m = m} {n = n} at v q p l is e few small ends room wide same build′ copy = go (le-or-lt (p .count) rest)
+  where
+    go : (p .count ≤ rest) ⊎ (rest < p .count) → Applied w₀ w₃ at left w m (reduced.Done after x)
+    go (inr h) = absurd (done≢spent (sym is ∙ l .spent h))
+    go (inl h) =
+        let place = done-place (sym is ∙ l .done h) in
+        let paid = done-left (sym is ∙ l .done h) in
+        let counts = p .counts in
+        let near = l .near in
+        let further = l .further in
+        let little = p .small in
+        let env : EnvAt w₁ top vars′ (p .last) = subst (λ k. EnvAt w₁ k vars′ (p .last)) (sym place) (l .env h) in
+        let r = ready q env (subst (λ z. build z (p .last) ≡ some (w, p .rest)) (sym same) (p .built)) (omega (arith, near, place, few, little, small, ends, room, wide)) build′ in
+        let long = r .wide in
+        let stop = r .ends in
+        let fits = at-within (r .spelled) in
+        let c = copy (omega (arith, place, further, ends)) (omega (arith, stop, fits)) in
+        let bytes : slice top last w₂ ≡ letters w = ap (λ k. slice top k w₂) stop ∙ at-slice (r .spelled) in
+        let room′ : at + length (slice top last w₂) ≤ length w₂ = subst (λ bs. at + length bs ≤ length w₂) (sym bytes) (omega (arith, place, further, ends, fits)) in
+        let final : w₃ ≡ sets w₂ at (letters w) = c .area room′ ∙ ap (sets w₂ at) bytes in
+        let stands : after ≡ at + length (letters w) = c .place room′ ∙ ap (λ bs. at + length bs) bytes in
+        let up : at ≤ top = omega (arith, place, further, ends) in
+        let low : take at w₂ ≡ take at w₀ =
+        sym (take-take at top w₂ up) ∙ ap (take at) (r .kept) ∙ take-take at top w₁ up
+        ∙ sym (take-take at end w₁ (omega (arith, ends))) ∙ ap (take at) (l .kept h) ∙ take-take at end w₀ (omega (arith, ends)) in
+        let fit : at + length (letters w) ≤ length w₂ = subst (λ bs. at + length bs ≤ length w₂) bytes room′ in
+        record {
+          done = λ k. ap₂ reduced.Done stands (omega (arith, paid, counts, e));
+          result = λ k. ap (take (at + length (letters w))) final ∙ taken w₂ at (letters w) fit ∙ ap (λ z. z ++ letters w) low;
+          spent = λ k. absurd (omega (arith, counts, e));
+        }
+      where
+        taken : (l : List ℕ) (a : ℕ) (bs : List ℕ) → a + length bs ≤ length l → take (a + length bs) (sets l a bs) ≡ take a l ++ bs
+        taken l a bs h =
+            let t = length-take-le a l (omega arith) in
+            let both = length-append (take a l) bs in
+            ap (take (a + length bs)) (sets-eq bs l a h) ∙ take-at (take a l ++ bs) (drop (a + length bs) l) (a + length bs) (omega (arith, t, both))
+
+-- the result, built and copied
+pub moved : (t : List ℕ) (base row : ℕ) (back : Bool) {vars w₀ w₁ w₂ : List ℕ} {top at jr last end : ℕ} → jr ≡ cellOf t row (cond back 1 2)
+    → ((k : ℕ) → Below vars k → k ≤ top → Writes w₀ w₁ top last (built (patternOf t base jr) (take k w₀) vars))
+    → (at ≤ top → last ≤ length w₁ → Writes w₁ w₂ at end (slice top last w₁)) → Moved (patternOf t base (cellOf t row (cond back 1 2))) vars w₀ w₂ top at end
+moved t base row back {vars} {w₀} {w₁} {w₂} {top} {at} {jr} {last} {end} e writes copies =
+    subst (λ j. Moved (patternOf t base j) vars w₀ w₂ top at end) e record { area = w₁; last = last; writes = writes; copies = copies }
+
+-- a budget that is not spent, less one and one more
+one-left : (n : ℕ) → (n ≡ 0 → ⊥) → n - 1 + 1 ≡ n
+one-left zero h = absurd (h refl)
+one-left (suc n) h = omega arith
+
+-- the choice in an application: its clause, by the places read
+pub choice : (t : List ℕ) (base : ℕ) (index : List ℕ) (back : Bool) (i r row below at end : ℕ) {h stop : ℕ} {w₀ vars′ : List ℕ}
+    → ChoiceSays t base index back (h + 1) stop w₀ at end (replicate 64 0) vars′ r → h ≡ placeAt index i → stop ≡ placeAt index (i + 1)
+    → row ≡ placeAt index r → below ≡ placeAt index (r + 1)
+    → (os : List Iso) (d : ℕ) (v w : Val) (m : ℕ) → Laid t base index back os → Runs d os i v w m → At w₀ at v → Small v → end ≡ at + length (letters v)
+    → at + suc i * frame ≤ length w₀ → length w₀ ≤ 65536 → (r < stop) × Picked t base back os i row below w₀ end vars′ w m
+choice t base index back i r row below at end says h s row′ below′ os d v w m laid run a small e room most =
+    picked says (ap (λ x. x + 1) h) s row′ below′ os d v w m laid run a e (omega (arith, small, e, room, most))
+
+pub unmatched : (t : List ℕ) (base : ℕ) (index : List ℕ) (back : Bool) (i r at end left : ℕ) {h stop : ℕ} {w₀ vars′ : List ℕ}
+    → ChoiceSays t base index back (h + 1) stop w₀ at end (replicate 64 0) vars′ r → h ≡ placeAt index i → stop ≡ placeAt index (i + 1) → stop ≤ r
+    → ApplySays t base index back i w₀ w₀ at end left reduced.Spent
+unmatched t base index back i r at end left says h s past os d v w m laid run a small e room most =
+    let c = choice t base index back i r (placeAt index r) (placeAt index (r + 1)) at end says h s refl refl os d v w m laid run a small e room most in let c₀ = c .0 in absurd (omega (arith, c₀))
+
+pub apply-spent : (t : List ℕ) (base : ℕ) (index : List ℕ) (back : Bool) (i r row below at end left : ℕ) {h stop : ℕ} {w₀ w₁ vars vars′ : List ℕ} {z : R.Reduced}
+    → ChoiceSays t base index back (h + 1) stop w₀ at end (replicate 64 0) vars r → h ≡ placeAt index i → stop ≡ placeAt index (i + 1)
+    → row ≡ placeAt index r → below ≡ placeAt index (r + 1) → (left ≡ 0 → ⊥)
+    → LetsSay t base index back i (row + 1) below w₀ w₁ end vars vars′ (left - 1) z → z ≡ reduced.Spent → ApplySays t base index back i w₀ w₁ at end left reduced.Spent
+apply-spent t base index back i r row below at end left says h s row′ below′ some′ lets told os d v w m laid run a small e room most =
+    let p = choice t base index back i r row below at end says h s row′ below′ os d v w m laid run a small e room most .1 in
+    applied-spent p (ran at v laid lets p small e room most) told (one-left left some′)
+
+pub apply-done : (t : List ℕ) (base : ℕ) (index : List ℕ) (back : Bool) (i r row below at end left : ℕ) {h stop top x after : ℕ} {w₀ w₁ w₃ vars vars′ : List ℕ} {z : R.Reduced}
+    → ChoiceSays t base index back (h + 1) stop w₀ at end (replicate 64 0) vars r → h ≡ placeAt index i → stop ≡ placeAt index (i + 1)
+    → row ≡ placeAt index r → below ≡ placeAt index (r + 1) → (left ≡ 0 → ⊥)
+    → LetsSay t base index back i (row + 1) below w₀ w₁ end vars vars′ (left - 1) z → z ≡ reduced.Done top x → length w₁ ≡ length w₀
+    → Moved (patternOf t base (cellOf t row (cond back 1 2))) vars′ w₁ w₃ top at after → ApplySays t base index back i w₀ w₃ at end left (reduced.Done after x)
+apply-done t base index back i r row below at end left says h s row′ below′ some′ lets told wide moved os d v w m laid run a small e room most =
+    let p = choice t base index back i r row below at end says h s row′ below′ os d v w m laid run a small e room most .1 in
+    applied-done at v (patternOf t base _) p (ran at v laid lets p small e room most) told (one-left left some′) (p .few) small e room wide
+    refl (moved .writes) (moved .copies)
+
+-- ---- the measures of the cycle, three for each iso
+
+pub lets-fall : (i : ℕ) {t : ℕ} → 3 * i + 2 ≡ t → 3 * i + 1 < t
+lets-fall i {t} e = omega arith
+
+pub step-falls : (i : ℕ) {t : ℕ} → 3 * i + 1 ≡ t → 3 * i < t
+step-falls i {t} e = omega arith
+
+pub apply-falls : (i j : ℕ) {t : ℕ} → 3 * i ≡ t → j < i → 3 * j + 2 < t
+apply-falls i j {t} e h = omega arith
+
+-- the rows of a clause's L lines
+pub rows-in : {row : ℕ} → row < 65536 → row + 1 < 65537
+rows-in h = omega arith
+
+pub span-small : (n from to : ℕ) → n ≡ to - from → to < 65536 → n < 65536
+span-small n from to e h = omega (arith, e)
