@@ -1,11 +1,11 @@
 //! One call of a service, made by either implementation, and the answer it has to give.
 
-use apart::areas::{check_areas, run_areas, turn_areas, Known};
-use apart::bounds::{bounds, bounds_rules, Bounded};
+use crate::answer::Answer;
+use crate::service::{by_apart, by_proved, run_by_apart, run_by_proved, Asked, Service};
+use apart::bounds::bounds_rules;
 use apart::pair_lists;
-use apart::witness::{witness, witness_of};
-use rulefile::{Bounds, Direction, Refused, Witnessed};
-use rulefile::{MAX_QUERIES, NUMBERS_A_QUERY, RESULT_LENGTH};
+use apart::witness::witness_of;
+use rulefile::{Overlap, MAX_QUERIES, NUMBERS_A_QUERY, RESULT_LENGTH};
 
 #[derive(Clone, Copy, PartialEq, Eq, Debug)]
 pub enum Implementation {
@@ -33,10 +33,10 @@ const SOIL: u8 = 0xA5;
 /// The lent areas. The output is as long as the letters of the largest sheet, longer than any file.
 #[derive(PartialEq, Eq)]
 pub struct Areas {
-    table: Vec<u16>,
-    work: Vec<u8>,
-    output: Vec<u8>,
-    numbers: Vec<u32>,
+    pub table: Vec<u16>,
+    pub work: Vec<u8>,
+    pub output: Vec<u8>,
+    pub numbers: Vec<u32>,
 }
 
 impl Areas {
@@ -60,61 +60,6 @@ impl Areas {
     }
 }
 
-/// What a call gives; 0 where its service gives nothing of the kind.
-#[derive(Clone, Copy, PartialEq, Eq, Debug, Default)]
-pub struct Answer {
-    pub number: u32,
-    pub line: usize,
-    pub count: u64,
-    pub length: usize,
-    pub queries: usize,
-    pub bounds: Option<Bounds>,
-}
-
-impl Answer {
-    fn refused(refused: Refused) -> Self {
-        Answer {
-            number: refused.refusal.number(),
-            line: refused.line,
-            ..Answer::default()
-        }
-    }
-}
-
-/// What a run forward is asked.
-#[derive(Clone)]
-pub struct Asked {
-    pub iso: u16,
-    pub value: Vec<u8>,
-    pub budget: u32,
-}
-
-impl Asked {
-    /// The line of a list of queries.
-    pub fn line(&self) -> Vec<u8> {
-        let head = format!("Q,{},0,{},", self.iso, self.budget).into_bytes();
-        [head, self.value.clone(), b"\n".to_vec()].concat()
-    }
-}
-
-pub enum Service {
-    Check,
-    Turn,
-    Run(Asked),
-    /// A list of query lines in one call.
-    Sheet(Vec<u8>),
-    /// The same queries, each by a run of its own.
-    Runs(Vec<Asked>),
-    /// The bounds of an iso.
-    Bounds(u32),
-    /// A setting that shows the fault.
-    Witness,
-    /// An iso as a pair list, with a budget for each pair.
-    Export(u32, u32),
-    /// A file out of a pair list, from the file's last T line to itself.
-    Import(u32, Vec<u8>),
-}
-
 /// A call, its answer, and what it writes to its output area and to its numbers.
 pub struct Call {
     file: Vec<u8>,
@@ -132,16 +77,26 @@ impl Call {
 
     /// Check of a file that is refused with a number at a line.
     pub fn refused(file: Vec<u8>, number: u32, line: usize) -> Self {
+        Call::answered(file, Service::Check, Answer::refused(number, line))
+    }
+
+    /// A call that writes nothing.
+    fn answered(file: Vec<u8>, service: Service, answer: Answer) -> Self {
         Call {
             file,
-            service: Service::Check,
-            answer: Answer {
-                number,
-                line,
-                ..Answer::default()
-            },
+            service,
+            answer,
             written: Vec::new(),
             numbers: Vec::new(),
+        }
+    }
+
+    /// A call that writes these bytes and gives their length, with what else the answer has.
+    fn writing(file: Vec<u8>, service: Service, written: Vec<u8>, answer: Answer) -> Self {
+        let length = written.len();
+        Call {
+            written,
+            ..Call::answered(file, service, Answer { length, ..answer })
         }
     }
 
@@ -149,88 +104,65 @@ impl Call {
     pub fn turn(file: Vec<u8>) -> Self {
         let written = apart::turn(&file).expect("the file is accepted");
         assert_eq!(apart::turn(&written).as_ref(), Ok(&file), "turned twice");
-        Call {
-            file,
-            service: Service::Turn,
-            answer: Answer {
-                length: written.len(),
-                ..Answer::default()
-            },
-            written,
-            numbers: Vec::new(),
-        }
+        Call::writing(file, Service::Turn, written, Answer::default())
     }
 
     /// Run of an iso on a value, with a budget of just the applications that it takes.
     pub fn run(file: Vec<u8>, iso: u16, value: Vec<u8>, budget: u32, written: Vec<u8>) -> Self {
-        let (count, length) = (u64::from(budget), written.len());
-        Call {
-            file,
-            service: Service::Run(Asked { iso, value, budget }),
-            answer: Answer {
-                count,
-                length,
-                ..Answer::default()
-            },
-            written,
-            numbers: Vec::new(),
-        }
+        let answer = Answer {
+            count: u64::from(budget),
+            ..Answer::default()
+        };
+        let service = Service::Run(Asked { iso, value, budget });
+        Call::writing(file, service, written, answer)
+    }
+
+    /// The number of a setting of a T line of an accepted file.
+    pub fn number(file: Vec<u8>, ty: u32, letters: Vec<u8>, setting: u32) -> Self {
+        let service = Service::Number(ty, letters);
+        Call::answered(file, service, Answer::of_setting(setting))
+    }
+
+    /// The setting of a number, the other way round.
+    pub fn setting(file: Vec<u8>, ty: u32, letters: Vec<u8>, setting: u32) -> Self {
+        let service = Service::Setting(ty, setting);
+        Call::writing(file, service, letters, Answer::default())
+    }
+
+    /// Two P lines of an accepted file compared.
+    pub fn overlap(file: Vec<u8>, left: u32, right: u32, overlap: Overlap) -> Self {
+        let service = Service::Overlap(left, right);
+        Call::answered(file, service, Answer::of_overlap(overlap))
     }
 
     /// The bounds of an iso of an accepted file.
     pub fn bounds(file: Vec<u8>, iso: u32) -> Self {
         let rules = apart::check(&file).expect("the file is accepted");
         let told = bounds_rules(&rules, iso).expect("the iso is there");
-        Call {
-            service: Service::Bounds(iso),
-            answer: bounds_answer(told),
-            ..Call::check(file)
-        }
+        Call::answered(file, Service::Bounds(iso), told.into())
     }
 
     /// The witness of a file that is refused with 11 to 14.
     pub fn witness(file: Vec<u8>) -> Self {
         let refusal = apart::check(&file).err().expect("the file is refused");
         let written = witness_of(&file, refusal).expect("a side is at fault");
-        Call {
-            service: Service::Witness,
-            answer: Answer {
-                number: refusal.number.into(),
-                line: refusal.line,
-                length: written.len(),
-                ..Answer::default()
-            },
-            written,
-            ..Call::check(file)
-        }
+        let answer = Answer::refused(refusal.number.into(), refusal.line);
+        Call::writing(file, Service::Witness, written, answer)
     }
 
     /// An iso of an accepted file as a pair list.
     pub fn export(file: Vec<u8>, iso: u32, budget: u32) -> Self {
         let rules = apart::check(&file).expect("the file is accepted");
-        let list = pair_lists::export_rules(&rules, iso, budget);
-        Call::writing(file, Service::Export(iso, budget), list.expect("a list"))
+        let list = pair_lists::export_rules(&rules, iso, budget).expect("a list");
+        Call::writing(file, Service::Export(iso, budget), list, Answer::default())
     }
 
-    /// A file out of a pair list, between two settings of the last T line of an accepted file.
+    /// A file out of a pair list, between settings of the last T line of an accepted file.
     pub fn import(file: Vec<u8>, list: Vec<u8>) -> Self {
         let rules = apart::check(&file).expect("the file is accepted");
         let ty = rules.types.len() as u32 - 1;
-        let written = pair_lists::import_rules(&rules, ty, ty, &list);
-        Call::writing(file, Service::Import(ty, list), written.expect("a file"))
-    }
-
-    /// A call that writes these bytes.
-    fn writing(file: Vec<u8>, service: Service, written: Vec<u8>) -> Self {
-        Call {
-            service,
-            answer: Answer {
-                length: written.len(),
-                ..Answer::default()
-            },
-            written,
-            ..Call::check(file)
-        }
+        let written = pair_lists::import_rules(&rules, ty, ty, &list).expect("a file");
+        Call::writing(file, Service::Import(ty, list), written, Answer::default())
     }
 
     /// Queries of an accepted file, none of them refused, in one sheet.
@@ -255,10 +187,7 @@ impl Call {
         }
         Call {
             file,
-            answer: Answer {
-                queries: asked.len(),
-                ..Answer::default()
-            },
+            answer: Answer::of_queries(asked.len()),
             service: Service::Runs(asked),
             written,
             numbers,
@@ -270,8 +199,8 @@ impl Call {
         let answer = match &self.service {
             Service::Runs(asked) => self.one_by_one(asked, implementation, areas),
             _ => match implementation {
-                Proved => self.by_proved(areas),
-                Apart => self.by_apart(areas),
+                Proved => by_proved(&self.file, &self.service, areas),
+                Apart => by_apart(&self.file, &self.service, areas),
             },
         };
         assert_eq!(answer, self.answer, "{implementation:?}");
@@ -299,108 +228,7 @@ impl Call {
             };
             three.copy_from_slice(&[ran.number, ran.count as u32, ran.length as u32]);
         }
-        Answer {
-            queries: asked.len(),
-            ..Answer::default()
-        }
-    }
-
-    fn by_proved(&self, areas: &mut Areas) -> Answer {
-        let Areas {
-            table,
-            work,
-            output,
-            numbers,
-        } = areas;
-        let given = match &self.service {
-            Service::Check => rulefile::check(&self.file, table, work).map(|()| Answer::default()),
-            Service::Turn => rulefile::turn(&self.file, table, work, output).map(|length| Answer {
-                length,
-                ..Answer::default()
-            }),
-            Service::Run(asked) => Ok(run_by_proved(&self.file, asked, table, work, output)),
-            Service::Sheet(queries) => {
-                let answered = rulefile::sheet(&self.file, table, work, queries, numbers, output);
-                answered.map(|queries| Answer {
-                    queries,
-                    ..Answer::default()
-                })
-            }
-            Service::Runs(_) => unreachable!("made one by one"),
-            Service::Bounds(iso) => {
-                let told = rulefile::bounds(&self.file, table, work, *iso);
-                told.map(|bounds| Answer {
-                    bounds: Some(bounds),
-                    ..Answer::default()
-                })
-            }
-            Service::Witness => {
-                let shown = rulefile::witness(&self.file, table, work, output);
-                return shown.map_or_else(witnessed, |()| Answer::default());
-            }
-
-            Service::Export(iso, budget) => {
-                let written = rulefile::export(&self.file, table, work, *iso, *budget, output);
-                written.map(length_alone)
-            }
-            Service::Import(ty, list) => {
-                let written = rulefile::import(&self.file, table, work, [*ty; 2], list, output);
-                written.map(length_alone)
-            }
-        };
-        given.unwrap_or_else(Answer::refused)
-    }
-
-    fn by_apart(&self, areas: &mut Areas) -> Answer {
-        let Areas {
-            table,
-            work,
-            output,
-            ..
-        } = areas;
-        match &self.service {
-            Service::Check => {
-                let checked = check_areas(&self.file, table, work);
-                Answer {
-                    number: checked.number.into(),
-                    line: checked.line,
-                    ..Answer::default()
-                }
-            }
-            Service::Turn => {
-                let turned = turn_areas(&self.file, table, work, output);
-                Answer {
-                    number: turned.number.into(),
-                    line: turned.line,
-                    length: turned.length,
-                    ..Answer::default()
-                }
-            }
-            Service::Run(asked) => run_by_apart(&self.file, asked, table, work, output),
-            Service::Sheet(queries) => sheet_by_apart(&self.file, queries, areas),
-            Service::Runs(_) => unreachable!("made one by one"),
-            Service::Bounds(iso) => {
-                bounds_answer(bounds(&Known::of(&self.file), table, work, *iso))
-            }
-            Service::Witness => {
-                let shown = witness(&Known::of(&self.file), table, work, output);
-                Answer {
-                    number: shown.number.into(),
-                    line: shown.line,
-                    length: shown.length,
-                    ..Answer::default()
-                }
-            }
-
-            Service::Export(iso, budget) => {
-                let (known, asked) = (Known::of(&self.file), (*iso, *budget));
-                written_answer(pair_lists::export(&known, table, work, asked, output))
-            }
-            Service::Import(ty, list) => {
-                let (known, asked) = (Known::of(&self.file), (*ty, *ty, &list[..]));
-                written_answer(pair_lists::import(&known, table, work, asked, output))
-            }
-        }
+        Answer::of_queries(asked.len())
     }
 
     pub fn lines(&self) -> usize {
@@ -421,105 +249,6 @@ impl Call {
         self.make(Proved, &mut one);
         self.make(Apart, &mut two);
         assert!(one == two, "the areas differ");
-    }
-}
-
-fn run_by_proved(
-    file: &[u8],
-    asked: &Asked,
-    table: &mut [u16],
-    work: &mut [u8],
-    result: &mut [u8],
-) -> Answer {
-    let query = rulefile::Query {
-        iso: u32::from(asked.iso),
-        direction: Direction::Forward,
-        budget: asked.budget,
-        letters: &asked.value,
-    };
-    let ran = rulefile::run(file, table, work, query, result);
-    ran.map_or_else(Answer::refused, |ran| Answer {
-        count: u64::from(ran.count),
-        length: ran.length,
-        ..Answer::default()
-    })
-}
-
-fn run_by_apart(
-    file: &[u8],
-    asked: &Asked,
-    table: &mut [u16],
-    work: &mut [u8],
-    result: &mut [u8],
-) -> Answer {
-    let query = apart::areas::Query {
-        iso: asked.iso,
-        back: false,
-        budget: asked.budget,
-        value: &asked.value,
-    };
-    let ran = run_areas(file, table, work, query, result);
-    Answer {
-        number: ran.number.into(),
-        count: ran.count,
-        length: ran.length,
-        ..Answer::default()
-    }
-}
-
-/// What the proved library gives of a file that is refused.
-fn witnessed(Witnessed { refused, length }: Witnessed) -> Answer {
-    Answer {
-        length,
-        ..Answer::refused(refused)
-    }
-}
-
-fn length_alone(length: usize) -> Answer {
-    Answer {
-        length,
-        ..Answer::default()
-    }
-}
-
-/// What the checker written apart gives for a pair list.
-fn written_answer(written: pair_lists::Written) -> Answer {
-    Answer {
-        number: written.number.into(),
-        line: written.line,
-        length: written.length,
-        ..Answer::default()
-    }
-}
-
-/// What the checker written apart tells of an iso.
-fn bounds_answer(told: Bounded) -> Answer {
-    let bounds = Bounds {
-        least: told.least,
-        greatest: told.greatest,
-        least_over: told.least_over,
-        greatest_over: told.greatest_over,
-    };
-    Answer {
-        number: told.number.into(),
-        bounds: (told.number == 0).then_some(bounds),
-        ..Answer::default()
-    }
-}
-
-fn sheet_by_apart(file: &[u8], queries: &[u8], areas: &mut Areas) -> Answer {
-    let lent = apart::sheet::Lent {
-        table: &mut areas.table,
-        work: &mut areas.work,
-        numbers: &mut areas.numbers,
-        letters: &mut areas.output,
-    };
-    let sheet = apart::sheet::sheet(&Known::of(file), queries, lent);
-    Answer {
-        number: sheet.number.into(),
-        line: sheet.line,
-        queries: sheet.queries,
-        ..Answer::default()
     }
 }
 
@@ -547,6 +276,28 @@ mod tests {
         let bounds = call.answer.bounds.as_mut();
         bounds.expect("the iso is there").greatest_over = true;
         call.make(Proved, &mut Areas::new());
+    }
+
+    #[test]
+    #[should_panic(expected = "Proved")]
+    fn another_setting_is_noticed() {
+        Call::number(inputs::s(), 2, b"PLURU".to_vec(), 2).make(Proved, &mut Areas::new());
+    }
+
+    #[test]
+    #[should_panic(expected = "Apart writes other bytes")]
+    fn other_letters_are_noticed() {
+        Call::setting(inputs::s(), 2, b"PLULU".to_vec(), 1).make(Apart, &mut Areas::new());
+    }
+
+    #[test]
+    #[should_panic(expected = "Proved")]
+    fn one_pair_more_is_noticed() {
+        let overlap = Overlap {
+            clash: true,
+            pairs: 3,
+        };
+        Call::overlap(inputs::s(), 5, 7, overlap).make(Proved, &mut Areas::new());
     }
 
     #[test]

@@ -1,7 +1,7 @@
 //! The measured files, but for the worst cases.
 
-use crate::call::Asked;
 use crate::draft::{Draft, LEFT, PAIR, PRODUCT, RIGHT, SUM, VARIABLE};
+use crate::service::Asked;
 
 /// File S of document 01.
 pub fn s() -> Vec<u8> {
@@ -9,6 +9,14 @@ pub fn s() -> Vec<u8> {
         "T,0,0,0 T,1,0,0 T,2,1,1 P,0,0,0 P,2,0,0 P,3,0,0 P,1,0,0 P,1,1,0 P,4,1,3 P,4,1,4 P,4,2,3 \
                  I,1,1 C,1,2 C,2,1 I,2,2 C,5,6 L,4,0,3 C,7,7 ";
     lines.replace(' ', "\n").into_bytes()
+}
+
+/// File S with its last line, a clause, so many times.
+pub fn s_with_last_line(times: usize) -> Vec<u8> {
+    let file = s();
+    let last = b"C,7,7\n";
+    let rest = file.strip_suffix(last).expect("the last line");
+    [rest, &last.repeat(times)[..]].concat()
 }
 
 /// The types of nothing but bits: unit, one bit, then products up to `bits` bits.
@@ -168,6 +176,55 @@ pub fn gap() -> Vec<u8> {
         draft.clause(side, side);
     }
     draft.into_bytes()
+}
+
+/// An iso on a tree of 107 nodes and five bits, a type of 127 nodes: each of 31 clauses has the tree and other
+/// bits, and the last bits are left out.
+pub fn late_gap() -> Vec<u8> {
+    let mut draft = Draft::default();
+    let bits = bit_types(&mut draft, 5);
+    let unit = draft.type_of(0, 0, 0);
+    let tree = (1..54).fold(unit, |rest, _| draft.type_of(PRODUCT, unit, rest));
+    let ty = draft.type_of(PRODUCT, tree, bits);
+    let unit = draft.pattern(0, 0, 0);
+    let tree = (1..54).fold(unit, |rest, _| draft.pattern(PAIR, unit, rest));
+    let leaves = closed_patterns(&mut draft, 5);
+    let sides: Vec<usize> = leaves[..31]
+        .iter()
+        .map(|leaf| draft.pattern(PAIR, tree, *leaf))
+        .collect();
+    draft.iso(ty, ty);
+    for side in sides {
+        draft.clause(side, side);
+    }
+    draft.into_bytes()
+}
+
+/// A type of 31 bits and two units, 127 nodes deep to the right, and its number: 2,147,483,648 settings.
+pub fn many_settings() -> (Vec<u8>, u32) {
+    let mut draft = Draft::default();
+    let unit = draft.type_of(0, 0, 0);
+    let bit = draft.type_of(SUM, unit, unit);
+    let bits = (1..31).fold(bit, |rest, _| draft.type_of(PRODUCT, bit, rest));
+    let ty = (0..2).fold(bits, |rest, _| draft.type_of(PRODUCT, unit, rest));
+    (draft.into_bytes(), ty as u32)
+}
+
+/// The number and the letters of the last of these settings.
+pub const LAST: u32 = (1 << 31) - 1;
+
+pub fn last_setting() -> Vec<u8> {
+    ("PU".repeat(2) + &"PRU".repeat(30) + "RU").into_bytes()
+}
+
+/// Two P lines that are full trees of pairs and units with 127 nodes, each of lines of its own.
+pub fn two_trees() -> (Vec<u8>, u32, u32) {
+    let mut draft = Draft::default();
+    let [left, right] = [(); 2].map(|()| {
+        let unit = draft.new_pattern(0, 0, 0);
+        (0..6).fold(unit, |a, _| draft.new_pattern(PAIR, a, a)) as u32
+    });
+    (draft.into_bytes(), left, right)
 }
 
 /// 32 isos on one bit: the first exchanges left and right, each other applies the one before it twice. Iso k

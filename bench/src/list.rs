@@ -1,8 +1,9 @@
 //! The rows and the series that are measured.
 
-use crate::call::Proved;
-use crate::measure::{Lent, Timed};
-use crate::point::{Point, Series, GAP, OVERLAP};
+use crate::instructions::Counts;
+use crate::measure::Both;
+use crate::point::{Point, Series};
+use crate::single::SINGLES;
 use crate::worst::CANDIDATES;
 
 const QUERIES: usize = 100_000;
@@ -46,7 +47,7 @@ impl Growth {
     }
 }
 
-pub fn is_counted(point: &Point) -> bool {
+fn is_counted(point: &Point) -> bool {
     match point.series {
         Series::Applications | Series::Swaps => point.size <= COUNTED,
         _ => true,
@@ -60,19 +61,35 @@ pub fn candidates() -> Vec<Point> {
         .collect()
 }
 
-/// The accepted candidate that costs the proved library the most: of a few calls each, the quickest one tells,
-/// as what slows the machine for a while does not shorten it.
-pub fn costliest(calls: usize) -> Point {
-    let quickest = |point: &Point| {
-        let mut lent = Lent::new(point.call());
-        (0..calls).map(|_| lent.time(Proved, 1)).min()
+/// The accepted candidate that costs the proved library the most: instructions or, where they are not counted,
+/// time.
+pub fn costliest(times: &[Both], counts: &Counts) -> Point {
+    let cost = |(place, point): (usize, Point)| {
+        let both = counts.get(&point).or(times.get(place));
+        (both.expect("a cost of each candidate").proved, point)
     };
-    let accepted = |point: &Point| point.call().is_accepted();
     let most = candidates()
         .into_iter()
-        .filter(accepted)
-        .max_by_key(quickest);
-    most.expect("a file is accepted")
+        .enumerate()
+        .filter(|(_, point)| point.call().is_accepted())
+        .map(cost)
+        .max_by(|one, two| one.0.total_cmp(&two.0));
+    most.expect("a file is accepted").1
+}
+
+/// The points whose instructions are counted, each once. The row of the worst case is one of the candidates.
+pub fn counted(growths: &[Growth]) -> Vec<Point> {
+    let mut points = candidates();
+    let rows = rows(points[0], false);
+    points.extend(rows.iter().map(|row| row.counted));
+    points.extend(growths.iter().flat_map(Growth::points));
+    let mut once = Vec::new();
+    for point in points.into_iter().filter(is_counted) {
+        if !once.contains(&point) {
+            once.push(point);
+        }
+    }
+    once
 }
 
 /// The rows of the first table.
@@ -94,19 +111,6 @@ pub fn rows(worst: Point, quick: bool) -> Vec<Row> {
         call("Check, 32 isos of 32 closed clauses", Series::Isos, 32),
         call(&label, Series::Worst, worst.size),
         call("Turn, 4,096 lines", Series::Turn, 4_096),
-        call("Bounds, 4,096 lines", Series::Bounds, 4_096),
-        call(
-            "Witness of an overlap, 32 clauses of 127 nodes",
-            Series::Witness,
-            OVERLAP,
-        ),
-        call(
-            "Witness of a gap, 1 of 4,294,967,296 settings, 32 clauses",
-            Series::Witness,
-            GAP,
-        ),
-        call("Export, 4,096 values of 12 bits", Series::Export, 4_096),
-        call("Import, 32 lines, 1,023 P lines", Series::Import, 32),
         runs(
             "Run, tower of isos on one bit",
             Series::Applications,
@@ -118,10 +122,11 @@ pub fn rows(worst: Point, quick: bool) -> Vec<Row> {
             "Run, tower of isos on 127 letters",
             Series::Swaps,
             swaps,
-            1 << 10,
+            1 << 14,
         ),
     ];
     rows.extend(rows_of_queries());
+    rows.extend(rows_of_singles());
     rows
 }
 
@@ -140,6 +145,14 @@ fn rows_of_queries() -> [Row; 5] {
         sheet("600 runs of their own, 4,096 lines", Series::LongRuns, 4),
         row("`rules`, 100,000 queries", Series::Desk, QUERIES, QUERIES),
     ]
+}
+
+/// The rows of the later services.
+fn rows_of_singles() -> impl Iterator<Item = Row> {
+    let row = |(place, label)| Row::new(label, "a call", Series::Single, place, place);
+    (1..)
+        .zip(SINGLES.iter().map(|single| single.label))
+        .map(row)
 }
 
 /// The series whose growth is shown; the first four are plotted.

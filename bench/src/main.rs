@@ -1,5 +1,6 @@
 //! Measures the proved library and the checker written apart side by side, and prints tables.
 
+mod answer;
 mod call;
 mod desk;
 mod draft;
@@ -10,6 +11,8 @@ mod measure;
 mod plot;
 mod point;
 mod report;
+mod service;
+mod single;
 mod table;
 mod worst;
 
@@ -25,18 +28,43 @@ use std::hint::black_box;
 use std::process::ExitCode;
 use std::time::Duration;
 
-const USAGE: &str = "bench [--quick] RULES APART-RULES FOLDER PICTURE
+const USAGE: &str = "bench [--quick|--times|--instructions] RULES APART-RULES FOLDER PICTURE
 bench --once SERIES SIZE proved|apart CALLS";
+
+/// What is measured. The rounds of a quick run are short, and its largest sizes smaller.
+#[derive(Clone, Copy, PartialEq, Eq)]
+struct Mode {
+    times: bool,
+    instructions: bool,
+    quick: bool,
+}
+
+impl Mode {
+    fn named(name: &str) -> Option<Mode> {
+        let (times, instructions, quick) = match name {
+            "" => (true, true, false),
+            "--quick" => (true, false, true),
+            "--times" => (true, false, false),
+            "--instructions" => (false, true, false),
+            _ => return None,
+        };
+        Some(Mode {
+            times,
+            instructions,
+            quick,
+        })
+    }
+}
 
 fn main() -> ExitCode {
     let arguments: Vec<String> = env::args().skip(1).collect();
     let arguments: Vec<&str> = arguments.iter().map(String::as_str).collect();
     let done = match arguments[..] {
         ["--once", series, size, by, calls] => once(series, size, by, calls),
-        ["--quick", rules, apart, folder, picture] => {
-            bench(&desk(rules, apart, folder), picture, true)
+        [rules, apart, folder, picture] => measured("", desk(rules, apart, folder), picture),
+        [mode, rules, apart, folder, picture] => {
+            measured(mode, desk(rules, apart, folder), picture)
         }
-        [rules, apart, folder, picture] => bench(&desk(rules, apart, folder), picture, false),
         _ => None,
     };
     match done {
@@ -80,42 +108,44 @@ fn plans(quick: bool) -> [Plan; 2] {
     }
 }
 
-fn bench(desk: &Desk, picture: &str, quick: bool) -> Option<()> {
-    let [long, short] = plans(quick);
+fn measured(mode: &str, desk: Desk, picture: &str) -> Option<()> {
+    let mode = Mode::named(mode)?;
+    let svg = bench(&desk, mode);
+    fs::write(picture, svg).expect("the picture's folder is there");
+    Some(())
+}
+
+/// Measures and prints the tables; gives the picture.
+fn bench(desk: &Desk, mode: Mode) -> String {
+    let [long, short] = plans(mode.quick);
     let candidates = list::candidates();
-    let candidate_times = timed(&candidates, desk, short);
-    let rows = list::rows(list::costliest(long.rounds), quick);
+    let growths = list::growths(mode.quick);
+    let counts = match mode.instructions {
+        true => instructions::count_all(&list::counted(&growths), desk),
+        false => Counts::new(),
+    };
+    let timed = |points: &[Point], plan| match mode.times {
+        true => timed(points, desk, plan),
+        false => Vec::new(),
+    };
+    let candidate_times = timed(&candidates, short);
+    let rows = list::rows(list::costliest(&candidate_times, &counts), mode.quick);
     let points: Vec<Point> = rows.iter().map(|row| row.point).collect();
-    let row_times = timed(&points, desk, long);
-    let growths = list::growths(quick);
-    let grow = |growth: &Growth| timed(&growth.points(), desk, short);
+    let row_times = timed(&points, long);
+    let grow = |growth: &Growth| timed(&growth.points(), short);
     let growth_times: Vec<Vec<Both>> = growths.iter().map(grow).collect();
-    let mut counted = candidates.clone();
-    counted.extend(rows.iter().map(|row| row.counted));
-    counted.extend(growths.iter().flat_map(Growth::points));
-    let counts = count(if quick { Vec::new() } else { counted }, desk);
 
     report::side_by_side(&rows, &row_times, &counts);
     report::candidates(&candidates, &candidate_times, &counts);
     report::growths(&growths, &growth_times, &counts);
     println!("Every answer was the expected one, the same from both implementations.");
-    let svg = plot::picture(&growths, &growth_times);
-    fs::write(picture, svg).expect("the picture's folder is there");
-    Some(())
+    match mode.instructions {
+        true => plot::of_instructions(&growths, &counts),
+        false => plot::of_times(&growths, &growth_times),
+    }
 }
 
 fn timed(points: &[Point], desk: &Desk, plan: Plan) -> Vec<Both> {
     let mut group: Vec<_> = points.iter().map(|point| point.timed(desk)).collect();
     measure::times(&mut group, plan)
-}
-
-/// Counts the instructions of each point that is not too long for it, once.
-fn count(points: Vec<Point>, desk: &Desk) -> Counts {
-    let mut once = Vec::new();
-    for point in points.into_iter().filter(list::is_counted) {
-        if !once.contains(&point) {
-            once.push(point);
-        }
-    }
-    instructions::count_all(&once, desk)
 }

@@ -1,8 +1,10 @@
 //! The picture of the growth: a panel for each series, both axes logarithmic.
 
+use crate::instructions::Counts;
 use crate::list::Growth;
 use crate::measure::Both;
-use crate::table::{time, whole};
+use crate::point::Point;
+use crate::table::{instructions, time, whole};
 
 const WIDTH: f64 = 960.0;
 const HEIGHT: f64 = 760.0;
@@ -16,19 +18,54 @@ const GUIDE: &str = "#777";
 const DASHES: &str = "7 4";
 const DOTS: &str = "1 4";
 
+/// What a panel shows: sizes and costs, what a cost is, and how it is written.
+struct Shown {
+    sizes: Vec<f64>,
+    costs: Vec<Both>,
+    what: &'static str,
+    write: fn(f64) -> String,
+}
+
 /// The times of the first four series.
-pub fn picture(growths: &[Growth], times: &[Vec<Both>]) -> String {
+pub fn of_times(growths: &[Growth], times: &[Vec<Both>]) -> String {
+    let both = growths.iter().zip(times);
+    picture(both.map(|(growth, times)| {
+        let shown = growth.points().into_iter().zip(times.clone()).collect();
+        (growth, shown_by(shown, "time a call", time))
+    }))
+}
+
+/// The instructions of the first four series, as far as they are counted.
+pub fn of_instructions(growths: &[Growth], counts: &Counts) -> String {
+    let count = |point: Point| counts.get(&point).map(|both| (point, *both));
+    picture(growths.iter().map(|growth| {
+        let shown = growth.points().into_iter().filter_map(count).collect();
+        (growth, shown_by(shown, "instructions a call", instructions))
+    }))
+}
+
+fn shown_by(points: Vec<(Point, Both)>, what: &'static str, write: fn(f64) -> String) -> Shown {
+    let size = |(point, _): &(Point, Both)| f64::from(point.amount());
+    Shown {
+        sizes: points.iter().map(size).collect(),
+        costs: points.iter().map(|(_, both)| *both).collect(),
+        what,
+        write,
+    }
+}
+
+fn picture<'a>(panels: impl Iterator<Item = (&'a Growth, Shown)>) -> String {
     let mut svg = format!(
         "<svg xmlns=\"http://www.w3.org/2000/svg\" viewBox=\"0 0 {WIDTH} {HEIGHT}\" \
          font-family=\"sans-serif\" font-size=\"13\" fill=\"#222\">\n\
          <rect width=\"{WIDTH}\" height=\"{HEIGHT}\" fill=\"#fff\"/>\n"
     );
     legend(&mut svg);
-    for (place, (growth, times)) in growths.iter().zip(times).take(4).enumerate() {
+    for (place, (growth, shown)) in panels.take(4).enumerate() {
         let x = (place % 2) as f64 * PANEL.0;
         let y = HEAD + (place / 2) as f64 * PANEL.1;
         svg += &format!("<g transform=\"translate({x} {y})\">\n");
-        panel(&mut svg, growth, times);
+        panel(&mut svg, growth, &shown);
         svg += "</g>\n";
     }
     svg + "</svg>\n"
@@ -78,22 +115,18 @@ impl Axes {
     }
 }
 
-fn panel(svg: &mut String, growth: &Growth, times: &[Both]) {
-    let points = growth.points();
-    let sizes: Vec<f64> = points
-        .iter()
-        .map(|point| f64::from(point.amount()))
-        .collect();
-    let proved: Vec<f64> = times.iter().map(|both| both.proved).collect();
-    let apart: Vec<f64> = times.iter().map(|both| both.apart).collect();
-    let axes = Axes::of(&sizes, &[&proved[..], &apart[..]].concat());
+fn panel(svg: &mut String, growth: &Growth, shown: &Shown) {
+    let sizes = &shown.sizes;
+    let proved: Vec<f64> = shown.costs.iter().map(|both| both.proved).collect();
+    let apart: Vec<f64> = shown.costs.iter().map(|both| both.apart).collect();
+    let axes = Axes::of(sizes, &[&proved[..], &apart[..]].concat());
     let [left, right, top, bottom] = FRAME;
     let middle = (left + right) / 2.0;
     text(svg, (middle, top - 12.0), "middle", growth.label);
     text(svg, (middle, bottom + 44.0), "middle", growth.unit);
-    text(svg, (left - 8.0, top - 12.0), "end", "a call");
-    grid(svg, &axes, &sizes);
-    guide(svg, &axes, &sizes, proved[proved.len() - 1]);
+    text(svg, (8.0, top - 12.0), "start", shown.what);
+    grid(svg, &axes, shown);
+    guide(svg, &axes, sizes, proved[proved.len() - 1]);
     let placed = |costs: &[f64]| -> Vec<(f64, f64)> {
         let both = sizes.iter().zip(costs);
         both.map(|(size, cost)| axes.at(*size, *cost)).collect()
@@ -105,7 +138,7 @@ fn panel(svg: &mut String, growth: &Growth, times: &[Both]) {
 }
 
 /// The lines and labels of both axes.
-fn grid(svg: &mut String, axes: &Axes, sizes: &[f64]) {
+fn grid(svg: &mut String, axes: &Axes, shown: &Shown) {
     let [left, right, top, bottom] = FRAME;
     let decades = axes.y.0 as i32..=axes.y.1 as i32;
     let few = axes.y.1 - axes.y.0 < 2.5;
@@ -126,12 +159,12 @@ fn grid(svg: &mut String, axes: &Axes, sizes: &[f64]) {
                 svg,
                 (left - 8.0, y + 4.5),
                 "end",
-                &time(cost).replace(".00", "").replace(".0", ""),
+                &(shown.write)(cost).replace(".00", "").replace(".0", ""),
             );
         }
     }
-    let every = sizes.len().div_ceil(6);
-    for (place, size) in sizes.iter().enumerate() {
+    let every = shown.sizes.len().div_ceil(6);
+    for (place, size) in shown.sizes.iter().enumerate() {
         let x = axes.at(*size, 1.0).0;
         rule(svg, (x, top), (x, bottom), "#eee");
         if place % every == 0 {

@@ -4,6 +4,7 @@ use crate::call::Call;
 use crate::desk::{Desk, Queries};
 use crate::inputs;
 use crate::measure::{Lent, Timed};
+use crate::single::SINGLES;
 use crate::worst::CANDIDATES;
 
 #[derive(Clone, Copy, PartialEq, Eq, Hash, Debug)]
@@ -15,10 +16,7 @@ pub enum Series {
     Nodes,
     Worst,
     Turn,
-    Bounds,
-    Witness,
-    Export,
-    Import,
+    Single,
     Applications,
     Swap,
     Swaps,
@@ -29,10 +27,10 @@ pub enum Series {
     Desk,
 }
 
-use Series::{Applications, Bounds, Clauses, Isos, Lines, Nodes, Swap, Swaps, Turn, Worst, S};
-use Series::{Export, Import, LongRuns, LongSheet, Runs, Sheet, Witness};
+use Series::{Applications, Clauses, Isos, Lines, Nodes, Single, Swap, Swaps, Turn, Worst, S};
+use Series::{LongRuns, LongSheet, Runs, Sheet};
 
-const NAMES: [(Series, &str); 19] = [
+const NAMES: [(Series, &str); 16] = [
     (S, "s"),
     (Lines, "lines"),
     (Clauses, "clauses"),
@@ -40,10 +38,7 @@ const NAMES: [(Series, &str); 19] = [
     (Nodes, "nodes"),
     (Worst, "worst"),
     (Turn, "turn"),
-    (Bounds, "bounds"),
-    (Witness, "witness"),
-    (Export, "export"),
-    (Import, "import"),
+    (Single, "single"),
     (Applications, "applications"),
     (Swap, "swap"),
     (Swaps, "swaps"),
@@ -53,10 +48,6 @@ const NAMES: [(Series, &str); 19] = [
     (LongRuns, "long-runs"),
     (Series::Desk, "desk"),
 ];
-
-/// The refusals of which the witness is measured.
-pub const OVERLAP: usize = 11;
-pub const GAP: usize = 13;
 
 impl Series {
     pub fn name(self) -> &'static str {
@@ -69,8 +60,8 @@ impl Series {
     }
 }
 
-/// A series, and a size in it: lines, clauses, isos, nodes, values or queries; the place of a candidate; a
-/// refusal; or a power of two, one above the number of applications.
+/// A series, and a size in it: lines, clauses, isos, nodes or queries; the place of a candidate or of a single
+/// call, from 1; or a power of two, one above the number of applications.
 #[derive(Clone, Copy, PartialEq, Eq, Hash, Debug)]
 pub struct Point {
     pub series: Series,
@@ -94,14 +85,7 @@ impl Point {
             Nodes => Call::check(inputs::nodes(size)),
             Worst => (CANDIDATES[size - 1].call)(),
             Turn => Call::turn(inputs::long(size)),
-            Bounds => Call::bounds(inputs::long(size), 31),
-            Witness if size == OVERLAP => Call::witness(inputs::overlap()),
-            Witness => Call::witness(inputs::gap()),
-            Export => Call::export(inputs::flips(level as usize), 1, inputs::FLIPS),
-            Import => Call::import(
-                inputs::sum(size, inputs::PRODUCTS),
-                inputs::turned_list(size),
-            ),
+            Single => (SINGLES[size - 1].call)(),
             Applications => {
                 let value = b"LU".to_vec();
                 Call::run(
@@ -186,13 +170,5 @@ mod tests {
             }
         }
         Point::new(Sheet, 600).call().agree();
-        Point::new(Bounds, 4_096).call().agree();
-        for refusal in [OVERLAP, GAP] {
-            Point::new(Witness, refusal).call().agree();
-        }
-
-        for (series, size) in [(Export, 16), (Export, 4_096), (Import, 32)] {
-            Point::new(series, size).call().agree();
-        }
     }
 }

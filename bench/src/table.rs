@@ -50,6 +50,16 @@ pub fn time(nanoseconds: f64) -> String {
     }
 }
 
+/// A number of instructions, for an axis.
+pub fn instructions(number: f64) -> String {
+    match number {
+        n if n < 999.5 => digits(n),
+        n if n < 999.5e3 => digits(n / 1e3) + " k",
+        n if n < 999.5e6 => digits(n / 1e6) + " M",
+        n => digits(n / 1e9) + " G",
+    }
+}
+
 /// A whole number, its digits in groups of three.
 pub fn whole(number: f64) -> String {
     let digits = format!("{number:.0}");
@@ -79,6 +89,7 @@ mod tests {
         assert_eq!(time(999.6), "1.00 µs");
         assert_eq!(time(12_345_678.0), "12.3 ms");
         assert_eq!(time(2.5e9), "2.50 s");
+        assert_eq!(instructions(20_000_000.0), "20.0 M");
         assert_eq!(whole(999.0), "999");
         assert_eq!(whole(1_234_567.4), "1,234,567");
         assert_eq!(ratio(0.9951), "1.00");

@@ -8,7 +8,7 @@ use Rattle.calculus.specs.Tools.{total}
 use Rattle.calculus.specs.Trees.{Clause}
 use Rattle.law_costs.specs.Costs.{leastOf, greatestOf, letCost, clauseCost, isoCost, costsFrom}
 use Rattle.table_trees.specs.Unfolding.{cellOf}
-use Rattle.table_trees.specs.InTable.{letsIn, clauseIn}
+use Rattle.table_walks.specs.InTable.{letsIn, clauseIn}
 use Rattle.run_index.specs.Index.{placeAt, clausesAt, isoAt, isosAt}
 use Rattle.bound_counts.specs.Held.{cap, Holds}
 

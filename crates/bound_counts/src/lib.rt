@@ -6,14 +6,14 @@ use codes::LET_ISO;
 use run_direction::place;
 use table_trees::cell;
 ghost use mathlib.Core.Path.{_≡_};
-ghost use mathlib.Core.List.{List, [], map};
-ghost use Prim.Native.Nat.{ℕ, suc, _+_, _-_, _≤_, _<_, min, max};
-ghost use lib.ListN.{length, getD, set};
+ghost use mathlib.Core.List.{map};
+ghost use Prim.Native.Nat.{_+_, _-_, _≤_, _<_, min, max};
+ghost use lib.ListN.{getD, set};
 ghost use Rattle.calculus.specs.Tools.{total};
-ghost use Rattle.law_costs.specs.Costs.{leastOf, greatestOf, letCost, clauseCost, costsFrom};
-ghost use Rattle.table_trees.specs.InTable.{letsIn, clauseIn};
-ghost use Rattle.run_index.specs.Index.{placeAt, clausesAt, isosAt};
-ghost use Rattle.bound_counts.specs.Held.{cap, Holds};
+ghost use Rattle.law_costs.specs.Costs.{leastOf, greatestOf, letCost, clauseCost};
+ghost use Rattle.table_walks.specs.InTable.{letsIn};
+ghost use Rattle.run_index.specs.Index.{clausesAt, clauseAt};
+ghost use Rattle.bound_counts.specs.Held.{cap, ReckonedFrom, AllReckoned};
 
 // A number, or 4,294,967,296 for all above.
 fn capped(n: u64) -> u64
@@ -71,8 +71,8 @@ fn store_number(numbers: &mut [u64], i: usize, v: u64)
 // The sum over the L rows from a row up to another, given the numbers of the isos.
 fn let_sum(t: &[u16], known: &[u64], row: usize, end: usize) -> u64
     ensures { λ r. ⌜
-        ((base : ℕ) (ks : List ℕ) → Holds (now (known .entry)) ks
-        → r ≡ min (total (map (letCost ks) (letsIn (now (t .entry)) base row (end - row)))) cap)
+        ReckonedFrom (now (known .entry))
+        (λ base ks. total (map (letCost ks) (letsIn (now (t .entry)) base row (end - row)))) r
         ⌝ }
 {
     if end <= row {
@@ -91,9 +91,8 @@ fn let_sum(t: &[u16], known: &[u64], row: usize, end: usize) -> u64
 fn clause_cost(t: &[u16], known: &[u64], index: &[u16], m: usize) -> u64
     requires { ⌜ m < 65536 ⌝ }
     ensures { λ r. ⌜
-        ((base : ℕ) (ks : List ℕ) → Holds (now (known .entry)) ks → r ≡ min
-        (clauseCost ks (clauseIn (now (t .entry)) base (placeAt (now (index .entry)) m) (placeAt (now (index .entry)) (suc m))))
-        cap)
+        ReckonedFrom (now (known .entry))
+        (λ base ks. clauseCost ks (clauseAt (now (t .entry)) base (now (index .entry)) m)) r
         ⌝ }
 {
     let row = place(index, m);
@@ -105,9 +104,8 @@ fn clause_cost(t: &[u16], known: &[u64], index: &[u16], m: usize) -> u64
 fn least_cost(t: &[u16], known: &[u64], index: &[u16], m: usize, end: usize) -> u64
     requires { ⌜ end ≤ 65536 ⌝ }
     ensures { λ r. ⌜
-        ((base : ℕ) (ks : List ℕ) → Holds (now (known .entry)) ks → r ≡ min
-        (leastOf (map (clauseCost ks) (clausesAt (now (t .entry)) base (now (index .entry)) m (end - m))))
-        cap)
+        ReckonedFrom (now (known .entry))
+        (λ base ks. leastOf (map (clauseCost ks) (clausesAt (now (t .entry)) base (now (index .entry)) m (end - m)))) r
         ⌝ }
 {
     if end <= m {
@@ -126,9 +124,8 @@ fn least_cost(t: &[u16], known: &[u64], index: &[u16], m: usize, end: usize) -> 
 fn greatest_cost(t: &[u16], known: &[u64], index: &[u16], m: usize, end: usize) -> u64
     requires { ⌜ end ≤ 65536 ⌝ }
     ensures { λ r. ⌜
-        ((base : ℕ) (ks : List ℕ) → Holds (now (known .entry)) ks → r ≡ min
-        (greatestOf (map (clauseCost ks) (clausesAt (now (t .entry)) base (now (index .entry)) m (end - m))))
-        cap)
+        ReckonedFrom (now (known .entry))
+        (λ base ks. greatestOf (map (clauseCost ks) (clausesAt (now (t .entry)) base (now (index .entry)) m (end - m)))) r
         ⌝ }
 {
     if end <= m {
@@ -145,14 +142,8 @@ fn greatest_cost(t: &[u16], known: &[u64], index: &[u16], m: usize, end: usize) 
 
 // Reckons both numbers of each iso in order, into areas of zeros.
 pub fn reckon(t: &[u16], index: &[u16], isos: usize, least: &mut [u64], greatest: &mut [u64])
-    ensures { λ r. ⌜
-        ((base : ℕ) → isos ≤ length (now (least .entry)) → Holds (now (least .entry)) []
-        → Holds (now (least .exit))
-        (costsFrom leastOf [] (isosAt (now (t .entry)) base (now (index .entry)) 0 isos)))
-        × ((base : ℕ) → isos ≤ length (now (greatest .entry)) → Holds (now (greatest .entry)) []
-        → Holds (now (greatest .exit))
-        (costsFrom greatestOf [] (isosAt (now (t .entry)) base (now (index .entry)) 0 isos)))
-        ⌝ }
+    ensures { λ r. ⌜ AllReckoned leastOf (now (t .entry)) (now (index .entry)) isos (now (least .entry)) (now (least .exit)) ⌝ }
+    ensures { λ r. ⌜ AllReckoned greatestOf (now (t .entry)) (now (index .entry)) isos (now (greatest .entry)) (now (greatest .exit)) ⌝ }
 {
     let mut i: usize = 0;
     while i < isos {

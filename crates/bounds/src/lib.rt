@@ -15,11 +15,10 @@ ghost use mathlib.Core.List.{List};
 ghost use Prim.Native.Nat.{ℕ, min};
 ghost use lib.Dec.{ltb};
 ghost use Rattle.format.specs.Lines.{Row as RowOf};
-ghost use Rattle.model.specs.Services.{accepted};
-ghost use Rattle.law_costs.specs.Bounds.{maxCount, boundsOf};
+ghost use Rattle.law_costs.specs.Bounds.{maxCount, boundsRows};
 ghost use Rattle.runner.specs.RunSays.{Prepared};
 ghost use Rattle.checker.specs.CheckSays.{Accepted};
-ghost use Rattle.bounds.specs.BoundsSays.{Told, BoundsSays};
+ghost use Rattle.bounds.specs.BoundsSays.{ToldOf, BoundsSays};
 
 // A refusal or none, the two bounds, and for each whether the number reckoned is above 4,294,967,295.
 pub struct Bounded {
@@ -62,7 +61,7 @@ fn is_over(n: u64) -> bool
 pub fn bounds_checked(t: &[u16], index: &[u16], isos: usize, i: usize) -> Bounded
     ensures { λ r. ⌜
         ((base : ℕ) (rs : List RowOf) → Prepared (now (t .entry)) base (now (index .entry)) isos rs
-        → Told (boundsOf (accepted rs) i) r)
+        → ToldOf (boundsRows i rs) r)
         ⌝ }
 {
     if isos <= i {
@@ -84,7 +83,7 @@ pub fn bounds_checked(t: &[u16], index: &[u16], isos: usize, i: usize) -> Bounde
 
 // Indexes the isos of an accepted file and tells the bounds of one.
 fn bounds_accepted(table: &[u16], c: Checked, i: usize) -> Bounded
-    ensures { λ r. ⌜ ((s : List ℕ) (a : Accepted s (now (table .entry)) c) → Told (boundsOf (accepted (a .file)) i) r) ⌝ }
+    ensures { λ r. ⌜ ((s : List ℕ) (a : Accepted s (now (table .entry)) c) → ToldOf (boundsRows i (a .file)) r) ⌝ }
 {
     let mut index = [0u16; INDEX_LENGTH];
     prepare(table, c, &mut index);

@@ -1,18 +1,17 @@
 -- Facts about options, tests and lists that every law uses.
 use Prim.Native.Nat.{ℕ, zero, suc, _+_, _<_, _≤_}
-use native.Mathlib.Nat.{lt-irrefl, lt-of-lt-of-le}
+use native.Mathlib.Nat.{lt-irrefl, lt-of-lt-of-le, le-refl}
 use native.Mathlib.Numerals.{add-one}
 use native.Mathlib.Omega.{arith}
 use mathlib.Core.Path.{_≡_, refl, sym, ap, ap₂, _∙_, subst}
 use mathlib.Core.Logic.{_⊎_, inl, inr, ⊎-elim}
 use mathlib.Core.Bool.{Bool, true, false, not, cond, _&&_, _||_, true≢false, false≢true}
 use mathlib.Core.Option.{Option, none, some, Option·some-injective, Option·none-ne-some}
-use mathlib.Core.List.{List, [], _∷_, _++_, map, reverse, reverseAux, reverse-cons, List·Memᴰ, List·Memᴰ·head, List·Memᴰ·tail}
-use mathlib.Core.List.{List·Memᴰ·not-nil, List·Memᴰ·append-cases, List·Memᴰ·eq-of-singleton, Memᴰ·append-left, Memᴰ·append-right, Memᴰ·of-map, Memᴰ·cast}
+use mathlib.Core.List.{List, [], _∷_, _++_, map, reverse, reverseAux, reverse-cons, List·Memᴰ, List·Memᴰ·head, List·Memᴰ·tail, List·Memᴰ·not-nil, List·Memᴰ·append-cases, List·Memᴰ·eq-of-singleton, Memᴰ·append-left, Memᴰ·append-right, Memᴰ·of-map, Memᴰ·cast}
 use lib.Dec.{T, leb, ltb, eqb, eqb→eq, eqb-refl, leb→le, le→leb, ltb→lt, lt→ltb, nleb→lt, nltb→le}
-use lib.ListN.{getElem?, length, getD, drop}
-use lib.Seq.{drop-cons}
-use Rattle.calculus.specs.Tools.{_>>=_, guard, isSome, all, select, orElse, firstOf}
+use lib.ListN.{getElem?, length, getD, drop, set, length-map}
+use lib.Seq.{drop-cons, drop-set-lt, lt-length-set, getD-set-same}
+use Rattle.calculus.specs.Tools.{_>>=_, guard, isSome, all, select, orElse, firstOf, stages}
 use Rattle.calculus.specs.Trees.{Ty, tunit, tsum, tprod, Tag, left, right, sameTag, sameType}
 use Rattle.calculus.specs.Paper.{Distinct, nobody, another}
 
@@ -227,6 +226,26 @@ module _ {A B : Type 0} (f : A → Option B) where
   none-firstOf [] h = refl
   none-firstOf (x ∷ xs) h = ap₂ orElse (h x (List·Memᴰ·head refl)) (none-firstOf xs (λ y m. h y (List·Memᴰ·tail m)))
 
+-- ---- stages
+
+orElse-end : {B : Type 0} (o : Option B) → orElse o none ≡ o
+orElse-end none = refl
+orElse-end (some b) = refl
+
+module _ {A B : Type 0} (x : A) where
+  -- the first answer in the list of tests
+  pub stages-first : (ts : List (A → Option B)) → stages ts x ≡ firstOf (λ t. t x) ts
+  stages-first [] = refl
+  stages-first (t ∷ []) = sym (orElse-end (t x))
+  stages-first (t ∷ (u ∷ ts)) = ap (orElse (t x)) (stages-first (u ∷ ts))
+
+  -- nothing is found exactly where no test finds anything
+  pub stages-none : (ts : List (A → Option B)) → stages ts x ≡ none → (t : A → Option B) → List·Memᴰ t ts → t x ≡ none
+  stages-none ts e = firstOf-none (λ t. t x) ts (sym (stages-first ts) ∙ e)
+
+  pub none-stages : (ts : List (A → Option B)) → ((t : A → Option B) → List·Memᴰ t ts → t x ≡ none) → stages ts x ≡ none
+  none-stages ts h = stages-first ts ∙ none-firstOf (λ t. t x) ts h
+
 -- ---- the elements that pass a test
 
 module _ {A : Type 0} (f : A → Bool) where
@@ -327,3 +346,18 @@ le-or-lt m n = ⊎-elim (λ e. inl (leb-le m n e)) (λ e. inr (leb-false m n e))
 -- the byte at a place and those behind it
 pub from-byte : (s : List ℕ) (at : ℕ) → at < length s → drop at s ≡ getD s at 0 ∷ drop (at + 1) s
 from-byte s at h = rw (add-one, drop-cons s at 0 h)
+
+-- a store at a place, and what stands from there on
+pub drop-set-same : (s : List ℕ) (at a : ℕ) → at < length s → drop at (set s at a) ≡ a ∷ drop (suc at) s
+drop-set-same s at a h =
+    drop-cons (set s at a) at 0 (lt-length-set s at a h) ∙ ap₂ _∷_ (getD-set-same s at a 0 h) (drop-set-lt (suc at) s at a (le-refl (suc at)))
+
+-- a number that is there, by default
+pub index-default : {A : Type 0} (xs : List A) (i : ℕ) {x : A} (d : A) → getElem? xs i ≡ some x → getD xs i d ≡ x
+index-default [] i d e = absurd (none≢some e)
+index-default (y ∷ xs) zero d e = some-inj e
+index-default (y ∷ xs) (suc i) d e = index-default xs i d e
+
+-- an array of n places, as a value has it, is a list of n
+pub array-length : (m : List ℕ) {n : ℕ} → length (map (λ v. v) m) ≡ n → length m ≡ n
+array-length m e = sym (length-map m (λ v. v)) ∙ e

@@ -10,12 +10,11 @@ use Rattle.limits.specs.Limits.{maxTags}
 use Rattle.calculus.specs.Tools.{all, firstFailing, firstOf, orElse}
 use Rattle.calculus.specs.Trees.{Ty, left, right, Pat, punit, pvar, pinj, ppair, Let, Clause, Iso, sameTag, vars, tags}
 use Rattle.calculus.specs.Slots.{Slots}
-use Rattle.calculus.specs.Refusals.{Refusal, variable, letShape, badType, overlap, gap}
+use Rattle.calculus.specs.Refusals.{Refusal, clauseLine, isoLine, variable, letShape, badType, overlap, gap}
 use Rattle.calculus.specs.Clauses.{Sigs, variablesRule, letShapes, typed, clauseFault, clash, apart, fullWeight, lefts, rights, sideFault, at, isoFault, fault, sigsOf}
 use Rattle.calculus.specs.Paper.{Fits, Chain, Orth, leftRight, rightLeft, under, fst, snd, Apart, alone, beside, Distinct, Covers, ClauseOk, IsoOk, FileOk}
 use Rattle.calculus.specs.Faulty.{ClauseFault, SideFault, overlapLeft, overlapRight, gapLeft, gapRight, FirstClause, IsoFault, inClause, inSides, FirstIso}
-use Rattle.calculus.proofs.Basic.{none≢some, some-inj, orElse-cases, orElse-none, not-both, is-false, and-true, true-and, or-true, true-or-left, true-or-right}
-use Rattle.calculus.proofs.Basic.{none-failing, each-map, all-mem, mem-all, firstOf-none, none-firstOf, mem-index}
+use Rattle.calculus.proofs.Basic.{none≢some, some-inj, orElse-cases, orElse-none, not-both, is-false, and-true, true-and, or-true, true-or-left, true-or-right, none-failing, each-map, all-mem, mem-all, firstOf-none, none-firstOf, mem-index}
 use Rattle.calculus.proofs.Formed.{Formed}
 use Rattle.calculus.proofs.Variables.{variables-iff, shapes-iff, distinct-lhs, distinct-rhs}
 use Rattle.calculus.proofs.Typing.{typed-iff}
@@ -70,14 +69,14 @@ apart-iff ps = (apart-of ps, of-apart)
 
 module _ (sigs : Sigs) (a b : Ty) (c : Clause) where
   abbrev tests : Bool → Bool → Bool → Option Refusal
-  tests p q r = firstFailing ((p, variable) ∷ (q, letShape) ∷ (r, badType) ∷ [])
+  tests p q r = firstFailing ((p, variable clauseLine) ∷ (q, letShape clauseLine) ∷ (r, badType clauseLine) ∷ [])
 
   pub clause-ok : clauseFault sigs a b c ≡ none → ClauseOk sigs a b c
   unfolding clauseFault
   clause-ok e =
-      let e₁ = none-failing (variablesRule c) variable _ e in
-      let e₂ = none-failing (letShapes c) letShape _ (e₁ .1) in
-      let e₃ = none-failing (typed sigs a b c) badType _ (e₂ .1) in
+      let e₁ = none-failing (variablesRule c) (variable clauseLine) _ e in
+      let e₂ = none-failing (letShapes c) (letShape clauseLine) _ (e₁ .1) in
+      let e₃ = none-failing (typed sigs a b c) (badType clauseLine) _ (e₂ .1) in
       record { variables = variables-iff c .0 (e₁ .0); shapes = shapes-iff c .0 (e₂ .0); types = typed-iff sigs a b c .0 (e₃ .0) }
 
   pub ok-clause : ClauseOk sigs a b c → clauseFault sigs a b c ≡ none
@@ -114,7 +113,8 @@ pub record Light (o : Iso) : Type 0 where
   pub lhs : (c : Clause) → List·Memᴰ c (o .clauses) → tags (c .lhs) ≤ maxTags
   pub rhs : (c : Clause) → List·Memᴰ c (o .clauses) → tags (c .rhs) ≤ maxTags
 
-rhs-fits : {sigs : Sigs} {d : Slots Ty} {ls : List Let} {p : Pat} {b : Ty} → Chain sigs d ls p b → (e : Slots Ty) × Fits e p b
+-- the right pattern fits
+pub rhs-fits : {sigs : Sigs} {d : Slots Ty} {ls : List Let} {p : Pat} {b : Ty} → Chain sigs d ls p b → (e : Slots Ty) × Fits e p b
 rhs-fits (Chain.value {d = d} f) = (d, f)
 rhs-fits (Chain.step s k j x y i c) = rhs-fits c
 
@@ -134,15 +134,15 @@ module _ (sigs : Sigs) (o : Iso) (light : Light o) (ok : (c : Clause) → List·
       (each-map (λ p. tags p ≤ maxTags) (λ c. c .rhs) (o .clauses) (light .rhs))
 
   abbrev sideTests : Bool → Bool → Bool → Bool → Option Refusal
-  sideTests p q r s = firstFailing ((p, overlap left) ∷ (q, overlap right) ∷ (r, gap left) ∷ (s, gap right) ∷ [])
+  sideTests p q r s = firstFailing ((p, overlap isoLine left) ∷ (q, overlap isoLine right) ∷ (r, gap isoLine left) ∷ (s, gap isoLine right) ∷ [])
 
   pub side-ok : sideFault o ≡ none → IsoOk sigs o
   unfolding sideFault
   side-ok e =
-      let e₁ = none-failing (apart (lefts o)) (overlap left) _ e in
-      let e₂ = none-failing (apart (rights o)) (overlap right) _ (e₁ .1) in
-      let e₃ = none-failing (fullWeight (lefts o)) (gap left) _ (e₂ .1) in
-      let e₄ = none-failing (fullWeight (rights o)) (gap right) _ (e₃ .1) in
+      let e₁ = none-failing (apart (lefts o)) (overlap isoLine left) _ e in
+      let e₂ = none-failing (apart (rights o)) (overlap isoLine right) _ (e₁ .1) in
+      let e₃ = none-failing (fullWeight (lefts o)) (gap isoLine left) _ (e₂ .1) in
+      let e₄ = none-failing (fullWeight (rights o)) (gap isoLine right) _ (e₃ .1) in
       let l = apart-of (lefts o) (e₁ .0) in
       let m = apart-of (rights o) (e₂ .0) in
       record { clauses = ok; leftsApart = l; rightsApart = m; leftsCover = left-cover l .0 (e₃ .0); rightsCover = right-cover m .0 (e₄ .0) }

@@ -14,14 +14,14 @@ use Rattle.calculus.specs.Trees.{Ty, Pat, punit, pvar, pinj, ppair, Val,
 use Rattle.calculus.specs.Slots.{Slots}
 use Rattle.calculus.specs.Clauses.{fullWeight}
 use Rattle.calculus.specs.Paper.{Of, Fits, Orth, Apart, Distinct, Matched, fill, Covers}
-use Rattle.calculus.proofs.Basic.{not-both, is-false, or-true, true-or-left, true-or-right, eqb-eq, eq-eqb, not-eqb, sameTag-eq, eq-sameTag}
-use Rattle.calculus.proofs.Basic.{distinct-left, distinct-right, distinct-across}
+use Rattle.calculus.specs.Hits.{hit, hits}
+use Rattle.calculus.proofs.Basic.{not-both, is-false, or-true, true-or-left, true-or-right, eqb-eq, eq-eqb, not-eqb, sameTag-eq, eq-sameTag, distinct-left, distinct-right, distinct-across}
 use Rattle.calculus.proofs.Orthogonal.{Alike, matched-alike, orth-alike}
-use Rattle.calculus.proofs.Weights.{size, size-positive, integral, Outcome, dichotomy, hit, hits, weights, all-weights}
+use Rattle.calculus.proofs.Weights.{size, size-positive, integral, Outcome, dichotomy, weights, all-weights}
 
 -- ---- the shape of a pattern
 
-hit-le : (p : Pat) (v : Val) → hit p v ≤ 1
+pub hit-le : (p : Pat) (v : Val) → hit p v ≤ 1
 hit-le punit vunit = omega arith
 hit-le punit (vinj t v) = omega arith
 hit-le punit (vpair v w) = omega arith
@@ -38,7 +38,7 @@ hit-le (ppair p q) (vinj t v) = omega arith
 hit-le (ppair p q) (vpair v w) = mul-le-mul (hit-le p v) (hit-le q w)
 
 -- both factors are 1
-factors : (m n : ℕ) → m ≤ 1 → m * n ≡ 1 → (m ≡ 1) × (n ≡ 1)
+pub factors : (m n : ℕ) → m ≤ 1 → m * n ≡ 1 → (m ≡ 1) × (n ≡ 1)
 factors m n l e = go (eq-or-lt-of-le l)
   where
     go : (m ≡ 1) ⊎ (m < 1) → (m ≡ 1) × (n ≡ 1)
@@ -69,7 +69,7 @@ alike-hit Alike.var = refl
 alike-hit (Alike.inj {p = p} {v = v} e m) = ap (λ b. cond b (hit p v) 0) (eq-sameTag e) ∙ alike-hit m
 alike-hit (Alike.pair m k) = ap₂ _*_ (alike-hit m) (alike-hit k)
 
-matched-hit : {p : Pat} {v : Val} → Matched p v → hit p v ≡ 1
+pub matched-hit : {p : Pat} {v : Val} → Matched p v → hit p v ≡ 1
 matched-hit m = alike-hit (matched-alike m)
 
 -- ---- orthogonal patterns count a value once
@@ -86,7 +86,7 @@ all-miss : (ps : List Pat) (v : Val) → ((p : Pat) → List·Memᴰ p ps → hi
 all-miss [] v h = refl
 all-miss (p ∷ ps) v h = ap₂ _+_ (h p (List·Memᴰ·head refl)) (all-miss ps v (λ q m. h q (List·Memᴰ·tail m)))
 
-hits-le : {ps : List Pat} → Apart ps → (v : Val) → hits ps v ≤ 1
+pub hits-le : {ps : List Pat} → Apart ps → (v : Val) → hits ps v ≤ 1
 hits-le Apart.alone v = omega arith
 hits-le (Apart.beside {p} {ps} h r) v = go (eq-or-lt-of-le (hit-le p v)) (hits-le r v)
   where
@@ -94,7 +94,7 @@ hits-le (Apart.beside {p} {ps} h r) v = go (eq-or-lt-of-le (hit-le p v)) (hits-l
     go (inl e) l = let z = all-miss ps v (λ q m. other-misses (h q m) v e) in omega arith
     go (inr e) l = omega arith
 
-hit-le-hits : {p : Pat} {ps : List Pat} (v : Val) → List·Memᴰ p ps → hit p v ≤ hits ps v
+pub hit-le-hits : {p : Pat} {ps : List Pat} (v : Val) → List·Memᴰ p ps → hit p v ≤ hits ps v
 hit-le-hits v (List·Memᴰ·head e) = let z = ap (λ q. hit q v) e in omega arith
 hit-le-hits v (List·Memᴰ·tail m) = let l = hit-le-hits v m in omega arith
 
@@ -161,6 +161,10 @@ alike-matched (Alike.inj e m) d = let r = alike-matched m d in record { choice =
 alike-matched (Alike.pair {p = p} {q = q} m k) d =
     pair-matched d (alike-matched m (distinct-left (vars p) (vars q) d)) (alike-matched k (distinct-right (vars p) (vars q) d))
 
+-- for a pattern without repeated variables the count decides
+pub hit-matched : {p : Pat} {v : Val} → Distinct (vars p) → hit p v ≡ 1 → Matched p v
+hit-matched {p} {v} d e = alike-matched (hit-alike p v e) d
+
 -- ---- the law
 
 -- the weights are full and each value has one match, or they fall short and some value has none
@@ -213,7 +217,7 @@ covers-or-gap a ps fits distinct light apart = go (weighed maxTags a ps fits lig
     go (inl d) =
         inl (
           eq-eqb (d .0),
-          λ v o. let r = found ps v (d .1 v o) in (r .0, r .1, alike-matched (hit-alike (r .0) v (r .2)) (distinct (r .0) (r .1))),
+          λ v o. let r = found ps v (d .1 v o) in (r .0, r .1, hit-matched (distinct (r .0) (r .1)) (r .2)),
         )
     go (inr d) = inr (not-eqb (ne-of-lt (d .0)), (d .1, d .2, λ p m k. missed (d .3) m k))
 

@@ -1,11 +1,13 @@
 -- Letters and closed values: writing and reading undo each other, and the test of a value against a type decides `Of`.
-use Prim.Native.Nat.{ℕ}
+use Prim.Native.Nat.{ℕ, _<_}
+use native.Mathlib.Omega.{arith}
 use mathlib.Core.Path.{_≡_, refl, sym, ap, _∙_}
 use mathlib.Core.Logic.{_↔_}
 use mathlib.Core.Bool.{Bool, true, false, cond, false≢true}
 use mathlib.Core.Option.{none, some}
 use mathlib.Core.List.{List, [], _∷_, _++_, map, append-assoc, append-nil}
 use lib.Dec.{eqb}
+use lib.ListN.{length}
 use Rattle.calculus.specs.Tools.{_>>=_, concat}
 use Rattle.calculus.specs.Trees.{Ty, tunit, tsum, tprod, Tag, left, right, Val, vunit, vinj, vpair, part}
 use Rattle.calculus.specs.Letters.{letterU, letterOf, letterP, letters, onInj, onPair, onLetter, valuesOf, single, valueOf, inhabits}
@@ -30,6 +32,15 @@ pub value-letters : (v : Val) → valueOf (letters v) ≡ some v
 unfolding valueOf
 value-letters v =
     ap (λ l. valuesOf l >>= single) (sym (append-nil (letters v))) ∙ some-bind single (values-letters v [] [] refl)
+
+pub letters-injective : (v w : Val) → letters v ≡ letters w → v ≡ w
+letters-injective v w e = some-inj (sym (value-letters v) ∙ ap valueOf e ∙ value-letters w)
+
+-- a value has a letter
+pub letters-some : (v : Val) → 0 < length (letters v)
+letters-some vunit = omega arith
+letters-some (vinj t v) = omega arith
+letters-some (vpair v w) = omega arith
 
 -- ---- reading, then writing
 

@@ -19,3 +19,4 @@ pub mod Inverse
 pub mod Inverted
 pub mod Steps
 pub mod Totality
+pub mod Way

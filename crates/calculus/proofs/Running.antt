@@ -11,8 +11,7 @@ use Rattle.calculus.specs.Trees.{Val, Let, Clause}
 use Rattle.calculus.specs.Slots.{Slots, empty, allEmpty}
 use Rattle.calculus.specs.Reduction.{bind, build, Call, runLets, runClause, hits, only}
 use Rattle.calculus.specs.Paper.{Orth, Apart}
-use Rattle.calculus.proofs.Basic.{bind-some, some-bind, none≢some, some-inj, some-pair, guard-true, true-guard, is-false}
-use Rattle.calculus.proofs.Basic.{select-true, select-false, select-none, select-mem}
+use Rattle.calculus.proofs.Basic.{bind-some, some-bind, none≢some, some-inj, some-pair, guard-true, true-guard, is-false, select-true, select-false, select-none, select-mem}
 use Rattle.calculus.proofs.Slots.{is-empty}
 use Rattle.calculus.proofs.Orthogonal.{orth-apart, apart-head, apart-tail}
 use Rattle.calculus.proofs.Binding.{bind-length, build-length}

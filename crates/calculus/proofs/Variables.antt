@@ -3,8 +3,7 @@ use Prim.Native.Nat.{ℕ}
 use mathlib.Core.Path.{_≡_, refl, sym, ap, ap₂, _∙_, subst}
 use mathlib.Core.Logic.{_⊎_, inl, inr, _↔_}
 use mathlib.Core.Bool.{Bool, true, false, cond, _&&_, false≢true}
-use mathlib.Core.List.{List, [], _∷_, _++_, map, reverse, append-nil, append-assoc, reverse-cons}
-use mathlib.Core.List.{List·Memᴰ, List·Memᴰ·head, List·Memᴰ·tail, Memᴰ·map, cons-ne-nil}
+use mathlib.Core.List.{List, [], _∷_, _++_, map, reverse, append-nil, append-assoc, reverse-cons, List·Memᴰ, List·Memᴰ·head, List·Memᴰ·tail, Memᴰ·map, cons-ne-nil}
 use lib.Dec.{eqb}
 use Rattle.calculus.specs.Tools.{all}
 use Rattle.calculus.specs.Trees.{Pat, punit, pvar, pinj, ppair, Let, Clause, vars, invertLet, invertClause}

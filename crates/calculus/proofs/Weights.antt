@@ -6,13 +6,13 @@ use native.Mathlib.Nat.{mul-comm, mul-assoc, mul-add, add-mul, mul-pos, mul-le-m
 use native.Mathlib.Omega.{arith}
 use mathlib.Core.Path.{_≡_, refl, sym, ap, ap₂, _∙_, subst, fun-ext}
 use mathlib.Core.Logic.{_⊎_, inl, inr}
-use mathlib.Core.Bool.{cond}
 use mathlib.Core.List.{List, [], _∷_, map, List·Memᴰ, List·Memᴰ·head, List·Memᴰ·tail}
 use lib.Pow.{pow-add}
 use Rattle.calculus.specs.Tools.{total}
-use Rattle.calculus.specs.Trees.{Ty, tunit, tsum, tprod, left, right, Pat, punit, pvar, pinj, ppair, Val, vunit, vinj, vpair, sameTag, tags}
+use Rattle.calculus.specs.Trees.{Ty, tunit, tsum, tprod, left, right, Pat, pinj, ppair, Val, vunit, vinj, vpair, tags}
 use Rattle.calculus.specs.Paper.{Of, Fits}
 use Rattle.calculus.specs.Slots.{Slots}
+use Rattle.calculus.specs.Hits.{hit, hits}
 
 -- ---- sums over the closed values of a type
 
@@ -175,23 +175,6 @@ dichotomy (tprod a b) f c h =
     product-case a b f c inner (dichotomy a (λ v. integral b (λ w. f (vpair v w))) (c * size b) (λ v o. integral-le (inner v o)))
 
 -- ---- the values that a pattern matches
-
--- 1 where the pattern, its variables taken for blanks, matches; 0 elsewhere
-abbrev pub hit : Pat → Val → ℕ
-hit punit vunit = 1
-hit punit (vinj t v) = 0
-hit punit (vpair v w) = 0
-hit (pvar n) v = 1
-hit (pinj s p) vunit = 0
-hit (pinj s p) (vinj t v) = cond (sameTag s t) (hit p v) 0
-hit (pinj s p) (vpair v w) = 0
-hit (ppair p q) vunit = 0
-hit (ppair p q) (vinj t v) = 0
-hit (ppair p q) (vpair v w) = hit p v * hit q w
-
--- how many patterns match
-abbrev pub hits : List Pat → Val → ℕ
-hits ps v = total (map (λ p. hit p v) ps)
 
 pair-integral : (a b : Ty) (p q : Pat) → integral (tprod a b) (hit (ppair p q)) ≡ integral b (hit q) * integral a (hit p)
 pair-integral a b p q =

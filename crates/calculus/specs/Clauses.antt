@@ -6,10 +6,10 @@ use mathlib.Core.List.{List, [], _∷_, _++_, map}
 use lib.Dec.{eqb}
 use lib.ListN.{getElem?}
 use Rattle.limits.specs.Limits.{maxTags}
-use Rattle.calculus.specs.Tools.{_>>=_, guard, all, total, firstFailing, firstOf, orElse}
+use Rattle.calculus.specs.Tools.{_>>=_, guard, all, total, firstFailing, firstOf, stages}
 use Rattle.calculus.specs.Trees.{Ty, tunit, tsum, tprod, left, right, Pat, punit, pvar, pinj, ppair, Let, Clause, Iso, sameTag, sameType, part, tags, vars}
 use Rattle.calculus.specs.Slots.{Slots, put, get, empty, allEmpty}
-use Rattle.calculus.specs.Refusals.{Refusal, variable, letShape, badType, overlap, gap}
+use Rattle.calculus.specs.Refusals.{Refusal, clauseLine, isoLine, variable, letShape, badType, overlap, gap}
 
 -- 8. "the left pattern binds its variables; each L in order uses those of q, then binds those of p; the right pattern uses the
 -- rest": what happens to variables, in order.
@@ -110,7 +110,7 @@ typed sigs a b c = used (typeClause sigs a b c)
 unfoldable pub clauseFault : Sigs → Ty → Ty → Clause → Option Refusal
 unfolding variablesRule letShapes typed
 clauseFault sigs a b c =
-    firstFailing ((variablesRule c, variable) ∷ (letShapes c, letShape) ∷ (typed sigs a b c, badType) ∷ [])
+    firstFailing ((variablesRule c, variable clauseLine) ∷ (letShapes c, letShape clauseLine) ∷ (typed sigs a b c, badType clauseLine) ∷ [])
 
 -- 11 and 12. The orthogonality of section 2.2, in prefix order: a left against a right is a clash, nothing below a variable is.
 abbrev pub clash : Pat → Pat → Bool
@@ -147,21 +147,25 @@ rights o = map (λ c. c .rhs) (o .clauses)
 unfoldable pub sideFault : Iso → Option Refusal
 sideFault o =
     firstFailing
-    ((apart (lefts o), overlap left)
-    ∷ (apart (rights o), overlap right)
-    ∷ (fullWeight (lefts o), gap left)
-    ∷ (fullWeight (rights o), gap right)
+    ((apart (lefts o), overlap isoLine left)
+    ∷ (apart (rights o), overlap isoLine right)
+    ∷ (fullWeight (lefts o), gap isoLine left)
+    ∷ (fullWeight (rights o), gap isoLine right)
     ∷ [])
 
 abbrev pub at : ℕ → Option Refusal → Option (Refusal × ℕ)
 at n none = none
 at n (some f) = some (f, n)
 
+-- the tests of an iso, in their order: its clauses, then its sides. A stage more is a test more in this list.
+abbrev pub isoTests : Sigs → List (Iso → Option (Refusal × ℕ))
+isoTests sigs =
+    (λ o. firstOf (λ c. at (c .line) (clauseFault sigs (o .from) (o .to) c)) (o .clauses)) ∷ (λ o. at (o .line) (sideFault o)) ∷ []
+
 -- the first refusal of an iso, at its C line or its I line
 unfoldable pub isoFault : Sigs → Iso → Option (Refusal × ℕ)
 unfolding clauseFault sideFault
-isoFault sigs o =
-    orElse (firstOf (λ c. at (c .line) (clauseFault sigs (o .from) (o .to) c)) (o .clauses)) (at (o .line) (sideFault o))
+isoFault sigs o = stages (isoTests sigs) o
 
 abbrev pub sigsOf : List Iso → Sigs
 sigsOf os = map (λ o. (o .from, o .to)) os

@@ -4,23 +4,23 @@ use Prim.Native.Nat.{ℕ}
 use mathlib.Core.Path.{_≡_}
 use mathlib.Core.List.{List, _∷_, List·Memᴰ}
 use Rattle.calculus.specs.Trees.{Ty, Val, Clause, Iso, left, right}
-use Rattle.calculus.specs.Refusals.{Refusal, variable, letShape, badType, overlap, gap}
+use Rattle.calculus.specs.Refusals.{Refusal, clauseLine, isoLine, variable, letShape, badType, overlap, gap}
 use Rattle.calculus.specs.Terms.{Steps, eapp, valTerm}
 use Rattle.calculus.specs.Clauses.{Sigs, lefts, rights}
 use Rattle.calculus.specs.Paper.{BoundThenUsed, LetProducts, Linear, Of, Apart, Covers, ClauseOk, IsoOk}
 
 -- 8 "variables rule broken", 9 "left or right in a let pattern", 10 "no such assignment" (of types to bindings: the crate `law_reuse`)
 pub data ClauseFault (sigs : Sigs) (a b : Ty) (c : Clause) : Refusal → Type 0 where
-  variables : ¬ BoundThenUsed c → ClauseFault sigs a b c variable
-  shapes : BoundThenUsed c → ¬ LetProducts c → ClauseFault sigs a b c letShape
-  types : BoundThenUsed c → LetProducts c → ¬ Linear sigs a b c → ClauseFault sigs a b c badType
+  variables : ¬ BoundThenUsed c → ClauseFault sigs a b c (variable clauseLine)
+  shapes : BoundThenUsed c → ¬ LetProducts c → ClauseFault sigs a b c (letShape clauseLine)
+  types : BoundThenUsed c → LetProducts c → ¬ Linear sigs a b c → ClauseFault sigs a b c (badType clauseLine)
 
 -- 11 and 12 "two left (right) patterns are not orthogonal", 13 and 14 "left (right) patterns do not cover"
 pub data SideFault (o : Iso) : Refusal → Type 0 where
-  overlapLeft : ¬ Apart (lefts o) → SideFault o (overlap left)
-  overlapRight : Apart (lefts o) → ¬ Apart (rights o) → SideFault o (overlap right)
-  gapLeft : Apart (lefts o) → Apart (rights o) → ¬ Covers (o .from) (lefts o) → SideFault o (gap left)
-  gapRight : Apart (lefts o) → Apart (rights o) → Covers (o .from) (lefts o) → ¬ Covers (o .to) (rights o) → SideFault o (gap right)
+  overlapLeft : ¬ Apart (lefts o) → SideFault o (overlap isoLine left)
+  overlapRight : Apart (lefts o) → ¬ Apart (rights o) → SideFault o (overlap isoLine right)
+  gapLeft : Apart (lefts o) → Apart (rights o) → ¬ Covers (o .from) (lefts o) → SideFault o (gap isoLine left)
+  gapRight : Apart (lefts o) → Apart (rights o) → Covers (o .from) (lefts o) → ¬ Covers (o .to) (rights o) → SideFault o (gap isoLine right)
 
 -- the first faulty clause, at its C line
 pub data FirstClause (sigs : Sigs) (a b : Ty) : List Clause → Refusal → ℕ → Type 0 where

@@ -6,5 +6,7 @@ pub mod Clauses
 pub mod Reduction
 pub mod Letters
 pub mod Paper
+pub mod Hits
 pub mod Terms
+pub mod Next
 pub mod Faulty

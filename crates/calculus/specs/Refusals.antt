@@ -1,4 +1,6 @@
--- The refusals of document 01 and of requests 02 (18, 19) and 07 (20), each with its number. A case holds the kind of the faulty line where the line may be of any kind.
+-- The refusals of document 01 and of requests 02 (18, 19) and 07 (20), each with its number. A case holds the kind of
+-- the faulty line: any for 4 to 7, a C line for 8 to 10, an I line for 11 to 14. Refusal 3 has none to hold, its line being of none of the
+-- five forms, and the others name no line.
 use Prim.Native.Nat.{ℕ}
 use Rattle.calculus.specs.Trees.{Tag, left, right}
 
@@ -9,8 +11,8 @@ pub data Kind : Type 0 where
 pub data Refusal : Type 0 where
   shortArea tooLong badLine : Refusal
   misplaced badField badName ceiling : Kind → Refusal
-  variable letShape badType : Refusal
-  overlap gap : Tag → Refusal
+  variable letShape badType : Kind → Refusal
+  overlap gap : Kind → Tag → Refusal
   noIso noValue spent : Refusal
   tooMany tooHigh : Refusal
   badList : Refusal
@@ -24,13 +26,13 @@ number (misplaced k) = 4
 number (badField k) = 5
 number (badName k) = 6
 number (ceiling k) = 7
-number variable = 8
-number letShape = 9
-number badType = 10
-number (overlap left) = 11
-number (overlap right) = 12
-number (gap left) = 13
-number (gap right) = 14
+number (variable k) = 8
+number (letShape k) = 9
+number (badType k) = 10
+number (overlap k left) = 11
+number (overlap k right) = 12
+number (gap k left) = 13
+number (gap k right) = 14
 number noIso = 15
 number noValue = 16
 number spent = 17

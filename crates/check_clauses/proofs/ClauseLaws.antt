@@ -4,22 +4,24 @@ use Prim.Native.Nat.{ℕ, zero, suc, _+_, _-_, _<_, _≤_}
 use native.Mathlib.Omega.{arith}
 use native.Mathlib.Numerals.{add-one}
 use mathlib.Core.Path.{_≡_, refl, sym, ap, ap₂, _∙_}
-use mathlib.Core.Bool.{Bool, true, false, _&&_}
+use mathlib.Core.Bool.{Bool, true, false, cond, _&&_}
 use mathlib.Core.Option.{Option, none, some}
 use mathlib.Core.List.{List, [], _∷_, _++_, map}
+use lib.Dec.{ltb}
 use lib.ListN.{length, getD, getElem?, replicate}
+use borrow.Author.Tests.{lt-ltb, le-ltb}
 use Rattle.limits.specs.Limits.{maxLines, variables}
 use Rattle.calculus.specs.Tools.{firstFailing}
 use Rattle.calculus.specs.Trees.{Ty, Pat, Let, vars}
 use Rattle.calculus.specs.Clauses.{Deed, binds, uses, Event, deeds, letEvents, plain, used, clauseFault}
 use Rattle.calculus.specs.Slots.{Slots}
-use Rattle.calculus.specs.Refusals.{Refusal, variable, letShape, badType}
+use Rattle.calculus.specs.Refusals.{Refusal, clauseLine, variable, letShape, badType}
 use Rattle.table_trees.specs.Unfolding.{cellOf, typeOf, patternOf}
-use Rattle.table_trees.specs.InTable.{letAt, letsIn, clauseIn, sigsIn}
+use Rattle.table_walks.specs.InTable.{letAt, letsIn, clauseIn, sigsIn}
 use Rattle.check_variables.specs.Marks.{markOne, markAll, markEvents, settledAll}
 use Rattle.check_typing.specs.Fitting.{fitAll, envView, freshEnv}
 use Rattle.check_typing.specs.declared.Env as E
-use Rattle.check_typing.specs.Rules.{Slotted, marked, shaped, fitLet, fittedLets, fitted}
+use Rattle.check_typing.specs.Rules.{Slotted, marked, shaped, fitLet, fittedLets, fitted, testedFault}
 use Rattle.check_typing.proofs.Meeting.{used-env}
 use Rattle.check_typing.proofs.Rules.{clause-fault-rule}
 
@@ -200,7 +202,7 @@ clause-fitted t starts base a b row end start bound stepped done es el eb et er 
 -- ---- the lowest of 8 to 10
 
 tests : Bool → Bool → Bool → Option Refusal
-tests v s f = firstFailing ((v, variable) ∷ (s, letShape) ∷ (f, badType) ∷ [])
+tests v s f = firstFailing ((v, variable clauseLine) ∷ (s, letShape clauseLine) ∷ (f, badType clauseLine) ∷ [])
 
 module _ (t starts : List ℕ) (base a b row end : ℕ) where
   abbrev shapesOf : Bool
@@ -210,33 +212,46 @@ module _ (t starts : List ℕ) (base a b row end : ℕ) where
   typesOf = fitted (sigsIn t starts) (typeOf t a) (typeOf t b) (clauseIn t base row end)
 
   abbrev faultOf : Option Refusal
-  faultOf = clauseFault (sigsIn t starts) (typeOf t a) (typeOf t b) (clauseIn t base row end)
+  faultOf = testedFault (sigsIn t starts) (typeOf t a) (typeOf t b) (clauseIn t base row end)
 
-  -- what the three tests come to is the model's refusal
-  by-tests : Slotted (clauseIn t base row end) → {v s f : Bool} → v ≡ marked (clauseIn t base row end) → s ≡ shapesOf → f ≡ typesOf → tests v s f ≡ faultOf
+  -- what the three tests come to
+  by-tests : {v s f : Bool} → v ≡ marked (clauseIn t base row end) → s ≡ shapesOf → f ≡ typesOf → tests v s f ≡ faultOf
   unfolding tests
-  by-tests slots ev es ef =
-      (λ i. firstFailing ((ev i, variable) ∷ (es i, letShape) ∷ (ef i, badType) ∷ []))
-      ∙ sym (clause-fault-rule (sigsIn t starts) (typeOf t a) (typeOf t b) (clauseIn t base row end) slots)
+  by-tests ev es ef = λ i. firstFailing ((ev i, variable clauseLine) ∷ (es i, letShape clauseLine) ∷ (ef i, badType clauseLine) ∷ [])
 
   from-next : {s : Bool} → s ≡ shaped (letsIn t base (row + 1) (end - (row + 1))) → s ≡ shapesOf
   from-next e = e ∙ ap (λ k. shaped (letsIn t base k (end - k))) (add-one row)
 
-  module _ {v : Bool} (ev : row < maxLines → v ≡ marked (clauseIn t base row end)) where
-    pub fault-variable : v ≡ false → row < maxLines → Slotted (clauseIn t base row end) → some variable ≡ faultOf
-    unfolding tests
-    fault-variable xv h slots = by-tests slots (sym xv ∙ ev h) refl refl
+  -- what is owed: the model's refusal where every variable has a slot, and that of the tests for any row of the table
+  abbrev Owed : Option Refusal → Type 0
+  Owed x = (row < maxLines → Slotted (clauseIn t base row end) → x ≡ clauseFault (sigsIn t starts) (typeOf t a) (typeOf t b) (clauseIn t base row end))
+      × (x ≡ cond (ltb row maxLines) faultOf none)
 
-    module _ (xv : v ≡ true) {s : Bool} (es : s ≡ shaped (letsIn t base (row + 1) (end - (row + 1)))) where
-      pub fault-shape : s ≡ false → row < maxLines → Slotted (clauseIn t base row end) → some letShape ≡ faultOf
+  pub no-row : maxLines ≤ row → Owed none
+  no-row l = ((λ h. absurd (omega arith)), sym (ap (λ k. cond k faultOf none) (le-ltb row maxLines l)))
+
+  module _ (h : row < maxLines) where
+    owed : {x : Option Refusal} → x ≡ faultOf → Owed x
+    owed e = (
+      (λ k slots. e ∙ sym (clause-fault-rule (sigsIn t starts) (typeOf t a) (typeOf t b) (clauseIn t base row end) slots)),
+      e ∙ sym (ap (λ k. cond k faultOf none) (lt-ltb row maxLines h)),
+    )
+
+    module _ {v : Bool} (ev : row < maxLines → v ≡ marked (clauseIn t base row end)) where
+      pub fault-variable : v ≡ false → Owed (some (variable clauseLine))
       unfolding tests
-      fault-shape xs h slots = by-tests slots (sym xv ∙ ev h) (sym xs ∙ from-next es) refl
+      fault-variable xv = owed (by-tests (sym xv ∙ ev h) refl refl)
 
-      module _ (xs : s ≡ true) {f : Bool} (ef : row < maxLines → f ≡ typesOf) where
-        pub fault-type : f ≡ false → row < maxLines → Slotted (clauseIn t base row end) → some badType ≡ faultOf
+      module _ (xv : v ≡ true) {s : Bool} (es : s ≡ shaped (letsIn t base (row + 1) (end - (row + 1)))) where
+        pub fault-shape : s ≡ false → Owed (some (letShape clauseLine))
         unfolding tests
-        fault-type xf h slots = by-tests slots (sym xv ∙ ev h) (sym xs ∙ from-next es) (sym xf ∙ ef h)
+        fault-shape xs = owed (by-tests (sym xv ∙ ev h) (sym xs ∙ from-next es) refl)
 
-        pub fault-none : f ≡ true → row < maxLines → Slotted (clauseIn t base row end) → none ≡ faultOf
-        unfolding tests
-        fault-none xf h slots = by-tests slots (sym xv ∙ ev h) (sym xs ∙ from-next es) (sym xf ∙ ef h)
+        module _ (xs : s ≡ true) {f : Bool} (ef : row < maxLines → f ≡ typesOf) where
+          pub fault-type : f ≡ false → Owed (some (badType clauseLine))
+          unfolding tests
+          fault-type xf = owed (by-tests (sym xv ∙ ev h) (sym xs ∙ from-next es) (sym xf ∙ ef h))
+
+          pub fault-none : f ≡ true → Owed none
+          unfolding tests
+          fault-none xf = owed (by-tests (sym xv ∙ ev h) (sym xs ∙ from-next es) (sym xf ∙ ef h))

@@ -1,5 +1,5 @@
 // Refusals 8 to 10 of a clause: its C row, and its L rows up to `end`. `starts` holds the rows of the I
-// lines. Of a C row past the table's 4096 rows nothing is said.
+// lines. A C row past the table's 4096 rows has no refusal.
 
 use area_words::wide;
 use check_shapes::is_plain;
@@ -17,14 +17,17 @@ use codes::ISO_TO;
 use codes::LET_ISO;
 use codes::LET_P;
 use codes::LET_Q;
+use format::Kind;
 use format::Refusal;
 use limits::MAX_LINES;
 use limits::VARIABLES;
 use table_trees::cell;
 ghost use mathlib.Core.Path.{_≡_};
 ghost use mathlib.Core.List.{List};
+ghost use mathlib.Core.Bool.{cond};
 ghost use mathlib.Core.Option.{none};
 ghost use Prim.Native.Nat.{ℕ, _-_, _<_};
+ghost use lib.Dec.{ltb};
 ghost use lib.ListN.{getElem?, replicate};
 ghost use Rattle.limits.specs.Limits.{maxLines, variables};
 ghost use Rattle.format.specs.Code.{refusalView};
@@ -32,8 +35,8 @@ ghost use Rattle.calculus.specs.Clauses.{letEvents, clauseFault};
 ghost use Rattle.table_trees.specs.Unfolding.{cellOf, typeOf};
 ghost use Rattle.check_variables.specs.Marks.{markEvents};
 ghost use Rattle.check_typing.specs.Fitting.{envView};
-ghost use Rattle.check_typing.specs.Rules.{Slotted, marked, shaped, fitLet, fittedLets, fitted};
-ghost use Rattle.table_trees.specs.InTable.{letAt, letsIn, clauseIn, sigsIn};
+ghost use Rattle.check_typing.specs.Rules.{Slotted, marked, shaped, fitLet, fittedLets, fitted, testedFault};
+ghost use Rattle.table_walks.specs.InTable.{letAt, letsIn, clauseIn, sigsIn};
 
 // No variable is bound yet.
 fn no_marks() -> Marks
@@ -170,7 +173,8 @@ fn types_fit(
     false
 }
 
-// The lowest of 8 to 10, or nothing.
+// The lowest of 8 to 10, or nothing: that of the model where no variable is above 31, and else that of the
+// code's tests.
 pub fn clause_fault(
     t: &[u16],
     base: usize,
@@ -185,6 +189,9 @@ pub fn clause_fault(
         → refusalView r ≡ clauseFault (sigsIn (now (t .entry)) (now (starts .entry)))
         (typeOf (now (t .entry)) a) (typeOf (now (t .entry)) b)
         (clauseIn (now (t .entry)) base row end))
+        × (refusalView r ≡ cond (ltb row maxLines)
+        (testedFault (sigsIn (now (t .entry)) (now (starts .entry))) (typeOf (now (t .entry)) a)
+        (typeOf (now (t .entry)) b) (clauseIn (now (t .entry)) base row end)) none)
         ⌝ }
 {
     if MAX_LINES <= row {
@@ -195,9 +202,9 @@ pub fn clause_fault(
             if types_fit(t, base, starts, a, b, row, end) {
                 return Refusal::Nothing;
             }
-            return Refusal::BadType;
+            return Refusal::BadType(Kind::Clause);
         }
-        return Refusal::LetShape;
+        return Refusal::LetShape(Kind::Clause);
     }
-    Refusal::Variable
+    Refusal::Variable(Kind::Clause)
 }

@@ -12,13 +12,13 @@ use lib.ListN.{length, getD, drop, drop-of-length-le, length-drop, length-map}
 use lib.Seq.{drop-cons, drop-length}
 use lib.Pow.{pow-mono}
 use borrow.Author.Tests.{eq-eqb, ne-eqb}
-use Rattle.limits.specs.Limits.{maxTags}
+use Rattle.limits.specs.Limits.{maxTags, maxClauses, manyTags}
 use Rattle.calculus.specs.Tools.{all, total}
 use Rattle.calculus.specs.Trees.{Pat, left, right, tags}
-use Rattle.calculus.specs.Refusals.{Refusal, overlap, gap}
+use Rattle.calculus.specs.Refusals.{Refusal, isoLine, overlap, gap}
 use Rattle.calculus.specs.Clauses.{clash, apart, weight, fullWeight}
 use Rattle.table_trees.specs.Unfolding.{cellOf, patternOf}
-use Rattle.table_trees.specs.InTable.{patternsAt, weightAt, sidesFault}
+use Rattle.table_walks.specs.InTable.{patternsAt, weightAt, sidesFault}
 use Rattle.check_overlap.specs.Comparison.{compare}
 use Rattle.check_overlap.proofs.Comparing.{compare-clash}
 
@@ -120,8 +120,8 @@ weight-past k h = let none-left : 0 ≡ 40 - k = omega arith in ap (λ n. 2 ^ n)
 abbrev pub full : ℕ
 full = 2 ^ maxTags
 
-weight-counted : (k : ℕ) → weightAt (min 41 k) ≡ weightAt k
-weight-counted k = let same : 40 - min 41 k ≡ 40 - k = omega arith in ap (λ n. 2 ^ n) same
+weight-counted : (k : ℕ) → weightAt (min manyTags k) ≡ weightAt k
+weight-counted k = let same : 40 - min manyTags k ≡ 40 - k = omega arith in ap (λ n. 2 ^ n) same
 
 weight-most : (k : ℕ) → weightAt k ≤ full
 weight-most k = let short : 40 - k ≤ 40 = omega arith in pow-mono short
@@ -148,7 +148,7 @@ weighed-all t base k rows i sum w h =
     w .holds ∙ ap (λ n. total (map weight (from t base k rows n))) none-left
 
 module _ (t : List ℕ) (base k : ℕ) (rows : List ℕ) (i sum : ℕ) {r p n x : ℕ} (w : Weighed t base k rows i sum) (some-left : 0 < i)
-    (row : r ≡ getD rows (i - 1) 0) (field : p ≡ cellOf t r k) (count : n ≡ min 41 (tags (patternOf t base p))) (one : x ≡ weightAt n) where
+    (row : r ≡ getD rows (i - 1) 0) (field : p ≡ cellOf t r k) (count : n ≡ min manyTags (tags (patternOf t base p))) (one : x ≡ weightAt n) where
   weighed-one : x ≡ weight (patternOf t base p)
   weighed-one = one ∙ ap weightAt count ∙ weight-counted (tags (patternOf t base p))
 
@@ -163,7 +163,7 @@ module _ (t : List ℕ) (base k : ℕ) (rows : List ℕ) (i sum : ℕ) {r p n x 
   pub weighed-step : Weighed t base k rows (i - 1) (sum + x)
   weighed-step = record { within = omega (arith, w .within); holds = omega (arith, weighed-next, weighed-one) }
 
-  pub weighed-fits : length rows ≤ 32 → sum + x < 2 ^ 64
+  pub weighed-fits : length rows ≤ maxClauses → sum + x < 2 ^ 64
   weighed-fits few =
       let long : length (from t base k rows i) ≡ length rows - i = length-map (drop i rows) (λ m. patternOf t base (cellOf t m k)) ∙ length-drop i rows in
       omega (arith, w .holds, long, total-most (from t base k rows i), weighed-one, weight-most (tags (patternOf t base p)))
@@ -172,26 +172,26 @@ module _ (t : List ℕ) (base k : ℕ) (rows : List ℕ) (i sum : ℕ) {r p n x 
 
 -- the refusal that four tests come to
 abbrev lowest : Bool → Bool → Bool → Bool → Option Refusal
-lowest a b f g = cond a (cond b (cond f (cond g none (some (gap right))) (some (gap left))) (some (overlap right))) (some (overlap left))
+lowest a b f g = cond a (cond b (cond f (cond g none (some (gap isoLine right))) (some (gap isoLine left))) (some (overlap isoLine right))) (some (overlap isoLine left))
 
 module _ (ls rs : List Pat) where
   lowest-sides : {a b f g : Bool} → apart ls ≡ a → apart rs ≡ b → fullWeight ls ≡ f → fullWeight rs ≡ g → lowest a b f g ≡ sidesFault ls rs
   unfolding sidesFault
   lowest-sides {a} {b} e f g h = sym (ap₂ (λ x y. lowest x y (fullWeight ls) (fullWeight rs)) e f ∙ ap₂ (λ x y. lowest a b x y) g h)
 
-  pub overlaps-left : {a : Bool} → a ≡ apart ls → a ≡ false → some (overlap left) ≡ sidesFault ls rs
+  pub overlaps-left : {a : Bool} → a ≡ apart ls → a ≡ false → some (overlap isoLine left) ≡ sidesFault ls rs
   overlaps-left e f = lowest-sides (sym e ∙ f) refl refl refl
 
   module _ {a : Bool} (e : a ≡ apart ls) (f : a ≡ true) where
-    pub overlaps-right : {b : Bool} → b ≡ apart rs → b ≡ false → some (overlap right) ≡ sidesFault ls rs
+    pub overlaps-right : {b : Bool} → b ≡ apart rs → b ≡ false → some (overlap isoLine right) ≡ sidesFault ls rs
     overlaps-right g h = lowest-sides (sym e ∙ f) (sym g ∙ h) refl refl
 
     module _ {b : Bool} (g : b ≡ apart rs) (h : b ≡ true) {m : ℕ} (l : m ≡ total (map weight ls)) where
-      pub gap-left : (m ≡ full → ⊥) → some (gap left) ≡ sidesFault ls rs
+      pub gap-left : (m ≡ full → ⊥) → some (gap isoLine left) ≡ sidesFault ls rs
       gap-left u = lowest-sides (sym e ∙ f) (sym g ∙ h) (ap (λ x. eqb x full) (sym l) ∙ ne-eqb m full u) refl
 
       module _ (u : m ≡ full) {n : ℕ} (r : n ≡ total (map weight rs)) where
-        pub gap-right : (n ≡ full → ⊥) → some (gap right) ≡ sidesFault ls rs
+        pub gap-right : (n ≡ full → ⊥) → some (gap isoLine right) ≡ sidesFault ls rs
         gap-right v =
             lowest-sides (sym e ∙ f) (sym g ∙ h) (ap (λ x. eqb x full) (sym l) ∙ eq-eqb m full u)
             (ap (λ x. eqb x full) (sym r) ∙ ne-eqb n full v)

@@ -3,20 +3,22 @@
 
 use area_words::wide;
 use check_overlap::compare;
+use format::Kind;
 use format::Refusal;
 use format::Side;
+use limits::MANY_TAGS;
+use table_sizes::pattern_tags;
 use table_trees::cell;
-use table_trees::pattern_tags;
 ghost use mathlib.Core.Path.{_≡_};
 ghost use Prim.Native.Nat.{_≤_};
 ghost use mathlib.Core.List.{map};
 ghost use lib.ListN.{length, drop};
-ghost use Rattle.limits.specs.Limits.{tableLength};
+ghost use Rattle.limits.specs.Limits.{tableLength, maxClauses};
 ghost use Rattle.calculus.specs.Tools.{all, total};
 ghost use Rattle.format.specs.Code.{refusalView};
 ghost use Rattle.calculus.specs.Clauses.{clash as clashes, apart as apartAll, weight as weightOf};
 ghost use Rattle.table_trees.specs.Unfolding.{patternOf};
-ghost use Rattle.table_trees.specs.InTable.{patternsAt, weightAt, sidesFault};
+ghost use Rattle.table_walks.specs.InTable.{patternsAt, weightAt, sidesFault};
 
 // Whether P line p clashes with field k of each clause row from place `from` on.
 fn clashes_with(t: &[u16], base: usize, p: usize, k: usize, rows: &[u16], from: usize) -> bool
@@ -57,7 +59,7 @@ pub fn apart(t: &[u16], base: usize, k: usize, rows: &[u16]) -> bool
 }
 
 // 2 to the power of 40 - k for k left and right nodes.
-pub const WEIGHTS: [u64; 41] = [
+pub const WEIGHTS: [u64; MANY_TAGS] = [
     1099511627776,
     549755813888,
     274877906944,
@@ -104,7 +106,7 @@ pub const WEIGHTS: [u64; 41] = [
 fn weight(k: usize) -> u64
     ensures { λ r. ⌜ r ≡ weightAt k ⌝ }
 {
-    if k < 41 {
+    if k < MANY_TAGS {
         return WEIGHTS[k];
     }
     1
@@ -113,9 +115,9 @@ fn weight(k: usize) -> u64
 // What the patterns of a side weigh together where they leave no gap.
 const FULL: u64 = 1099511627776;
 
-// What the patterns in field k of at most 32 clause rows weigh together.
+// What the patterns in field k of at most as many clause rows as an iso has weigh together.
 pub fn weigh(t: &[u16], base: usize, k: usize, rows: &[u16]) -> u64
-    requires { ⌜ length (now rows) ≤ 32 ⌝ }
+    requires { ⌜ length (now rows) ≤ maxClauses ⌝ }
     ensures { λ r. ⌜ r ≡ total (map weightOf (patternsAt (now (t .entry)) base k (now (rows .entry)))) ⌝ }
 {
     let mut i = rows.len();
@@ -130,7 +132,7 @@ pub fn weigh(t: &[u16], base: usize, k: usize, rows: &[u16]) -> u64
 
 // The lowest of 11 to 14, or nothing.
 pub fn side_fault(t: &[u16], base: usize, rows: &[u16]) -> Refusal
-    requires { ⌜ (tableLength ≤ length (now t)) × (length (now rows) ≤ 32) ⌝ }
+    requires { ⌜ (tableLength ≤ length (now t)) × (length (now rows) ≤ maxClauses) ⌝ }
     ensures { λ r. ⌜
         refusalView r ≡ sidesFault (patternsAt (now (t .entry)) base 1 (now (rows .entry)))
         (patternsAt (now (t .entry)) base 2 (now (rows .entry)))
@@ -142,11 +144,11 @@ pub fn side_fault(t: &[u16], base: usize, rows: &[u16]) -> Refusal
                 if weigh(t, base, 2, rows) == FULL {
                     return Refusal::Nothing;
                 }
-                return Refusal::Gap(Side::Right);
+                return Refusal::Gap(Kind::Iso, Side::Right);
             }
-            return Refusal::Gap(Side::Left);
+            return Refusal::Gap(Kind::Iso, Side::Left);
         }
-        return Refusal::Overlap(Side::Right);
+        return Refusal::Overlap(Kind::Iso, Side::Right);
     }
-    Refusal::Overlap(Side::Left)
+    Refusal::Overlap(Kind::Iso, Side::Left)
 }

@@ -7,20 +7,22 @@ use mathlib.Core.Path.{_≡_, sym, ap, ap₂, _∙_, subst}
 use mathlib.Core.List.{List, [], _∷_, _++_}
 use lib.ListN.{length, take, drop, set, length-set}
 use lib.Seq.{take-suc-set}
-use Rattle.format.specs.Lines.{Row}
+use Rattle.limits.specs.Limits.{maxIsos, maxLines}
+use Rattle.format.specs.Lines.{Row, letter}
+use Rattle.calculus.specs.Refusals.{isoLine}
 use Rattle.table_trees.specs.Unfolding.{cellOf}
-use Rattle.table_trees.specs.Walk.{FileIn, isoRows}
-use Rattle.table_trees.proofs.Walking.{row-of, lines-few, whole-file, head-few, letter-iso, iso-letter, iso-rows-few, iso-rows-iso, iso-rows-other, iso-rows-longer, iso-rows-room, iso-rows-early}
+use Rattle.table_walks.specs.Walk.{FileIn, isoRows}
+use Rattle.table_walks.proofs.Walking.{row-of, lines-few, whole-file, head-few, letter-iso, iso-letter, iso-rows-few, iso-rows-iso, iso-rows-other, iso-rows-longer, iso-rows-room, iso-rows-early}
 use Rattle.check_isos.specs.declared.Starts as S
 use Rattle.check_isos.specs.Walked.{StartsOf}
 
 -- what with_start ensures
 abbrev OneMore : S.Starts → ℕ → S.Starts → Type 0
-OneMore s n r = s .count < 32 → n < 65536 → (r .rows ≡ set (s .rows) (s .count) n) × (r .count ≡ s .count + 1)
+OneMore s n r = s .count < maxIsos → n < 65536 → (r .rows ≡ set (s .rows) (s .count) n) × (r .count ≡ s .count + 1)
 
 module _ {t : List ℕ} {types patterns lines : ℕ} {rs : List Row} (f : FileIn t types patterns lines rs) where
   -- none among the T and P lines
-  pub starts-none : {from : ℕ} {s : S.Starts} → from ≡ types + patterns → length (s .rows) ≡ 32 → s .count ≡ 0 → StartsOf (take from rs) s
+  pub starts-none : {from : ℕ} {s : S.Starts} → from ≡ types + patterns → length (s .rows) ≡ maxIsos → s .count ≡ 0 → StartsOf (take from rs) s
   starts-none {from} {s} e places number =
       let early : isoRows 0 (take from rs) ≡ [] = iso-rows-early f from (omega arith) in
       record {
@@ -30,11 +32,11 @@ module _ {t : List ℕ} {types patterns lines : ℕ} {rs : List Row} (f : FileIn
       }
 
   -- an I line
-  pub starts-iso : (n : ℕ) {s r : S.Starts} → n < lines → cellOf t n 0 ≡ 73 → OneMore s n r → StartsOf (take n rs) s → StartsOf (take (suc n) rs) r
+  pub starts-iso : (n : ℕ) {s r : S.Starts} → n < lines → cellOf t n 0 ≡ letter isoLine → OneMore s n r → StartsOf (take n rs) s → StartsOf (take (suc n) rs) r
   starts-iso n {s} {r} h c more w =
       let e = row-of f n h in
       let k = letter-iso f n (e .1) c in
-      let room : s .count < 32 = omega (arith, w .number, iso-rows-room f n (e .1) k) in
+      let room : s .count < maxIsos = omega (arith, w .number, iso-rows-room f n (e .1) k) in
       let m = more room (omega (arith, lines-few f)) in
       let last : s .count < length (s .rows) = omega (arith, w .places) in
       record {
@@ -48,7 +50,7 @@ module _ {t : List ℕ} {types patterns lines : ℕ} {rs : List Row} (f : FileIn
       }
 
   -- any other line
-  pub starts-other : (n : ℕ) {s : S.Starts} → n < lines → (cellOf t n 0 ≡ 73 → ⊥) → StartsOf (take n rs) s → StartsOf (take (suc n) rs) s
+  pub starts-other : (n : ℕ) {s : S.Starts} → n < lines → (cellOf t n 0 ≡ letter isoLine → ⊥) → StartsOf (take n rs) s → StartsOf (take (suc n) rs) s
   starts-other n {s} h c w =
       let e = row-of f n h in
       let same = iso-rows-other f n (e .1) (λ k. c (iso-letter f n (e .1) k)) in
@@ -63,7 +65,7 @@ pub record Collected (t : List ℕ) (from to n : ℕ) (s : S.Starts) : Type 0 wh
   pub within : (rs : List Row) (types patterns : ℕ) → FileIn t types patterns to rs → from ≡ types + patterns → n ≤ to
   pub holds : (rs : List Row) (types patterns : ℕ) → FileIn t types patterns to rs → from ≡ types + patterns → StartsOf (take n rs) s
 
-pub collected-start : (t : List ℕ) (from to : ℕ) (s : S.Starts) → length (s .rows) ≡ 32 → s .count ≡ 0 → Collected t from to from s
+pub collected-start : (t : List ℕ) (from to : ℕ) (s : S.Starts) → length (s .rows) ≡ maxIsos → s .count ≡ 0 → Collected t from to from s
 collected-start t from to s places number =
     record {
       within = λ rs types patterns f e. omega (arith, head-few f);
@@ -87,10 +89,10 @@ collected-all {t} {from} {to} {n} {s} w h rs types patterns f e =
 
 -- ---- what the file's limits tell
 
-pub head-small : {t : List ℕ} {types patterns lines : ℕ} {rs : List Row} → FileIn t types patterns lines rs → types + patterns ≤ 4096
+pub head-small : {t : List ℕ} {types patterns lines : ℕ} {rs : List Row} → FileIn t types patterns lines rs → types + patterns ≤ maxLines
 head-small f = omega (arith, head-few f, lines-few f)
 
-pub starts-few : {t : List ℕ} {types patterns lines : ℕ} {rs : List Row} {s : S.Starts} → FileIn t types patterns lines rs → StartsOf rs s → s .count ≤ 32
+pub starts-few : {t : List ℕ} {types patterns lines : ℕ} {rs : List Row} {s : S.Starts} → FileIn t types patterns lines rs → StartsOf rs s → s .count ≤ maxIsos
 starts-few f w = omega (arith, w .number, iso-rows-few f)
 
 -- the part that is lent holds the rows of the I lines

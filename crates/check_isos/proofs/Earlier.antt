@@ -30,3 +30,12 @@ pub by-sides : {b : Bool} (place n : ℕ) (x : Option Refusal) {g s : Option Ref
     → g ≡ s → r ≡ orElse (at (n + 1) g) o
     → r ≡ orElse (orElse (at place x) (at (suc n) s)) o
 by-sides place n x {s = s} o e h es er = er ∙ ap (λ y. orElse y o) (ap₂ at (add-one n) es ∙ goes-on place (at (suc n) s) x e h)
+
+-- none there: none is none of a line
+pub told-none : {b : Bool} (place : ℕ) (x : Option Refusal) {o : Option (Refusal × ℕ)} → b ≡ isSome x → b ≡ false → o ≡ none → o ≡ at place x
+told-none place none e h n = n
+told-none place (some f) e h n = absurd (true≢false (sym e ∙ h))
+
+-- a refusal is not none
+pub told-some : {b : Bool} {P : Type 0} (x : Option Refusal) → b ≡ isSome x → b ≡ true → x ≡ none → P
+told-some x e h n = absurd (false≢true (sym (e ∙ ap isSome n) ∙ h))

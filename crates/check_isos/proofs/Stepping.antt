@@ -6,10 +6,10 @@ use mathlib.Core.Path.{_≡_, sym, ap, ap₂, _∙_, subst, subst₂, subst₃}
 use mathlib.Core.Option.{Option, none, some}
 use mathlib.Core.List.{List, [], _∷_}
 use lib.ListN.{length, getD, getElem?, take, drop, set, length-set, length-drop, drop-of-length-le}
-use lib.Seq.{drop-cons, getD-set-same, drop-set-lt, take-all}
-use Rattle.limits.specs.Limits.{maxLines}
-use Rattle.format.specs.Lines.{Row}
-use Rattle.calculus.specs.Refusals.{Refusal, clauseLine}
+use lib.Seq.{take-all}
+use Rattle.limits.specs.Limits.{maxLines, maxClauses}
+use Rattle.format.specs.Lines.{Row, letter}
+use Rattle.calculus.specs.Refusals.{Refusal, isoLine, clauseLine}
 use Rattle.calculus.specs.Tools.{orElse}
 use Rattle.format.specs.Code.{refusalView}
 use Rattle.format.specs.Unfold.{isosOf}
@@ -17,21 +17,16 @@ use Rattle.calculus.specs.Clauses.{at, clauseFault, fault}
 use Rattle.format.specs.declared.Answer as A
 use Rattle.format.specs.declared.Refusal as R
 use Rattle.table_trees.specs.Unfolding.{cellOf, typeOf}
-use Rattle.table_trees.specs.InTable.{clauseIn, sigsIn, patternsAt, sidesFault}
-use Rattle.table_trees.specs.Walk.{FileIn, isoRows, WalkAt}
-use Rattle.table_trees.proofs.Rows.{get-row}
-use Rattle.table_trees.proofs.Walking.{row-of, lines-few, head-few, letter-iso, letter-clause, other-let, walk-start, walk-let, walk-clause, walk-iso, walk-end, own-row, clause-slots, clause-room, iso-above, iso-within}
+use Rattle.table_walks.specs.InTable.{clauseIn, sigsIn, patternsAt, sidesFault}
+use Rattle.table_walks.specs.Walk.{FileIn, isoRows, WalkAt}
+use Rattle.table_walks.proofs.Rows.{get-row}
+use Rattle.table_walks.proofs.Walking.{row-of, lines-few, head-few, letter-iso, letter-clause, other-let, walk-start, walk-let, walk-clause, walk-iso, walk-end, own-row, clause-slots, clause-room, iso-above, iso-within}
 use Rattle.check_typing.specs.Rules.{Slotted}
 use Rattle.check_isos.specs.declared.Walk as W
 use Rattle.check_isos.specs.Answers.{asFault, OwnFault}
 use Rattle.check_isos.specs.Walked.{Walked}
 use Rattle.area_words.proofs.Bits.{narrow-same}
-
--- a store in front of the rows that are kept
-stored : (l : List ℕ) (k a : ℕ) → k < length l → drop k (set l k a) ≡ a ∷ drop (suc k) l
-stored l k a h =
-    let wide : k < length (set l k a) = omega (arith, length-set l k a) in
-    drop-cons (set l k a) k 0 wide ∙ ap₂ _∷_ (getD-set-same l k a 0 h) (drop-set-lt (suc k) l k a (omega arith))
+use Rattle.calculus.proofs.Basic.{drop-set-same}
 
 -- the refusal of a clause, by the types of its iso's I line
 pub own-fault : (t : List ℕ) (base : ℕ) (starts : List ℕ) (own n below : ℕ) {v head a b : ℕ} {o : Option Refusal} → v ≡ getD starts own 0 → head ≡ v
@@ -47,18 +42,18 @@ own-fault t base starts own n below ev eh ea eb eo =
 pub record ClauseInside (w : W.Walk) (n : ℕ) : Type 0 where
   pub owned : 0 < w .iso
   pub room : 0 < w .first
-  pub places : w .first ≤ 32
-  pub early : n < 4096
+  pub places : w .first ≤ maxClauses
+  pub early : n < maxLines
 
 pub record IsoInside (w : W.Walk) (n : ℕ) : Type 0 where
   pub above : 0 < w .iso
-  pub places : w .first ≤ 32
-  pub early : n < 4096
+  pub places : w .first ≤ maxClauses
+  pub early : n < maxLines
 
 module _ {t : List ℕ} {base patterns lines : ℕ} {rs : List Row} (f : FileIn t base patterns lines rs) {n : ℕ} (h : n < lines) {w : W.Walk}
     (s : Walked t base rs (suc n) w) where
   -- an L row
-  pub walked-let : base + patterns ≤ n → {l : ℕ} → l ≡ cellOf t n 0 → (l ≡ 67 → ⊥) → (l ≡ 73 → ⊥) → Walked t base rs n w
+  pub walked-let : base + patterns ≤ n → {l : ℕ} → l ≡ cellOf t n 0 → (l ≡ letter clauseLine → ⊥) → (l ≡ letter isoLine → ⊥) → Walked t base rs n w
   walked-let late e c i =
       let r = row-of f n h in
       record {
@@ -67,7 +62,7 @@ module _ {t : List ℕ} {base patterns lines : ℕ} {rs : List Row} (f : FileIn 
         holds = walk-let f n (r .1) (other-let f n (r .1) late (λ q. c (e ∙ q)) (λ q. i (e ∙ q))) (s .holds);
       }
 
-  pub clause-inside : cellOf t n 0 ≡ 67 → ClauseInside w n
+  pub clause-inside : cellOf t n 0 ≡ letter clauseLine → ClauseInside w n
   clause-inside c =
       let r = row-of f n h in
       let k = letter-clause f n (r .1) c in
@@ -80,7 +75,7 @@ module _ {t : List ℕ} {base patterns lines : ℕ} {rs : List Row} (f : FileIn 
       }
 
   -- a C row
-  pub walked-clause : (starts : List ℕ) → starts ≡ isoRows 0 rs → cellOf t n 0 ≡ 67 → (g : R.Refusal) → OwnFault t base starts (w .iso - 1) n (w .below) (refusalView g)
+  pub walked-clause : (starts : List ℕ) → starts ≡ isoRows 0 rs → cellOf t n 0 ≡ letter clauseLine → (g : R.Refusal) → OwnFault t base starts (w .iso - 1) n (w .below) (refusalView g)
       → {m : ℕ} → m ≡ n % 65536 → (p : A.Answer) → asFault p ≡ orElse (at (n + 1) (refusalView g)) (asFault (w .pending))
       → Walked t base rs n
       (record { clauses = set (w .clauses) (w .first - 1) m; first = w .first - 1; below = n; iso = w .iso; pending = p; found = w .found })
@@ -114,7 +109,7 @@ module _ {t : List ℕ} {base patterns lines : ℕ} {rs : List Row} (f : FileIn 
       rows =
           let front : suc (w .first - 1) ≡ w .first = omega (arith, inside .room) in
           sym
-          (stored (w .clauses) (w .first - 1) m (omega (arith, inside .room, s .places, s .within))
+          (drop-set-same (w .clauses) (w .first - 1) m (omega (arith, inside .room, s .places, s .within))
           ∙ ap₂ (λ x i. x ∷ drop i (w .clauses)) (narrow-same em (omega (arith, inside .early))) front)
 
       judged : refusalView g ≡ clauseFault (sigsIn t (isoRows 0 rs)) (typeOf t (cellOf t top 1)) (typeOf t (cellOf t top 2)) (clauseIn t base n (w .below))
@@ -126,7 +121,7 @@ module _ {t : List ℕ} {base patterns lines : ℕ} {rs : List Row} (f : FileIn 
           ≡ asFault p
       refusal = sym (ep ∙ ap₂ (λ k o. orElse (at k o) (asFault (w .pending))) (add-one n) judged)
 
-  pub iso-inside : cellOf t n 0 ≡ 73 → IsoInside w n
+  pub iso-inside : cellOf t n 0 ≡ letter isoLine → IsoInside w n
   iso-inside c =
       let r = row-of f n h in
       let k = letter-iso f n (r .1) c in
@@ -137,13 +132,13 @@ module _ {t : List ℕ} {base patterns lines : ℕ} {rs : List Row} (f : FileIn 
       }
 
   -- an I row
-  pub walked-iso : cellOf t n 0 ≡ 73 → (p q : A.Answer) → asFault p ≡ none
+  pub walked-iso : cellOf t n 0 ≡ letter isoLine → (p q : A.Answer) → asFault p ≡ none
       → asFault q
       ≡ orElse
       (orElse (asFault (w .pending))
-      (at (suc n) (sidesFault (patternsAt t base 1 (take (32 - w .first) (drop (w .first) (w .clauses)))) (patternsAt t base 2 (take (32 - w .first) (drop (w .first) (w .clauses)))))))
+      (at (suc n) (sidesFault (patternsAt t base 1 (take (maxClauses - w .first) (drop (w .first) (w .clauses)))) (patternsAt t base 2 (take (maxClauses - w .first) (drop (w .first) (w .clauses)))))))
       (asFault (w .found))
-      → Walked t base rs n (record { clauses = w .clauses; first = 32; below = n; iso = w .iso - 1; pending = p; found = q })
+      → Walked t base rs n (record { clauses = w .clauses; first = maxClauses; below = n; iso = w .iso - 1; pending = p; found = q })
   walked-iso c p q ep eq =
       record {
         places = s .places;
@@ -161,11 +156,11 @@ module _ {t : List ℕ} {base patterns lines : ℕ} {rs : List Row} (f : FileIn 
           (orElse (orElse (asFault (w .pending)) (at (suc n) (sidesFault (patternsAt t base 1 kept) (patternsAt t base 2 kept)))) (asFault (w .found)))
       next = walk-iso f n (r .1) (letter-iso f n (r .1) c) (s .holds) (w .iso - 1) (omega (arith, iso-inside c .above))
 
-      rows : [] ≡ drop 32 (w .clauses)
-      rows = sym (drop-of-length-le (w .clauses) {i = 32} (omega (arith, s .places)))
+      rows : [] ≡ drop maxClauses (w .clauses)
+      rows = sym (drop-of-length-le (w .clauses) {i = maxClauses} (omega (arith, s .places)))
 
-      whole : take (32 - w .first) kept ≡ kept
-      whole = take-all (32 - w .first) kept (omega (arith, length-drop (w .first) (w .clauses), s .places))
+      whole : take (maxClauses - w .first) kept ≡ kept
+      whole = take-all (maxClauses - w .first) kept (omega (arith, length-drop (w .first) (w .clauses), s .places))
 
       refusal : orElse (orElse (asFault (w .pending)) (at (suc n) (sidesFault (patternsAt t base 1 kept) (patternsAt t base 2 kept)))) (asFault (w .found)) ≡ asFault q
       refusal =
@@ -178,8 +173,8 @@ pub record Walking (t : List ℕ) (base : ℕ) (starts : List ℕ) (stop lines i
   pub holds : (rs : List Row) (patterns : ℕ) → FileIn t base patterns lines rs → starts ≡ isoRows 0 rs → isos ≡ length (isoRows 0 rs) → stop ≡ base + patterns
       → (stop ≤ n) × (n ≤ lines) × Walked t base rs n w
 
-pub walking-start : (t : List ℕ) (base : ℕ) (starts : List ℕ) (stop lines isos : ℕ) (l : List ℕ) (clear : A.Answer) → length l ≡ 32 → asFault clear ≡ none
-    → Walking t base starts stop lines isos lines (record { clauses = l; first = 32; below = lines; iso = isos; pending = clear; found = clear })
+pub walking-start : (t : List ℕ) (base : ℕ) (starts : List ℕ) (stop lines isos : ℕ) (l : List ℕ) (clear : A.Answer) → length l ≡ maxClauses → asFault clear ≡ none
+    → Walking t base starts stop lines isos lines (record { clauses = l; first = maxClauses; below = lines; iso = isos; pending = clear; found = clear })
 walking-start t base starts stop lines isos l clear places e =
     record {
       holds = λ rs patterns f es ei eb. (
@@ -189,7 +184,7 @@ walking-start t base starts stop lines isos l clear places e =
           places = places;
           within = omega arith;
           holds =
-              subst₃ (λ cs i o. WalkAt t base rs lines cs lines i o o) (sym (drop-of-length-le l {i = 32} (omega arith))) (sym ei) (sym e) (walk-start f);
+              subst₃ (λ cs i o. WalkAt t base rs lines cs lines i o o) (sym (drop-of-length-le l {i = maxClauses} (omega arith))) (sym ei) (sym e) (walk-start f);
         },
       );
     }

@@ -10,7 +10,7 @@ use Rattle.calculus.specs.Clauses.{at, clauseFault}
 use Rattle.format.specs.Code.{refusalView}
 use Rattle.format.specs.declared.Answer as A
 use Rattle.table_trees.specs.Unfolding.{cellOf, typeOf}
-use Rattle.table_trees.specs.InTable.{clauseIn, sigsIn}
+use Rattle.table_walks.specs.InTable.{clauseIn, sigsIn}
 use Rattle.check_typing.specs.Rules.{Slotted}
 
 abbrev pub asFault : A.Answer → Option (Refusal × ℕ)

@@ -22,19 +22,19 @@ ghost use mathlib.Core.Path.{_≡_};
 ghost use mathlib.Core.Bool.{true};
 ghost use mathlib.Core.List.{List};
 ghost use mathlib.Core.Option.{none as nothing};
-ghost use Prim.Native.Nat.{ℕ, suc, _+_, _≤_, _<_};
-ghost use lib.ListN.{length, take, set};
-ghost use Rattle.limits.specs.Limits.{tableLength};
-ghost use Rattle.format.specs.Lines.{Row as RowOf};
+ghost use Prim.Native.Nat.{suc, _+_, _≤_, _<_};
+ghost use lib.ListN.{length, set};
+ghost use Rattle.limits.specs.Limits.{tableLength, maxIsos, maxClauses, maxLines};
+ghost use Rattle.format.specs.Lines.{Row as RowOf, letter};
 ghost use Rattle.calculus.specs.Tools.{orElse};
+ghost use Rattle.calculus.specs.Refusals.{isoLine, clauseLine};
 ghost use Rattle.format.specs.Code.{refusalView};
 ghost use Rattle.format.specs.Unfold.{isosOf};
 ghost use Rattle.calculus.specs.Clauses.{at, fault};
-ghost use Rattle.table_trees.specs.Unfolding.{cellOf};
-ghost use Rattle.table_trees.specs.InTable.{patternsAt, sidesFault};
-ghost use Rattle.table_trees.specs.Walk.{FileIn, isoRows};
+ghost use Rattle.table_walks.specs.InTable.{patternsAt, sidesFault};
+ghost use Rattle.table_walks.specs.Walk.{FileIn};
 ghost use Rattle.check_isos.specs.Answers.{asFault, OwnFault};
-ghost use Rattle.check_isos.specs.Walked.{StartsOf, Walked};
+ghost use Rattle.check_isos.specs.Walked.{LineCollected, LinesCollected, KindWalked, ClauseWalked, RowWalked, AllWalked};
 
 // The rows of the I lines.
 pub struct Starts {
@@ -44,7 +44,7 @@ pub struct Starts {
 
 // One I line more, where there is room for it.
 fn with_start(s: Starts, n: usize) -> Starts
-    ensures { λ r. ⌜ (s .count < 32 → n < 65536 → (r .rows ≡ set (s .rows) (s .count) n) × (r .count ≡ s .count + 1)) ⌝ }
+    ensures { λ r. ⌜ (s .count < maxIsos → n < 65536 → (r .rows ≡ set (s .rows) (s .count) n) × (r .count ≡ s .count + 1)) ⌝ }
 {
     let count = s.count;
     if count < MAX_ISOS {
@@ -58,10 +58,7 @@ fn with_start(s: Starts, n: usize) -> Starts
 
 // The I lines with row n, if it is one.
 fn with_line(t: &[u16], s: Starts, n: usize) -> Starts
-    ensures { λ r. ⌜
-        ((rs : List RowOf) (types patterns lines : ℕ) → FileIn (now (t .entry)) types patterns lines rs
-        → n < lines → StartsOf (take n rs) s → StartsOf (take (suc n) rs) r)
-        ⌝ }
+    ensures { λ r. ⌜ LineCollected (now (t .entry)) n s r ⌝ }
 {
     if cell(t, n, ROW_LETTER) == ISO_LINE {
         return with_start(s, n);
@@ -71,10 +68,7 @@ fn with_line(t: &[u16], s: Starts, n: usize) -> Starts
 
 // The rows of the I lines among the rows from `from` up to `to`.
 fn iso_rows(t: &[u16], from: usize, to: usize) -> Starts
-    ensures { λ r. ⌜
-        ((rs : List RowOf) (types patterns : ℕ) → FileIn (now (t .entry)) types patterns to rs
-        → from ≡ types + patterns → StartsOf rs r)
-        ⌝ }
+    ensures { λ r. ⌜ LinesCollected (now (t .entry)) from to r ⌝ }
 {
     let mut n = from;
     let mut s = Starts {
@@ -101,12 +95,23 @@ pub struct Walk {
 }
 
 fn none() -> Answer
-    ensures { λ r. ⌜ asFault r ≡ nothing ⌝ }
+    ensures { λ r. ⌜ (asFault r ≡ nothing) × (r .place ≡ 0) ⌝ }
 {
     Answer {
         place: 0,
         refusal: Refusal::Nothing,
     }
+}
+
+// A refusal and its line, or none at line 0.
+fn told(a: Answer) -> Answer
+    ensures { λ r. ⌜ (asFault r ≡ asFault a) × (refusalView (r .refusal) ≡ nothing → r .place ≡ 0) ⌝ }
+{
+    let f = a.refusal;
+    if is_refused(f) {
+        return a;
+    }
+    none()
 }
 
 // The refusal of an earlier row, or else what was found further down.
@@ -132,9 +137,9 @@ fn own_fault(t: &[u16], base: usize, starts: &[u16], own: usize, n: usize, below
     clause_fault(t, base, starts, a, b, n, below)
 }
 
-// Whether an I line stands above row n of the table, and place `first` is one of the 32 or their end.
+// Whether an I line stands above row n of the table, and place `first` is one of the clauses' or their end.
 fn is_inside(i: usize, first: usize, n: usize) -> bool
-    ensures { λ r. ⌜ (r ≡ true → (0 < i) × (first ≤ 32) × (n < 4096)) × (0 < i → first ≤ 32 → n < 4096 → r ≡ true) ⌝ }
+    ensures { λ r. ⌜ (r ≡ true → (0 < i) × (first ≤ maxClauses) × (n < maxLines)) × (0 < i → first ≤ maxClauses → n < maxLines → r ≡ true) ⌝ }
 {
     if i == 0 {
         return false;
@@ -150,11 +155,7 @@ fn is_inside(i: usize, first: usize, n: usize) -> bool
 
 // The walk with the C row n.
 fn with_clause(t: &[u16], base: usize, starts: &[u16], w: Walk, n: usize) -> Walk
-    ensures { λ r. ⌜
-        ((rs : List RowOf) (patterns lines : ℕ) → FileIn (now (t .entry)) base patterns lines rs
-        → now (starts .entry) ≡ isoRows 0 rs → n < lines → cellOf (now (t .entry)) n 0 ≡ 67
-        → Walked (now (t .entry)) base rs (suc n) w → Walked (now (t .entry)) base rs n r)
-        ⌝ }
+    ensures { λ r. ⌜ ClauseWalked clauseLine (now (t .entry)) base (now (starts .entry)) n w r ⌝ }
 {
     let i = w.iso;
     let first = w.first;
@@ -189,7 +190,7 @@ fn iso_found(
     pending: Answer,
     found: Answer,
 ) -> Answer
-    requires { ⌜ (tableLength ≤ length (now t)) × (length (now rows) ≤ 32) × (n < 4096) ⌝ }
+    requires { ⌜ (tableLength ≤ length (now t)) × (length (now rows) ≤ maxClauses) × (n < maxLines) ⌝ }
     ensures { λ r. ⌜
         asFault r ≡ orElse
         (orElse (asFault pending) (at (suc n) (sidesFault (patternsAt (now (t .entry)) base 1 (now (rows .entry))) (patternsAt (now (t .entry)) base 2 (now (rows .entry))))))
@@ -206,11 +207,7 @@ fn iso_found(
 // The walk with the I row n.
 fn with_iso(t: &[u16], base: usize, w: Walk, n: usize) -> Walk
     requires { ⌜ tableLength ≤ length (now t) ⌝ }
-    ensures { λ r. ⌜
-        ((rs : List RowOf) (patterns lines : ℕ) → FileIn (now (t .entry)) base patterns lines rs
-        → n < lines → cellOf (now (t .entry)) n 0 ≡ 73 → Walked (now (t .entry)) base rs (suc n) w
-        → Walked (now (t .entry)) base rs n r)
-        ⌝ }
+    ensures { λ r. ⌜ KindWalked isoLine (now (t .entry)) base n w r ⌝ }
 {
     let i = w.iso;
     let first = w.first;
@@ -235,11 +232,7 @@ fn with_iso(t: &[u16], base: usize, w: Walk, n: usize) -> Walk
 // The walk with row n. An L row leaves it as it is.
 fn with_row(t: &[u16], base: usize, starts: &[u16], w: Walk, n: usize) -> Walk
     requires { ⌜ tableLength ≤ length (now t) ⌝ }
-    ensures { λ r. ⌜
-        ((rs : List RowOf) (patterns lines : ℕ) → FileIn (now (t .entry)) base patterns lines rs
-        → now (starts .entry) ≡ isoRows 0 rs → n < lines → base + patterns ≤ n
-        → Walked (now (t .entry)) base rs (suc n) w → Walked (now (t .entry)) base rs n r)
-        ⌝ }
+    ensures { λ r. ⌜ RowWalked (now (t .entry)) base (now (starts .entry)) n w r ⌝ }
 {
     let letter = cell(t, n, ROW_LETTER);
     if letter == CLAUSE_LINE {
@@ -252,10 +245,13 @@ fn with_row(t: &[u16], base: usize, starts: &[u16], w: Walk, n: usize) -> Walk
 }
 
 // The first refusal of the isos of a table of `lines` rows, of which `types` are T lines and then
-// `patterns` P lines.
+// `patterns` P lines. Of a table that holds no file's rows nothing is said but that no refusal has no line.
 pub fn isos_fault(t: &[u16], types: usize, patterns: usize, lines: usize) -> Answer
     requires { ⌜ tableLength ≤ length (now t) ⌝ }
-    ensures { λ r. ⌜ ((rs : List RowOf) → FileIn (now (t .entry)) types patterns lines rs → asFault r ≡ fault (isosOf rs)) ⌝ }
+    ensures { λ r. ⌜
+        ((rs : List RowOf) → FileIn (now (t .entry)) types patterns lines rs → asFault r ≡ fault (isosOf rs))
+        × (refusalView (r .refusal) ≡ nothing → r .place ≡ 0)
+        ⌝ }
 {
     if MAX_LINES < types {
         return none();
@@ -270,17 +266,13 @@ pub fn isos_fault(t: &[u16], types: usize, patterns: usize, lines: usize) -> Ans
     if MAX_ISOS < count {
         return none();
     }
-    walk_up(t, types, &rows[0..count], stop, lines, count)
+    told(walk_up(t, types, &rows[0..count], stop, lines, count))
 }
 
 // The first refusal that the walk from the last row up to row `stop` finds.
 fn walk_up(t: &[u16], base: usize, starts: &[u16], stop: usize, lines: usize, isos: usize) -> Answer
     requires { ⌜ tableLength ≤ length (now t) ⌝ }
-    ensures { λ r. ⌜
-        ((rs : List RowOf) (patterns : ℕ) → FileIn (now (t .entry)) base patterns lines rs
-        → now (starts .entry) ≡ isoRows 0 rs → isos ≡ length (isoRows 0 rs) → stop ≡ base + patterns
-        → asFault r ≡ fault (isosOf rs))
-        ⌝ }
+    ensures { λ r. ⌜ AllWalked (now (t .entry)) base (now (starts .entry)) stop lines isos r ⌝ }
 {
     let clean = none();
     let mut n = lines;

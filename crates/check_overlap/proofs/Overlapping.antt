@@ -12,11 +12,12 @@ use Rattle.calculus.specs.Trees.{Pat, punit, nodes}
 use Rattle.calculus.specs.Refusals.{Kind, typeLine, patternLine, isoLine, clauseLine, letLine, number}
 use Rattle.format.specs.Lines.{Row}
 use Rattle.format.specs.Judge.{Seen, start, patternTree, afterKind, afterAll}
-use Rattle.model.specs.Services.{Verdict, accepted, refused, verdict, short, unless, answerOf, check}
+use Rattle.model.specs.Services.{Verdict, accepted, refused, verdict, short, unless, check, Outcome, gives, fails, refusalNumber, lineOf, served}
 use Rattle.calculus.specs.Paper.{Orth}
 use Rattle.format.proofs.Passing as P
-use Rattle.check_overlap.specs.Comparison.{compare, laid}
-use Rattle.check_overlap.specs.Overlap.{Outcome, gives, fails, patternsOf, onPatterns, overlapOn, refusalOf, lineOf, clashOf, pairsOf, overlapService}
+use Rattle.model.proofs.Outcomes.{refused-first}
+use Rattle.check_overlap.specs.Comparison.{Compared, compare, laid}
+use Rattle.check_overlap.specs.Overlap.{patternsOf, onPatterns, overlapRows, overlapOn, clashOf, pairsOf, overlappedBy, overlapService}
 use Rattle.check_overlap.proofs.Comparing.{compare-orth, compare-sym, compare-least, compare-most, compare-whole}
 
 -- ---- P lines have few nodes
@@ -65,16 +66,7 @@ module _ (file table work : List ℕ) where
   -- "the number is the same with the patterns exchanged", and so is all else
   pub overlap-sym : (i j : ℕ) → overlapService file table work i j ≡ overlapService file table work j i
   unfolding overlapService
-  overlap-sym i j =
-      let e = overlap-on-sym given i j in
-      λ k. record {
-        number = refusalOf (e k);
-        line = lineOf (e k);
-        clash = clashOf (e k);
-        pairs = pairsOf (e k);
-        table = overlapService file table work i j .table;
-        work = overlapService file table work i j .work;
-      }
+  overlap-sym i j = ap (λ o. overlappedBy (served given o table work)) (overlap-on-sym given i j)
 
   -- the areas are as after Check
   pub overlap-areas : (i j : ℕ)
@@ -87,11 +79,7 @@ module _ (file table work : List ℕ) where
       → (overlapService file table work i j .number ≡ check file table work .answer .number)
       × (overlapService file table work i j .line ≡ check file table work .answer .line)
   unfolding overlapService check
-  overlap-refused i j h = go given h
-    where
-      go : (v : Verdict) → 0 < answerOf v .number → (refusalOf (overlapOn v i j) ≡ answerOf v .number) × (lineOf (overlapOn v i j) ≡ answerOf v .line)
-      go (accepted rs) l = absurd (omega arith)
-      go (refused f n) l = (refl, refl)
+  overlap-refused i j h = refused-first given (overlapRows i j) h
 
   -- with any refusal false and 0
   pub overlap-nothing : (i j : ℕ) → 0 < overlapService file table work i j .number
@@ -99,9 +87,9 @@ module _ (file table work : List ℕ) where
   unfolding overlapService
   overlap-nothing i j h = go (overlapOn given i j) h
     where
-      go : (o : Outcome) → 0 < refusalOf o → (clashOf o ≡ false) × (pairsOf o ≡ 0)
+      go : (o : Outcome Compared) → 0 < refusalNumber o → (clashOf o ≡ false) × (pairsOf o ≡ 0)
       go (gives c) l = absurd (omega arith)
-      go (fails f n) l = (refl, refl)
+      go (fails f) l = (refl, refl)
 
   -- two P lines of a file that Check accepts
   module _ (rs : List Row) (e : given ≡ accepted rs) (i j : ℕ) where
@@ -113,7 +101,7 @@ module _ (file table work : List ℕ) where
         → (overlapService file table work i j .number ≡ 15) × (overlapService file table work i j .line ≡ 0)
     unfolding overlapService
     absent-outcome p q f g h =
-        let o = outcome ∙ ap₂ onPatterns f g ∙ h in (ap refusalOf o, ap lineOf o)
+        let o = outcome ∙ ap₂ onPatterns f g ∙ h in (ap refusalNumber o, ap lineOf e)
 
     pub overlap-absent-left : getElem? (patternsOf rs) i ≡ none → (overlapService file table work i j .number ≡ 15) × (overlapService file table work i j .line ≡ 0)
     overlap-absent-left f = absent-outcome none (getElem? (patternsOf rs) j) f refl refl
@@ -128,7 +116,7 @@ module _ (file table work : List ℕ) where
       pub overlap-given : (overlapService file table work i j .number ≡ 0) × (overlapService file table work i j .line ≡ 0)
           × (overlapService file table work i j .clash ≡ compare p q .clash) × (overlapService file table work i j .pairs ≡ compare p q .pairs)
       unfolding overlapService
-      overlap-given = (ap refusalOf compared, ap lineOf compared, ap clashOf compared, ap pairsOf compared)
+      overlap-given = (ap refusalNumber compared, ap lineOf e, ap clashOf compared, ap pairsOf compared)
 
       -- it is the orthogonality of section 2.2
       pub overlap-orth : (overlapService file table work i j .clash ≡ true → Orth p q) × (Orth p q → overlapService file table work i j .clash ≡ true)

@@ -9,12 +9,12 @@ use mathlib.Core.List.{List}
 use lib.Dec.{eqb}
 use lib.ListN.{length, getD}
 use Rattle.limits.specs.Limits.{maxLines, rowWidth, tableLength}
-use Rattle.calculus.specs.Trees.{Pat, punit, pvar}
+use Rattle.calculus.specs.Trees.{Pat, punit}
 use Rattle.format.specs.Judge.{patternNode}
 use Rattle.calculus.proofs.Basic.{eq-eqb, not-eqb}
 use Rattle.table_trees.specs.Unfolding.{cellOf, smallerOf, patternOf}
 use Rattle.table_trees.proofs.Unfolding.{cell-within, smaller-less, smaller-not, pattern-node, pattern-past}
-use Rattle.table_parts.proofs.Shapes.{Injects, lefts, rights, injects, Pairs, pairs, paired}
+use Rattle.table_trees.proofs.Cases.{Injects, lefts, rights, Leaf, unit, var, other}
 use Rattle.check_overlap.specs.Comparison.{Compared, met, andThen, compare}
 use Rattle.check_overlap.specs.Walking.{code, counted, opening, onward, Meets, partOf, Within}
 use Rattle.check_overlap.proofs.Comparing.{compare-sym}
@@ -29,32 +29,38 @@ then-assoc false n b = ap (λ k. record { clash = b .clash; pairs = k }) (sym (a
 abbrev Like : ℕ → ℕ → ℕ → Type 0
 Like k j m = (a b : ℕ) (p q u v : Pat) → compare (patternNode k a p q) (patternNode j b u v) ≡ onward m p q u v
 
-leaf-meet : (k j : ℕ) → k < 2 → Like k j 0
-leaf-meet zero j h a b p q u v = refl
-leaf-meet (suc zero) j h a b p q u v = refl
-leaf-meet (suc (suc k)) j h a b p q u v = absurd (omega arith)
+leaf-meet : {k : ℕ} (j : ℕ) → Leaf k → Like k j 0
+leaf-meet j unit a b p q u v = refl
+leaf-meet j var a b p q u v = refl
+leaf-meet j (other k) a b p q u v = refl
 
-meet-leaf : (k j : ℕ) → j < 2 → Like k j 0
-meet-leaf k zero h a b p q u v = compare-sym (patternNode k a p q) punit
-meet-leaf k (suc zero) h a b p q u v = compare-sym (patternNode k a p q) (pvar b)
-meet-leaf k (suc (suc j)) h a b p q u v = absurd (omega arith)
+pair-meet : Like 4 4 3
+pair-meet a b p q u v = then-assoc (compare p u .clash) (compare p u .pairs) (compare q v)
 
-pairs-meet : {k j : ℕ} → Pairs k → Pairs j → Like k j 3
-pairs-meet (pairs k) (pairs j) a b p q u v = then-assoc (compare p u .clash) (compare p u .pairs) (compare q v)
+-- a pair beside any other kind, or no kind
+pair-other-meet : (j : ℕ) → (j ≡ 4 → ⊥) → Like 4 j 0
+pair-other-meet zero h a b p q u v = refl
+pair-other-meet (suc zero) h a b p q u v = refl
+pair-other-meet (suc (suc zero)) h a b p q u v = refl
+pair-other-meet (suc (suc (suc zero))) h a b p q u v = refl
+pair-other-meet (suc (suc (suc (suc zero)))) h a b p q u v = absurd (h refl)
+pair-other-meet (suc (suc (suc (suc (suc j))))) h a b p q u v = refl
 
-pair-tag-meet : {k j : ℕ} → Pairs k → Injects j → Like k j 0
-pair-tag-meet (pairs k) lefts a b p q u v = refl
-pair-tag-meet (pairs k) rights a b p q u v = refl
+tag-leaf-meet : {k j : ℕ} → Injects k → Leaf j → Like k j 0
+tag-leaf-meet lefts unit a b p q u v = refl
+tag-leaf-meet lefts var a b p q u v = refl
+tag-leaf-meet lefts (other j) a b p q u v = refl
+tag-leaf-meet rights unit a b p q u v = refl
+tag-leaf-meet rights var a b p q u v = refl
+tag-leaf-meet rights (other j) a b p q u v = refl
 
-tag-pair-meet : {k j : ℕ} → Injects k → Pairs j → Like k j 0
-tag-pair-meet lefts (pairs j) a b p q u v = refl
-tag-pair-meet rights (pairs j) a b p q u v = refl
+tag-pair-meet : {k : ℕ} → Injects k → Like k 4 0
+tag-pair-meet lefts a b p q u v = refl
+tag-pair-meet rights a b p q u v = refl
 
-same-meet : {k j : ℕ} → Injects k → Injects j → k ≡ j → Like k j 2
-same-meet lefts lefts e a b p q u v = refl
-same-meet lefts rights e a b p q u v = absurd (omega arith)
-same-meet rights lefts e a b p q u v = absurd (omega arith)
-same-meet rights rights e a b p q u v = refl
+same-meet : {k : ℕ} → Injects k → Like k k 2
+same-meet lefts a b p q u v = refl
+same-meet rights a b p q u v = refl
 
 other-meet : {k j : ℕ} → Injects k → Injects j → (k ≡ j → ⊥) → Like k j 1
 other-meet lefts lefts h a b p q u v = absurd (h refl)
@@ -63,29 +69,35 @@ other-meet rights lefts h a b p q u v = refl
 other-meet rights rights h a b p q u v = absurd (h refl)
 
 module _ {k j : ℕ} where
-  pub meets-leaf : k < 2 → Meets k j 0
-  meets-leaf h = record { few = omega arith; says = leaf-meet k j h }
+  pub meets-leaf : Leaf k → Meets k j 0
+  meets-leaf h = record { few = omega arith; says = leaf-meet j h }
 
-  pub meets-other-leaf : j < 2 → Meets k j 0
-  meets-other-leaf h = record { few = omega arith; says = meet-leaf k j h }
+  pub meets-pairs : k ≡ 4 → j ≡ 4 → Meets k j 3
+  meets-pairs e f = subst (λ x. Meets x j 3) (sym e) (subst (λ x. Meets 4 x 3) (sym f) (record { few = omega arith; says = pair-meet }))
 
-  pub meets-same-pairs : 4 ≤ k → k ≡ j → Meets k j 3
-  meets-same-pairs h e = record { few = omega arith; says = pairs-meet (paired k h) (paired j (omega arith)) }
+  pub meets-pair-other : k ≡ 4 → (j ≡ 4 → ⊥) → Meets k j 0
+  meets-pair-other e h = subst (λ x. Meets x j 0) (sym e) (record { few = omega arith; says = pair-other-meet j h })
 
-  pub meets-pairs : 4 ≤ k → 4 ≤ j → Meets k j 3
-  meets-pairs h l = record { few = omega arith; says = pairs-meet (paired k h) (paired j l) }
+  pub meets-same : Injects k → k ≡ j → Meets k j 2
+  meets-same h e = subst (λ x. Meets k x 2) e (record { few = omega arith; says = same-meet h })
 
-  pub meets-pair-tag : 4 ≤ k → 2 ≤ j → j < 4 → Meets k j 0
-  meets-pair-tag h l m = record { few = omega arith; says = pair-tag-meet (paired k h) (injects j l m) }
+  pub meets-opposed : Injects k → Injects j → (k ≡ j → ⊥) → Meets k j 1
+  meets-opposed h l e = record { few = omega arith; says = other-meet h l e }
 
-  pub meets-tag-pair : 2 ≤ k → k < 4 → 4 ≤ j → Meets k j 0
-  meets-tag-pair h l m = record { few = omega arith; says = tag-pair-meet (injects k h l) (paired j m) }
+  pub meets-tag-leaf : Injects k → Leaf j → Meets k j 0
+  meets-tag-leaf h l = record { few = omega arith; says = tag-leaf-meet h l }
 
-  pub meets-same : 2 ≤ k → k < 4 → k ≡ j → Meets k j 2
-  meets-same h l e = record { few = omega arith; says = same-meet (injects k h l) (injects j (omega arith) (omega arith)) e }
-
-  pub meets-opposed : 2 ≤ k → k < 4 → 2 ≤ j → j < 4 → (k ≡ j → ⊥) → Meets k j 1
-  meets-opposed h l m n e = record { few = omega arith; says = other-meet (injects k h l) (injects j m n) e }
+  -- a pair, or no kind
+  pub meets-tag-beyond : Injects k → 4 ≤ j → Meets k j 0
+  meets-tag-beyond h l = record { few = omega arith; says = go j l }
+    where
+      go : (j : ℕ) → 4 ≤ j → Like k j 0
+      go zero l = absurd (omega arith)
+      go (suc zero) l = absurd (omega arith)
+      go (suc (suc zero)) l = absurd (omega arith)
+      go (suc (suc (suc zero))) l = absurd (omega arith)
+      go (suc (suc (suc (suc zero)))) l = tag-pair-meet h
+      go (suc (suc (suc (suc (suc j))))) l = tag-leaf-meet h (other j)
 
 -- by the kinds that were read
 pub meets-lines : {k j x y m : ℕ} → k ≡ x → j ≡ y → Meets k j m → Meets x y m

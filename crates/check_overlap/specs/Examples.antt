@@ -3,10 +3,10 @@ use mathlib.Core.Path.{_≡_, refl}
 use mathlib.Core.Bool.{true, false}
 use Rattle.calculus.specs.Trees.{Pat, punit, pvar, pinj, ppair, left, right}
 use Rattle.calculus.specs.Refusals.{noIso}
-use Rattle.model.specs.Services.{verdict}
+use Rattle.model.specs.Services.{verdict, gives, fails}
 use Rattle.model.specs.Cases.{fileS}
 use Rattle.check_overlap.specs.Comparison.{compare}
-use Rattle.check_overlap.specs.Overlap.{gives, fails, patternsOf, overlapOn}
+use Rattle.check_overlap.specs.Overlap.{patternsOf, overlapOn}
 
 abbrev l : Pat
 l = pinj left punit
@@ -43,6 +43,6 @@ no-clash-in-S : overlapOn (verdict fileS) 6 5 ≡ gives (record { clash = false;
 unfolding verdict patternsOf
 no-clash-in-S = refl
 
-no-such-line : overlapOn (verdict fileS) 0 8 ≡ fails noIso 0
+no-such-line : overlapOn (verdict fileS) 0 8 ≡ fails noIso
 unfolding verdict patternsOf
 no-such-line = refl

@@ -4,6 +4,7 @@
 use area_words::wide;
 use codes::LEFT;
 use codes::PAIR;
+use codes::RIGHT;
 use limits::ROW_WIDTH;
 use std::num::wrapping_add_usize;
 use table_trees::ROWS;
@@ -36,28 +37,24 @@ fn number(t: &[u16], row: usize, k: usize) -> usize
 fn meet(k: usize, j: usize) -> usize
     ensures { λ r. ⌜ Meets k j r ⌝ }
 {
-    if k < LEFT {
-        return 0;
-    }
-    if k == j {
-        if k < PAIR {
-            return 2;
+    match k {
+        PAIR => {
+            if j == PAIR {
+                return 3;
+            }
+            0
         }
-        return 3;
-    }
-    if j < LEFT {
-        return 0;
-    }
-    if PAIR <= k {
-        if PAIR <= j {
-            return 3;
+        LEFT | RIGHT => {
+            if k == j {
+                return 2;
+            }
+            match j {
+                LEFT | RIGHT => 1,
+                _ => 0,
+            }
         }
-        return 0;
+        _ => 0,
     }
-    if PAIR <= j {
-        return 0;
-    }
-    1
 }
 
 // How P lines p and q meet.
@@ -93,7 +90,7 @@ fn compare_first(t: &[u16], base: usize, p: usize, q: usize, m: usize, n: usize)
         return wrapping_add_usize(next, 2);
     }
     let k = meeting(t, base, a, b);
-    if k < LEFT {
+    if k < 2 {
         return wrapping_add_usize(next, 2 + k);
     }
     compare_below(t, base, a, b, k, next)

@@ -5,26 +5,28 @@ use codes::FIRST;
 use codes::KIND;
 use codes::LEFT;
 use codes::PAIR;
+use codes::PRODUCT;
+use codes::RIGHT;
 use codes::SECOND;
+use codes::SUM;
 use table_parts::pattern_part;
 use table_parts::type_part;
 use table_trees::cell;
 use table_trees::pattern_cell;
 ghost use mathlib.Core.Path.{_≡_};
-ghost use mathlib.Core.Bool.{cond, not};
-ghost use lib.Dec.{eqb};
 ghost use Rattle.calculus.specs.Trees.{sameType};
 ghost use Rattle.calculus.specs.Clauses.{plain};
 ghost use Rattle.table_trees.specs.Unfolding.{typeOf, patternOf};
+ghost use Rattle.check_shapes.specs.Naming.{namesNothing};
 
-// Whether two kinds of a T line that are no unit are both sums or both products.
-fn same_former(a: usize, b: usize) -> bool
-    ensures { λ r. ⌜ r ≡ cond (eqb a 1) (eqb b 1) (not (eqb b 1)) ⌝ }
+// Whether a T line of this kind names no parts.
+pub fn names_nothing(kind: usize) -> bool
+    ensures { λ r. ⌜ r ≡ namesNothing kind ⌝ }
 {
-    if a == 1 {
-        return b == 1;
+    match kind {
+        SUM | PRODUCT => false,
+        _ => true,
     }
-    b != 1
 }
 
 // Whether T lines a and b unfold to the same tree.
@@ -33,21 +35,18 @@ pub fn same_type(t: &[u16], a: usize, b: usize) -> bool
 {
     let ka = cell(t, a, KIND);
     let kb = cell(t, b, KIND);
-    if ka == 0 {
-        return kb == 0;
+    if names_nothing(ka) {
+        return names_nothing(kb);
     }
-    if kb == 0 {
+    if ka != kb {
         return false;
     }
-    if same_former(ka, kb) {
-        let c = type_part(t, a, FIRST);
-        let d = type_part(t, b, FIRST);
-        if same_type(t, c, d) {
-            let e = type_part(t, a, SECOND);
-            let f = type_part(t, b, SECOND);
-            return same_type(t, e, f);
-        }
-        return false;
+    let c = type_part(t, a, FIRST);
+    let d = type_part(t, b, FIRST);
+    if same_type(t, c, d) {
+        let e = type_part(t, a, SECOND);
+        let f = type_part(t, b, SECOND);
+        return same_type(t, e, f);
     }
     false
 }
@@ -56,17 +55,16 @@ pub fn same_type(t: &[u16], a: usize, b: usize) -> bool
 pub fn is_plain(t: &[u16], base: usize, p: usize) -> bool
     ensures { λ r. ⌜ r ≡ plain (patternOf (now (t .entry)) base p) ⌝ }
 {
-    let kind = pattern_cell(t, base, p, KIND);
-    if kind < LEFT {
-        return true;
+    match pattern_cell(t, base, p, KIND) {
+        LEFT | RIGHT => false,
+        PAIR => {
+            let a = pattern_part(t, base, p, FIRST);
+            if is_plain(t, base, a) {
+                let b = pattern_part(t, base, p, SECOND);
+                return is_plain(t, base, b);
+            }
+            false
+        }
+        _ => true,
     }
-    if kind < PAIR {
-        return false;
-    }
-    let a = pattern_part(t, base, p, FIRST);
-    if is_plain(t, base, a) {
-        let b = pattern_part(t, base, p, SECOND);
-        return is_plain(t, base, b);
-    }
-    false
 }

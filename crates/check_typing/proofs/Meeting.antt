@@ -9,18 +9,17 @@ use mathlib.Core.Option.{Option, none, some}
 use mathlib.Core.List.{List, [], _∷_, map}
 use lib.ListN.{length, length-map, getD, set, List·getD-map}
 use Rattle.calculus.specs.Tools.{_>>=_, guard}
-use Rattle.calculus.specs.Trees.{Ty, tunit, tsum, tprod, Pat, punit, pvar, sameType}
+use Rattle.calculus.specs.Trees.{Ty, tunit, tsum, tprod, Pat, punit, pvar, ppair, sameType}
 use Rattle.calculus.specs.Slots.{Slots, put, get, allEmpty}
 use Rattle.format.specs.Judge.{typeNode, patternNode}
 use Rattle.calculus.specs.Clauses.{learn, spend, used}
 use Rattle.calculus.proofs.Basic.{some-bind, bind-assoc, none≢some, not-eqb, same-bind}
 use Rattle.table_trees.specs.Unfolding.{cellOf, smallerOf, typeOf, patternOf}
-use Rattle.table_trees.proofs.Unfolding.{rank, type-past, type-node, type-unit, type-sum, type-prod, pattern-unit, pattern-var}
-use Rattle.table_trees.proofs.Counts.{pattern-call}
+use Rattle.table_trees.proofs.Cases.{Parted, sums, products, Whole, node-whole, Injects, lefts, rights, Leaf, unit, var, other}
+use Rattle.table_trees.proofs.Unfolding.{rank, type-past, type-node, type-sum, type-prod, pattern-var, pattern-pair, pattern-call, opened}
 use Rattle.check_variables.specs.Marks.{settledAll}
 use Rattle.check_typing.specs.declared.Env.{Env}
-use Rattle.check_typing.specs.Fitting.{fitting, fitAll, entryView, EntryOf, viewIf, envView}
-use Rattle.table_parts.proofs.Shapes.{Injects, lefts, rights, injects, Pairs, pairs, paired, opened}
+use Rattle.check_typing.specs.Fitting.{fitting, fitAll, entryView, EntryOf, viewIf, envView, HasParts, ofLeft, ofRight, ofPair}
 
 -- ---- entries
 
@@ -164,23 +163,49 @@ module _ (t : List ℕ) (n a : ℕ) (e : Env) (wide : length (e .line) ≡ 32) (
 
 -- ---- two nodes, by their kinds
 
-unit-misfit : (c : Bool) (k : ℕ) (a b : Ty) → (k ≡ 0 → ⊥) → (e : Slots Ty) → fitting c punit (typeNode k a b) e ≡ none
-unit-misfit c zero a b h e = absurd (h refl)
-unit-misfit true (suc zero) a b h e = refl
-unit-misfit true (suc (suc k)) a b h e = refl
-unit-misfit false (suc zero) a b h e = refl
-unit-misfit false (suc (suc k)) a b h e = refl
+pub has-parts : (k : ℕ) → 1 ≤ k → (k ≡ 1 → ⊥) → k < 5 → HasParts k
+has-parts zero h v l = absurd (omega arith)
+has-parts (suc zero) h v l = absurd (v refl)
+has-parts (suc (suc zero)) h v l = ofLeft
+has-parts (suc (suc (suc zero))) h v l = ofRight
+has-parts (suc (suc (suc (suc zero)))) h v l = ofPair
+has-parts (suc (suc (suc (suc (suc k))))) h v l = absurd (omega arith)
+
+parts-tag : {k : ℕ} → HasParts k → (k ≡ 4 → ⊥) → Injects k
+parts-tag ofLeft h = lefts
+parts-tag ofRight h = rights
+parts-tag ofPair h = absurd (h refl)
+
+parts-no-unit : {k : ℕ} → HasParts k → k ≡ 0 → ⊥
+parts-no-unit ofLeft e = absurd (omega arith)
+parts-no-unit ofRight e = absurd (omega arith)
+parts-no-unit ofPair e = absurd (omega arith)
+
+leaf-is-unit : {k : ℕ} → Leaf k → (k ≡ 1 → ⊥) → (n : ℕ) (p q : Pat) → punit ≡ patternNode k n p q
+leaf-is-unit unit h n p q = refl
+leaf-is-unit var h n p q = absurd (h refl)
+leaf-is-unit (other k) h n p q = refl
+
+unit-misfit : (c : Bool) {k : ℕ} (a b : Ty) → Parted k → (e : Slots Ty) → fitting c punit (typeNode k a b) e ≡ none
+unit-misfit true a b sums e = refl
+unit-misfit true a b products e = refl
+unit-misfit false a b sums e = refl
+unit-misfit false a b products e = refl
 
 tag-misfit : (c : Bool) {j : ℕ} → Injects j → (n : ℕ) (p q : Pat) (k : ℕ) (a b : Ty) → (k ≡ 1 → ⊥) → (e : Slots Ty) → fitting c (patternNode j n p q) (typeNode k a b) e ≡ none
 tag-misfit c i n p q (suc zero) a b h e = absurd (h refl)
 tag-misfit true lefts n p q zero a b h e = refl
-tag-misfit true lefts n p q (suc (suc k)) a b h e = refl
+tag-misfit true lefts n p q (suc (suc zero)) a b h e = refl
+tag-misfit true lefts n p q (suc (suc (suc k))) a b h e = refl
 tag-misfit true rights n p q zero a b h e = refl
-tag-misfit true rights n p q (suc (suc k)) a b h e = refl
+tag-misfit true rights n p q (suc (suc zero)) a b h e = refl
+tag-misfit true rights n p q (suc (suc (suc k))) a b h e = refl
 tag-misfit false lefts n p q zero a b h e = refl
-tag-misfit false lefts n p q (suc (suc k)) a b h e = refl
+tag-misfit false lefts n p q (suc (suc zero)) a b h e = refl
+tag-misfit false lefts n p q (suc (suc (suc k))) a b h e = refl
 tag-misfit false rights n p q zero a b h e = refl
-tag-misfit false rights n p q (suc (suc k)) a b h e = refl
+tag-misfit false rights n p q (suc (suc zero)) a b h e = refl
+tag-misfit false rights n p q (suc (suc (suc k))) a b h e = refl
 
 tag-fit : (c : Bool) {j : ℕ} → Injects j → (n : ℕ) (p q : Pat) (f : ℕ → Ty) (x : Option (Slots Ty)) → fitAll c p (f j) x ≡ fitAll c (patternNode j n p q) (tsum (f 2) (f 3)) x
 tag-fit true lefts n p q f x = refl
@@ -188,19 +213,21 @@ tag-fit true rights n p q f x = refl
 tag-fit false lefts n p q f x = refl
 tag-fit false rights n p q f x = refl
 
-pair-misfit : (c : Bool) {j : ℕ} → Pairs j → (n : ℕ) (p q : Pat) (k : ℕ) (a b : Ty) → k < 2 → (e : Slots Ty) → fitting c (patternNode j n p q) (typeNode k a b) e ≡ none
-pair-misfit true (pairs j) n p q zero a b h e = refl
-pair-misfit true (pairs j) n p q (suc zero) a b h e = refl
-pair-misfit false (pairs j) n p q zero a b h e = refl
-pair-misfit false (pairs j) n p q (suc zero) a b h e = refl
-pair-misfit c (pairs j) n p q (suc (suc k)) a b h e = absurd (omega arith)
+pair-misfit : (c : Bool) (p q : Pat) (k : ℕ) (a b : Ty) → (k ≡ 2 → ⊥) → (e : Slots Ty) → fitting c (ppair p q) (typeNode k a b) e ≡ none
+pair-misfit c p q (suc (suc zero)) a b h e = absurd (h refl)
+pair-misfit true p q zero a b h e = refl
+pair-misfit true p q (suc zero) a b h e = refl
+pair-misfit true p q (suc (suc (suc k))) a b h e = refl
+pair-misfit false p q zero a b h e = refl
+pair-misfit false p q (suc zero) a b h e = refl
+pair-misfit false p q (suc (suc (suc k))) a b h e = refl
 
 -- the parts one after the other, in the order of the deed
-pair-bind : {j : ℕ} → Pairs j → (n : ℕ) (p q : Pat) (a b : Ty) (x : Option (Slots Ty)) → fitAll true q b (fitAll true p a x) ≡ fitAll true (patternNode j n p q) (tprod a b) x
-pair-bind (pairs j) n p q a b x = bind-assoc x (learn p a) (learn q b)
+pair-bind : (p q : Pat) (a b : Ty) (x : Option (Slots Ty)) → fitAll true q b (fitAll true p a x) ≡ fitAll true (ppair p q) (tprod a b) x
+pair-bind p q a b x = bind-assoc x (learn p a) (learn q b)
 
-pair-use : {j : ℕ} → Pairs j → (n : ℕ) (p q : Pat) (a b : Ty) (x : Option (Slots Ty)) → fitAll false p a (fitAll false q b x) ≡ fitAll false (patternNode j n p q) (tprod a b) x
-pair-use (pairs j) n p q a b x = bind-assoc x (spend q b) (spend p a)
+pair-use : (p q : Pat) (a b : Ty) (x : Option (Slots Ty)) → fitAll false p a (fitAll false q b x) ≡ fitAll false (ppair p q) (tprod a b) x
+pair-use p q a b x = bind-assoc x (spend q b) (spend p a)
 
 none-fits : (c : Bool) (P : Pat) (A : Ty) (x : Option (Slots Ty)) → ((e : Slots Ty) → fitting c P A e ≡ none) → none ≡ fitAll c P A x
 none-fits c P A none h = refl
@@ -212,51 +239,54 @@ module _ (t : List ℕ) (base p a : ℕ) (c : Bool) (x : Option (Slots Ty)) {j k
   kind : typeNode k (typeOf t (smallerOf (cellOf t a 2) a)) (typeOf t (smallerOf (cellOf t a 3) a)) ≡ typeOf t a
   kind = ap (λ c. typeNode c (typeOf t (smallerOf (cellOf t a 2) a)) (typeOf t (smallerOf (cellOf t a 3) a))) v ∙ sym (type-node t a)
 
-  pub fit-unit : j ≡ 0 → k ≡ 0 → x ≡ fitAll c (patternOf t base p) (typeOf t a) x
-  fit-unit y z = same c ∙ sym (ap₂ (λ q b. fitAll c q b x) (pattern-unit t base p (sym u ∙ y)) (type-unit t a (sym v ∙ z)))
-    where
-      same : (c : Bool) → x ≡ fitAll c punit tunit x
-      same true = same-bind x
-      same false = same-bind x
+  -- a P line that names nothing and is no variable
+  module _ (h : Leaf j) (y : j ≡ 1 → ⊥) where
+    pub fit-unit : Whole k → x ≡ fitAll c (patternOf t base p) (typeOf t a) x
+    fit-unit z =
+        same c ∙ ap₂ (λ q b. fitAll c q b x) (leaf-is-unit h y _ _ _ ∙ opened t base p u) (sym (node-whole _ _ z) ∙ kind)
+      where
+        same : (c : Bool) → x ≡ fitAll c punit tunit x
+        same true = same-bind x
+        same false = same-bind x
 
-  pub fit-unit-not : {r : Option (Slots Ty)} → r ≡ none → j ≡ 0 → (k ≡ 0 → ⊥) → r ≡ fitAll c (patternOf t base p) (typeOf t a) x
-  fit-unit-not e y h =
-      e ∙ none-fits c punit _ x (unit-misfit c k _ _ h) ∙ ap₂ (λ q b. fitAll c q b x) (sym (pattern-unit t base p (sym u ∙ y))) kind
+    pub fit-unit-not : {r : Option (Slots Ty)} → r ≡ none → Parted k → r ≡ fitAll c (patternOf t base p) (typeOf t a) x
+    fit-unit-not e z =
+        e ∙ none-fits c punit _ x (unit-misfit c _ _ z) ∙ ap₂ (λ q b. fitAll c q b x) (leaf-is-unit h y _ _ _ ∙ opened t base p u) kind
 
   pub fit-var : {n : ℕ} {r : Option (Slots Ty)} → j ≡ 1 → n ≡ cellOf t (base + p) 2 → r ≡ fitAll c (pvar n) (typeOf t a) x
       → r ≡ fitAll c (patternOf t base p) (typeOf t a) x
   fit-var y i e = e ∙ ap (λ q. fitAll c q (typeOf t a) x) (ap pvar i ∙ sym (pattern-var t base p (sym u ∙ y)))
 
-  pub fit-tag-not : {r : Option (Slots Ty)} → r ≡ none → 2 ≤ j → j < 4 → (k ≡ 1 → ⊥) → r ≡ fitAll c (patternOf t base p) (typeOf t a) x
+  pub fit-tag-not : {r : Option (Slots Ty)} → r ≡ none → HasParts j → (j ≡ 4 → ⊥) → (k ≡ 1 → ⊥) → r ≡ fitAll c (patternOf t base p) (typeOf t a) x
   fit-tag-not e h l y =
-      e ∙ none-fits c _ _ x (tag-misfit c (injects j h l) _ _ _ k _ _ y) ∙ ap₂ (λ q b. fitAll c q b x) (opened t base p u) kind
+      e ∙ none-fits c _ _ x (tag-misfit c (parts-tag h l) _ _ _ k _ _ y) ∙ ap₂ (λ q b. fitAll c q b x) (opened t base p u) kind
 
-  pub fit-tag : {q b : ℕ} {r : Option (Slots Ty)} → 2 ≤ j → j < 4 → k ≡ 1 → q ≡ smallerOf (cellOf t (base + p) 2) p → b ≡ smallerOf (cellOf t a j) a
+  pub fit-tag : {q b : ℕ} {r : Option (Slots Ty)} → HasParts j → (j ≡ 4 → ⊥) → k ≡ 1 → q ≡ smallerOf (cellOf t (base + p) 2) p → b ≡ smallerOf (cellOf t a j) a
       → r ≡ fitAll c (patternOf t base q) (typeOf t b) x → r ≡ fitAll c (patternOf t base p) (typeOf t a) x
   fit-tag h l y s w e =
       e
       ∙ ap₂ (λ q b. fitAll c (patternOf t base q) (typeOf t b) x) s w
-      ∙ tag-fit c (injects j h l) _ _ _ (λ i. typeOf t (smallerOf (cellOf t a i) a)) x
+      ∙ tag-fit c (parts-tag h l) _ _ _ (λ i. typeOf t (smallerOf (cellOf t a i) a)) x
       ∙ ap₂ (λ q b. fitAll c q b x) (opened t base p u) (sym (type-sum t a (sym v ∙ y)))
 
-  pub fit-pair-not : {r : Option (Slots Ty)} → r ≡ none → 4 ≤ j → k < 2 → r ≡ fitAll c (patternOf t base p) (typeOf t a) x
+  pub fit-pair-not : {r : Option (Slots Ty)} → r ≡ none → j ≡ 4 → (k ≡ 2 → ⊥) → r ≡ fitAll c (patternOf t base p) (typeOf t a) x
   fit-pair-not e h l =
-      e ∙ none-fits c _ _ x (pair-misfit c (paired j h) _ _ _ k _ _ l) ∙ ap₂ (λ q b. fitAll c q b x) (opened t base p u) kind
+      e ∙ none-fits c _ _ x (pair-misfit c _ _ k _ _ l) ∙ ap₂ (λ q b. fitAll c q b x) (sym (pattern-pair t base p (sym u ∙ h))) kind
 
   -- what field i of both lines names
   abbrev fitField : Bool → ℕ → Option (Slots Ty) → Option (Slots Ty)
   fitField c i x = fitAll c (patternOf t base (smallerOf (cellOf t (base + p) i) p)) (typeOf t (smallerOf (cellOf t a i) a)) x
 
-  in-turn : 4 ≤ j → 2 ≤ k → fitField c (cond c 3 2) (fitField c (cond c 2 3) x) ≡ fitAll c (patternOf t base p) (typeOf t a) x
-  in-turn h l = go c ∙ ap₂ (λ q b. fitAll c q b x) (opened t base p u) (sym (type-prod t a (omega arith)))
+  in-turn : j ≡ 4 → k ≡ 2 → fitField c (cond c 3 2) (fitField c (cond c 2 3) x) ≡ fitAll c (patternOf t base p) (typeOf t a) x
+  in-turn h l = go c ∙ ap₂ (λ q b. fitAll c q b x) (sym (pattern-pair t base p (sym u ∙ h))) (sym (type-prod t a (sym v ∙ l)))
     where
       go : (c : Bool) → fitField c (cond c 3 2) (fitField c (cond c 2 3) x)
-          ≡ fitAll c (patternNode j (cellOf t (base + p) 2) (patternOf t base (smallerOf (cellOf t (base + p) 2) p)) (patternOf t base (smallerOf (cellOf t (base + p) 3) p)))
+          ≡ fitAll c (ppair (patternOf t base (smallerOf (cellOf t (base + p) 2) p)) (patternOf t base (smallerOf (cellOf t (base + p) 3) p)))
           (tprod (typeOf t (smallerOf (cellOf t a 2) a)) (typeOf t (smallerOf (cellOf t a 3) a))) x
-      go true = pair-bind (paired j h) _ _ _ _ _ x
-      go false = pair-use (paired j h) _ _ _ _ _ x
+      go true = pair-bind (patternOf t base (smallerOf (cellOf t (base + p) 2) p)) (patternOf t base (smallerOf (cellOf t (base + p) 3) p)) (typeOf t (smallerOf (cellOf t a 2) a)) (typeOf t (smallerOf (cellOf t a 3) a)) x
+      go false = pair-use (patternOf t base (smallerOf (cellOf t (base + p) 2) p)) (patternOf t base (smallerOf (cellOf t (base + p) 3) p)) (typeOf t (smallerOf (cellOf t a 2) a)) (typeOf t (smallerOf (cellOf t a 3) a)) x
 
-  pub fit-pair : {f g q b q′ b′ : ℕ} {m r : Option (Slots Ty)} → 4 ≤ j → 2 ≤ k → f ≡ cond c 2 3 → g ≡ cond c 3 2
+  pub fit-pair : {f g q b q′ b′ : ℕ} {m r : Option (Slots Ty)} → j ≡ 4 → k ≡ 2 → f ≡ cond c 2 3 → g ≡ cond c 3 2
       → q ≡ smallerOf (cellOf t (base + p) f) p → b ≡ smallerOf (cellOf t a f) a → m ≡ fitAll c (patternOf t base q) (typeOf t b) x
       → q′ ≡ smallerOf (cellOf t (base + p) g) p → b′ ≡ smallerOf (cellOf t a g) a → r ≡ fitAll c (patternOf t base q′) (typeOf t b′) m
       → r ≡ fitAll c (patternOf t base p) (typeOf t a) x
@@ -274,8 +304,8 @@ parts-call i e = omega arith
 twice : {i j m : ℕ} → i < j → 2 * j ≡ m → 2 * i + 1 < m
 twice h e = omega arith
 
-pub part-call : (t : List ℕ) (base p i : ℕ) {k q m : ℕ} → 2 * rank p ≡ m → k ≡ cellOf t (base + p) 1 → 2 ≤ k → q ≡ smallerOf i p → 2 * rank q + 1 < m
-part-call t base p i r e h s = twice (pattern-call t base p i refl e h s) r
+pub part-call : (t : List ℕ) (base p i : ℕ) {k q m : ℕ} → 2 * rank p ≡ m → k ≡ cellOf t (base + p) 1 → HasParts k → q ≡ smallerOf i p → 2 * rank q + 1 < m
+part-call t base p i r e h s = twice (pattern-call t base p i refl e (parts-no-unit h) s) r
 
 -- what has failed stays failed
 pub fit-stopped : (t : List ℕ) (base p a : ℕ) (c : Bool) (e : Env) → e .fits ≡ false → envView t e ≡ fitAll c (patternOf t base p) (typeOf t a) (envView t e)

@@ -12,15 +12,14 @@ use Rattle.limits.specs.Limits.{variables}
 use Rattle.calculus.specs.Tools.{_>>=_, firstFailing}
 use Rattle.calculus.specs.Trees.{Ty, Pat, Let, Clause, vars}
 use Rattle.calculus.specs.Slots.{Slots, empty}
-use Rattle.calculus.specs.Refusals.{variable, letShape, badType}
-use Rattle.calculus.specs.Clauses.{Deed, binds, uses, Event, deeds, letEvents, events, history, variablesRule, letShapes}
-use Rattle.calculus.specs.Clauses.{learn, spend, Sigs, typeLets, used, typed, clauseFault}
+use Rattle.calculus.specs.Refusals.{clauseLine, variable, letShape, badType}
+use Rattle.calculus.specs.Clauses.{Deed, binds, uses, Event, deeds, letEvents, events, history, variablesRule, letShapes, learn, spend, Sigs, typeLets, used, typed, clauseFault}
 use Rattle.calculus.specs.Paper.{Alternate, BoundThenUsed}
 use Rattle.calculus.proofs.Basic.{bind-assoc, bool-cases, and-true, true-and, eqb-eq, eqb-false, each-nil, each-append, each-map, same-bind}
 use Rattle.calculus.proofs.Formed.{FormedLet, FormedClause}
 use Rattle.calculus.proofs.Variables.{mark, history-hit, history-miss, variables-iff}
 use Rattle.check_variables.specs.Marks.{nextState, markOne, markEvents, settledAll}
-use Rattle.check_typing.specs.Rules.{Slotted, marked, shaped, fitLet, fittedLets, fitted}
+use Rattle.check_typing.specs.Rules.{Slotted, marked, shaped, fitLet, fittedLets, fitted, testedFault}
 
 -- ---- shared facts
 
@@ -179,7 +178,7 @@ fitted-rule sigs a b c =
 -- ---- the lowest of 8 to 10
 
 pub clause-fault-rule : (sigs : Sigs) (a b : Ty) (c : Clause) → Slotted c
-    → clauseFault sigs a b c ≡ firstFailing ((marked c, variable) ∷ (shaped (c .lets), letShape) ∷ (fitted sigs a b c, badType) ∷ [])
+    → clauseFault sigs a b c ≡ testedFault sigs a b c
 unfolding clauseFault
 clause-fault-rule sigs a b c s =
-    sym λ i. firstFailing ((marked-rule c s i, variable) ∷ (shaped-rule c i, letShape) ∷ (fitted-rule sigs a b c i, badType) ∷ [])
+    sym λ i. firstFailing ((marked-rule c s i, variable clauseLine) ∷ (shaped-rule c i, letShape clauseLine) ∷ (fitted-rule sigs a b c i, badType clauseLine) ∷ [])

@@ -1,5 +1,5 @@
 -- The types of live variables while patterns are fitted, as the code keeps them.
-use Prim.Native.Nat.{ℕ, zero, suc, _+_, _≤_}
+use Prim.Native.Nat.{ℕ, zero, suc, _+_}
 use mathlib.Core.Path.{_≡_}
 use mathlib.Core.Bool.{Bool, true, false}
 use mathlib.Core.Option.{Option, none, some}
@@ -41,8 +41,14 @@ envView t e = viewIf (e .fits) (map (entryView t) (e .line))
 unfoldable pub freshEnv : E.Env
 freshEnv = record { fits = true; line = replicate variables 0 }
 
+-- a left, a right or a pair
+pub data HasParts : ℕ → Type 0 where
+  ofLeft : HasParts 2
+  ofRight : HasParts 3
+  ofPair : HasParts 4
+
 -- the kinds of P line p, which has parts, and of T line a
 pub record Parted (t : List ℕ) (base p a kp ka : ℕ) : Type 0 where
   pub pattern : kp ≡ cellOf t (base + p) 1
   pub type : ka ≡ cellOf t a 1
-  pub parts : 2 ≤ kp
+  pub parts : HasParts kp

@@ -6,8 +6,9 @@ use mathlib.Core.Option.{Option, none, some}
 use mathlib.Core.List.{List, [], _∷_, List·Memᴰ}
 use lib.ListN.{getElem?, replicate}
 use Rattle.limits.specs.Limits.{variables}
-use Rattle.calculus.specs.Tools.{all}
+use Rattle.calculus.specs.Tools.{all, firstFailing}
 use Rattle.calculus.specs.Trees.{Ty, Let, Clause}
+use Rattle.calculus.specs.Refusals.{Refusal, clauseLine, variable, letShape, badType}
 use Rattle.calculus.specs.Slots.{Slots}
 use Rattle.calculus.specs.Clauses.{Event, events, plain, Sigs, used}
 use Rattle.check_variables.specs.Marks.{markEvents, settledAll}
@@ -35,3 +36,8 @@ fittedLets sigs (l ∷ ls) e = fittedLets sigs ls (fitLet (getElem? sigs (l .iso
 
 unfoldable pub fitted : Sigs → Ty → Ty → Clause → Bool
 fitted sigs a b c = used (fitAll false (c .rhs) b (fittedLets sigs (c .lets) (fitAll true (c .lhs) a (some (replicate variables none)))))
+
+-- the lowest of 8 to 10 by these tests: the model's where every variable has a slot
+abbrev pub testedFault : Sigs → Ty → Ty → Clause → Option Refusal
+testedFault sigs a b c =
+    firstFailing ((marked c, variable clauseLine) ∷ (shaped (c .lets), letShape clauseLine) ∷ (fitted sigs a b c, badType clauseLine) ∷ [])

@@ -1,11 +1,15 @@
 // The fit of a pattern of the table to a type, and the types that its variables take.
 
 use area_words::wide;
+use check_shapes::names_nothing;
 use check_shapes::same_type;
 use codes::FIRST;
 use codes::KIND;
+use codes::LEFT;
 use codes::PAIR;
-use codes::UNIT;
+use codes::PRODUCT;
+use codes::RIGHT;
+use codes::SUM;
 use codes::VARIABLE;
 use limits::MAX_LINES;
 use limits::VARIABLES;
@@ -91,16 +95,20 @@ pub fn fit(t: &[u16], base: usize, p: usize, a: usize, binds: bool, e: Env) -> E
     if e.fits {
         let kp = pattern_cell(t, base, p, KIND);
         let ka = cell(t, a, KIND);
-        if kp == UNIT {
-            if ka == 0 {
-                return e;
+        match kp {
+            VARIABLE => {
+                return assign(t, pattern_cell(t, base, p, FIRST), a, binds, e);
             }
-            return failed(e);
+            LEFT | RIGHT | PAIR => {
+                return fit_parts(t, base, p, a, kp, ka, binds, e);
+            }
+            _ => {
+                if names_nothing(ka) {
+                    return e;
+                }
+                return failed(e);
+            }
         }
-        if kp == VARIABLE {
-            return assign(t, pattern_cell(t, base, p, FIRST), a, binds, e);
-        }
-        return fit_parts(t, base, p, a, kp, ka, binds, e);
     }
     e
 }
@@ -122,15 +130,15 @@ fn fit_parts(
         (typeOf (now (t .entry)) a) (envView (now (t .entry)) e)
         ⌝ }
 {
-    if kp < PAIR {
+    if kp != PAIR {
         let only = pattern_part(t, base, p, FIRST);
-        if ka == 1 {
+        if ka == SUM {
             let part = type_part(t, a, kp);
             return fit(t, base, only, part, binds, e);
         }
         return failed(e);
     }
-    if ka < 2 {
+    if ka != PRODUCT {
         return failed(e);
     }
     let k = sooner(binds);

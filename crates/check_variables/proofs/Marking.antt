@@ -4,23 +4,18 @@ use native.Mathlib.Omega.{arith}
 use native.Mathlib.Numerals.{add-one}
 use mathlib.Core.Path.{_≡_, refl, sym, ap, ap₂, _∙_}
 use mathlib.Core.Bool.{Bool, true, false, _&&_}
-use mathlib.Core.List.{List, [], _∷_, _++_, map}
+use mathlib.Core.List.{List, [], _∷_, _++_}
 use lib.Dec.{eqb}
-use lib.ListN.{length, getD, drop, drop-of-length-le, length-map}
+use lib.ListN.{length, getD, drop, drop-of-length-le}
 use lib.Seq.{set-out, drop-cons}
 use borrow.Author.Tests.{eq-eqb, ne-eqb}
-use Rattle.calculus.specs.Tools.{all}
 use Rattle.calculus.specs.Trees.{Pat, vars}
 use Rattle.format.specs.Judge.{patternNode}
 use Rattle.calculus.specs.Clauses.{Deed, binds, uses}
 use Rattle.table_trees.specs.Unfolding.{cellOf, smallerOf, patternOf}
-use Rattle.table_trees.proofs.Unfolding.{pattern-unit, pattern-var, pattern-pair}
+use Rattle.table_trees.proofs.Cases.{Injects, lefts, rights, Leaf, unit, var, other}
+use Rattle.table_trees.proofs.Unfolding.{pattern-unit, pattern-var, pattern-pair, opened}
 use Rattle.check_variables.specs.Marks.{deedView, nextState, markOne, markAll, settledAll}
-use Rattle.table_parts.proofs.Shapes.{beyond-leaf, Injects, lefts, rights, injects, opened}
-
--- an array of 32 slots, as a value has it, is a list of 32
-pub slots : (m : List ℕ) → length (map (λ v. v) m) ≡ 32 → length m ≡ 32
-slots m e = sym (length-map m (λ v. v)) ∙ e
 
 -- ---- one deed
 
@@ -53,27 +48,35 @@ injected-vars : {k : ℕ} → Injects k → (n : ℕ) (p q : Pat) → vars p ≡
 injected-vars lefts n p q = refl
 injected-vars rights n p q = refl
 
+-- no variable among them
+leaf-vars : {k : ℕ} → Leaf k → (k ≡ 1 → ⊥) → (n : ℕ) (p q : Pat) → [] ≡ vars (patternNode k n p q)
+leaf-vars unit h n p q = refl
+leaf-vars var h n p q = absurd (h refl)
+leaf-vars (other k) h n p q = refl
+
 module _ (t : List ℕ) (base p : ℕ) (d : Deed) (m : List ℕ) {k : ℕ} (e : k ≡ cellOf t (base + p) 1) where
   pub mark-unit : k ≡ 0 → m ≡ markAll d (vars (patternOf t base p)) m
   mark-unit z = sym (ap (λ x. markAll d (vars x) m) (pattern-unit t base p (sym e ∙ z)))
 
+  pub mark-leaf : Leaf k → (k ≡ 1 → ⊥) → m ≡ markAll d (vars (patternOf t base p)) m
+  mark-leaf h l = ap (λ x. markAll d x m) (leaf-vars h l _ _ _ ∙ ap vars (opened t base p e))
+
   pub mark-var : {n : ℕ} {r : List ℕ} → k ≡ 1 → n ≡ cellOf t (base + p) 2 → r ≡ markOne d n m → r ≡ markAll d (vars (patternOf t base p)) m
   mark-var z i s = s ∙ ap (λ x. markOne d x m) i ∙ sym (ap (λ x. markAll d (vars x) m) (pattern-var t base p (sym e ∙ z)))
 
-  pub mark-injected : {a : ℕ} {r : List ℕ} → (k ≡ 0 → ⊥) → (k ≡ 1 → ⊥) → k < 4 → a ≡ smallerOf (cellOf t (base + p) 2) p
+  pub mark-injected : {a : ℕ} {r : List ℕ} → Injects k → a ≡ smallerOf (cellOf t (base + p) 2) p
       → r ≡ markAll d (vars (patternOf t base a)) m → r ≡ markAll d (vars (patternOf t base p)) m
-  mark-injected h l u s i =
-      i ∙ ap (λ x. markAll d x m) (ap (λ x. vars (patternOf t base x)) s ∙ injected-vars (injects k (beyond-leaf h l) u) _ _ _ ∙ ap vars (opened t base p e))
+  mark-injected h s i =
+      i ∙ ap (λ x. markAll d x m) (ap (λ x. vars (patternOf t base x)) s ∙ injected-vars h _ _ _ ∙ ap vars (opened t base p e))
 
-  pub mark-pair : {a b : ℕ} {f r : List ℕ} → 4 ≤ k → a ≡ smallerOf (cellOf t (base + p) 2) p → f ≡ markAll d (vars (patternOf t base a)) m
+  pub mark-pair : {a b : ℕ} {f r : List ℕ} → k ≡ 4 → a ≡ smallerOf (cellOf t (base + p) 2) p → f ≡ markAll d (vars (patternOf t base a)) m
       → b ≡ smallerOf (cellOf t (base + p) 3) p → r ≡ markAll d (vars (patternOf t base b)) f → r ≡ markAll d (vars (patternOf t base p)) m
   mark-pair {a} {b} h s i u j =
-      let wide : 4 ≤ cellOf t (base + p) 1 = omega (arith, e) in
       j
       ∙ ap (λ x. markAll d (vars (patternOf t base b)) x) i
       ∙ sym (mark-append d (vars (patternOf t base a)) (vars (patternOf t base b)) m)
       ∙ ap₂ (λ x y. markAll d (vars (patternOf t base x) ++ vars (patternOf t base y)) m) s u
-      ∙ sym (ap (λ x. markAll d (vars x) m) (pattern-pair t base p wide))
+      ∙ sym (ap (λ x. markAll d (vars x) m) (pattern-pair t base p (sym e ∙ h)))
 
 -- ---- once all is walked
 

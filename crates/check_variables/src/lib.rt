@@ -2,7 +2,9 @@
 
 use codes::FIRST;
 use codes::KIND;
+use codes::LEFT;
 use codes::PAIR;
+use codes::RIGHT;
 use codes::SECOND;
 use codes::UNIT;
 use codes::VARIABLE;
@@ -58,13 +60,20 @@ pub fn mark(t: &[u16], base: usize, p: usize, binds: bool, m: Marks) -> Marks
     if kind == VARIABLE {
         return mark_one(binds, pattern_cell(t, base, p, FIRST), m);
     }
-    let a = pattern_part(t, base, p, FIRST);
-    let first = mark(t, base, a, binds, m);
-    if kind < PAIR {
-        return first;
+    if kind == PAIR {
+        let a = pattern_part(t, base, p, FIRST);
+        let first = mark(t, base, a, binds, m);
+        let b = pattern_part(t, base, p, SECOND);
+        return mark(t, base, b, binds, first);
     }
-    let b = pattern_part(t, base, p, SECOND);
-    mark(t, base, b, binds, first)
+    match kind {
+        LEFT | RIGHT => {
+            let a = pattern_part(t, base, p, FIRST);
+            return mark(t, base, a, binds, m);
+        }
+        _ => {}
+    }
+    m
 }
 
 // Whether no variable is live, and each was bound only while not live and used only while live.

@@ -17,7 +17,7 @@ use Rattle.format.specs.Lines.{Row, lines, rowOf, tableOf}
 use Rattle.format.specs.Judge.{Seen, start, afterAll, judge, inOrder, fieldsFit, named, withinCeilings, after, Reading, rows, faulty, withRow, onRow, onJudged, readFrom}
 use Rattle.format.specs.Unfold.{Tail, place, tailFrom, isosOf}
 use Rattle.calculus.specs.Clauses.{Sigs, clauseFault, variablesRule, letShapes, typed, sideFault, apart, fullWeight, lefts, rights, at, isoFault, fault, sigsOf}
-use Rattle.model.specs.Services.{Verdict, accepted, refused, judged, afterReading, over, verdict, filled, tableAfter, workAfter, short, unless, answerOf, check}
+use Rattle.model.specs.Services.{Verdict, accepted, refused, judged, afterReading, over, verdict, filled, tableAfter, workAfter, short, unless, answerOf, refusalBy, check}
 use Rattle.format.specs.Code.{refusalView, numbered}
 use Rattle.format.specs.declared.Answer as A
 use Rattle.format.specs.declared.Refusal as F
@@ -26,14 +26,14 @@ use Rattle.format.proofs.Printing.{read-count, rows-inj, rows≢faulty}
 use Rattle.format.proofs.Tables.{length-table}
 use Rattle.area_parts.specs.Cleared.{cleared}
 use lib.Seq.{drop-append-add, drop-drop, drop-at}
-use Rattle.table_trees.specs.Walk.{FileIn, isoRows, whenIso}
-use Rattle.table_trees.proofs.Rows.{isos-told}
+use Rattle.table_walks.specs.Walk.{FileIn, isoRows, whenIso}
+use Rattle.table_walks.proofs.Rows.{isos-told}
 use Rattle.check_isos.specs.Answers.{asFault}
-use Rattle.read_lines.specs.Reads.{Holds, ReadSays}
+use Rattle.read_lines.specs.Reads.{passing, rowsOver, ReadSays}
 use Rattle.read_lines.specs.declared.read.Read as R
-use Rattle.read_lines.proofs.Filing.{filed, rows-few}
+use Rattle.read_lines.proofs.Filing.{passing-few, passing-rows, Holds, holds, refuses, filed}
 use Rattle.checker.specs.declared.Checked as C
-use Rattle.checker.specs.CheckSays.{CheckSays, Outcome, Loaded, Entered, Settled, Accepted, Filed, Early}
+use Rattle.checker.specs.CheckSays.{CheckSays, countsOf, noCounts, countsIn, countsBy, countsRead, Outcome, Loaded, Entered, Settled, Accepted, Filed, Early}
 
 -- ---- the areas
 
@@ -107,7 +107,7 @@ clause-number : (sigs : Sigs) (o : Iso) (c : Clause) (f : Refusal) → clauseFau
 unfolding clauseFault
 clause-number sigs o c f = go (variablesRule c) (letShapes c) (typed sigs (o .from) (o .to) c)
   where
-    go : (p q r : Bool) → firstFailing ((p, variable) ∷ (q, letShape) ∷ (r, badType) ∷ []) ≡ some f → 3 ≤ number f
+    go : (p q r : Bool) → firstFailing ((p, variable clauseLine) ∷ (q, letShape clauseLine) ∷ (r, badType clauseLine) ∷ []) ≡ some f → 3 ≤ number f
     go false q r e = subst (λ z. 3 ≤ number z) (some-inj e) (lit≤ tt)
     go true false r e = subst (λ z. 3 ≤ number z) (some-inj e) (lit≤ tt)
     go true true false e = subst (λ z. 3 ≤ number z) (some-inj e) (lit≤ tt)
@@ -117,7 +117,7 @@ side-number : (o : Iso) (f : Refusal) → sideFault o ≡ some f → 3 ≤ numbe
 unfolding sideFault
 side-number o f =
     failing-number (apart (lefts o)) (apart (rights o)) (fullWeight (lefts o)) (fullWeight (rights o))
-    (overlap left) (overlap right) (gap left) (gap right) f (lit≤ tt) (lit≤ tt) (lit≤ tt) (lit≤ tt)
+    (overlap isoLine left) (overlap isoLine right) (gap isoLine left) (gap isoLine right) f (lit≤ tt) (lit≤ tt) (lit≤ tt) (lit≤ tt)
 
 iso-number : (sigs : Sigs) (o : Iso) → FaultAtLeast3 (isoFault sigs o)
 unfolding isoFault
@@ -160,6 +160,7 @@ says-refused : (s t w t′ w′ : List ℕ) (r : A.Answer) (f : Refusal) → unl
 says-refused s t w t′ w′ r f e n ht hw =
     let c = by-verdict s t w (refused f (r .place)) e in
     record {
+      refusal = n ∙ sym (ap refusalBy e);
       number = ap numbered n ∙ sym (ap (λ x. x .answer .number) c);
       line = sym (ap (λ x. x .answer .line) c);
       table = ht ∙ sym (ap (λ x. x .table) c);
@@ -244,8 +245,10 @@ pub accepted-says : (s t w t₀ t′ w′ : List ℕ) (rs : List Row) (r : A.Ans
     → CheckSays s t w t′ w′ r
 accepted-says s t w t₀ t′ w′ rs r ht hw hb hl e k n p e₀ et ew =
     let v : verdict s ≡ accepted rs = verdict-not-over s hb hl ∙ ap afterReading e ∙ ap (judged rs) k in
-    let c = by-verdict s t w (accepted rs) (long-enough t w ht hw (verdict s) ∙ v) in
+    let u = long-enough t w ht hw (verdict s) ∙ v in
+    let c = by-verdict s t w (accepted rs) u in
     record {
+      refusal = n ∙ sym (ap refusalBy u);
       number = ap numbered n ∙ sym (ap (λ x. x .answer .number) c);
       line = p ∙ sym (ap (λ x. x .answer .line) c);
       table = et ∙ rows-then-zeros t t₀ rs ht (subst (λ m. m ≤ maxLines) (read-count start 1 (lines s) rs e) hl) e₀ ∙ sym (ap (λ x. x .table) c);
@@ -258,15 +261,14 @@ accepted-says s t w t₀ t′ w′ rs r ht hw hb hl e k n p e₀ et ew =
 pub outcome-read : (s t₀ t₁ : List ℕ) (q : R.Read) (r : A.Answer) (g : Refusal) → ReadSays s t₀ t₁ q → refusalView (q .refusal) ≡ some g
     → r .refusal ≡ q .refusal → r .place ≡ q .place → Outcome s t₀ t₁ r
 outcome-read s t₀ t₁ q r g says e same place =
-    let h = says .refused g e in
+    let h = refuses says g e in
     let agree : (f : Refusal) → refusalView (r .refusal) ≡ some f → g ≡ f =
     λ f k. some-inj (sym e ∙ ap refusalView (sym same) ∙ k) in
     record {
       accepts = λ k. absurd (none≢some (sym k ∙ ap refusalView same ∙ e));
-      refuses = λ f k. ap afterReading (h .reads) ∙ ap₂ refused (agree f k) (sym place);
-      later = λ f k. subst (λ z. 3 ≤ number z) (agree f k) (read-number s g (q .place) (h .reads));
-      wide = h .wide;
-      behind = h .behind;
+      refuses = λ f k. ap afterReading h ∙ ap₂ refused (agree f k) (sym place);
+      later = λ f k. subst (λ z. 3 ≤ number z) (agree f k) (read-number s g (q .place) h);
+      table = says .table;
     }
 
 -- rows written over the front of a table leave its length and what lies behind 16,384 numbers
@@ -295,18 +297,16 @@ fault-some : (a : A.Answer) (f : Refusal) → refusalView (a .refusal) ≡ some 
 fault-some a f e = ap (at (a .place)) e
 
 -- a reading that is accepted, and the first refusal of its isos
-pub outcome-isos : (s t₀ t₁ : List ℕ) (q : R.Read) (r : A.Answer) → tableLength ≤ length t₀ → length (lines s) ≤ maxLines
+pub outcome-isos : (s t₀ t₁ : List ℕ) (q : R.Read) (r : A.Answer) → length (lines s) ≤ maxLines → ReadSays s t₀ t₁ q
     → (h : Holds s t₀ t₁ q) → (FileIn t₁ (q .seen .types) (q .seen .patterns) (q .lines) (h .file) → asFault r ≡ fault (isosOf (h .file)))
-    → Outcome s t₀ t₁ r
-outcome-isos s t₀ t₁ q r long few h says =
+    → (refusalView (r .refusal) ≡ none → r .place ≡ 0) → Outcome s t₀ t₁ r
+outcome-isos s t₀ t₁ q r few read h says place =
     let e = says (filed h few) in
-    let fewer = rows-few h few in
     record {
-      accepts = λ k. (h .file, h .reads, sym e ∙ fault-none r k, h .table);
+      accepts = λ k. (h .file, h .reads, sym e ∙ fault-none r k, place k);
       refuses = λ f k. ap afterReading (h .reads) ∙ ap (judged (h .file)) (sym e ∙ fault-some r f k);
       later = λ f k. fault-number (isosOf (h .file)) f (r .place) (sym e ∙ fault-some r f k);
-      wide = ap length (h .table) ∙ rows-wide t₀ (h .file) long fewer;
-      behind = ap (drop tableLength) (h .table) ∙ rows-behind t₀ (h .file) fewer;
+      table = read .table;
     }
 
 -- ---- Check, from the outcome
@@ -332,19 +332,25 @@ cleared-behind : (t : List ℕ) → tableLength ≤ length t → drop tableLengt
 cleared-behind t h =
     ap (drop tableLength) (cleared-is t h) ∙ drop-at (zeros tableLength) (drop tableLength t) tableLength (length-zeros tableLength)
 
+fewer : (s : List ℕ) → length (lines s) ≤ maxLines → length (passing start (lines s)) ≤ maxLines
+fewer s h = let k = passing-few start (lines s) in omega arith
+
 pub check-refused : (s t w t₀ t₁ t′ w′ : List ℕ) (a : A.Answer) (f : Refusal) → tableLength ≤ length t → workLength ≤ length w
     → length s ≤ maxBytes → length (lines s) ≤ maxLines → t₀ ≡ cleared tableLength t → Outcome s t₀ t₁ a → refusalView (a .refusal) ≡ some f
     → t′ ≡ cleared tableLength t₁ → w′ ≡ cleared workLength w → CheckSays s t w t′ w′ a
 check-refused s t w t₀ t₁ t′ w′ a f ht hw hb hl e₀ o k et ew =
+    let wide = ap length e₀ ∙ cleared-long t ht in
+    let few = fewer s hl in
     refused-later s t w t₁ t′ w′ a f ht hw (verdict-not-over s hb hl ∙ o .refuses f k) (o .later f k) k
-    (o .wide ∙ ap length e₀ ∙ cleared-long t ht) (o .behind ∙ ap (drop tableLength) e₀ ∙ cleared-behind t ht) et ew
+    (ap length (o .table) ∙ rows-wide t₀ (passing start (lines s)) (omega (arith, wide)) few ∙ wide)
+    (ap (drop tableLength) (o .table) ∙ rows-behind t₀ (passing start (lines s)) few ∙ ap (drop tableLength) e₀ ∙ cleared-behind t ht) et ew
 
-pub check-accepted : (s t w t₀ t₁ w′ : List ℕ) (a r : A.Answer) → tableLength ≤ length t → workLength ≤ length w
+pub check-accepted : (s t w t₀ t₁ w′ : List ℕ) (a : A.Answer) → tableLength ≤ length t → workLength ≤ length w
     → length s ≤ maxBytes → length (lines s) ≤ maxLines → t₀ ≡ cleared tableLength t → Outcome s t₀ t₁ a → refusalView (a .refusal) ≡ none
-    → refusalView (r .refusal) ≡ none → r .place ≡ 0 → w′ ≡ cleared workLength w → CheckSays s t w t₁ w′ r
-check-accepted s t w t₀ t₁ w′ a r ht hw hb hl e₀ o k n p ew =
+    → w′ ≡ cleared workLength w → CheckSays s t w t₁ w′ a
+check-accepted s t w t₀ t₁ w′ a ht hw hb hl e₀ o k ew =
     let h = o .accepts k in
-    accepted-says s t w t₀ t₁ w′ (h .0) r ht hw hb hl (h .1) (h .2) n p e₀ (h .3) ew
+    accepted-says s t w t₀ t₁ w′ (h .0) a ht hw hb hl (h .1) (h .2) k (h .3) e₀ (o .table ∙ ap (λ qs. rowsOver qs t₀) (passing-rows start 1 (lines s) (h .0) (h .1))) ew
 
 -- ---- as the code finds it: a flag says whether a refusal is one
 
@@ -360,11 +366,12 @@ pub outcome-refused : (s t₀ t₁ : List ℕ) (q : R.Read) (r : A.Answer) (b : 
 outcome-refused s t₀ t₁ q r b says e h same place =
     let g = flag-some b (refusalView (q .refusal)) e h in outcome-read s t₀ t₁ q r (g .0) says (g .1) same place
 
-pub outcome-whole : (s t₀ t₁ : List ℕ) (q : R.Read) (r : A.Answer) (b : Bool) → tableLength ≤ length t₀ → length (lines s) ≤ maxLines
+pub outcome-whole : (s t₀ t₁ : List ℕ) (q : R.Read) (r : A.Answer) (b : Bool) → length (lines s) ≤ maxLines
     → ReadSays s t₀ t₁ q → b ≡ isSome (refusalView (q .refusal)) → b ≡ false
-    → ((rs : List Row) → FileIn t₁ (q .seen .types) (q .seen .patterns) (q .lines) rs → asFault r ≡ fault (isosOf rs)) → Outcome s t₀ t₁ r
-outcome-whole s t₀ t₁ q r b long few says e h found =
-    let k = says .accepted (flag-none b (refusalView (q .refusal)) e h) in outcome-isos s t₀ t₁ q r long few k (found (k .file))
+    → ((rs : List Row) → FileIn t₁ (q .seen .types) (q .seen .patterns) (q .lines) rs → asFault r ≡ fault (isosOf rs)) × (refusalView (r .refusal) ≡ none → r .place ≡ 0)
+    → Outcome s t₀ t₁ r
+outcome-whole s t₀ t₁ q r b few says e h found =
+    let k = holds says (flag-none b (refusalView (q .refusal)) e h) in outcome-isos s t₀ t₁ q r few says k (found .0 (k .file)) (found .1)
 
 -- the lines as they were counted
 pub counted-few : {n : ℕ} (s : List ℕ) → n ≡ length (lines s) → n ≤ maxLines → length (lines s) ≤ maxLines
@@ -396,7 +403,7 @@ isos-counted rs =
 pub loaded : (s t₀ t₁ : List ℕ) (q : R.Read) (b : Bool) → length (lines s) ≤ maxLines → ReadSays s t₀ t₁ q → b ≡ isSome (refusalView (q .refusal)) → b ≡ false
     → (c : C.Checked) → c .types ≡ q .seen .types → c .patterns ≡ q .seen .patterns → c .isos ≡ q .seen .isos → c .lines ≡ q .lines → Loaded s t₁ c
 loaded s t₀ t₁ q b few says e h c types patterns isos lines′ =
-    let k = says .accepted (flag-none b (refusalView (q .refusal)) e h) in
+    let k = holds says (flag-none b (refusalView (q .refusal)) e h) in
     record {
       file = k .file;
       reads = k .reads;
@@ -406,19 +413,22 @@ loaded s t₀ t₁ q b few says e h c types patterns isos lines′ =
     }
 
 accepted-rows : (s t₀ t₁ : List ℕ) (a : C.Checked) → length s ≤ maxBytes → length (lines s) ≤ maxLines → Outcome s t₀ t₁ (a .answer)
-    → ((rs : List Row) → readFrom start 1 (lines s) ≡ rows rs → Loaded s t₁ a) → refusalView (a .answer .refusal) ≡ none
-    → (c : C.Checked) → c .types ≡ a .types → c .patterns ≡ a .patterns → c .isos ≡ a .isos → c .lines ≡ a .lines → Accepted s t₁ c
-accepted-rows s t₀ t₁ a hb hl o held n c types patterns isos lines′ =
+    → ((rs : List Row) → readFrom start 1 (lines s) ≡ rows rs → Loaded s t₁ a) → refusalView (a .answer .refusal) ≡ none → Accepted s t₁ a
+accepted-rows s t₀ t₁ a hb hl o held n =
     let k = o .accepts n in
     let l = held (k .0) (k .1) in
     let same : k .0 ≡ l .file = rows-inj (sym (k .1) ∙ l .reads) in
     record {
       file = l .file;
       accepts = verdict-not-over s hb hl ∙ ap afterReading (l .reads) ∙ ap (judged (l .file)) (subst (λ rs. fault (isosOf rs) ≡ none) same (k .2));
-      table = subst (λ m. FileIn t₁ (c .types) (c .patterns) m (l .file)) (sym lines′)
-          (subst (λ m. FileIn t₁ (c .types) m (a .lines) (l .file)) (sym patterns) (subst (λ m. FileIn t₁ m (a .patterns) (a .lines) (l .file)) (sym types) (l .table)));
-      isos = isos ∙ l .isos;
+      table = l .table;
+      isos = l .isos;
     }
+
+-- with no refusal the verdict is the file's
+unless-passed : (b : Bool) (v : Verdict) → refusalBy (unless b v) ≡ none → unless b v ≡ v
+unless-passed true v e = absurd (none≢some (sym e))
+unless-passed false v e = refl
 
 -- nothing is owed of a refused file
 pub refused-flag : {P : Type 0} (x y : F.Refusal) (b : Bool) → b ≡ isSome (refusalView x) → b ≡ true → y ≡ x → refusalView y ≡ none → P
@@ -430,27 +440,56 @@ pub unread : (s t₀ t₁ : List ℕ) (q : R.Read) (b : Bool) (c : C.Checked) �
     → (rs : List Row) → readFrom start 1 (lines s) ≡ rows rs → Loaded s t₁ c
 unread s t₀ t₁ q b c says e h rs k =
     let g = flag-some b (refusalView (q .refusal)) e h in
-    absurd (rows≢faulty (sym k ∙ says .refused (g .0) (g .1) .reads))
+    absurd (rows≢faulty (sym k ∙ refuses says (g .0) (g .1)))
+
+-- ---- what is counted
+
+counts-are : (t : List ℕ) (rs : List Row) (c : C.Checked) → FileIn t (c .types) (c .patterns) (c .lines) rs → c .isos ≡ length (isosOf rs) → countsOf c ≡ countsIn rs
+counts-are t rs c h e = λ i. record { types = h .typeCount i; patterns = h .patternCount i; isos = e i; lines = h .count i }
+
+-- of a reading that is refused, and of one that passes
+pub counts-unread : (s t₀ t₁ : List ℕ) (q : R.Read) (b : Bool) (c : C.Checked) → ReadSays s t₀ t₁ q → b ≡ isSome (refusalView (q .refusal)) → b ≡ true
+    → countsOf c ≡ noCounts → countsOf c ≡ countsRead (readFrom start 1 (lines s))
+counts-unread s t₀ t₁ q b c says e h n =
+    let g = flag-some b (refusalView (q .refusal)) e h in n ∙ ap countsRead (sym (refuses says (g .0) (g .1)))
+
+pub counts-loaded : (s t : List ℕ) (c : C.Checked) → Loaded s t c → countsOf c ≡ countsRead (readFrom start 1 (lines s))
+counts-loaded s t c l = counts-are t (l .file) c (l .table) (l .isos) ∙ ap countsRead (sym (l .reads))
+
+-- of Check, by its verdict
+counts-refused : (v : Verdict) (f : Refusal) → refusalBy v ≡ some f → countsBy v ≡ noCounts
+counts-refused (accepted rs) f e = absurd (none≢some e)
+counts-refused (refused g n) f e = refl
+
+pub counts-said : (s t w t′ w′ : List ℕ) (c : C.Checked) → CheckSays s t w t′ w′ (c .answer) → (refusalView (c .answer .refusal) ≡ none → Accepted s t′ c)
+    → ((f : Refusal) → refusalView (c .answer .refusal) ≡ some f → countsOf c ≡ noCounts) → countsOf c ≡ countsBy (unless (short t w) (verdict s))
+counts-said s t w t′ w′ c says whole none-counted = go (refusalView (c .answer .refusal)) refl
+  where
+    go : (x : Option Refusal) → refusalView (c .answer .refusal) ≡ x → countsOf c ≡ countsBy (unless (short t w) (verdict s))
+    go none e =
+        let a = whole e in
+        let u = unless-passed (short t w) (verdict s) (sym (says .refusal) ∙ e) in
+        counts-are t′ (a .file) c (a .table) (a .isos) ∙ ap countsBy (sym (u ∙ a .accepts))
+    go (some f) e = none-counted f e ∙ sym (counts-refused (unless (short t w) (verdict s)) f (sym (says .refusal) ∙ e))
 
 -- ---- the table, filled or cleared again
 
 pub entered-says : (s t t₀ t₁ : List ℕ) (c : C.Checked) → t₀ ≡ cleared tableLength t
-    → Outcome s t₀ t₁ (c .answer) × ((rs : List Row) → readFrom start 1 (lines s) ≡ rows rs → Loaded s t₁ c) → Entered s t t₁ c
-entered-says s t t₀ t₁ c e o = record { outcome = subst (λ z. Outcome s z t₁ (c .answer)) e (o .0); loaded = o .1 }
+    → Outcome s t₀ t₁ (c .answer) × ((rs : List Row) → readFrom start 1 (lines s) ≡ rows rs → Loaded s t₁ c) × (countsOf c ≡ countsRead (readFrom start 1 (lines s)))
+    → Entered s t t₁ c
+entered-says s t t₀ t₁ c e o = record { outcome = subst (λ z. Outcome s z t₁ (c .answer)) e (o .0); loaded = o .1; counts = o .2 }
 
-pub settled-refused : (t₁ t′ : List ℕ) (c : C.Checked) (b : Bool) → b ≡ isSome (refusalView (c .answer .refusal)) → b ≡ true → t′ ≡ cleared tableLength t₁
-    → Settled t₁ t′ c c
-settled-refused t₁ t′ c b e h et = record {
-  refuses = λ f k. (et, refl);
+pub settled-refused : (t₁ t′ : List ℕ) (c r : C.Checked) (b : Bool) → b ≡ isSome (refusalView (c .answer .refusal)) → b ≡ true → t′ ≡ cleared tableLength t₁
+    → (r .answer .place ≡ c .answer .place) × (r .answer .refusal ≡ c .answer .refusal) × (countsOf r ≡ noCounts) → Settled t₁ t′ c r
+settled-refused t₁ t′ c r b e h et k = record {
+  refuses = λ f n. (et, ap₂ (λ p x. record { place = p; refusal = x }) (k .0) (k .1), k .2);
   accepts = λ n. refused-flag (c .answer .refusal) (c .answer .refusal) b e h refl n;
 }
 
-pub settled-accepted : (t₁ : List ℕ) (c r : C.Checked) (b : Bool) → b ≡ isSome (refusalView (c .answer .refusal)) → b ≡ false
-    → (refusalView (r .answer .refusal) ≡ none) × (r .answer .place ≡ 0) × (r .types ≡ c .types) × (r .patterns ≡ c .patterns) × (r .isos ≡ c .isos) × (r .lines ≡ c .lines)
-    → Settled t₁ t₁ c r
-settled-accepted t₁ c r b e h k = record {
+pub settled-accepted : (t₁ : List ℕ) (c : C.Checked) (b : Bool) → b ≡ isSome (refusalView (c .answer .refusal)) → b ≡ false → Settled t₁ t₁ c c
+settled-accepted t₁ c b e h = record {
   refuses = λ f n. absurd (none≢some (sym (flag-none b (refusalView (c .answer .refusal)) e h) ∙ n));
-  accepts = λ n. (refl, k .0, k .1, k .2, k .3, k .4, k .5);
+  accepts = λ n. (refl, refl);
 }
 
 -- what a file is entered and settled to is what Check says
@@ -458,18 +497,21 @@ module _ (s t t₁ t′ : List ℕ) (c r : C.Checked) (ht : tableLength ≤ leng
   refused-filed : (f : Refusal) → refusalView (c .answer .refusal) ≡ some f → Filed s t t′ r
   refused-filed f n =
       let d = k .refuses f n in
-      subst (Filed s t t′) (sym (d .1)) record {
-        says = λ w w′ hw hb ew. check-refused s t w (cleared tableLength t) t₁ t′ w′ (c .answer) f ht hw hb hl refl (o .outcome) n (d .0) ew;
-        accepts = λ hb m. absurd (none≢some (sym m ∙ n));
+      record {
+        says = λ w w′ hw hb ew.
+            subst (CheckSays s t w t′ w′) (sym (d .1)) (check-refused s t w (cleared tableLength t) t₁ t′ w′ (c .answer) f ht hw hb hl refl (o .outcome) n (d .0) ew);
+        accepts = λ hb m. absurd (none≢some (sym m ∙ ap (λ a. refusalView (a .refusal)) (d .1) ∙ n));
+        refuses = λ g m. d .2;
       }
 
   accepted-filed : refusalView (c .answer .refusal) ≡ none → Filed s t t′ r
   accepted-filed n =
       let d = k .accepts n in
-      subst (λ z. Filed s t z r) (sym (d .0)) record {
-        says = λ w w′ hw hb ew. check-accepted s t w (cleared tableLength t) t₁ w′ (c .answer) (r .answer) ht hw hb hl refl (o .outcome) n (d .1) (d .2) ew;
-        accepts = λ hb m. accepted-rows s (cleared tableLength t) t₁ c hb hl (o .outcome) (o .loaded) n r (d .3) (d .4) (d .5) (d .6);
-      }
+      subst (Filed s t t′) (sym (d .1)) (subst (λ z. Filed s t z c) (sym (d .0)) record {
+        says = λ w w′ hw hb ew. check-accepted s t w (cleared tableLength t) t₁ w′ (c .answer) ht hw hb hl refl (o .outcome) n ew;
+        accepts = λ hb m. accepted-rows s (cleared tableLength t) t₁ c hb hl (o .outcome) (o .loaded) n;
+        refuses = λ g m. absurd (none≢some (sym n ∙ m));
+      })
 
   pub filed-says : Filed s t t′ r
   filed-says = go (refusalView (c .answer .refusal)) refl

@@ -2,3 +2,5 @@
 pub mod Checks
 -- What an accepted file says of the areas.
 pub mod Whole
+-- What a service that goes on from Check answers and leaves.
+pub mod Going

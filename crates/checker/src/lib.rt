@@ -21,9 +21,10 @@ ghost use Rattle.limits.specs.Limits.{tableLength, maxLines};
 ghost use Rattle.format.specs.Lines.{Row as RowOf, lines};
 ghost use Rattle.format.specs.Judge.{start, rows, readFrom};
 ghost use Rattle.format.specs.Code.{refusalView};
-ghost use Rattle.checker.specs.CheckSays.{CheckSays, Outcome, Loaded, Entered, Settled, Accepted, Filed, Early};
+ghost use Rattle.model.specs.Services.{short, unless, verdict};
+ghost use Rattle.checker.specs.CheckSays.{CheckSays, Outcome, Loaded, Entered, Settled, Accepted, Filed, Early, countsOf, noCounts, countsRead, countsBy};
 
-// An answer, and of an accepted file how many T, P and I lines the table holds, and how many lines.
+// An answer, and how many T, P and I lines the table holds, and how many lines; 0 of each where it holds none.
 pub struct Checked {
     pub answer: Answer,
     pub types: usize,
@@ -34,7 +35,7 @@ pub struct Checked {
 
 // A refusal, and no lines.
 fn refused(place: usize, f: Refusal) -> Checked
-    ensures { λ r. ⌜ (r .answer .place ≡ place) × (r .answer .refusal ≡ f) ⌝ }
+    ensures { λ r. ⌜ (r .answer .place ≡ place) × (r .answer .refusal ≡ f) × (countsOf r ≡ noCounts) ⌝ }
 {
     Checked {
         answer: Answer {
@@ -51,10 +52,11 @@ fn refused(place: usize, f: Refusal) -> Checked
 // A file of at most 4,096 lines, read into a table of at least 16,384 numbers, and its isos.
 fn judged(file: &[u8], table: &mut [u16]) -> Checked
     requires { ⌜ (tableLength ≤ length (now table)) × (length (lines (now file)) ≤ maxLines) ⌝ }
-    ensures { λ r. ⌜ Outcome (now (file .entry)) (now (table .entry)) (now (table .exit)) (r .answer) ⌝ }
     ensures { λ r. ⌜
-        ((rs : List RowOf) → readFrom start 1 (lines (now (file .entry))) ≡ rows rs
+        Outcome (now (file .entry)) (now (table .entry)) (now (table .exit)) (r .answer)
+        × ((rs : List RowOf) → readFrom start 1 (lines (now (file .entry))) ≡ rows rs
         → Loaded (now (file .entry)) (now (table .exit)) r)
+        × (countsOf r ≡ countsRead (readFrom start 1 (lines (now (file .entry)))))
         ⌝ }
 {
     let r = read_file(file, table);
@@ -73,27 +75,9 @@ fn judged(file: &[u8], table: &mut [u16]) -> Checked
     }
 }
 
-// No refusal, and the lines as they were counted.
-fn accepted(c: Checked) -> Checked
-    ensures { λ r. ⌜
-        (refusalView (r .answer .refusal) ≡ none) × (r .answer .place ≡ 0) × (r .types ≡ c .types)
-        × (r .patterns ≡ c .patterns) × (r .isos ≡ c .isos) × (r .lines ≡ c .lines)
-        ⌝ }
-{
-    Checked {
-        answer: Answer {
-            place: 0,
-            refusal: Refusal::Nothing,
-        },
-        types: c.types,
-        patterns: c.patterns,
-        isos: c.isos,
-        lines: c.lines,
-    }
-}
-
 // A file of at most 4,096 lines, read into a table that is cleared first, and its isos. The rows of a file
-// whose lines pass are then in the table, also where an iso is refused.
+// whose lines pass are then in the table, also where an iso is refused; of another those before its first
+// refused line, and nothing is counted.
 pub fn entered(file: &[u8], table: &mut [u16]) -> Checked
     requires { ⌜ (tableLength ≤ length (now table)) × (length (lines (now file)) ≤ maxLines) ⌝ }
     ensures { λ r. ⌜ Entered (now (file .entry)) (now (table .entry)) (now (table .exit)) r ⌝ }
@@ -102,7 +86,7 @@ pub fn entered(file: &[u8], table: &mut [u16]) -> Checked
     judged(file, table)
 }
 
-// What Check says of such a table and leaves in it: zeros where the file is refused.
+// What Check says of such a table and leaves in it: zeros, and nothing counted, where the file is refused.
 pub fn settled(table: &mut [u16], c: Checked) -> Checked
     ensures { λ r. ⌜ Settled (now (table .entry)) (now (table .exit)) c r ⌝ }
 {
@@ -110,9 +94,9 @@ pub fn settled(table: &mut [u16], c: Checked) -> Checked
     let f = a.refusal;
     if is_refused(f) {
         clear_words(table, TABLE_LENGTH);
-        return c;
+        return refused(a.place, f);
     }
-    accepted(c)
+    c
 }
 
 // A file of at most 4,096 lines, its rows in a table that was cleared, or zeros where it is refused.
@@ -148,8 +132,9 @@ pub fn check_file(file: &[u8], table: &mut [u16], work: &mut [u8]) -> Checked
     ensures { λ r. ⌜
         CheckSays (now (file .entry)) (now (table .entry)) (now (work .entry)) (now (table .exit))
         (now (work .exit)) (r .answer)
+        × (refusalView (r .answer .refusal) ≡ none → Accepted (now (file .entry)) (now (table .exit)) r)
+        × (countsOf r ≡ countsBy (unless (short (now (table .entry)) (now (work .entry))) (verdict (now (file .entry)))))
         ⌝ }
-    ensures { λ r. ⌜ (refusalView (r .answer .refusal) ≡ none → Accepted (now (file .entry)) (now (table .exit)) r) ⌝ }
 {
     let f = early(file, table.len(), work.len());
     if is_refused(f) {

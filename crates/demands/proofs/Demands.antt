@@ -1,32 +1,30 @@
 -- The demands of `specs/Demands.antt`, proved.
-use Prim.Native.Nat.{ℕ, _≤_, _<_}
+use Prim.Native.Nat.{ℕ}
 use native.Mathlib.Omega.{arith}
 use mathlib.Core.Path.{_≡_, refl, sym, ap, _∙_, subst}
-use mathlib.Core.Logic.{_↔_}
 use mathlib.Core.List.{List}
 use mathlib.Core.Option.{some}
 use lib.ListN.{getElem?}
 use Rattle.calculus.specs.Trees.{Val, Iso}
 use Rattle.calculus.specs.Refusals.{Refusal, number}
-use Rattle.format.specs.Lines.{Row}
 use Rattle.calculus.specs.Clauses.{sigsOf}
-use Rattle.format.specs.Unfold.{isosOf, turnRows}
+use Rattle.format.specs.Unfold.{isosOf}
 use Rattle.model.specs.Services.{Verdict, accepted, refused, verdict, answerOf, check, Ran, gives, toward, run, answerOfRun}
-use Rattle.calculus.specs.Letters.{letters, valueOf}
+use Rattle.calculus.specs.Letters.{letters}
 use Rattle.calculus.specs.Paper.{Of}
 use Rattle.calculus.specs.Terms.{eapp, valTerm, Steps}
 use Rattle.calculus.specs.Faulty.{FirstIso}
 use Rattle.model.specs.Answers.{RunIs, done}
 use Rattle.calculus.proofs.Basic.{some-inj}
-use Rattle.calculus.proofs.Letters.{value-letters}
-use Rattle.model.proofs.Files.{InForm, answer-iff, refused-iff, turned-accepted}
+use Rattle.calculus.proofs.Letters.{letters-injective}
+use Rattle.model.proofs.Files.{answer-iff, refused-iff, turned-accepted}
 use Rattle.calculus.proofs.Steps.{unique, LeftsApart}
 use Rattle.model.proofs.Runs as Runs
 use Rattle.model.proofs.Runs.{Good, good, good-toward, accepted-good, results, run-iff, there-and-back, onto, one-clause}
-use Rattle.demands.specs.Words.{Areas, yes, Accepted, turnedBytes, Gives}
+use Rattle.demands.specs.Words.{turnedBytes}
 use Rattle.demands.specs.Demands.{AcceptedExactly, AcceptedAnywhere, RefusedExactly, RunExactly, TurnedAccepted, RunsBackwards, OneClause, ReachedOnce}
 use Rattle.demands.proofs.Serving.{check-says, accepted-rows, accepted-as, turn-writes, turn-says, run-shows, gives-run, run-gives}
-use Rattle.demands.proofs.Way.{steps-on-way}
+use Rattle.calculus.proofs.Way.{steps-on-way}
 
 -- ---- demand 2
 
@@ -89,16 +87,13 @@ one-clause-matches file a rs f back i o known v h u k s j w next =
     (steps-on-way os (λ p m. g .ok p m .leftsApart) i v (r .0) (r .1) (r .2) u k s j w next)
 
 -- what a run gives is the letters of what its value reduces to
-given-from : {os : List Iso} {i budget k : ℕ} {x y : List ℕ} → RunIs os i budget x (gives k y)
+given-from : {os : List Iso} {i budget k : ℕ} {x y : List ℕ} → RunIs os i budget x (gives (k, y))
     → (o : Iso) × (v : Val) × (z : Val) × (getElem? os i ≡ some o) × (x ≡ letters v) × Of v (o .from) × (y ≡ letters z) × Steps os (eapp i (valTerm v)) (valTerm z) k
 given-from (done o v z j e p h s l) = (o, v, z, e, p, h, refl, s)
 
-letters-injective : (v w : Val) → letters v ≡ letters w → v ≡ w
-letters-injective v w e = some-inj (sym (value-letters v) ∙ ap valueOf e ∙ value-letters w)
-
 -- bytes for which a run gives the letters of w are those of the value that w is reached from
 only-source : {os : List Iso} {i : ℕ} {o : Iso} {w : Val} → LeftsApart os → getElem? os i ≡ some o → (r : Runs.ReachedOnce os i o w)
-    → {budget k : ℕ} {x : List ℕ} → RunIs os i budget x (gives k (letters w)) → (x ≡ letters (r .source)) × (k ≡ r .count)
+    → {budget k : ℕ} {x : List ℕ} → RunIs os i budget x (gives (k, letters w)) → (x ≡ letters (r .source)) × (k ≡ r .count)
 only-source {os} {i} {o} {w} apart known r {k} says =
     let (p, v, z, there, value, typed, result, s) = given-from says in
     let from : Of v (o .from) = subst (λ y. Of v (y .from)) (some-inj (sym there ∙ known)) typed in
@@ -122,8 +117,8 @@ reached-once file a rs f back i o known w h =
       one = r .one;
       given = λ t u result budget areas l b.
           run-gives file result i back budget (letters (r .source)) (r .count) (letters w) areas l
-          (says budget (letters (r .source)) (gives (r .count) (letters w)) .1 (done o (r .source) w (r .count) known refl (r .typed) (r .reduces) b));
+          (says budget (letters (r .source)) (gives (r .count, letters w)) .1 (done o (r .source) w (r .count) known refl (r .typed) (r .reduces) b));
       oneGiven = λ t u result budget k x gave.
           only-source (λ p m. g .ok p m .leftsApart) known r
-          (says budget x (gives k (letters w)) .0 (gives-run file t u result i back budget x k (letters w) gave));
+          (says budget x (gives (k, letters w)) .0 (gives-run file t u result i back budget x k (letters w) gave));
     }

@@ -8,9 +8,8 @@ use mathlib.Core.Option.{Option, none, some}
 use mathlib.Core.List.{List, [], _∷_}
 use lib.Dec.{ltb}
 use lib.ListN.{length}
-use Rattle.limits.specs.Limits.{maxBytes, maxLines}
 use Rattle.calculus.specs.Tools.{firstFailing}
-use Rattle.calculus.specs.Refusals.{Kind, typeLine, patternLine, isoLine, clauseLine, letLine, Refusal, number, tooLong, badLine, misplaced, badField, badName, ceiling}
+use Rattle.calculus.specs.Refusals.{Kind, typeLine, patternLine, isoLine, clauseLine, letLine, Refusal, number, tooLong, misplaced, badField, badName, ceiling}
 use Rattle.format.specs.Lines.{Row, lines, rowOf}
 use Rattle.format.specs.Judge.{Seen, start, inOrder, fieldsFit, named, withinCeilings, judge, afterKind, after, Reading, rows, faulty, withRow, onRow, onJudged, readFrom}
 use Rattle.calculus.specs.Trees.{Ty, Clause, Iso}
@@ -21,11 +20,13 @@ use Rattle.model.specs.Answers.{RunIs, absent, strange, passed, done}
 use Rattle.calculus.proofs.Basic.{none≢some, some-inj, bool-cases, neither, ltb-lt, lt-ltb, ltb-false, not-ltb, or-true, true-or-left, true-or-right}
 use Rattle.format.proofs.Passing.{Passes, Passes.done, Passes.next, judge-fit, fit-judge}
 use Rattle.model.proofs.Files.{passes, refused-iff}
+use Rattle.model.proofs.Outcomes.{turn-answer}
 use Rattle.model.proofs.Runs.{run-iff}
 use Rattle.demands.specs.Words.{Areas}
 use Rattle.demands.proofs.Serving.{check-says, turn-says, run-shows}
 use Rattle.demands.proofs.Leaving.{says-tells}
-use Rattle.demands.specs.Faults.{NumberedAnswers, ShortExactly, TurnShortExactly, RunShortExactly, LongExactly, LinesExactly, LineFault, LinePasses, FirstLine, here, later, Place, types, patterns, isos, clauses, lets, Stand, type, noType, pattern, noPattern, iso, clause, noClause, let-step, noLet, end, RowsInOrder}
+use Rattle.demands.specs.Faults.{NumberedAnswers, ShortExactly, TurnShortExactly, RunShortExactly, LongExactly, LinesExactly, LineFault, LinePasses, FirstLine, here, later, Place, types, patterns, clauses, lets, Stand, type, noType, pattern, noPattern, iso, clause, noClause, let-step, noLet, end, RowsInOrder}
+use Rattle.law_reordering.proofs.Unmoved.{withRow-faulty}
 
 -- ---- one line
 
@@ -67,10 +68,6 @@ module _ (s : Seen) (n : ℕ) (l : List ℕ) (ls : List (List ℕ)) where
 
 -- ---- all lines
 
-with-faulty : (r : Row) (x : Reading) {f : Refusal} {m : ℕ} → withRow r x ≡ faulty f m → x ≡ faulty f m
-with-faulty r (rows rs) e = absurd (false≢true cc)
-with-faulty r (faulty g k) e = e
-
 read-first : (s : Seen) (n : ℕ) (ls : List (List ℕ)) {f : Refusal} {m : ℕ} → readFrom s n ls ≡ faulty f m → FirstLine s n ls f m
 read-first s n [] e = absurd (false≢true cc)
 read-first s n (l ∷ ls) {f} {m} e = go (rowOf l) refl (λ r x. read-first (after s r) (suc n) ls x) e
@@ -82,7 +79,7 @@ read-first s n (l ∷ ls) {f} {m} e = go (rowOf l) refl (λ r x. read-first (aft
         → (x : Option Refusal) → judge s r ≡ x → onJudged n x (λ _. withRow r (readFrom (after s r) (suc n) ls)) ≡ faulty f m → FirstLine s n (l ∷ ls) f m
     on r there ih none j h =
         let t = judge-fit s r j in
-        later r (record { form = there; order = t .order; fields = t .fields; names = t .names; ceilings = t .ceilings }) (ih (with-faulty r (readFrom (after s r) (suc n) ls) h))
+        later r (record { form = there; order = t .order; fields = t .fields; names = t .names; ceilings = t .ceilings }) (ih (withRow-faulty r (readFrom (after s r) (suc n) ls) f m h))
     on r there ih (some g) j h = at-line (judged-fault s l r there j) h
 
     go : (o : Option Row) → rowOf l ≡ o
@@ -277,7 +274,7 @@ pub turn-short-exactly : TurnShortExactly
 unfolding turn
 turn-short-exactly file t w o = (
   (λ e (a, h). no-one file (verdict file) refl (ap (λ x. x .number) (sym (turn-says file o a h) ∙ e))),
-  (λ h. ⊎-elim (λ b. ap (λ x. answerOf (unless x (verdict file))) b) (λ b. absurd (h (all-long t w o (length file) b))) (bool-cases (short t w || ltb (length o) (length file)))),
+  (λ h. ⊎-elim (λ b. turn-answer file t w o ∙ ap (λ x. answerOf (unless x (verdict file))) b) (λ b. absurd (h (all-long t w o (length file) b))) (bool-cases (short t w || ltb (length o) (length file)))),
 )
 
 pub run-short-exactly : RunShortExactly
@@ -356,7 +353,8 @@ check-most file t w = unless-most file (short t w)
 
 turn-most : (file t w o : List ℕ) → turn file t w o .answer .number ≤ 14
 unfolding turn
-turn-most file t w o = unless-most file (short t w || ltb (length o) (length file))
+turn-most file t w o =
+    subst (λ a. a .number ≤ 14) (sym (turn-answer file t w o)) (unless-most file (short t w || ltb (length o) (length file)))
 
 service-most : (file t w : List ℕ) (i : ℕ) (back : Bool) (budget : ℕ) (value o : List ℕ) → runService file t w i back budget value o .number ≤ 17
 unfolding runService

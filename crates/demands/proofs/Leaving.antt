@@ -3,7 +3,7 @@ use Prim.Native.Nat.{ℕ, _+_, _-_, _*_, _≤_, _<_}
 use native.Mathlib.Omega.{arith}
 use mathlib.Core.Path.{_≡_, refl, sym, ap, _∙_, subst}
 use mathlib.Core.Logic.{_⊎_, inl, inr}
-use mathlib.Core.Bool.{Bool, true, false, cond, _||_}
+use mathlib.Core.Bool.{Bool, true, false, _||_}
 use mathlib.Core.List.{List, [], _∷_, _++_, map, append-assoc}
 use lib.Dec.{leb, ltb}
 use lib.ListN.{length, take, drop, replicate, length-append, length-drop, length-replicate}
@@ -14,13 +14,12 @@ use Rattle.calculus.specs.Trees.{Iso}
 use Rattle.calculus.specs.Refusals.{Refusal, number, shortArea}
 use Rattle.format.specs.Lines.{Row, lines, numbers}
 use Rattle.format.specs.Judge.{start}
-use Rattle.format.specs.Unfold.{isosOf}
-use Rattle.calculus.specs.Paper.{FileOk}
-use Rattle.model.specs.Services.{Verdict, accepted, refused, over, verdict, filled, written, tableAfter, workAfter, short, unless, answerOf, check, turned, turnedOf, turn, Ran, gives, failed, onIso, runRows, runOf, run, RunAnswer, answerOfRun, RunResult, runService, toward}
+use Rattle.model.specs.Services.{Verdict, accepted, refused, over, verdict, filled, written, tableAfter, workAfter, short, unless, answerOf, check, turnedOf, turn, Ran, gives, fails, runOf, run, RunAnswer, answerOfRun, runService}
 use Rattle.model.specs.Answers.{RunIs, absent, strange, passed, done}
-use Rattle.calculus.proofs.Basic.{neither, ltb-false, leb-le, leb-false, bool-cases, not-ltb}
+use Rattle.calculus.proofs.Basic.{neither, ltb-false, leb-le, leb-false, bool-cases}
 use Rattle.format.proofs.Printing.{read-count}
 use Rattle.model.proofs.Files.{InForm, refused≢accepted, accepted-inj, accepted-form, accepted-iff, number-positive, turned-fits, turned-accepted-bytes}
+use Rattle.model.proofs.Outcomes.{turn-answer}
 use Rattle.model.proofs.Runs.{run-iff}
 use Rattle.model.proofs.Sizes.{short-result}
 use Rattle.model.proofs.Sheets.{written-length}
@@ -220,6 +219,8 @@ pub turn-leaves : TurnLeaves
 unfolding turn
 turn-leaves file t w o =
     let v : Verdict = forTurn file t w o in
+    subst (λ a. Left (a .number) file t w (tableAfter v t) (workAfter v w) × Written (a .number) (length (turnedOf v)) o (written (turnedOf v) o))
+    (sym (turn-answer file t w o))
     (left file t w (narrow t w o (length file)) (wide-enough t w o (length file)) (answerOf v .number) v refl (answer-tells v), turn-written file t w o v refl)
 
 -- the number that Run answers for an accepted file
@@ -231,8 +232,8 @@ says-tells (done o v w k e x h s l) = inl refl
 
 -- a run that is refused has no letters and the count 0
 refused-run : (r : Ran) → 0 < answerOfRun r .number → (answerOfRun r .letters ≡ []) × (answerOfRun r .count ≡ 0)
-refused-run (gives k ls) h = absurd (omega arith)
-refused-run (failed f) h = (refl, refl)
+refused-run (gives r) h = absurd (omega arith)
+refused-run (fails f) h = (refl, refl)
 
 -- the verdict by which Run goes
 module _ (file t w : List ℕ) (i : ℕ) (back : Bool) (budget : ℕ) (value o : List ℕ) where

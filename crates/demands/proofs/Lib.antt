@@ -1,6 +1,5 @@
 pub mod Serving
 pub mod Leaving
 pub mod Faults
-pub mod Way
 pub mod Demands
 pub mod Requests

@@ -1,15 +1,14 @@
 -- The promises of `specs/Requests.antt`, proved.
-use Prim.Native.Nat.{ℕ, _*_, _≤_}
+use Prim.Native.Nat.{ℕ}
 use native.Mathlib.Omega.{arith}
 use mathlib.Core.Path.{_≡_, refl, sym, ap, _∙_, subst}
-use mathlib.Core.Logic.{_↔_}
-use mathlib.Core.Bool.{Bool, false, _||_}
+use mathlib.Core.Bool.{Bool, _||_}
 use mathlib.Core.List.{List, [], _∷_}
 use lib.Dec.{ltb}
 use lib.ListN.{length}
 use Rattle.limits.specs.Limits.{resultLength}
 use Rattle.format.specs.Lines.{withoutReturns}
-use Rattle.model.specs.Services.{verdict, written, short, unless, check, turned, runOf, run, RunAnswer, answerOfRun, RunResult, runService}
+use Rattle.model.specs.Services.{verdict, written, short, unless, turned, runOf, run, RunAnswer, answerOfRun, RunResult, runService}
 use Rattle.model.specs.Sheet.{three}
 use Rattle.model.proofs.Files.{turned-twice, turned-fits}
 use Rattle.model.proofs.Sheets.{block, Room, as-check, each-query}
@@ -19,7 +18,7 @@ use Rattle.law_endings.proofs.Feeds.{turned-returnless}
 use Rattle.law_reordering.specs.Reordered.{SameButOrder}
 use Rattle.law_reordering.proofs.Files.{reordered-sym}
 use Rattle.law_reordering.proofs.Services.{check-both, run-same, turned-same as turned-order}
-use Rattle.demands.specs.Words.{Areas, yes, Accepted, turnedBytes}
+use Rattle.demands.specs.Words.{Areas, Accepted, turnedBytes}
 use Rattle.demands.specs.Requests.{SheetOfLoneRuns, BoundsOfTurned, TurnedWithFeeds, TurnedTwice, BothAccepted, AnswerAlike, TurnedAlike}
 use Rattle.demands.proofs.Serving.{not-short, accepted-rows, turn-writes, gives-run, run-gives, zero-says}
 use Rattle.demands.proofs.Demands.{accepted-anywhere}

@@ -1,20 +1,21 @@
 -- What the services answer in areas of the stated lengths, through the verdict and the run that they are defined by.
-use Prim.Native.Nat.{ℕ, _≤_, _<_}
+use Prim.Native.Nat.{ℕ, _≤_}
 use native.Mathlib.Nat.{ne-of-gt}
 use native.Mathlib.Omega.{arith}
-use mathlib.Core.Path.{_≡_, refl, sym, ap, ap₂, _∙_, subst}
-use mathlib.Core.Bool.{Bool, true, false, cond, _||_, false≢true}
+use mathlib.Core.Path.{_≡_, refl, sym, ap, ap₂, _∙_}
+use mathlib.Core.Bool.{Bool, true, false, _||_, false≢true}
 use mathlib.Core.List.{List}
 use lib.Dec.{ltb}
 use lib.ListN.{length, take, drop}
 use lib.Seq.{take-at}
 use Rattle.limits.specs.Limits.{resultLength}
-use Rattle.calculus.specs.Refusals.{Refusal, number}
+use Rattle.calculus.specs.Refusals.{number}
 use Rattle.format.specs.Lines.{Row}
 use Rattle.format.specs.Judge.{rows}
-use Rattle.model.specs.Services.{Verdict, accepted, refused, verdict, short, unless, written, answerOf, check, turned, turnedOf, turn, Ran, gives, failed, runOf, run, RunAnswer, answerOfRun, RunResult, runService}
+use Rattle.model.specs.Services.{accepted, verdict, short, unless, written, answerOf, check, turned, turnedOf, turn, Ran, gives, fails, runOf, run, RunAnswer, answerOfRun, runService}
 use Rattle.calculus.proofs.Basic.{not-ltb}
 use Rattle.model.proofs.Files.{InForm, accepted-form, answer-zero, number-positive}
+use Rattle.model.proofs.Outcomes.{turn-answer}
 use Rattle.model.proofs.Sheets.{long-enough}
 use Rattle.demands.specs.Words.{Areas, yes, Accepted, turnedBytes, shown, Gives}
 
@@ -65,7 +66,7 @@ turn-writes file output a h =
 
 pub turn-says : (file output : List ℕ) {t w : List ℕ} → Areas t w → length file ≤ length output → turn file t w output .answer ≡ answerOf (verdict file)
 unfolding turn
-turn-says file output a h = ap (λ b. answerOf (unless b (verdict file))) (not-tight output (length file) a h)
+turn-says file output {t} {w} a h = turn-answer file t w output ∙ ap (λ b. answerOf (unless b (verdict file))) (not-tight output (length file) a h)
 
 -- ---- Run
 
@@ -80,35 +81,35 @@ run-shows file result {t} {w} i back budget value a h = go (short t w || ltb (le
   where
     go : (b : Bool) → b ≡ false
         → (let r : RunAnswer = answerOfRun (runOf (unless b (verdict file)) i back budget value) in
-        record { number = r .number; count = r .count; letters = take (length (r .letters)) (written (r .letters) result) })
+        record { refusal = r .refusal; number = r .number; count = r .count; letters = take (length (r .letters)) (written (r .letters) result) })
         ≡ answerOfRun (runOf (verdict file) i back budget value)
     go true e = absurd (false≢true (sym e))
     go false e =
         let r : RunAnswer = answerOfRun (runOf (verdict file) i back budget value) in
-        ap (λ ls. record { number = r .number; count = r .count; letters = ls }) (front (r .letters) result)
+        ap (λ ls. record { refusal = r .refusal; number = r .number; count = r .count; letters = ls }) (front (r .letters) result)
 
 -- a call that gives something, in whatever areas, is a run that does
 pub gives-run : (file t w result : List ℕ) (i : ℕ) (back : Bool) (budget : ℕ) (value : List ℕ) (k : ℕ) (y : List ℕ)
-    → Gives (runService file t w i back budget value result) k y → run file i back budget value ≡ gives k y
+    → Gives (runService file t w i back budget value result) k y → run file i back budget value ≡ gives (k, y)
 unfolding runService run
 gives-run file t w result i back budget value k y g =
     go (short t w || ltb (length result) resultLength) (g .number) (g .count) (g .bytes)
   where
     on : (r : Ran) → answerOfRun r .number ≡ 0 → answerOfRun r .count ≡ k
-        → take (length (answerOfRun r .letters)) (written (answerOfRun r .letters) result) ≡ y → r ≡ gives k y
-    on (gives j ls) e c b = ap₂ gives c (sym (front ls result) ∙ b)
-    on (failed f) e c b = absurd (ne-of-gt (number-positive f) e)
+        → take (length (answerOfRun r .letters)) (written (answerOfRun r .letters) result) ≡ y → r ≡ gives (k, y)
+    on (gives r) e c b = ap₂ (λ j ls. gives (j, ls)) c (sym (front (r .1) result) ∙ b)
+    on (fails f) e c b = absurd (ne-of-gt (number-positive f) e)
 
     go : (b : Bool) → (let r : RunAnswer = answerOfRun (runOf (unless b (verdict file)) i back budget value) in r .number ≡ 0)
         → (let r : RunAnswer = answerOfRun (runOf (unless b (verdict file)) i back budget value) in r .count ≡ k)
         → (let r : RunAnswer = answerOfRun (runOf (unless b (verdict file)) i back budget value) in take (length (r .letters)) (written (r .letters) result) ≡ y)
-        → runOf (verdict file) i back budget value ≡ gives k y
+        → runOf (verdict file) i back budget value ≡ gives (k, y)
     go true e c h = absurd (omega arith)
     go false e c h = on (runOf (verdict file) i back budget value) e c h
 
 -- and in areas of the stated lengths a run that gives something is a call that does
 pub run-gives : (file result : List ℕ) {t w : List ℕ} (i : ℕ) (back : Bool) (budget : ℕ) (value : List ℕ) (k : ℕ) (y : List ℕ) → Areas t w → 127 ≤ length result
-    → run file i back budget value ≡ gives k y → Gives (runService file t w i back budget value result) k y
+    → run file i back budget value ≡ gives (k, y) → Gives (runService file t w i back budget value result) k y
 run-gives file result i back budget value k y a h e =
     let s = run-shows file result i back budget value a h ∙ ap answerOfRun e in
     record { number = ap (λ r. r .number) s; count = ap (λ r. r .count) s; bytes = ap (λ r. r .letters) s }

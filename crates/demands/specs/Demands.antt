@@ -11,16 +11,17 @@ use lib.ListN.{length, take, drop, replicate, getElem?}
 use Rattle.calculus.specs.Tools.{concat}
 use Rattle.calculus.specs.Trees.{Val, Iso}
 use Rattle.calculus.specs.Refusals.{Refusal, number}
-use Rattle.format.specs.Lines.{Row, lines, numbers}
+use Rattle.format.specs.Lines.{Row, numbers}
 use Rattle.calculus.specs.Clauses.{sigsOf}
 use Rattle.format.specs.Unfold.{isosOf}
 use Rattle.calculus.specs.Letters.{letters}
-use Rattle.model.specs.Services.{Answer, Checked, check, Turned, turn, Ran, RunAnswer, answerOfRun, RunResult, runService, toward}
+use Rattle.model.specs.Services.{check, turn, Ran, RunAnswer, answerOfRun, RunResult, runService, toward}
 use Rattle.calculus.specs.Paper.{Of, FileOk, ExactlyOne}
 use Rattle.calculus.specs.Terms.{Term, eapp, valTerm, Steps}
 use Rattle.calculus.specs.Faulty.{FirstIso}
 use Rattle.model.specs.Answers.{InForm, RunIs}
-use Rattle.demands.specs.Words.{Areas, yes, Accepted, turnedBytes, shown, Gives, Next}
+use Rattle.demands.specs.Words.{Areas, yes, Accepted, turnedBytes, shown, Gives}
+use Rattle.calculus.specs.Next.{Next}
 
 -- ---- demand 1: "Any caller, any bytes, numbers and lent areas: an answer or a numbered refusal, the call ends, and document 01 says what every lent area
 -- then holds." That a call ends and answers just what `check`, `turn` and `runService` say is in the contracts, which ask nothing of a caller; here is what these
@@ -83,7 +84,7 @@ RefusedExactly =
     → (check file t w .answer ≡ record { number = n; line = m }) ↔ ((f : Refusal) × (number f ≡ n) × FirstIso (sigsOf (isosOf rs)) (isosOf rs) f m)
 
 -- "a run is refused exactly where document 01 says, and otherwise gives the value and the application count of the paper's reduction": what a
--- call to Run shows, number, count and letters, is what the judgement says, and nothing else. "A run back is a run forward of the turned file."
+-- call to Run shows, refusal, number, count and letters, is what the judgement says, and nothing else. "A run back is a run forward of the turned file."
 abbrev pub RunExactly : Type 0
 RunExactly =
     (file : List ℕ) → Accepted file → (rs : List Row) → InForm file rs → (t w result : List ℕ) → Areas t w → 127 ≤ length result

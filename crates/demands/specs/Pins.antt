@@ -2,13 +2,13 @@
 -- holds by computation.
 use Prim.Native.Nat.{ℕ, zero, suc}
 use mathlib.Core.Path.{_≡_, refl}
-use mathlib.Core.Bool.{Bool, true, false}
-use mathlib.Core.Option.{Option, none, some}
-use mathlib.Core.List.{List, [], _∷_, _++_, map}
+use mathlib.Core.Bool.{true, false}
+use mathlib.Core.Option.{none, some}
+use mathlib.Core.List.{[], _∷_, _++_, map}
 use lib.ListN.{replicate}
 use Rattle.limits.specs.Limits.{maxBytes, maxLines, maxTypes, maxPatterns, maxIsos, maxClauses, maxLets, maxNodes, maxTags, variables, fieldBound, budgetBound, rowWidth, tableLength, workLength, resultLength, queryLength, maxQueries, maxValues, maxPairs, exportLength, importLength}
 use Rattle.calculus.specs.Tools.{isSome}
-use Rattle.calculus.specs.Trees.{Ty, tunit, tprod, left, right, Pat, punit, pinj, vunit, vinj, vpair}
+use Rattle.calculus.specs.Trees.{tunit, left, right, Pat, punit, pinj, vunit, vinj, vpair}
 use Rattle.calculus.specs.Refusals.{Kind, typeLine, patternLine, isoLine, clauseLine, letLine, number, shortArea, tooLong, badLine, misplaced, badField, badName, ceiling, variable, letShape, badType, overlap, gap, noIso, noValue, spent, tooMany, tooHigh, badList}
 use Rattle.format.specs.Lines.{Row, rowOf, numbers}
 use Rattle.format.specs.Judge.{Seen, inOrder, fieldsFit, named, withinCeilings}
@@ -21,8 +21,8 @@ use Rattle.model.specs.Cases.{bytes}
 -- the column "number" of the table of refusals, and request 02's two
 numbered : (k : Kind)
     → map number
-    (shortArea ∷ tooLong ∷ badLine ∷ misplaced k ∷ badField k ∷ badName k ∷ ceiling k ∷ variable ∷ letShape ∷ badType ∷ overlap left ∷ overlap right ∷ gap left
-    ∷ gap right ∷ noIso ∷ noValue ∷ spent ∷ tooMany ∷ tooHigh ∷ badList ∷ [])
+    (shortArea ∷ tooLong ∷ badLine ∷ misplaced k ∷ badField k ∷ badName k ∷ ceiling k ∷ variable k ∷ letShape k ∷ badType k ∷ overlap k left ∷ overlap k right
+    ∷ gap k left ∷ gap k right ∷ noIso ∷ noValue ∷ spent ∷ tooMany ∷ tooHigh ∷ badList ∷ [])
     ≡ 1 ∷ 2 ∷ 3 ∷ 4 ∷ 5 ∷ 6 ∷ 7 ∷ 8 ∷ 9 ∷ 10 ∷ 11 ∷ 12 ∷ 13 ∷ 14 ∷ 15 ∷ 16 ∷ 17 ∷ 18 ∷ 19 ∷ 20 ∷ []
 numbered k = refl
 

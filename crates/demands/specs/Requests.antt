@@ -8,7 +8,7 @@ use mathlib.Core.Option.{some}
 use mathlib.Core.List.{List, [], _∷_}
 use lib.ListN.{length, take, drop, getElem?}
 use Rattle.format.specs.Lines.{lines, withoutReturns}
-use Rattle.model.specs.Services.{check, RunResult, runService}
+use Rattle.model.specs.Services.{RunResult, runService}
 use Rattle.model.specs.Desk.{Query, queryOf}
 use Rattle.model.specs.Sheet.{sheet}
 use Rattle.law_costs.specs.Bounds.{boundsService}

@@ -1,12 +1,9 @@
--- The words of the demands, as document 01 has them: areas, accepted, turned, what a run gives, and which application comes next.
+-- The words of the demands, as document 01 has them: areas, accepted, turned, and what a run gives.
 use Prim.Native.Nat.{ℕ, _≤_}
 use mathlib.Core.Path.{_≡_}
-use mathlib.Core.Bool.{Bool}
 use mathlib.Core.List.{List}
 use lib.ListN.{length, take}
-use Rattle.calculus.specs.Trees.{Tag, Pat, Val}
 use Rattle.model.specs.Services.{Answer, check, turn, RunResult, RunAnswer}
-use Rattle.calculus.specs.Terms.{Term, einj, epair, eapp, elet, valTerm}
 
 -- "All three take … a table area of at least 16,384 numbers of 16 bits, and a work area of at least 65,536 bytes."
 pub record Areas (table work : List ℕ) : Type 0 where
@@ -28,22 +25,12 @@ pub record Accepted (file : List ℕ) : Type 0 where
 abbrev pub turnedBytes : List ℕ → List ℕ → List ℕ → List ℕ → List ℕ
 turnedBytes file table work output = take (turn file table work output .length) (turn file table work output .output)
 
--- what a call to Run answers: number, count, and "the bytes of its result area up to the result's length"
+-- what a call to Run answers: refusal, number, count, and "the bytes of its result area up to the result's length"
 abbrev pub shown : RunResult → RunAnswer
-shown r = record { number = r .number; count = r .count; letters = take (r .length) (r .result) }
+shown r = record { refusal = r .refusal; number = r .number; count = r .count; letters = take (r .length) (r .result) }
 
 -- "When its number is 0, it gives the bytes of its result area up to the result's length; otherwise it gives nothing": y, with the count k
 pub record Gives (r : RunResult) (k : ℕ) (y : List ℕ) : Type 0 where
   pub number : r .number ≡ 0
   pub count : r .count ≡ k
   pub bytes : take (r .length) (r .result) ≡ y
-
--- Of a term, the application that IsoApp takes next: iso j gets the closed value w in an applicative context C[-] (section 3.2; `Terms.Step`
--- has the same contexts).
-pub data Next (j : ℕ) (w : Val) : Term → Type 0 where
-  here : {i : ℕ} {t : Term} → i ≡ j → t ≡ valTerm w → Next j w (eapp i t)
-  inInj : {s : Tag} {t : Term} → Next j w t → Next j w (einj s t)
-  inFst : {t u : Term} (v : Val) → u ≡ valTerm v → Next j w t → Next j w (epair t u)
-  inSnd : {t u : Term} (v : Val) → t ≡ valTerm v → Next j w u → Next j w (epair t u)
-  inApp : {i : ℕ} {t : Term} → Next j w t → Next j w (eapp i t)
-  inLet : {p : Pat} {t u : Term} → Next j w t → Next j w (elet p t u)

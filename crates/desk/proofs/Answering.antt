@@ -11,32 +11,34 @@ use lib.Seq.{take-append-seam, length-take-le}
 use borrow.Author.Tests.{le-ltb}
 use Rattle.limits.specs.Limits.{tableLength, workLength}
 use Rattle.calculus.specs.Refusals.{Refusal, number}
-use Rattle.model.specs.Services.{Verdict, accepted, refused, verdict, unless, answerOf, check, RunAnswer, written}
+use Rattle.model.specs.Services.{Verdict, accepted, refused, verdict, unless, answerOf, check, RunAnswer}
 use Rattle.model.specs.Desk.{queryLine, fileLine}
 use Rattle.format.specs.Code.{refusalView, numberOf, numbered}
 use Rattle.model.proofs.Files.{number-positive}
 use Rattle.model.proofs.Sheets.{written-fits}
-use Rattle.area_cells.specs.Areas.{Writes}
+use Rattle.area_cells.specs.Areas.{Prints}
+use Rattle.area_cells.proofs.Writing.{prints-as}
 use Rattle.checker.specs.CheckSays.{CheckSays, Accepted}
 use Rattle.checker.specs.declared.Checked as C
-use Rattle.query_lines.specs.Stream.{begun, stopped, answered}
+use Rattle.query_lines.specs.Stream.{begun, stopped}
 use Rattle.query_lines.specs.declared.Query as Q
 use Rattle.query_lines.specs.declared.Asked as A
 use Rattle.query_lines.specs.declared.Asked.the-variants as asked
 use Rattle.runner.specs.RunSays.{RanAs}
 use Rattle.runner.specs.declared.run.Ran as R
-use Rattle.desk.specs.DeskSays.{answerRoom, Printed, JudgedAs}
+use Rattle.desk.specs.DeskSays.{answerRoom, Printed, JudgedAs, ranLine}
 use Rattle.desk.proofs.Placing.{verdict-line, file-line-short, query-line-short}
 
 -- ---- printing
 
--- what is written and has room is printed
-pub printed : {out out′ : List ℕ} {at end : ℕ} {ps : List ℕ} → Writes out out′ at end ps → length ps ≤ answerRoom → at + answerRoom ≤ length out
+-- what has room is printed whole
+pub printed : {out out′ : List ℕ} {at end : ℕ} {ps : List ℕ} → Prints out out′ at end ps → length ps ≤ answerRoom → at + answerRoom ≤ length out
     → Printed out out′ at end ps
 printed {out} {out′} {at} {end} {ps} w h room =
     let fits : at + length ps ≤ length out = omega (arith, h, room) in
-    let place = w .place fits in
-    record { area = w .area fits; place = place; fits = omega (arith, place) }
+    let place = w .place in
+    let behind : end ≡ at + length ps = omega (arith, place, fits) in
+    record { area = w .area; place = behind; fits = omega (arith, behind, fits) }
 
 -- nothing
 pub printed-none : {out : List ℕ} {at : ℕ} → at + answerRoom ≤ length out → Printed out out at at []
@@ -60,26 +62,32 @@ stops-at (refused g n) f e = refl
 
 -- a verdict by its number, which the code computes
 pub checked-writes : {out out′ : List ℕ} {at n end : ℕ} (c : C.Checked) → n ≡ numberOf (c .answer .refusal)
-    → (c .answer .place < 10000000000 → Writes out out′ at end (fileLine (record { number = n; line = c .answer .place })))
-    → c .answer .place < 10000000000 → Writes out out′ at end (fileLine (record { number = numberOf (c .answer .refusal); line = c .answer .place }))
+    → (c .answer .place < 10000000000 → Prints out out′ at end (fileLine (record { number = n; line = c .answer .place })))
+    → c .answer .place < 10000000000 → Prints out out′ at end (fileLine (record { number = numberOf (c .answer .refusal); line = c .answer .place }))
 checked-writes {out} {out′} {at} {end = end} c e writes h =
-    subst (Writes out out′ at end) (ap (λ k. fileLine (record { number = k; line = c .answer .place })) e) (writes h)
+    subst (Prints out out′ at end) (ap (λ k. fileLine (record { number = k; line = c .answer .place })) e) (writes h)
 
--- a file checked and answered
-pub judged-file : (s t w : List ℕ) {t′ w′ out out′ : List ℕ} {at end : ℕ} (c : C.Checked)
-    → CheckSays s t w t′ w′ (c .answer) → (refusalView (c .answer .refusal) ≡ none → Accepted s t′ c)
-    → (c .answer .place < 10000000000 → Writes out out′ at end (fileLine (record { number = numberOf (c .answer .refusal); line = c .answer .place })))
-    → tableLength ≤ length t → workLength ≤ length w → at + answerRoom ≤ length out
-    → JudgedAs s t′ out out′ at end c
-judged-file s t w {t′} {w′} {out} {out′} {at} {end} c says accepts writes ht hw room =
+-- a file checked and answered, as far as the answer fits
+pub judged-prints : (s t w : List ℕ) {t′ w′ out out′ : List ℕ} {at end : ℕ} (c : C.Checked) → CheckSays s t w t′ w′ (c .answer)
+    → (c .answer .place < 10000000000 → Prints out out′ at end (fileLine (record { number = numberOf (c .answer .refusal); line = c .answer .place })))
+    → tableLength ≤ length t → workLength ≤ length w → Prints out out′ at end (fileLine (answerOf (verdict s)))
+judged-prints s t w c says prints ht hw =
     let a = checked-answer s t w ht hw in
     let number : numberOf (c .answer .refusal) ≡ answerOf (verdict s) .number = says .number ∙ ap (λ x. x .number) a in
     let line : c .answer .place ≡ answerOf (verdict s) .line = says .line ∙ ap (λ x. x .line) a in
     let below : c .answer .place < 10000000000 = subst (λ k. k < 10000000000) (sym line) (verdict-line s) in
-    let same : fileLine (record { number = numberOf (c .answer .refusal); line = c .answer .place }) ≡ fileLine (answerOf (verdict s)) =
-    ap₂ (λ k l. fileLine (record { number = k; line = l })) number line in
+    prints-as (ap₂ (λ k l. fileLine (record { number = k; line = l })) number line) (prints below)
+
+-- and whole, where it has room
+pub judged-file : (s t w : List ℕ) {t′ w′ out out′ : List ℕ} {at end : ℕ} (c : C.Checked)
+    → CheckSays s t w t′ w′ (c .answer) → (refusalView (c .answer .refusal) ≡ none → Accepted s t′ c)
+    → (c .answer .place < 10000000000 → Prints out out′ at end (fileLine (record { number = numberOf (c .answer .refusal); line = c .answer .place })))
+    → tableLength ≤ length t → workLength ≤ length w → at + answerRoom ≤ length out
+    → JudgedAs s t′ out out′ at end c
+judged-file s t w c says accepts prints ht hw room =
+    let number : numberOf (c .answer .refusal) ≡ answerOf (verdict s) .number = says .number ∙ ap (λ x. x .number) (checked-answer s t w ht hw) in
     record {
-      printed = printed-as same (printed (writes below) (file-line-short (record { number = numberOf (c .answer .refusal); line = c .answer .place })) room);
+      printed = printed (judged-prints s t w c says prints ht hw) (file-line-short (answerOf (verdict s))) room;
       accepts = accepts;
       refuses = λ f v. stops-at (verdict s) f (sym (ap numbered v) ∙ number);
     }
@@ -98,24 +106,23 @@ letters-fit a {o} {o′} ran e k = omega (arith, e, written-fits (a .letters) o 
 letters-there : (a : RunAnswer) {o o′ : List ℕ} {r : R.Ran} → RanAs a o o′ r → take (r .length) o′ ≡ a .letters
 letters-there a {o} {o′} ran = ap₂ take (ran .bytes) (ran .result) ∙ take-append-seam (a .letters) (drop (length (a .letters)) o)
 
--- an answer by its parts
+-- an answer's line by its parts
 answer-parts : (a : RunAnswer) {n k : ℕ} {ls : List ℕ} → n ≡ a .number → k ≡ a .count → ls ≡ a .letters
-    → _≡_ {A = RunAnswer} (record { number = n; count = k; letters = ls }) a
+    → queryLine (record { refusal = none; number = n; count = k; letters = ls }) ≡ queryLine a
 answer-parts a {n} {k} {ls} p q e =
-    ap₂ (λ x y. record { number = x; count = y; letters = ls }) p q ∙ ap (λ x. record { number = a .number; count = a .count; letters = x }) e
+    ap₂ (λ x y. queryLine (record { refusal = none; number = x; count = y; letters = ls })) p q
+    ∙ ap (λ x. queryLine (record { refusal = none; number = a .number; count = a .count; letters = x })) e
 
 -- a run's number and letters, from its result area
 pub ran-writes : (result : List ℕ) {out out′ ls : List ℕ} {at n end : ℕ} (r : R.Ran) → n ≡ numberOf (r .refusal) → ls ≡ take (r .length) result
-    → Writes out out′ at end (queryLine (record { number = n; count = r .count; letters = ls }))
-    → Writes out out′ at end (queryLine (record { number = numberOf (r .refusal); count = r .count; letters = take (r .length) result }))
+    → Prints out out′ at end (queryLine (record { refusal = none; number = n; count = r .count; letters = ls }))
+    → Prints out out′ at end (ranLine r result)
 ran-writes result {out} {out′} {at = at} {end = end} r p q writes =
-    subst (Writes out out′ at end) (ap₂ (λ k l. queryLine (record { number = k; count = r .count; letters = l })) p q) writes
+    subst (Prints out out′ at end) (ap₂ (λ k l. queryLine (record { refusal = none; number = k; count = r .count; letters = l })) p q) writes
 
--- a run, printed
+-- a run, printed as far as its line fits, and it is no longer than an answer
 pub ran-query : (a : RunAnswer) {o o′ out out′ : List ℕ} {at end : ℕ} (r : R.Ran) → RanAs a o o′ r → length o ≡ 127 → length o′ ≡ length o
-    → Writes out out′ at end (queryLine (record { number = numberOf (r .refusal); count = r .count; letters = take (r .length) o′ }))
-    → at + answerRoom ≤ length out → Printed out out′ at end (queryLine a)
-ran-query a {o} {o′} {out} {out′} {at} {end} r ran e k writes room =
-    let same : queryLine (record { number = numberOf (r .refusal); count = r .count; letters = take (r .length) o′ }) ≡ queryLine a =
-    ap queryLine (answer-parts a (ran .number) (ran .count) (letters-there a ran)) in
-    printed (subst (Writes out out′ at end) same writes) (query-line-short a (letters-fit a ran e k)) room
+    → Prints out out′ at end (ranLine r o′)
+    → Prints out out′ at end (queryLine a) × (length (queryLine a) ≤ answerRoom)
+ran-query a r ran e k prints =
+    (prints-as (answer-parts a (ran .number) (ran .count) (letters-there a ran)) prints, query-line-short a (letters-fit a ran e k))

@@ -1,5 +1,6 @@
 -- The code's steps against the machine's: one byte, the bytes of a chunk, and the end of the input.
 use Prim.Native.Nat.{ℕ, _+_, _-_, _≤_, _<_}
+use native.Mathlib.Nat.{pos-of-ne-zero}
 use native.Mathlib.Numerals.{add-one}
 use native.Mathlib.Omega.{arith}
 use mathlib.Core.Path.{_≡_, refl, sym, ap, ap₂, _∙_, subst}
@@ -19,7 +20,8 @@ use Rattle.model.specs.Services.{verdict, answerOf}
 use Rattle.model.specs.Desk.{fileLine}
 use Rattle.format.specs.Code.{refusalView}
 use Rattle.calculus.proofs.Basic.{bool-cases, isSome-true, not-both}
-use Rattle.area_cells.proofs.Writing.{sets-append}
+use Rattle.area_cells.specs.Areas.{Prints}
+use Rattle.area_cells.proofs.Writing.{sets-append, prints-none, prints-as}
 use Rattle.checker.specs.CheckSays.{Accepted}
 use Rattle.checker.specs.declared.Checked as C
 use Rattle.runner.specs.RunSays.{Prepared}
@@ -28,7 +30,7 @@ use Rattle.query_lines.proofs.Streaming.{steps-more, opens-append, and-false}
 use Rattle.desk.specs.declared.Desk as D
 use Rattle.desk.specs.declared.Phase.the-variants as phases
 use Rattle.desk.specs.declared.Next as N
-use Rattle.desk.specs.DeskSays.{fileRoom, lineRoom, answerRoom, Roomy, Holds, DeskAt, collects, asks, stops, Printed, Reaches, JudgedAs, FedAs}
+use Rattle.desk.specs.DeskSays.{fileRoom, lineRoom, answerRoom, Roomy, Holds, DeskAt, collects, asks, stops, Printed, Reaches, JudgedAs, Idle, Took, ByteSays, FeedSays, FinishSays}
 use Rattle.desk.proofs.Holding.{holds-none, held-verdict, held-answer}
 use Rattle.desk.proofs.Answering.{printed-none, printed-as}
 
@@ -206,24 +208,23 @@ asks-stops x p q = let z : _≡_ {A = ℕ} 0 1 = cc in omega arith
 module _ (d : D.Desk) (b : ℕ) {file line table work index file′ line′ table′ index′ out out′ : List ℕ} {at : ℕ} {r : N.Next} where
   -- a state whose phase is the file's collects
   pub byte-of-file : d .phase ≡ phases.File
-      → ((bs : List ℕ) → DeskAt d file line table index (collecting bs) → Roomy file line table work index → at + answerRoom ≤ length out → Reaches (step (collecting bs) b) file′ line′ table′ index′ out out′ at r)
-      → (s : State) → DeskAt d file line table index s → Roomy file line table work index → at + answerRoom ≤ length out → Reaches (step s b) file′ line′ table′ index′ out out′ at r
+      → ((bs : List ℕ) → ByteSays (collecting bs) d b file line table work index out file′ line′ table′ index′ out′ at r)
+      → (s : State) → ByteSays s d b file line table work index out file′ line′ table′ index′ out′ at r
   byte-of-file e h s (collects {bs} p f k) = h bs (collects p f k)
   byte-of-file e h s (asks p k q) = absurd (file-asks d e p)
   byte-of-file e h s (stops p) = absurd (file-stops d e p)
 
   -- one whose phase is that of queries asks
   pub byte-of-query : d .phase ≡ phases.Queries
-      → ((rs : List Row) (l : List ℕ) → DeskAt d file line table index (asking rs l) → Roomy file line table work index → at + answerRoom ≤ length out → Reaches (step (asking rs l) b) file′ line′ table′ index′ out out′ at r)
-      → (s : State) → DeskAt d file line table index s → Roomy file line table work index → at + answerRoom ≤ length out → Reaches (step s b) file′ line′ table′ index′ out out′ at r
+      → ((rs : List Row) (l : List ℕ) → ByteSays (asking rs l) d b file line table work index out file′ line′ table′ index′ out′ at r)
+      → (s : State) → ByteSays s d b file line table work index out file′ line′ table′ index′ out′ at r
   byte-of-query e h s (collects p f k) = absurd (file-asks d p e)
   byte-of-query e h s (asks {rs} {l} p k q) = h rs l (asks p k q)
   byte-of-query e h s (stops p) = absurd (asks-stops d e p)
 
 -- a state that stopped stays so
 pub byte-of-none : (d : D.Desk) (b : ℕ) {file line table work index out : List ℕ} {at : ℕ} → d .phase ≡ phases.Stopped
-    → (s : State) → DeskAt d file line table index s → Roomy file line table work index → at + answerRoom ≤ length out
-    → Reaches (step s b) file line table index out out at (record { desk = d; end = at })
+    → (s : State) → ByteSays s d b file line table work index out file line table index out at (record { desk = d; end = at })
 byte-of-none d b e s (collects p f k) roomy room = absurd (file-stops d p e)
 byte-of-none d b e s (asks p k q) roomy room = absurd (asks-stops d p e)
 byte-of-none d b e s (stops p) roomy room = record { desk = stops p; printed = printed-none room }
@@ -283,17 +284,17 @@ fed-more {s} {chunk} {out₀ = out₀} {file′ = file′} {line′} {table′} 
       printed = subst (λ x. Printed out₀ out′ 0 (r .end) (x .prints)) (sym whole) (printed-both (k .printed) (n .printed));
     }
 
--- the chunk is used up, or the output area lacks room
-pub fed-so : {s : State} {chunk file line table index out₀ out : List ℕ} {d : D.Desk} {taken written : ℕ} → taken ≤ length chunk
-    → (length chunk ≤ taken) ⊎ (length out₀ < written + answerRoom) → FedSo s chunk file line table index out₀ out d taken written
-    → FedAs s chunk file line table index out₀ out (record { desk = d; taken = taken; written = written })
-fed-so h (inl e) k = record { desk = k .desk; printed = k .printed; within = h; whole = inl (omega arith) }
-fed-so h (inr e) k = record { desk = k .desk; printed = k .printed; within = h; whole = inr e }
+-- what is done where the output area has no room for an answer
+pub idle-start : (d : D.Desk) (file line table work index out : List ℕ) → Idle d file line table work index out file line table work index out (record { desk = d; taken = 0; written = 0 })
+idle-start d file line table work index out =
+    record { taken = refl; written = refl; desk = refl; files = refl; lines = refl; tables = refl; works = refl; indices = refl; outs = refl }
 
 -- The loop's invariant: the areas as they were where it begins, and as they are.
 pub record Feeds (chunk file₀ line₀ table₀ work₀ index₀ out₀ : List ℕ) (d₀ : D.Desk) (file line table work index out : List ℕ) (d : D.Desk) (taken written : ℕ) : Type 0 where
   pub kept : Kept file₀ line₀ table₀ work₀ index₀ out₀ file line table work index out
   pub within : taken ≤ length chunk
+  pub begun : taken ≡ 0 → written ≡ 0
+  pub idle : length out₀ < answerRoom → Idle d₀ file₀ line₀ table₀ work₀ index₀ out₀ file line table work index out (record { desk = d; taken = taken; written = written })
   pub fed : (s : State) → DeskAt d₀ file₀ line₀ table₀ index₀ s → Roomy file₀ line₀ table₀ work₀ index₀ → FedSo s chunk file line table index out₀ out d taken written
 
 -- where the loop begins
@@ -302,6 +303,8 @@ feeds-start chunk file line table work index out d =
     record {
       kept = record { files = refl; lines = refl; tables = refl; works = refl; indices = refl; outs = refl };
       within = omega arith;
+      begun = λ e. refl;
+      idle = λ h. idle-start d file line table work index out;
       fed = λ s h roomy. fed-start s chunk out d h;
     }
 
@@ -314,8 +317,7 @@ module _ {chunk file₀ line₀ table₀ work₀ index₀ out₀ : List ℕ} {d�
   -- a byte
   pub feeds-more : {file′ line′ table′ work′ index′ out′ : List ℕ} {b : Bool} (r : N.Next)
       → b ≡ (ltb taken (length chunk) && leb (written + answerRoom) (length out₀)) → b ≡ true
-      → ((s : State) → DeskAt d file line table index s → Roomy file line table work index → written + answerRoom ≤ length out
-      → Reaches (step s (getD chunk taken 0)) file′ line′ table′ index′ out out′ written r)
+      → ((s : State) → ByteSays s d (getD chunk taken 0) file line table work index out file′ line′ table′ index′ out′ written r)
       → Kept file line table work index out file′ line′ table′ work′ index′ out′
       → Feeds chunk file₀ line₀ table₀ work₀ index₀ out₀ d₀ file′ line′ table′ work′ index′ out′ (r .desk) (taken + 1) (r .end)
   feeds-more r e t byte same =
@@ -332,57 +334,73 @@ module _ {chunk file₀ line₀ table₀ work₀ index₀ out₀ : List ℕ} {d�
               outs = same .outs ∙ kept .outs;
             };
         within = omega (arith, both .0);
+        begun = λ z. absurd (omega arith);
+        idle = λ h. absurd (omega (arith, both .1));
         fed = λ s q roomy.
             let so = k .fed s q roomy in
             fed-more r (both .0) so (byte (steps s (take taken chunk) .next) (so .desk) (roomy-kept kept roomy) (omega (arith, both .1, kept .outs)));
       }
 
   -- the chunk's end, or no room
-  pub feeds-end : {b : Bool} → b ≡ (ltb taken (length chunk) && leb (written + answerRoom) (length out₀)) → b ≡ false
-      → (s : State) → DeskAt d₀ file₀ line₀ table₀ index₀ s → Roomy file₀ line₀ table₀ work₀ index₀
-      → FedAs s chunk file line table index out₀ out (record { desk = d; taken = taken; written = written })
-  feeds-end e f s q roomy = fed-so (k .within) (goes-neither taken (length chunk) written (length out₀) (sym e ∙ f)) (k .fed s q roomy)
+  pub feeds-took : {b : Bool} → b ≡ (ltb taken (length chunk) && leb (written + answerRoom) (length out₀)) → b ≡ false
+      → Took d₀ chunk file₀ line₀ table₀ work₀ index₀ out₀ file line table work index out (record { desk = d; taken = taken; written = written })
+  feeds-took e f = go (goes-neither taken (length chunk) written (length out₀) (sym e ∙ f))
+    where
+      go : (length chunk ≤ taken) ⊎ (length out₀ < written + answerRoom)
+          → Took d₀ chunk file₀ line₀ table₀ work₀ index₀ out₀ file line table work index out (record { desk = d; taken = taken; written = written })
+      go (inl h) = let w = k .within in record { within = w; whole = inl (omega (arith, h, w)); progress = λ p room. omega (arith, h, p); idle = k .idle }
+      go (inr h) =
+          record {
+            within = k .within;
+            whole = inr h;
+            progress = λ p room. pos-of-ne-zero (λ z. let n = k .begun z in omega (arith, h, n, room));
+            idle = k .idle;
+          }
+
+  -- and the state there
+  pub feeds-end : FeedSays d₀ chunk file₀ line₀ table₀ work₀ index₀ out₀ file line table index out (record { desk = d; taken = taken; written = written })
+  feeds-end s q roomy = let so = k .fed s q roomy in record { desk = so .desk; printed = so .printed }
 
 -- ---- the end of the input
 
 -- the file's
-pub finish-file : (d : D.Desk) {file line table work index part t′ out out′ : List ℕ} {end : ℕ} {c : C.Checked} → d .phase ≡ phases.File → part ≡ take (d .held) file
-    → (Roomy file line table work index → answerRoom ≤ length out → JudgedAs part t′ out out′ 0 end c)
-    → (s : State) → DeskAt d file line table index s → Roomy file line table work index → answerRoom ≤ length out → Printed out out′ 0 end (finish s)
-finish-file d e q k s (collects {bs} p f h) roomy room = printed-as (ap (λ v. fileLine (answerOf v)) (ap verdict q ∙ held-verdict bs h)) (k roomy room .printed)
-finish-file d e q k s (asks p h x) roomy room = absurd (file-asks d e p)
-finish-file d e q k s (stops p) roomy room = absurd (file-stops d e p)
+pub finish-file : (d : D.Desk) {file line table work index part out out′ : List ℕ} {end : ℕ} → d .phase ≡ phases.File → part ≡ take (d .held) file
+    → (Roomy file line table work index → Prints out out′ 0 end (fileLine (answerOf (verdict part))))
+    → FinishSays d file line table work index out out′ end
+finish-file d e q k s (collects {bs} p f h) roomy = prints-as (ap (λ v. fileLine (answerOf v)) (ap verdict q ∙ held-verdict bs h)) (k roomy)
+finish-file d e q k s (asks p h x) roomy = absurd (file-asks d e p)
+finish-file d e q k s (stops p) roomy = absurd (file-stops d e p)
 
 -- no line is begun
-none-begun : {held : ℕ} {line out : List ℕ} (rs : List Row) (l : List ℕ) → Holds lineRoom held line l → held ≡ 0 → Printed out out 0 0 (finish (asking rs l))
-none-begun rs [] h e = record { area = refl; place = refl; fits = omega arith }
+none-begun : {held : ℕ} {line out : List ℕ} (rs : List Row) (l : List ℕ) → Holds lineRoom held line l → held ≡ 0 → Prints out out 0 0 (finish (asking rs l))
+none-begun rs [] h e = prints-none _ 0
 none-begun rs (b ∷ l) h e = absurd (omega (arith, sym e ∙ h .count))
 
 -- nothing is printed then
 pub finish-none : (d : D.Desk) {file line table work index out : List ℕ} → d .phase ≡ phases.Queries → d .held ≡ 0
-    → (s : State) → DeskAt d file line table index s → Roomy file line table work index → answerRoom ≤ length out → Printed out out 0 0 (finish s)
-finish-none d e n s (collects p f h) roomy room = absurd (file-asks d p e)
-finish-none d e n s (asks {rs} {l} p h x) roomy room = none-begun rs l h n
-finish-none d e n s (stops p) roomy room = absurd (asks-stops d e p)
+    → FinishSays d file line table work index out out 0
+finish-none d e n s (collects p f h) roomy = absurd (file-asks d p e)
+finish-none d e n s (asks {rs} {l} p h x) roomy = none-begun rs l h n
+finish-none d e n s (stops p) roomy = absurd (asks-stops d e p)
 
 -- a line without its line feed
 line-begun : {held end : ℕ} {line part out out′ : List ℕ} (rs : List Row) (l : List ℕ) → Holds lineRoom held line l → (held ≡ 0 → ⊥) → part ≡ take held line
-    → Printed out out′ 0 end (answered rs part) → Printed out out′ 0 end (finish (asking rs l))
+    → Prints out out′ 0 end (answered rs part) → Prints out out′ 0 end (finish (asking rs l))
 line-begun rs [] h n q k = absurd (n (h .count))
-line-begun rs (b ∷ l) h n q k = printed-as (ap (answered rs) q ∙ held-answer rs (b ∷ l) h) k
+line-begun rs (b ∷ l) h n q k = prints-as (ap (answered rs) q ∙ held-answer rs (b ∷ l) h) k
 
 -- it is answered
 pub finish-line : (d : D.Desk) {file line table work index part out out′ : List ℕ} {end : ℕ} → d .phase ≡ phases.Queries → (d .held ≡ 0 → ⊥)
     → part ≡ take (d .held) line
-    → ((rs : List Row) → Prepared table (d .types) index (d .isos) rs → workLength ≤ length work → answerRoom ≤ length out → Printed out out′ 0 end (answered rs part))
-    → (s : State) → DeskAt d file line table index s → Roomy file line table work index → answerRoom ≤ length out → Printed out out′ 0 end (finish s)
-finish-line d e n q k s (collects p f h) roomy room = absurd (file-asks d p e)
-finish-line d e n q k s (asks {rs} {l} p h x) roomy room = line-begun rs l h n q (k rs x (roomy .works) room)
-finish-line d e n q k s (stops p) roomy room = absurd (asks-stops d e p)
+    → ((rs : List Row) → Prepared table (d .types) index (d .isos) rs → workLength ≤ length work → Prints out out′ 0 end (answered rs part))
+    → FinishSays d file line table work index out out′ end
+finish-line d e n q k s (collects p f h) roomy = absurd (file-asks d p e)
+finish-line d e n q k s (asks {rs} {l} p h x) roomy = line-begun rs l h n q (k rs x (roomy .works))
+finish-line d e n q k s (stops p) roomy = absurd (asks-stops d e p)
 
 -- nothing
 pub finish-stopped : (d : D.Desk) {file line table work index out : List ℕ} → d .phase ≡ phases.Stopped
-    → (s : State) → DeskAt d file line table index s → Roomy file line table work index → answerRoom ≤ length out → Printed out out 0 0 (finish s)
-finish-stopped d e s (collects p f h) roomy room = absurd (file-stops d p e)
-finish-stopped d e s (asks p h x) roomy room = absurd (asks-stops d p e)
-finish-stopped d e s (stops p) roomy room = record { area = refl; place = refl; fits = omega arith }
+    → FinishSays d file line table work index out out 0
+finish-stopped d e s (collects p f h) roomy = absurd (file-stops d p e)
+finish-stopped d e s (asks p h x) roomy = absurd (asks-stops d p e)
+finish-stopped d e s (stops p) roomy = prints-none _ 0

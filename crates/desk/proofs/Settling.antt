@@ -1,16 +1,16 @@
 -- Where the rest of the input no longer matters: the code's test against the machine's.
-use Prim.Native.Nat.{ℕ, _≤_, _<_}
+use Prim.Native.Nat.{ℕ}
 use native.Mathlib.Omega.{arith}
 use mathlib.Core.Path.{_≡_, refl, sym, _∙_}
 use mathlib.Core.Logic.{_⊎_, inl, inr}
-use mathlib.Core.Bool.{Bool, true, false}
+use mathlib.Core.Bool.{true, false}
 use mathlib.Core.List.{List}
 use lib.Dec.{ltb}
-use lib.ListN.{length, take, length-take}
+use lib.ListN.{length, length-take}
 use borrow.Author.Tests.{lt-ltb, le-ltb, ltb-true, ltb-false}
 use Rattle.limits.specs.Limits.{maxBytes}
 use Rattle.calculus.proofs.Basic.{bool-cases}
-use Rattle.query_lines.specs.Stream.{State, collecting, asking, stopped, settled}
+use Rattle.query_lines.specs.Stream.{State, settled}
 use Rattle.desk.specs.declared.Desk as D
 use Rattle.desk.specs.declared.Phase.the-variants as phases
 use Rattle.desk.specs.DeskSays.{fileRoom, Holds, DeskAt, collects, asks, stops}

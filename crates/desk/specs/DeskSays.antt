@@ -3,20 +3,22 @@ use Prim.Native.Nat.{ℕ, _+_, _≤_, _<_}
 use mathlib.Core.Path.{_≡_}
 use mathlib.Core.Logic.{_⊎_}
 use mathlib.Core.Option.{none, some}
-use mathlib.Core.List.{List}
+use mathlib.Core.List.{List, [], _∷_, _++_}
 use lib.ListN.{length, take}
 use lib.Seq.{sets}
-use Rattle.limits.specs.Limits.{tableLength, workLength}
+use Rattle.limits.specs.Limits.{tableLength, workLength, resultLength, runRoom}
 use Rattle.calculus.specs.Refusals.{Refusal}
 use Rattle.format.specs.Lines.{Row}
-use Rattle.model.specs.Services.{verdict, answerOf}
-use Rattle.model.specs.Desk.{fileLine}
-use Rattle.format.specs.Code.{refusalView}
+use Rattle.model.specs.Services.{accepted, verdict, answerOf, answerOfRun}
+use Rattle.model.specs.Desk.{queryOf, answerTo, queryLine, fileLine}
+use Rattle.format.specs.Code.{refusalView, numberOf}
+use Rattle.area_cells.specs.Areas.{Prints}
 use Rattle.checker.specs.CheckSays.{Accepted}
 use Rattle.checker.specs.declared.Checked as C
 use Rattle.run_index.specs.Index.{indexLength}
-use Rattle.runner.specs.RunSays.{Prepared}
-use Rattle.query_lines.specs.Stream.{State, collecting, asking, stopped, Step, opens, begun, steps}
+use Rattle.runner.specs.RunSays.{Prepared, RanAs}
+use Rattle.runner.specs.declared.run.Ran as R
+use Rattle.query_lines.specs.Stream.{State, collecting, asking, stopped, Step, opens, begun, close, answered, step, finish, steps}
 use Rattle.desk.specs.declared.Desk as D
 use Rattle.desk.specs.declared.Phase.the-variants as phases
 use Rattle.desk.specs.declared.Next as N
@@ -69,10 +71,81 @@ pub record JudgedAs (file table′ out out′ : List ℕ) (at end : ℕ) (c : C.
   pub accepts : refusalView (c .answer .refusal) ≡ none → Accepted file table′ c
   pub refuses : (f : Refusal) → refusalView (c .answer .refusal) ≡ some f → begun (verdict file) ≡ stopped
 
--- Bytes taken from the front of a chunk: the state behind them, and all that they print, from the output area's start on. Either the
--- chunk is used up, or the output area has no room for another answer.
+-- Bytes taken from the front of a chunk: the state behind them, and all that they print, from the output area's start on. What the work
+-- area then holds is left open.
 pub record FedAs (s : State) (chunk file line table index out out′ : List ℕ) (r : F.Fed) : Type 0 where
   pub desk : DeskAt (r .desk) file line table index (steps s (take (r .taken) chunk) .next)
   pub printed : Printed out out′ 0 (r .written) (steps s (take (r .taken) chunk) .prints)
+
+-- state and areas are as they were, and nothing is taken
+pub record Idle (d : D.Desk) (file line table work index out file′ line′ table′ work′ index′ out′ : List ℕ) (r : F.Fed) : Type 0 where
+  pub taken : r .taken ≡ 0
+  pub written : r .written ≡ 0
+  pub desk : r .desk ≡ d
+  pub files : file′ ≡ file
+  pub lines : line′ ≡ line
+  pub tables : table′ ≡ table
+  pub works : work′ ≡ work
+  pub indices : index′ ≡ index
+  pub outs : out′ ≡ out
+
+-- How far a chunk is taken, in areas of any length: to its end, or to where the output area lacks room for an answer; where it has room
+-- for one, at least a byte; where it has none, nothing is done.
+pub record Took (d : D.Desk) (chunk file line table work index out file′ line′ table′ work′ index′ out′ : List ℕ) (r : F.Fed) : Type 0 where
   pub within : r .taken ≤ length chunk
   pub whole : (r .taken ≡ length chunk) ⊎ (length out < r .written + answerRoom)
+  pub progress : 0 < length chunk → answerRoom ≤ length out → 0 < r .taken
+  pub idle : length out < answerRoom → Idle d file line table work index out file′ line′ table′ work′ index′ out′ r
+
+-- ---- contracts: an area as it was, and with ′ as it is left
+
+-- behind the answer to a file that is judged: the machine's step at the first Q line, whatever area holds the file
+abbrev pub SettleSays : C.Checked → List ℕ → List ℕ → List ℕ → List ℕ → List ℕ → ℕ → N.Next → Type 0
+SettleSays c line table index line′ index′ end r =
+    (file area out out′ : List ℕ) (at : ℕ) → JudgedAs file table out out′ at end c → lineRoom ≤ length line → indexLength ≤ length index
+    → Reaches (close file) area line′ table index′ out out′ at r
+
+-- the first Q line behind a file, the first `held` bytes of its area: in areas that are long enough, with room for an answer, the
+-- machine's step
+abbrev pub BeginSays : (file : List ℕ) (held : ℕ) (line table work index out line′ table′ index′ out′ : List ℕ) (at : ℕ) (r : N.Next) → Type 0
+BeginSays file held line table work index out line′ table′ index′ out′ at r =
+    Roomy file line table work index → at + answerRoom ≤ length out
+    → Reaches (close (take held file)) file line′ table′ index′ out out′ at r
+
+-- a byte b behind the bytes bs of a file: it is one more of the file, and nothing is printed
+abbrev pub FileByteSays : ℕ → ℕ → List ℕ → List ℕ → ℕ → N.Next → Type 0
+FileByteSays held b file file′ at r =
+    (bs line table index out : List ℕ) → Holds fileRoom held file bs → fileRoom ≤ length file → at + answerRoom ≤ length out
+    → Reaches (record { next = collecting (bs ++ (b ∷ [])); prints = [] }) file′ line table index out out at r
+
+-- a byte in the machine's state s: in areas that are long enough, with room for an answer, the machine's step
+abbrev pub ByteSays : (s : State) (d : D.Desk) (b : ℕ) (file line table work index out file′ line′ table′ index′ out′ : List ℕ) (at : ℕ) (r : N.Next) → Type 0
+ByteSays s d b file line table work index out file′ line′ table′ index′ out′ at r =
+    DeskAt d file line table index s → Roomy file line table work index → at + answerRoom ≤ length out
+    → Reaches (step s b) file′ line′ table′ index′ out out′ at r
+
+-- a query's line over the table of an accepted file, with as much of the work area as a run wants: what the model answers
+abbrev pub AnswerWithSays : ℕ → ℕ → List ℕ → List ℕ → List ℕ → ℕ → List ℕ → List ℕ → R.Ran → Type 0
+AnswerWithSays types isos line table index room result result′ r =
+    (rs : List Row) → Prepared table types index isos rs → runRoom ≤ room → room ≤ workLength → resultLength ≤ length result
+    → RanAs (answerOfRun (answerTo (accepted rs) (queryOf line))) result result′ r
+
+-- the line that says what a run gave, whose letters are the first of a result area
+abbrev pub ranLine : R.Ran → List ℕ → List ℕ
+ranLine r result = queryLine (record { refusal = none; number = numberOf (r .refusal); count = r .count; letters = take (r .length) result })
+
+-- a query's line over that table: its answer is printed as far as it fits, and is no longer than an answer may be
+abbrev pub AnswerSays : D.Desk → List ℕ → List ℕ → List ℕ → List ℕ → List ℕ → List ℕ → ℕ → ℕ → Type 0
+AnswerSays d line table index work out out′ at r =
+    (rs : List Row) → Prepared table (d .types) index (d .isos) rs → workLength ≤ length work
+    → Prints out out′ at r (answered rs line) × (length (answered rs line) ≤ answerRoom)
+
+-- bytes of a chunk in whatever state the machine is: in areas that are long enough, the machine's steps
+abbrev pub FeedSays : (d : D.Desk) (chunk file line table work index out file′ line′ table′ index′ out′ : List ℕ) (r : F.Fed) → Type 0
+FeedSays d chunk file line table work index out file′ line′ table′ index′ out′ r =
+    (s : State) → DeskAt d file line table index s → Roomy file line table work index → FedAs s chunk file′ line′ table′ index′ out out′ r
+
+-- the end of the input in whatever state the machine is: in areas that are long enough, what the machine prints there, as far as it fits
+abbrev pub FinishSays : D.Desk → List ℕ → List ℕ → List ℕ → List ℕ → List ℕ → List ℕ → List ℕ → ℕ → Type 0
+FinishSays d file line table work index out out′ r =
+    (s : State) → DeskAt d file line table index s → Roomy file line table work index → Prints out out′ 0 r (finish s)

@@ -22,19 +22,16 @@ ghost use mathlib.Core.Bool.{_&&_, false};
 ghost use mathlib.Core.List.{List, [], _∷_, _++_};
 ghost use Prim.Native.Nat.{ℕ, _+_, _≤_, _<_};
 ghost use lib.Dec.{eqb, ltb, leb};
-ghost use lib.ListN.{length, take};
-ghost use Rattle.limits.specs.Limits.{letterQ, workLength};
+ghost use lib.ListN.{length};
+ghost use Rattle.limits.specs.Limits.{letterQ};
 ghost use Rattle.format.specs.Lines.{Row as RowOf};
-ghost use Rattle.model.specs.Services.{accepted, answerOfRun};
-ghost use Rattle.model.specs.Desk.{queryOf, answerTo, queryLine, fileLine};
+ghost use Rattle.model.specs.Desk.{fileLine};
 ghost use Rattle.format.specs.Code.{refusalView, numberOf};
 ghost use Rattle.calculus.specs.Tools.{isSome};
-ghost use Rattle.run_index.specs.Index.{indexLength};
-ghost use Rattle.area_cells.specs.Areas.{Writes};
-ghost use Rattle.runner.specs.RunSays.{Prepared, RanAs};
-ghost use Rattle.query_lines.specs.Stream.{State, collecting, asking, close, answered, step, finish, settled as isSettled};
+ghost use Rattle.area_cells.specs.Areas.{Prints};
+ghost use Rattle.query_lines.specs.Stream.{State, collecting, asking, settled as isSettled};
 ghost use Rattle.desk.specs.declared.Phase.the-variants.{Queries};
-ghost use Rattle.desk.specs.DeskSays.{fileRoom, lineRoom, answerRoom, Roomy, Holds, DeskAt, Printed, Reaches, JudgedAs, FedAs};
+ghost use Rattle.desk.specs.DeskSays.{answerRoom, Holds, DeskAt, Took, SettleSays, BeginSays, FileByteSays, ByteSays, AnswerWithSays, ranLine, AnswerSays, FeedSays, FinishSays};
 
 // What the next byte belongs to: the file, a query, or nothing, where the file is refused.
 pub enum Phase {
@@ -148,7 +145,7 @@ fn is_down(c: Checked) -> bool
 // Prints the answer to a checked file.
 fn put_checked(out: &mut [u8], at: usize, c: Checked) -> usize
     ensures { λ r. ⌜
-        (c .answer .place < 10000000000 → Writes (now (out .entry)) (now (out .exit)) at r
+        (c .answer .place < 10000000000 → Prints (now (out .entry)) (now (out .exit)) at r
         (fileLine (record { number = numberOf (c .answer .refusal); line = c .answer .place })))
         ⌝ }
 {
@@ -162,10 +159,8 @@ fn put_checked(out: &mut [u8], at: usize, c: Checked) -> usize
 // ready for queries.
 fn settle(c: Checked, line: &mut [u8], table: &[u16], index: &mut [u16], end: usize) -> Next
     ensures { λ r. ⌜
-        ((file area out out′ : List ℕ) (at : ℕ) → JudgedAs file (now (table .entry)) out out′ at end c
-        → lineRoom ≤ length (now (line .entry)) → indexLength ≤ length (now (index .entry))
-        → Reaches (close file) area (now (line .exit)) (now (table .entry)) (now (index .exit)) out out′
-        at r)
+        SettleSays c (now (line .entry)) (now (table .entry)) (now (index .entry)) (now (line .exit))
+        (now (index .exit)) end r
         ⌝ }
 {
     if is_down(c) {
@@ -194,11 +189,9 @@ fn begin(
     at: usize,
 ) -> Next
     ensures { λ r. ⌜
-        (Roomy (now (file .entry)) (now (line .entry)) (now (table .entry)) (now (work .entry))
-        (now (index .entry))
-        → at + answerRoom ≤ length (now (out .entry))
-        → Reaches (close (take held (now (file .entry)))) (now (file .entry)) (now (line .exit))
-        (now (table .exit)) (now (index .exit)) (now (out .entry)) (now (out .exit)) at r)
+        BeginSays (now (file .entry)) held (now (line .entry)) (now (table .entry)) (now (work .entry))
+        (now (index .entry)) (now (out .entry)) (now (line .exit)) (now (table .exit)) (now (index .exit))
+        (now (out .exit)) at r
         ⌝ }
 {
     let c = check_file(front(file, held), table, work);
@@ -208,12 +201,7 @@ fn begin(
 
 // One byte more of the file.
 fn file_byte(held: usize, b: u8, file: &mut [u8], at: usize) -> Next
-    ensures { λ r. ⌜
-        ((bs line table index out : List ℕ) → Holds fileRoom held (now (file .entry)) bs
-        → fileRoom ≤ length (now (file .entry)) → at + answerRoom ≤ length out
-        → Reaches (record { next = collecting (bs ++ (b ∷ [])); prints = [] }) (now (file .exit)) line
-        table index out out at r)
-        ⌝ }
+    ensures { λ r. ⌜ FileByteSays held b (now (file .entry)) (now (file .exit)) at r ⌝ }
 {
     let more = hold(file, held, b, 65537);
     Next {
@@ -235,10 +223,8 @@ fn answer_with(
 ) -> Ran
     requires { ⌜ room ≤ length (now work) ⌝ }
     ensures { λ r. ⌜
-        ((rs : List RowOf) → Prepared (now (table .entry)) types (now (index .entry)) isos rs
-        → 40960 ≤ room → room ≤ 65536 → 127 ≤ length (now (result .entry))
-        → RanAs (answerOfRun (answerTo (accepted rs) (queryOf (now (line .entry)))))
-        (now (result .entry)) (now (result .exit)) r)
+        AnswerWithSays types isos (now (line .entry)) (now (table .entry)) (now (index .entry)) room
+        (now (result .entry)) (now (result .exit)) r
         ⌝ }
 {
     answer_line(table, types, index, isos, line, &mut work[0..room], result)
@@ -246,10 +232,7 @@ fn answer_with(
 
 // Prints what a run gave, whose letters stand in a result area.
 fn put_ran(out: &mut [u8], at: usize, r: Ran, result: &[u8]) -> usize
-    ensures { λ e. ⌜
-        Writes (now (out .entry)) (now (out .exit)) at e
-        (queryLine (record { number = numberOf (r .refusal); count = r .count; letters = take (r .length) (now (result .entry)) }))
-        ⌝ }
+    ensures { λ e. ⌜ Prints (now (out .entry)) (now (out .exit)) at e (ranLine r (now (result .entry))) ⌝ }
 {
     let f = r.refusal;
     let n = number_of(f);
@@ -268,9 +251,8 @@ fn answer(
     at: usize,
 ) -> usize
     ensures { λ r. ⌜
-        ((rs : List RowOf) → Prepared (now (table .entry)) (d .types) (now (index .entry)) (d .isos) rs
-        → workLength ≤ length (now (work .entry)) → at + answerRoom ≤ length (now (out .entry))
-        → Printed (now (out .entry)) (now (out .exit)) at r (answered rs (now (line .entry))))
+        AnswerSays d (now (line .entry)) (now (table .entry)) (now (index .entry)) (now (work .entry))
+        (now (out .entry)) (now (out .exit)) at r
         ⌝ }
 {
     if work.len() < WORK_LENGTH {
@@ -302,12 +284,9 @@ fn query_byte(
     at: usize,
 ) -> Next
     ensures { λ r. ⌜
-        ((file : List ℕ) (rs : List RowOf) (l : List ℕ)
-        → DeskAt d file (now (line .entry)) (now (table .entry)) (now (index .entry)) (asking rs l)
-        → Roomy file (now (line .entry)) (now (table .entry)) (now (work .entry)) (now (index .entry))
-        → at + answerRoom ≤ length (now (out .entry))
-        → Reaches (step (asking rs l) b) file (now (line .exit)) (now (table .entry))
-        (now (index .entry)) (now (out .entry)) (now (out .exit)) at r)
+        ((file : List ℕ) (rs : List RowOf) (l : List ℕ) → ByteSays (asking rs l) d b file
+        (now (line .entry)) (now (table .entry)) (now (work .entry)) (now (index .entry)) (now (out .entry))
+        file (now (line .exit)) (now (table .entry)) (now (index .entry)) (now (out .exit)) at r)
         ⌝ }
 {
     let held = hold(line, d.held, b, 201);
@@ -337,13 +316,9 @@ fn feed_byte(
     at: usize,
 ) -> Next
     ensures { λ r. ⌜
-        ((s : State)
-        → DeskAt d (now (file .entry)) (now (line .entry)) (now (table .entry)) (now (index .entry)) s
-        → Roomy (now (file .entry)) (now (line .entry)) (now (table .entry)) (now (work .entry))
-        (now (index .entry))
-        → at + answerRoom ≤ length (now (out .entry))
-        → Reaches (step s b) (now (file .exit)) (now (line .exit)) (now (table .exit))
-        (now (index .exit)) (now (out .entry)) (now (out .exit)) at r)
+        ((s : State) → ByteSays s d b (now (file .entry)) (now (line .entry)) (now (table .entry))
+        (now (work .entry)) (now (index .entry)) (now (out .entry)) (now (file .exit)) (now (line .exit))
+        (now (table .exit)) (now (index .exit)) (now (out .exit)) at r)
         ⌝ }
 {
     let phase = d.phase;
@@ -361,9 +336,9 @@ fn feed_byte(
 }
 
 // Takes bytes of a chunk one after the other and prints what they give from the output area's start
-// on, up to the chunk's end or to where the output area lacks room for an answer. The file's area needs
-// 65,537 bytes, the line's 201, the table 16,384 numbers, the work area 65,536 bytes and the index 1,090
-// numbers; of shorter ones nothing is said.
+// on, up to the chunk's end or to where the output area lacks room for an answer. Of the state behind
+// them it is said where the file's area has 65,537 bytes, the line's 201, the table 16,384 numbers, the
+// work area 65,536 bytes and the index 1,090 numbers; what the work area then holds is left open.
 pub fn feed(
     d: Desk,
     chunk: &[u8],
@@ -375,12 +350,14 @@ pub fn feed(
     out: &mut [u8],
 ) -> Fed
     ensures { λ r. ⌜
-        ((s : State)
-        → DeskAt d (now (file .entry)) (now (line .entry)) (now (table .entry)) (now (index .entry)) s
-        → Roomy (now (file .entry)) (now (line .entry)) (now (table .entry)) (now (work .entry))
-        (now (index .entry))
-        → FedAs s (now (chunk .entry)) (now (file .exit)) (now (line .exit)) (now (table .exit))
-        (now (index .exit)) (now (out .entry)) (now (out .exit)) r)
+        Took d (now (chunk .entry)) (now (file .entry)) (now (line .entry)) (now (table .entry))
+        (now (work .entry)) (now (index .entry)) (now (out .entry)) (now (file .exit)) (now (line .exit))
+        (now (table .exit)) (now (work .exit)) (now (index .exit)) (now (out .exit)) r
+        ⌝ }
+    ensures { λ r. ⌜
+        FeedSays d (now (chunk .entry)) (now (file .entry)) (now (line .entry)) (now (table .entry))
+        (now (work .entry)) (now (index .entry)) (now (out .entry)) (now (file .exit)) (now (line .exit))
+        (now (table .exit)) (now (index .exit)) (now (out .exit)) r
         ⌝ }
 {
     let mut desk = d;
@@ -415,8 +392,9 @@ pub fn settled(d: Desk) -> bool
     }
 }
 
-// Prints what the end of the input gives, from the output area's start on, and says how many bytes that
-// is. The output area needs 160 bytes, the others what `feed` says.
+// Prints what the end of the input gives, from the output area's start on, as far as it fits, and says
+// how many bytes that is; 160 are enough. The other areas need what `feed` says; what table and work area
+// then hold is left open.
 pub fn finished(
     d: Desk,
     file: &[u8],
@@ -427,12 +405,8 @@ pub fn finished(
     out: &mut [u8],
 ) -> usize
     ensures { λ r. ⌜
-        ((s : State)
-        → DeskAt d (now (file .entry)) (now (line .entry)) (now (table .entry)) (now (index .entry)) s
-        → Roomy (now (file .entry)) (now (line .entry)) (now (table .entry)) (now (work .entry))
-        (now (index .entry))
-        → answerRoom ≤ length (now (out .entry))
-        → Printed (now (out .entry)) (now (out .exit)) 0 r (finish s))
+        FinishSays d (now (file .entry)) (now (line .entry)) (now (table .entry)) (now (work .entry))
+        (now (index .entry)) (now (out .entry)) (now (out .exit)) r
         ⌝ }
 {
     let phase = d.phase;

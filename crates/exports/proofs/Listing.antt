@@ -9,22 +9,22 @@ use mathlib.Core.List.{List, _++_}
 use lib.Dec.{ltb}
 use lib.ListN.{length, getElem?, take, drop}
 use lib.Seq.{sets-eq}
-use Rattle.limits.specs.Limits.{maxPairs}
+use Rattle.limits.specs.Limits.{maxPairs, exportLength}
 use Rattle.calculus.specs.Trees.{Iso}
 use Rattle.calculus.specs.Refusals.{Refusal, noIso, spent, tooMany}
 use Rattle.format.specs.Lines.{Row}
 use Rattle.format.specs.Unfold.{isosOf}
-use Rattle.model.specs.Services.{written}
-use Rattle.format.specs.Code.{refusalView, numbered}
+use Rattle.model.specs.Services.{written, Outcome, fails, refusalOf, bytesFrom}
+use Rattle.format.specs.Code.{refusalView}
 use Rattle.calculus.proofs.Basic.{lt-ltb, not-ltb}
 use Rattle.model.proofs.Runs.{good, good-invert}
-use Rattle.law_ranking.specs.Numbering.{count, Outcome, fails, refusalOf, lettersFrom}
+use Rattle.law_ranking.specs.Numbering.{count}
 use Rattle.law_pairlists.specs.PairLists.{pairLines, toFrom, upwards, onPairs, onExported, exportRows}
 use Rattle.law_pairlists.proofs.List.{pairs-room}
 use Rattle.law_pairlists.proofs.Exports.{tos-taken}
 use Rattle.area_cells.specs.Areas.{Writes}
 use Rattle.table_trees.specs.Unfolding.{cellOf, typeOf}
-use Rattle.table_trees.proofs.Rows.{past-row}
+use Rattle.table_walks.proofs.Rows.{past-row}
 use Rattle.run_index.specs.Index.{placeAt}
 use Rattle.number_values.specs.Numbers.{Counts}
 use Rattle.run_reduction.proofs.Laying.{inside}
@@ -53,9 +53,9 @@ listed-refused : {x : Outcome (List ℕ)} (o : List ℕ) (r : L.Listed) {z : Ref
     → ListedAs x o o r
 listed-refused o r e n k =
     record {
-      number = ap numbered n ∙ sym (ap refusalOf e);
-      bytes = k ∙ sym (ap (λ y. length (lettersFrom y)) e);
-      output = sym (ap (λ y. written (lettersFrom y) o) e);
+      refusal = n ∙ sym (ap refusalOf e);
+      bytes = k ∙ sym (ap (λ y. length (bytesFrom y)) e);
+      output = sym (ap (λ y. written (bytesFrom y) o) e);
     }
 
 module _ {t : List ℕ} {base : ℕ} {index : List ℕ} {isos : ℕ} {rs : List Row} (p : Prepared t base index isos rs) (i budget : ℕ) (x : List ℕ) (r : L.Listed) where
@@ -101,7 +101,7 @@ module _ {t : List ℕ} {base : ℕ} {index : List ℕ} {isos : ℕ} {rs : List 
         some-spent y g k = listed-refused x r (outcome none (found ∙ ap (λ z. cond z (some (take n l)) none) y)) g k
 
         -- the lines
-        pub list-given : b ≡ true → n ≤ length l → 40960 ≤ length x → {x′ : List ℕ} {end : ℕ}
+        pub list-given : b ≡ true → n ≤ length l → exportLength ≤ length x → {x′ : List ℕ} {end : ℕ}
             → (n ≤ length l → n < 10000000000 → Writes x x′ 0 end (pairLines 0 (take n l)))
             → refusalView (r .refusal) ≡ none → r .length ≡ end → ListedAs (exportRows rs i budget) x x′ r
         list-given y wide room {x′} {end} w g k =
@@ -118,8 +118,8 @@ module _ {t : List ℕ} {base : ℕ} {index : List ℕ} {isos : ℕ} {rs : List 
             let fits : 0 + length (pairLines 0 ts) ≤ length x = omega arith in
             let out = w wide (omega arith) in
             record {
-              number = ap numbered g ∙ sym (ap refusalOf s);
-              bytes = k ∙ out .place fits ∙ zero ∙ sym (ap (λ z. length (lettersFrom z)) s);
+              refusal = g ∙ sym (ap refusalOf s);
+              bytes = k ∙ out .place fits ∙ zero ∙ sym (ap (λ z. length (bytesFrom z)) s);
               output = out .area fits ∙ sets-eq (pairLines 0 ts) x 0 fits ∙ ap (λ z. pairLines 0 ts ++ drop z x) zero
-                  ∙ sym (ap (λ z. written (lettersFrom z) x) s);
+                  ∙ sym (ap (λ z. written (bytesFrom z) x) s);
             }

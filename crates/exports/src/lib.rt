@@ -6,9 +6,14 @@ use area_words::wide;
 use area_words::word_at;
 use checker::Checked;
 use checker::check_file;
+use codes::LINE_FEED;
 use format::Answer;
 use format::Refusal;
 use format::is_refused;
+use limits::EXPORT_LENGTH;
+use limits::INDEX_LENGTH;
+use limits::MAX_PAIRS;
+use limits::WORK_LENGTH;
 use list_targets::find_tos;
 use list_targets::iso_cell;
 use number_values::count_values;
@@ -16,15 +21,12 @@ use print_text::put_field;
 use print_text::put_number;
 use runner::run::prepare;
 ghost use mathlib.Core.Path.{_≡_};
-ghost use mathlib.Core.List.{List};
-ghost use Prim.Native.Nat.{ℕ, _≤_, _<_};
+ghost use Prim.Native.Nat.{_≤_, _<_};
 ghost use lib.ListN.{length, take, drop};
-ghost use Rattle.format.specs.Lines.{Row as RowOf};
-ghost use Rattle.law_pairlists.specs.PairLists.{pairLine, pairLines, exportRows};
+ghost use Rattle.law_pairlists.specs.PairLists.{pairLine, pairLines};
 ghost use Rattle.area_cells.specs.Areas.{Writes};
-ghost use Rattle.checker.specs.CheckSays.{Accepted};
-ghost use Rattle.runner.specs.RunSays.{Prepared};
-ghost use Rattle.exports.specs.ExportSays.{ListedAs, ExportSays};
+ghost use Rattle.runner.specs.RunSays.{OnChecked, OnAccepted};
+ghost use Rattle.exports.specs.ExportSays.{ListedInto, ExportSays};
 
 // A refusal or none, and the number of bytes in the output area.
 pub struct Listed {
@@ -53,7 +55,7 @@ fn put_pair(out: &mut [u8], at: usize, k: usize, to: usize) -> usize
 {
     let x = put_number(out, at, k);
     let y = put_field(out, x, to);
-    put_byte(out, y, 10)
+    put_byte(out, y, LINE_FEED)
 }
 
 // The lines of the first n pairs, of which the tos are given.
@@ -85,20 +87,18 @@ fn export_checked(
     output: &mut [u8],
 ) -> Listed
     ensures { λ r. ⌜
-        ((rs : List RowOf) → Prepared (now (t .entry)) base (now (index .entry)) isos rs
-        → 40960 ≤ length (now (work .entry)) → length (now (work .entry)) ≤ 65536
-        → 40960 ≤ length (now (output .entry))
-        → ListedAs (exportRows rs i budget) (now (output .entry)) (now (output .exit)) r)
+        OnChecked (now (t .entry)) base (now (index .entry)) isos (now (work .entry))
+        (λ rs. ListedInto rs i budget (now (output .entry)) (now (output .exit)) r)
         ⌝ }
 {
     if isos <= i {
         return not_listed(Refusal::NoIso);
     }
     let n = count_values(t, iso_cell(t, index, i, 1));
-    if 4096 < n {
+    if MAX_PAIRS < n {
         return not_listed(Refusal::TooMany);
     }
-    let mut tos = [0u16; 4096];
+    let mut tos = [0u16; MAX_PAIRS];
     if !find_tos(t, base, index, isos, i, n, budget, work, &mut tos) {
         return not_listed(Refusal::Spent);
     }
@@ -122,12 +122,11 @@ fn export_accepted(
     requires { ⌜ room ≤ length (now work) ⌝ }
     ensures { λ r. ⌜ drop room (now (work .exit)) ≡ drop room (now (work .entry)) ⌝ }
     ensures { λ r. ⌜
-        ((s : List ℕ) (a : Accepted s (now (table .entry)) c) → 40960 ≤ room → room ≤ 65536
-        → 40960 ≤ length (now (output .entry))
-        → ListedAs (exportRows (a .file) i budget) (now (output .entry)) (now (output .exit)) r)
+        OnAccepted (now (table .entry)) c room
+        (λ rs. ListedInto rs i budget (now (output .entry)) (now (output .exit)) r)
         ⌝ }
 {
-    let mut index = [0u16; 1090];
+    let mut index = [0u16; INDEX_LENGTH];
     prepare(table, c, &mut index);
     export_checked(
         table,
@@ -155,7 +154,7 @@ pub fn export(
         (now (output .entry)) (now (table .exit)) (now (work .exit)) (now (output .exit)) r
         ⌝ }
 {
-    if output.len() < 40960 {
+    if output.len() < EXPORT_LENGTH {
         return Exported {
             answer: Answer {
                 place: 0,
@@ -173,8 +172,8 @@ pub fn export(
             length: 0,
         };
     }
-    let l = export_accepted(table, c, i, budget, work, 65536, output);
-    clear_bytes(work, 65536);
+    let l = export_accepted(table, c, i, budget, work, WORK_LENGTH, output);
+    clear_bytes(work, WORK_LENGTH);
     let g = l.refusal;
     Exported {
         answer: Answer {

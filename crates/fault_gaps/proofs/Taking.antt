@@ -1,31 +1,27 @@
 -- Counts less others.
-use Prim.Native.Nat.{ℕ, suc, _+_, _-_, _%_, _<_, _≤_}
-use native.Mathlib.Nat.{le-refl, mod-lt, mod-eq-of-lt, mod-eq-sub-mod, add-mod}
+use Prim.Native.Nat.{ℕ, _+_, _-_, _%_, _<_, _≤_}
+use native.Mathlib.Nat.{mod-eq-of-lt, mod-eq-sub-mod, add-mod}
 use native.Mathlib.Omega.{arith}
 use mathlib.Core.Path.{_≡_, refl, sym, ap, ap₂, _∙_, subst}
 use mathlib.Core.Bool.{Bool, true, false, cond}
 use mathlib.Core.Option.{Option, none, some}
 use mathlib.Core.List.{List, [], _∷_, List·Memᴰ, List·Memᴰ·head, List·Memᴰ·tail}
 use lib.Dec.{leb}
-use lib.ListN.{length, getD, drop, drop-of-length-le}
-use lib.Seq.{drop-cons}
+use lib.ListN.{length, getD, drop}
 use Rattle.calculus.specs.Trees.{Ty, Pat}
 use Rattle.law_witnesses.specs.Seeking.{howMany, ways, orZero, also, keep, alone}
 use Rattle.calculus.proofs.Basic.{leb-le, leb-false}
 use Rattle.table_trees.specs.Unfolding.{cellOf, typeOf, patternOf}
-use Rattle.table_trees.specs.InTable.{patternsAt}
+use Rattle.table_walks.specs.InTable.{patternsAt}
 use Rattle.fault_tallies.specs.Tallies.{modulus, Holds}
-use Rattle.fault_stacks.specs.Stacks.{typesFrom, rowFrom, Shapes, typesAlong, rowAlong}
-use Rattle.fault_tallies.proofs.Counting.{held-as}
-use Rattle.fault_stacks.proofs.Walking.{Walked}
+use Rattle.fault_stacks.specs.Stacks.{typesFrom, rowFrom, Shapes, typesAlong, rowAlong, RowWalked}
+use Rattle.fault_tallies.proofs.Counting.{held-as, below}
 use Rattle.fault_gaps.specs.Gaps.{minusOf, Takes, Fitting, TakesRow, matchedBy, TakesAll}
+use Rattle.table_walks.proofs.Named.{rows-line, rows-end}
 
 -- ---- the loop over places
 
 -- ---- modulo
-
-below : (n : ℕ) → n % modulus < modulus
-below n = mod-lt n (omega arith)
 
 -- the difference from what is left over
 apart : (d x w : ℕ) → d < modulus → x < modulus → (d + x) % modulus ≡ w → minusOf w x ≡ d
@@ -62,7 +58,7 @@ held-less {W = W} {X = X} e b h g = record { at = λ r q. e .at r q ∙ ap₂ mi
 
 -- ---- one row
 
-module _ (t : List ℕ) (base : ℕ) (w ps ts : List ℕ) (p i r : ℕ) (d : Walked t base w ps ts p i r) where
+module _ (t : List ℕ) (base : ℕ) (w ps ts : List ℕ) (p i r : ℕ) (d : RowWalked t base w ps ts p i r) where
   less-zero : (n : ℕ) → n ≡ n - 0
   less-zero n = omega arith
 
@@ -121,15 +117,9 @@ pub rows-start : (t : List ℕ) (base f : ℕ) (rows w : List ℕ) {k : List ℕ
 rows-start t base f rows w {k} {ts} {ts′} e g h =
     record {
       within = omega arith;
-      taken = subst (TakenAll k w ts′) (sym (ap (patternsAt t base f) (drop-of-length-le rows {i = length rows} (le-refl (length rows)))))
+      taken = subst (TakenAll k w ts′) (sym (rows-end t base f rows))
           (none-taken w ts′ e (subst (λ z. Holds k (λ n. howMany n z)) g h));
     }
-
-rows-line : (t : List ℕ) (base f : ℕ) (rows : List ℕ) (x : ℕ) → 0 < x → x ≤ length rows
-    → patternsAt t base f (drop (x - 1) rows) ≡ patternOf t base (cellOf t (getD rows (x - 1) 0) f) ∷ patternsAt t base f (drop x rows)
-rows-line t base f rows x p h =
-    let e : suc (x - 1) ≡ x = omega arith in
-    ap (patternsAt t base f) (drop-cons rows (x - 1) 0 (omega arith) ∙ ap (λ n. getD rows (x - 1) 0 ∷ drop n rows) e)
 
 pub rows-more : (t : List ℕ) (base f : ℕ) (rows k l w : List ℕ) (ts : List Ty) (x row q p : ℕ) → RowsLeft t base f rows k w ts x → 0 < x → length l ≡ length k → row ≡ getD rows (x - 1) 0 → q ≡ row → p ≡ cellOf t q f
     → TakesRow k l ts (rowAlong w (patternOf t base p ∷ [])) → RowsLeft t base f rows l w ts (x - 1)

@@ -5,25 +5,24 @@ use native.Mathlib.Omega.{arith}
 use mathlib.Core.Path.{_≡_, refl, sym, ap, ap₂, _∙_, subst}
 use mathlib.Core.Bool.{true, false, cond}
 use mathlib.Core.List.{List, [], _∷_, _++_, map, append-assoc, append-nil}
-use lib.ListN.{length, getD, set, take, drop, length-set, take-append-drop}
-use lib.Seq.{getD-set-same, drop-cons, take-suc, drop-set-lt}
+use lib.ListN.{length, getD, set, take, drop, length-set, take-append-drop, drop-of-length-le}
+use lib.Seq.{drop-cons, drop-set-lt, take-suc-set, set-set}
 use Rattle.calculus.specs.Trees.{Ty, Pat}
-use Rattle.law_witnesses.specs.Showing.{letterOn}
+use Rattle.law_witnesses.specs.Showing.{letterOn, countUp}
 use Rattle.law_witnesses.specs.Seeking.{after, keep, lacks, alone, pick, gapWord, gapLength}
 use Rattle.law_witnesses.proofs.Descent.{pick-lacks}
 use Rattle.table_trees.specs.Unfolding.{typeOf}
-use Rattle.fault_stacks.specs.Stacks.{typesFrom, moveOf, typesAfter}
-use Rattle.fault_stacks.proofs.Stepping.{Stepped, replaced, here-line}
+use Rattle.fault_stacks.specs.Stacks.{typesFrom, moveOf, typesAfter, TypesStepped}
 use Rattle.fault_stacks.proofs.Walking.{top-near}
 use Rattle.fault_stacks.proofs.Counting.{types-end}
 use Rattle.fault_gaps.specs.Gaps.{typesAt, rowsAt, Good, Picks, Asked, Writes, TakesAll, FirstCount}
 use Rattle.limits.specs.Limits.{resultLength}
 use Rattle.calculus.specs.Tools.{firstOf, orElse}
-use Rattle.law_witnesses.specs.Showing.{countUp}
 use native.Mathlib.Nat.{le-refl, eq-or-lt-of-le}
 use mathlib.Core.Logic.{_⊎_, inl, inr}
 use mathlib.Core.Option.{none, some}
 use Rattle.fault_gaps.proofs.Descending.{picked-mem, types-next, rows-next, good-next, types-snoc, nothing-lacks, none-lacks, some-lacks, keep-all}
+use Rattle.calculus.proofs.Basic.{drop-set-same}
 
 -- the first m letters are written
 pub record Way (a : Ty) (ps : List Pat) (out₀ out : List ℕ) (n m : ℕ) : Type 0 where
@@ -44,22 +43,7 @@ way-start {a} {ps} {n} out h =
 
 -- a letter stored
 take-stored : (l : List ℕ) (m c : ℕ) → m < length l → take (m + 1) (set l m c) ≡ take m l ++ (c ∷ [])
-take-stored l m c h =
-    ap (λ k. take k (set l m c)) (add-one m)
-    ∙ take-suc (set l m c) m 0 (subst (λ k. m < k) (sym (length-set l m c)) h)
-    ∙ ap₂ (λ x y. x ++ (y ∷ [])) (take-set l m c) (getD-set-same l m c 0 h)
-  where
-    take-set : (l : List ℕ) (m c : ℕ) → take m (set l m c) ≡ take m l
-    take-set [] zero c = refl
-    take-set [] (suc m) c = refl
-    take-set (x ∷ l) zero c = refl
-    take-set (x ∷ l) (suc m) c = ap (λ r. x ∷ r) (take-set l m c)
-
-set-twice : (l : List ℕ) (m b c : ℕ) → set (set l m b) m c ≡ set l m c
-set-twice [] zero b c = refl
-set-twice [] (suc m) b c = refl
-set-twice (x ∷ l) zero b c = refl
-set-twice (x ∷ l) (suc m) b c = ap (λ r. x ∷ r) (set-twice l m b c)
+take-stored l m c h = ap (λ k. take k (set l m c)) (add-one m) ∙ take-suc-set l m c h
 
 module _ {a : Ty} {ps : List Pat} {out₀ out : List ℕ} {n m : ℕ} (w : Way a ps out₀ out n m) (h : m < n) (l : m < length out) where
   -- with the L in its place
@@ -74,13 +58,13 @@ module _ {a : Ty} {ps : List Pat} {out₀ out : List ℕ} {n m : ℕ} (w : Way a
       let k = n - m - 1 in
       let q = pick k b ts (rowsAt ps (take m out)) in
       let i = picked-mem k b ts (rowsAt ps (take m out)) in
-      let v : take (m + 1) (set (set out m 76) m c) ≡ take m out ++ (letterOn (q .0) ∷ []) = ap (take (m + 1)) (set-twice out m 76 c) ∙ take-stored out m c l ∙ ap (λ x. take m out ++ (x ∷ [])) f in
+      let v : take (m + 1) (set (set out m 76) m c) ≡ take m out ++ (letterOn (q .0) ∷ []) = ap (take (m + 1)) (set-set out m 76 c) ∙ take-stored out m c l ∙ ap (λ x. take m out ++ (x ∷ [])) f in
       let lk : lacks (suc k) (b ∷ ts) (rowsAt ps (take m out)) ≡ true = subst (λ z. lacks (suc k) z (rowsAt ps (take m out)) ≡ true) e (subst (λ z. lacks z (typesAt a (take m out)) (rowsAt ps (take m out)) ≡ true) s (w .lack)) in
       let T = types-next (w .good) b ts e q i in
       let R = rows-next (w .good) b ts e q i in
       record {
         behind =
-            ap (drop (m + 1)) (set-twice out m 76 c) ∙ ap (λ z. drop z (set out m c)) (add-one m) ∙ drop-set-lt (suc m) out m c (omega arith) ∙ tails (drop-cons out m 0 l) (w .behind);
+            ap (drop (m + 1)) (set-set out m 76 c) ∙ ap (λ z. drop z (set out m c)) (add-one m) ∙ drop-set-lt (suc m) out m c (omega arith) ∙ tails (drop-cons out m 0 l) (w .behind);
         good = subst (Good a ps) (sym v) (good-next (w .good) b ts e q i);
         lack = subst (λ z. lacks (n - (m + 1)) (typesAt a z) (rowsAt ps z) ≡ true) (sym v)
             (subst (λ z. lacks z (typesAt a (take m out ++ (letterOn (q .0) ∷ []))) (rowsAt ps (take m out ++ (letterOn (q .0) ∷ []))) ≡ true) (sym s′)
@@ -113,12 +97,6 @@ pub record Writing (t : List ℕ) (i : ℕ) (ps : List Pat) (out₀ out ts : Lis
   pub upper : top ≤ 128
   pub way : Asked (typeOf t i) ps n → Way (typeOf t i) ps out₀ out n m × (typesFrom t ts top ≡ typesAt (typeOf t i) (take m out))
 
-drop-past : (s : List ℕ) (k : ℕ) → length s ≤ k → drop k s ≡ []
-drop-past [] zero h = refl
-drop-past [] (suc k) h = refl
-drop-past (x ∷ s) zero h = absurd (omega arith)
-drop-past (x ∷ s) (suc k) h = drop-past s k (omega arith)
-
 pub writing-start : (t : List ℕ) (i : ℕ) (ps : List Pat) (out ts : List ℕ) (n : ℕ) → length ts ≡ 128 → Writing t i ps out out (set ts 127 i) n 0 127
 writing-start t i ps out ts n e =
     record {
@@ -127,14 +105,14 @@ writing-start t i ps out ts n e =
       lines = length-set ts 127 i ∙ e;
       lower = omega arith;
       upper = omega arith;
-      way = λ h. (way-start out h, ap (map (typeOf t)) (replaced ts 127 (omega arith) i ∙ ap (λ l. i ∷ l) (drop-past ts 128 (omega arith))));
+      way = λ h. (way-start out h, ap (map (typeOf t)) (drop-set-same ts 127 i (omega arith) ∙ ap (λ l. i ∷ l) (drop-of-length-le ts {i = 128} (omega arith))));
     }
 
 module _ {t : List ℕ} {i : ℕ} {ps : List Pat} {out₀ out ts : List ℕ} {n m top : ℕ} (w : Writing t i ps out₀ out ts n m top) (h : m < n) (l : n ≤ length out₀) where
   next-types : top < 128 → typesFrom t ts top ≡ typeOf t (getD ts top 0) ∷ typesFrom t ts (suc top)
-  next-types b = ap (map (typeOf t)) (here-line ts top (omega (arith, w .lines)))
+  next-types b = ap (map (typeOf t)) (drop-cons ts top 0 (omega (arith, w .lines)))
 
-  pub writing-next : {ts′ : List ℕ} {c r : ℕ} → top ≤ 127 → n ≤ 127 → length ts′ ≡ length ts → Stepped t c ts ts′ top r
+  pub writing-next : {ts′ : List ℕ} {c r : ℕ} → top ≤ 127 → n ≤ 127 → length ts′ ≡ length ts → TypesStepped t c ts ts′ top r
       → Picks (typeOf t i) ps (take (m + 1) (set out m 76)) (typeOf t (getD ts top 0)) (n - m - 1) c → Writing t i ps out₀ (set (set out m 76) m c) ts′ n (m + 1) r
   writing-next {ts′} {c} {r} b u e st pk =
       let near = top-near c top (omega (arith, w .lower)) in
@@ -149,7 +127,7 @@ module _ {t : List ℕ} {i : ℕ} {ps : List Pat} {out₀ out ts : List ℕ} {n 
             let x = w .way q in
             let d = sym (x .1) ∙ next-types (omega arith) in
             let f = pk .at (take m out) (typesFrom t ts (suc top)) (x .0 .good) (with-left (x .0) h inside) d in
-            let v = ap (take (m + 1)) (set-twice out m 76 c) ∙ take-stored out m c inside in (
+            let v = ap (take (m + 1)) (set-set out m 76 c) ∙ take-stored out m c inside in (
               way-next (x .0) h inside (typeOf t (getD ts top 0)) (typesFrom t ts (suc top)) c d f,
               st .1 ∙ ap (typesAfter (moveOf c)) (x .1) ∙ sym (types-snoc (take m out) c (typeOf t i ∷ [])) ∙ ap (typesAt (typeOf t i)) (sym v),
             );

@@ -7,8 +7,8 @@ use mathlib.Core.List.{List, [], _∷_, _++_, map, List·Memᴰ}
 use lib.Dec.{leb}
 use lib.ListN.{length, getD, drop}
 use Rattle.calculus.specs.Tools.{total}
-use Rattle.calculus.specs.Trees.{Ty, Pat, Val}
-use Rattle.calculus.specs.Letters.{letters}
+use Rattle.calculus.specs.Trees.{Ty, Pat, Val, left}
+use Rattle.calculus.specs.Letters.{letters, letterOf}
 use Rattle.model.specs.Services.{written}
 use Rattle.calculus.specs.Paper.{Apart}
 use Rattle.law_witnesses.specs.Showing.{letterOn, never, setting}
@@ -16,8 +16,11 @@ use Rattle.law_witnesses.specs.Shapes.{Side}
 use Rattle.law_witnesses.specs.Seeking.{howMany, ways, orZero, keep, alone, lacks, pick, gapWord}
 use Rattle.law_witnesses.proofs.Gaps.{Once}
 use Rattle.law_witnesses.proofs.Descent.{allChoices}
-use Rattle.fault_tallies.specs.Tallies.{modulus, lengths, Holds}
+use Rattle.fault_tallies.specs.Tallies.{modulus, Holds}
 use Rattle.fault_stacks.specs.Stacks.{Shapes, typesAlong, rowAlong}
+use Rattle.table_trees.specs.Unfolding.{typeOf, patternOf}
+use Rattle.table_walks.specs.InTable.{patternsAt}
+use Rattle.limits.specs.Limits.{lengths}
 
 abbrev pub minusOf : ℕ → ℕ → ℕ
 minusOf x y = cond (leb y x) (x - y) (modulus - (y - x))
@@ -57,7 +60,7 @@ pub record Good (a : Ty) (ps : List Pat) (w : List ℕ) : Type 0 where
 
 -- the letter that a gap with n letters more goes on with, after letters v, the next value being of type b; w is v and an L
 pub record Picks (a : Ty) (ps : List Pat) (w : List ℕ) (b : Ty) (n r : ℕ) : Type 0 where
-  pub at : (v : List ℕ) (ts : List Ty) → Good a ps v → w ≡ v ++ (76 ∷ []) → typesAt a v ≡ b ∷ ts → r ≡ letterOn (pick n b ts (rowsAt ps v) .0)
+  pub at : (v : List ℕ) (ts : List Ty) → Good a ps v → w ≡ v ++ (letterOf left ∷ []) → typesAt a v ≡ b ∷ ts → r ≡ letterOn (pick n b ts (rowsAt ps v) .0)
 
 -- what is asked: a good start, and a gap with n letters
 pub record Asked (a : Ty) (ps : List Pat) (n : ℕ) : Type 0 where
@@ -71,11 +74,21 @@ pub record Writes (a : Ty) (ps : List Pat) (out₀ out : List ℕ) (n : ℕ) : T
 -- the first place whose count is not 0
 pub record FirstCount (k : List ℕ) (r : ℕ) : Type 0 where
   pub before : (j : ℕ) → j < r → getD k j 0 ≡ 0
-  pub here : (r < 128 → getD k r 0 ≡ 0 → ⊥)
-  pub most : r ≤ 128
+  pub here : (r < lengths → getD k r 0 ≡ 0 → ⊥)
+  pub most : r ≤ lengths
 
 -- "the value matched … by none (13, 14), with the fewest letters, the first in byte order among those": its letters and their number where there
 -- is one of at most 127 letters, for patterns that fit the type and are orthogonal; 128 elsewhere
 pub record GapValue (a : Ty) (ps : List Pat) (out₀ out : List ℕ) (r : ℕ) : Type 0 where
   pub given : Side a ps → Apart ps → (v : Val) → setting a (never ps) ≡ some v → (r ≡ length (letters v)) × (out ≡ written (letters v) out₀)
-  pub nothing : Side a ps → Apart ps → setting a (never ps) ≡ none → (r ≡ 128) × (out ≡ out₀)
+  pub nothing : Side a ps → Apart ps → setting a (never ps) ≡ none → (r ≡ lengths) × (out ≡ out₀)
+
+-- ---- contracts: k holds the counts at entry, k′ at exit
+
+-- one row less, that of P line p after the letters w of a value of T line i
+abbrev pub RowTaken : List ℕ → ℕ → ℕ → ℕ → List ℕ → List ℕ → List ℕ → Type 0
+RowTaken t base p i w k k′ = TakesRow k k′ (typesAlong w (typeOf t i ∷ [])) (rowAlong w (patternOf t base p ∷ []))
+
+-- all ways to go on less those that the patterns in field f of the rows match
+abbrev pub GapsCounted : List ℕ → ℕ → ℕ → List ℕ → ℕ → List ℕ → List ℕ → Type 0
+GapsCounted t base f rows i w k′ = TakesAll k′ w (typesAlong w (typeOf t i ∷ [])) (patternsAt t base f rows)

@@ -2,13 +2,12 @@
 use Prim.Native.Nat.{ℕ, zero, suc, _+_, _≤_}
 use native.Mathlib.Omega.{arith}
 use mathlib.Core.Path.{_≡_, refl, sym, ap, ap₂, _∙_, subst}
-use mathlib.Core.Bool.{cond, false≢true}
-use mathlib.Core.Option.{Option, none, some}
-use mathlib.Core.List.{List, [], _∷_, _++_}
+use mathlib.Core.Option.{some}
+use mathlib.Core.List.{List, [], _∷_}
 use Rattle.limits.specs.Limits.{maxNodes}
 use Rattle.calculus.specs.Tools.{_>>=_}
-use Rattle.calculus.specs.Trees.{Ty, tunit, tsum, tprod, Tag, left, right, Pat, punit, pvar, pinj, ppair, typeNodes, part}
-use Rattle.calculus.specs.Letters.{letterOf, letters}
+use Rattle.calculus.specs.Trees.{Ty, left, right, Pat, punit, pvar, pinj, ppair, typeNodes}
+use Rattle.calculus.specs.Letters.{letters}
 use Rattle.format.specs.Judge.{patternNode}
 use Rattle.law_witnesses.specs.Shapes.{Shape}
 use Rattle.law_witnesses.specs.Seeking.{leastIn, meet}
@@ -36,7 +35,8 @@ module _ {x z : Pat} {a : Ty} {l : List ℕ} {at : ℕ} where
       go (suc zero) v = absurd (v refl)
       go (suc (suc zero)) v = refl
       go (suc (suc (suc zero))) v = refl
-      go (suc (suc (suc (suc k)))) v = refl
+      go (suc (suc (suc (suc zero)))) v = refl
+      go (suc (suc (suc (suc (suc k))))) v = refl
 
   pub both-unit : {l′ : List ℕ} {end : ℕ} → x ≡ punit → Writes l l′ at end (85 ∷ []) → SpellsBoth x z a l l′ at end
   both-unit {l′} {end} e w = subst (λ u. SpellsBoth u z a l l′ at end) (sym e) (record { by = λ r s s′ q h. subst (λ u. Writes l l′ at end (letters (leastIn u a))) (go z q) w })
@@ -61,7 +61,8 @@ module _ {x z : Pat} {a : Ty} {l : List ℕ} {at : ℕ} where
             let o = bind-some (meet y c) (λ u. some (pinj left u)) q in
             subst (λ u. Writes l l₂ at middle (letters (leastIn u t))) (some-inj (o .2)) (writes-both w (i .by (o .0) s s′ (o .1) (omega arith)))
         go (suc (suc (suc zero))) v s s′ q h i = absurd (none≢some q)
-        go (suc (suc (suc (suc k)))) v s s′ q h i = absurd (none≢some q)
+        go (suc (suc (suc (suc zero)))) v s s′ q h i = absurd (none≢some q)
+        go (suc (suc (suc (suc (suc k))))) v s s′ q h i = absurd (none≢some q)
 
     pub both-right : {b : Ty} → x ≡ pinj right y → b ≡ partOf right a → Writes l l₁ at next (82 ∷ []) → SpellsBoth y c b l₁ l₂ next middle → SpellsBoth x z a l l₂ at middle
     both-right {b} e g w j =
@@ -76,7 +77,8 @@ module _ {x z : Pat} {a : Ty} {l : List ℕ} {at : ℕ} where
         go {t = t} (suc (suc (suc zero))) v (Shape.inj s) (Shape.inj s′) q h i =
             let o = bind-some (meet y c) (λ u. some (pinj right u)) q in
             subst (λ u. Writes l l₂ at middle (letters (leastIn u t))) (some-inj (o .2)) (writes-both w (i .by (o .0) s s′ (o .1) (omega arith)))
-        go (suc (suc (suc (suc k)))) v s s′ q h i = absurd (none≢some q)
+        go (suc (suc (suc (suc zero)))) v s s′ q h i = absurd (none≢some q)
+        go (suc (suc (suc (suc (suc k))))) v s s′ q h i = absurd (none≢some q)
 
     pub both-pair : {y′ : Pat} {b b′ : Ty} {l₃ : List ℕ} {end : ℕ} → x ≡ ppair y y′ → b ≡ partOf left a → b′ ≡ partOf right a → Writes l l₁ at next (80 ∷ [])
         → SpellsBoth y c b l₁ l₂ next middle → SpellsBoth y′ d b′ l₂ l₃ middle end → SpellsBoth x z a l l₃ at end
@@ -90,7 +92,8 @@ module _ {x z : Pat} {a : Ty} {l : List ℕ} {at : ℕ} where
         go (suc zero) v s s′ q h i i′ = absurd (v refl)
         go (suc (suc zero)) v s s′ q h i i′ = absurd (none≢some q)
         go (suc (suc (suc zero))) v s s′ q h i i′ = absurd (none≢some q)
-        go {t = t} (suc (suc (suc (suc k)))) v (Shape.pair s u) (Shape.pair s′ u′) q h i i′ =
+        go (suc (suc (suc (suc (suc k))))) v s s′ q h i i′ = absurd (none≢some q)
+        go {t = t} (suc (suc (suc (suc zero)))) v (Shape.pair s u) (Shape.pair s′ u′) q h i i′ =
             let o = bind-some (meet y c) (λ m. meet y′ d >>= λ m′. some (ppair m m′)) q in
             let o′ = bind-some (meet y′ d) (λ m′. some (ppair (o .0) m′)) (o .2) in
             subst (λ m. Writes l l₃ at end (letters (leastIn m t))) (some-inj (o′ .2)) (writes-both w (writes-both (i .by (o .0) s s′ (o .1) (omega arith)) (i′ .by (o′ .0) u u′ (o′ .1) (omega arith))))

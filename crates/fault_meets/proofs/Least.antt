@@ -1,16 +1,15 @@
 -- The least value of a type: its length, and its letters written.
 use Prim.Native.Nat.{ℕ, _+_, _<_, _≤_, min}
-use native.Mathlib.Nat.{le-trans}
 use native.Mathlib.Omega.{arith}
-use mathlib.Core.Path.{_≡_, refl, sym, ap, ap₂, _∙_, subst}
+use mathlib.Core.Path.{_≡_, refl, sym, ap, _∙_, subst}
 use mathlib.Core.Bool.{Bool, true, false, cond}
-use mathlib.Core.List.{List, [], _∷_, _++_}
+use mathlib.Core.List.{List, [], _∷_}
 use lib.Dec.{leb}
 use lib.ListN.{length, length-append}
 use Rattle.limits.specs.Limits.{maxNodes}
-use Rattle.calculus.specs.Trees.{Ty, tunit, tsum, tprod, left, right, Val, vinj, vpair, typeNodes}
+use Rattle.calculus.specs.Trees.{Ty, tunit, tsum, tprod, left, right, vinj, typeNodes}
 use Rattle.calculus.specs.Letters.{letters}
-use Rattle.law_witnesses.specs.Seeking.{shorter, least}
+use Rattle.law_witnesses.specs.Seeking.{least}
 use Rattle.calculus.proofs.Basic.{leb-le, leb-false, le-leb, not-leb}
 use Rattle.model.proofs.Sizes.{of-small}
 use Rattle.law_witnesses.proofs.Overlaps.{least-of}

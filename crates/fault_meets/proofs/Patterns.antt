@@ -1,10 +1,10 @@
 -- The least value of a pattern, written.
-use Prim.Native.Nat.{ℕ, _+_, _≤_}
+use Prim.Native.Nat.{ℕ, _≤_}
 use native.Mathlib.Omega.{arith}
-use mathlib.Core.Path.{_≡_, refl, sym, ap, subst}
-use mathlib.Core.List.{List, [], _∷_, _++_}
+use mathlib.Core.Path.{_≡_, sym, subst}
+use mathlib.Core.List.{List, [], _∷_}
 use Rattle.limits.specs.Limits.{maxNodes}
-use Rattle.calculus.specs.Trees.{Ty, tunit, tsum, tprod, Tag, left, right, Pat, punit, pvar, pinj, ppair, typeNodes, part}
+use Rattle.calculus.specs.Trees.{Ty, Tag, left, right, Pat, punit, pvar, pinj, ppair, typeNodes}
 use Rattle.calculus.specs.Letters.{letterOf, letters}
 use Rattle.law_witnesses.specs.Shapes.{Shape}
 use Rattle.law_witnesses.specs.Seeking.{leastIn}

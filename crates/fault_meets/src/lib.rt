@@ -1,16 +1,30 @@
 // The least value of a type, of a pattern, and of two patterns, as letters in an area.
 
 use area_cells::put_byte;
+use codes::FIRST;
+use codes::KIND;
+use codes::LEFT;
+use codes::LETTER_LEFT;
+use codes::LETTER_PAIR;
+use codes::LETTER_RIGHT;
+use codes::LETTER_UNIT;
+use codes::PAIR;
+use codes::PRODUCT;
+use codes::RIGHT;
+use codes::SECOND;
+use codes::SUM;
+use codes::VARIABLE;
 use fault_tallies::first_part;
 use fault_tallies::second_part;
 use table_parts::pattern_part;
 use table_parts::type_part;
-use table_trees::above;
+use table_sizes::above;
 use table_trees::cell;
 use table_trees::pattern_cell;
 ghost use mathlib.Core.Path.{_≡_};
 ghost use Prim.Native.Nat.{min};
 ghost use lib.ListN.{length};
+ghost use Rattle.limits.specs.Limits.{lengths};
 ghost use Rattle.calculus.specs.Letters.{letters};
 ghost use Rattle.law_witnesses.specs.Seeking.{least};
 ghost use Rattle.table_trees.specs.Unfolding.{typeOf, patternOf};
@@ -18,44 +32,45 @@ ghost use Rattle.fault_meets.specs.Spelled.{SpellsLeast, SpellsIn, Spell
 
 // The letters of the least value of T line i; 128 stands for more than 127.
 pub fn least_length(t: &[u16], i: usize) -> usize
-    ensures { λ r. ⌜ r ≡ min 128 (length (letters (least (typeOf (now (t .entry)) i)))) ⌝ }
+    ensures { λ r. ⌜ r ≡ min lengths (length (letters (least (typeOf (now (t .entry)) i)))) ⌝ }
 {
-    let kind = cell(t, i, 1);
-    if kind == 0 {
-        return 1;
-    }
-    let m = least_length(t, type_part(t, i, 2));
-    let n = least_length(t, type_part(t, i, 3));
-    if kind == 1 {
+    let kind = cell(t, i, KIND);
+    if kind == SUM {
+        let m = least_length(t, type_part(t, i, FIRST));
+        let n = least_length(t, type_part(t, i, SECOND));
         if m <= n {
             return above(m, 0);
         }
         return above(n, 0);
     }
-    above(m, n)
+    if kind == PRODUCT {
+        let m = least_length(t, type_part(t, i, FIRST));
+        return above(m, least_length(t, type_part(t, i, SECOND)));
+    }
+    1
 }
 
 // Writes the least value of T line i from a place on, and gives the place behind it.
 pub fn write_least(t: &[u16], i: usize, out: &mut [u8], at: usize) -> usize
     ensures { λ r. ⌜ SpellsLeast (typeOf (now (t .entry)) i) (now (out .entry)) (now (out .exit)) at r ⌝ }
 {
-    let kind = cell(t, i, 1);
-    if kind == 0 {
-        return put_byte(out, at, 85);
-    }
-    let a = type_part(t, i, 2);
-    let b = type_part(t, i, 3);
-    if kind == 1 {
+    let kind = cell(t, i, KIND);
+    if kind == SUM {
+        let a = type_part(t, i, FIRST);
+        let b = type_part(t, i, SECOND);
         if least_length(t, a) <= least_length(t, b) {
-            let next = put_byte(out, at, 76);
+            let next = put_byte(out, at, LETTER_LEFT);
             return write_least(t, a, out, next);
         }
-        let next = put_byte(out, at, 82);
+        let next = put_byte(out, at, LETTER_RIGHT);
         return write_least(t, b, out, next);
     }
-    let next = put_byte(out, at, 80);
-    let middle = write_least(t, a, out, next);
-    write_least(t, b, out, middle)
+    if kind == PRODUCT {
+        let next = put_byte(out, at, LETTER_PAIR);
+        let middle = write_least(t, type_part(t, i, FIRST), out, next);
+        return write_least(t, type_part(t, i, SECOND), out, middle);
+    }
+    put_byte(out, at, LETTER_UNIT)
 }
 
 // The same for the least value of T line i that P line p matches.
@@ -69,28 +84,52 @@ pub fn write_least_in(
 ) -> usize
     ensures { λ r. ⌜ SpellsIn (patternOf (now (t .entry)) base p) (typeOf (now (t .entry)) i) (now (out .entry)) (now (out .exit)) at r ⌝ }
 {
-    let kind = pattern_cell(t, base, p, 1);
-    if kind == 0 {
-        return put_byte(out, at, 85);
-    }
-    if kind == 1 {
+    let kind = pattern_cell(t, base, p, KIND);
+    if kind == VARIABLE {
         return write_least(t, i, out, at);
     }
-    let q = pattern_part(t, base, p, 2);
-    let a = first_part(t, i);
-    if kind == 2 {
-        let next = put_byte(out, at, 76);
-        return write_least_in(t, base, q, a, out, next);
+    if kind == LEFT {
+        let next = put_byte(out, at, LETTER_LEFT);
+        return write_least_in(
+            t,
+            base,
+            pattern_part(t, base, p, FIRST),
+            first_part(t, i),
+            out,
+            next,
+        );
     }
-    let b = second_part(t, i);
-    if kind == 3 {
-        let next = put_byte(out, at, 82);
-        return write_least_in(t, base, q, b, out, next);
+    if kind == RIGHT {
+        let next = put_byte(out, at, LETTER_RIGHT);
+        return write_least_in(
+            t,
+            base,
+            pattern_part(t, base, p, FIRST),
+            second_part(t, i),
+            out,
+            next,
+        );
     }
-    let s = pattern_part(t, base, p, 3);
-    let next = put_byte(out, at, 80);
-    let middle = write_least_in(t, base, q, a, out, next);
-    write_least_in(t, base, s, b, out, middle)
+    if kind == PAIR {
+        let next = put_byte(out, at, LETTER_PAIR);
+        let middle = write_least_in(
+            t,
+            base,
+            pattern_part(t, base, p, FIRST),
+            first_part(t, i),
+            out,
+            next,
+        );
+        return write_least_in(
+            t,
+            base,
+            pattern_part(t, base, p, SECOND),
+            second_part(t, i),
+            out,
+            middle,
+        );
+    }
+    put_byte(out, at, LETTER_UNIT)
 }
 
 // The same for the least value of T line i that P lines p and q both match, where they do not clash.
@@ -108,32 +147,34 @@ pub fn write_common(
         (typeOf (now (t .entry)) i) (now (out .entry)) (now (out .exit)) at r
         ⌝ }
 {
-    let kp = pattern_cell(t, base, p, 1);
-    if kp == 1 {
+    let kp = pattern_cell(t, base, p, KIND);
+    if kp == VARIABLE {
         return write_least_in(t, base, q, i, out, at);
     }
-    let kq = pattern_cell(t, base, q, 1);
-    if kq == 1 {
+    let kq = pattern_cell(t, base, q, KIND);
+    if kq == VARIABLE {
         return write_least_in(t, base, p, i, out, at);
     }
-    if kp == 0 {
-        return put_byte(out, at, 85);
+    if kp == LEFT {
+        let a = pattern_part(t, base, p, FIRST);
+        let c = pattern_part(t, base, q, FIRST);
+        let next = put_byte(out, at, LETTER_LEFT);
+        return write_common(t, base, a, c, first_part(t, i), out, next);
     }
-    let a = pattern_part(t, base, p, 2);
-    let c = pattern_part(t, base, q, 2);
-    let x = first_part(t, i);
-    if kp == 2 {
-        let next = put_byte(out, at, 76);
-        return write_common(t, base, a, c, x, out, next);
+    if kp == RIGHT {
+        let a = pattern_part(t, base, p, FIRST);
+        let c = pattern_part(t, base, q, FIRST);
+        let next = put_byte(out, at, LETTER_RIGHT);
+        return write_common(t, base, a, c, second_part(t, i), out, next);
     }
-    let y = second_part(t, i);
-    if kp == 3 {
-        let next = put_byte(out, at, 82);
-        return write_common(t, base, a, c, y, out, next);
+    if kp == PAIR {
+        let a = pattern_part(t, base, p, FIRST);
+        let c = pattern_part(t, base, q, FIRST);
+        let b = pattern_part(t, base, p, SECOND);
+        let d = pattern_part(t, base, q, SECOND);
+        let next = put_byte(out, at, LETTER_PAIR);
+        let middle = write_common(t, base, a, c, first_part(t, i), out, next);
+        return write_common(t, base, b, d, second_part(t, i), out, middle);
     }
-    let b = pattern_part(t, base, p, 3);
-    let d = pattern_part(t, base, q, 3);
-    let next = put_byte(out, at, 80);
-    let middle = write_common(t, base, a, c, x, out, next);
-    write_common(t, base, b, d, y, out, middle)
+    put_byte(out, at, LETTER_UNIT)
 }

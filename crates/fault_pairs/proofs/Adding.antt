@@ -1,31 +1,31 @@
 -- One pair more.
-use Prim.Native.Nat.{ℕ, zero, suc, _+_, _-_, _<_, _≤_}
+use Prim.Native.Nat.{ℕ, _+_, _-_, _<_, _≤_}
 use native.Mathlib.Nat.{le-trans}
 use native.Mathlib.Omega.{arith}
 use mathlib.Core.Path.{_≡_, refl, sym, ap, ap₂, _∙_, subst}
 use mathlib.Core.Logic.{_⊎_, inl, inr}
-use mathlib.Core.Bool.{Bool, true, false, cond, not, _||_, false≢true}
+use mathlib.Core.Bool.{true, false, cond, false≢true}
 use mathlib.Core.Option.{Option, none, some}
-use mathlib.Core.List.{List, [], _∷_, _++_}
+use mathlib.Core.List.{List}
 use lib.ListN.{length, take, drop}
-use lib.Seq.{sets, sets-eq, take-append-seam}
+use lib.Seq.{sets-eq, take-append-seam}
 use Rattle.limits.specs.Limits.{maxNodes}
 use Rattle.calculus.specs.Tools.{_>>=_}
-use Rattle.calculus.specs.Trees.{Ty, Tag, left, right, Pat, punit, pvar, pinj, ppair, Val, typeNodes, sameTag}
+use Rattle.calculus.specs.Trees.{Ty, left, right, Pat, punit, pvar, pinj, ppair, Val, typeNodes}
 use Rattle.calculus.specs.Letters.{letters}
 use Rattle.calculus.specs.Clauses.{clash}
 use Rattle.law_witnesses.specs.Shapes.{Shape}
 use Rattle.calculus.specs.Paper.{Of}
 use Rattle.law_witnesses.specs.Showing.{sooner}
 use Rattle.law_witnesses.specs.Seeking.{leastIn, meet, better, inBoth}
-use Rattle.calculus.proofs.Basic.{none≢some, some-inj, or-true}
+use Rattle.calculus.proofs.Basic.{or-true}
 use Rattle.model.proofs.Sizes.{of-small}
 use Rattle.law_witnesses.proofs.Overlaps.{leastIn-of, meet-shape, meet-some}
-use Rattle.area_cells.specs.Areas.{Writes}
 use Rattle.check_overlap.specs.Comparison.{compare}
 use Rattle.check_overlap.proofs.Comparing.{compare-clash}
 use Rattle.fault_meets.specs.Spelled.{SpellsBoth}
 use Rattle.fault_pairs.specs.Pairs.{Stored, nothing, text, Adds}
+use Rattle.calculus.proofs.Letters.{letters-some}
 
 -- patterns that clash have no meet
 clash-none : (p q : Pat) → clash p q ≡ true → meet p q ≡ none
@@ -89,17 +89,12 @@ module _ {a : Ty} {p q : Pat} {common : List ℕ} {n : ℕ} (t : Tried a p q com
   pub adds-never : (out : List ℕ) (best : ℕ) → 127 < n → Adds a p q out out best best
   adds-never out best h = record { by = λ s s′ k x y. let r = t .by s s′ k in let b = r .5 in absurd (omega arith) }
 
-  some-letters : (v : Val) → 0 < length (letters v)
-  some-letters Val.vunit = omega arith
-  some-letters (Val.vinj u v) = omega arith
-  some-letters (Val.vpair v w) = omega arith
-
   pub adds-first : {out out′ : List ℕ} {best : ℕ} → best ≡ 0 → take n out′ ≡ take n common → Adds a p q out out′ best n
   adds-first {out} {out′} {best} z e = record { by = λ s s′ k x y. let r = t .by s s′ k in go x y (r .0) (r .1) (r .2) (r .3) (e ∙ r .4) }
     where
       go : (x : Option Val) → Stored a x out best → (v : Val) → Of v a → inBoth a p q ≡ some v → n ≡ length (letters v) → take n out′ ≡ letters v → Stored a (better (inBoth a p q) x) out′ n
       go none (nothing b) v o i l k = subst (λ y. Stored a (better y none) out′ n) (sym i) (text o l k)
-      go (some w) (text o′ b k′) v o i l k = let h = some-letters w in absurd (omega arith)
+      go (some w) (text o′ b k′) v o i l k = let h = letters-some w in absurd (omega arith)
 
   pub adds-old : {out : List ℕ} {best : ℕ} → (best ≡ 0 → ⊥) → true ≡ sooner (take best out) (take n common) → Adds a p q out out best best
   adds-old {out} {best} z e = record { by = λ s s′ k x y. let r = t .by s s′ k in go x y (r .0) (r .2) (r .4) }

@@ -1,14 +1,13 @@
 -- All pairs, from the last.
-use Prim.Native.Nat.{ℕ, zero, suc, _+_, _-_, _<_, _≤_}
-use native.Mathlib.Nat.{le-refl, le-trans}
+use Prim.Native.Nat.{ℕ, _+_, _-_, _<_, _≤_}
+use native.Mathlib.Nat.{le-refl}
 use native.Mathlib.Omega.{arith}
 use mathlib.Core.Path.{_≡_, refl, sym, ap, ap₂, _∙_, subst}
 use mathlib.Core.Logic.{_⊎_, inl, inr}
 use mathlib.Core.Bool.{Bool, true, false, cond}
 use mathlib.Core.Option.{Option, none, some}
 use mathlib.Core.List.{List, [], _∷_, _++_, List·Memᴰ, List·Memᴰ·head, List·Memᴰ·tail}
-use lib.ListN.{length, getD, take, drop, drop-of-length-le, take-append-drop}
-use lib.Seq.{drop-cons}
+use lib.ListN.{length, getD, take, drop, take-append-drop}
 use Rattle.limits.specs.Limits.{maxNodes}
 use Rattle.calculus.specs.Trees.{Ty, Pat, Val, typeNodes}
 use Rattle.calculus.specs.Letters.{letters}
@@ -17,21 +16,12 @@ use Rattle.law_witnesses.specs.Shapes.{Shape}
 use Rattle.law_witnesses.specs.Showing.{sooner, twice, setting}
 use Rattle.law_witnesses.specs.Seeking.{better, inBoth, overlapWith, overlapIn}
 use Rattle.calculus.proofs.Basic.{not-both, bool-cases}
-use Rattle.law_witnesses.proofs.Shortlex.{NotAfter, not-after-trans, not-after-sooner, sooner-not-after, total-order}
+use Rattle.law_witnesses.proofs.Shortlex.{not-after-trans, not-after-sooner, sooner-not-after, total-order}
 use Rattle.law_witnesses.proofs.Overlaps.{overlap-setting}
 use Rattle.table_trees.specs.Unfolding.{cellOf, patternOf}
-use Rattle.table_trees.specs.InTable.{patternsAt}
+use Rattle.table_walks.specs.InTable.{patternsAt}
 use Rattle.fault_pairs.specs.Pairs.{Stored, nothing, text, Adds, gather, gatherAll, AddsAll, Keeps, OverlapValue}
-
--- the rows from x on, line by line
-pub rows-line : (t : List ℕ) (base f : ℕ) (rows : List ℕ) (x : ℕ) → 0 < x → x ≤ length rows
-    → patternsAt t base f (drop (x - 1) rows) ≡ patternOf t base (cellOf t (getD rows (x - 1) 0) f) ∷ patternsAt t base f (drop x rows)
-rows-line t base f rows x p h =
-    let e : suc (x - 1) ≡ x = omega arith in
-    ap (patternsAt t base f) (drop-cons rows (x - 1) 0 (omega arith) ∙ ap (λ n. getD rows (x - 1) 0 ∷ drop n rows) e)
-
-rows-end : (t : List ℕ) (base f : ℕ) (rows : List ℕ) → patternsAt t base f (drop (length rows) rows) ≡ []
-rows-end t base f rows = ap (patternsAt t base f) (drop-of-length-le rows {i = length rows} (le-refl (length rows)))
+use Rattle.table_walks.proofs.Named.{rows-line, rows-end}
 
 -- ---- one pattern with others
 

@@ -1,14 +1,14 @@
 -- Comparing and copying letters.
 use Prim.Native.Nat.{ℕ, zero, suc, _+_, _<_, _≤_}
-use native.Mathlib.Nat.{le-refl, le-of-eq, le-of-lt, ne-of-gt, eq-or-lt-of-le}
+use native.Mathlib.Nat.{le-refl, le-of-eq, le-of-lt, ne-of-gt}
 use native.Mathlib.Numerals.{add-one}
 use native.Mathlib.Omega.{arith}
 use mathlib.Core.Path.{_≡_, refl, sym, ap, ap₂, _∙_, subst}
-use mathlib.Core.Bool.{Bool, true, false, cond, _||_}
+use mathlib.Core.Bool.{true, false, cond, _||_}
 use mathlib.Core.List.{List, [], _∷_, _++_}
-use lib.Dec.{ltb, eqb}
+use lib.Dec.{eqb}
 use lib.ListN.{length, getD, set, take, drop, length-set, drop-of-length-le}
-use lib.Seq.{drop-cons, take-suc, getD-set-same, drop-set-lt}
+use lib.Seq.{drop-cons, take-suc, getD-set-same, drop-set-lt, take-set-le}
 use Rattle.law_ranking.specs.Numbering.{before}
 use Rattle.law_witnesses.specs.Showing.{sooner}
 use Rattle.calculus.proofs.Basic.{lt-ltb, not-ltb, eq-eqb, not-eqb}
@@ -75,7 +75,7 @@ copied {from} {out₀} {out} {i} c h k =
       long = length-set out i (getD from i 0) ∙ c .long;
       same = ap (λ n. take n (set out i (getD from i 0))) (add-one i)
           ∙ take-suc (set out i (getD from i 0)) i 0 (subst (λ n. i < n) (sym (length-set out i (getD from i 0))) l)
-          ∙ ap₂ (λ p q. p ++ (q ∷ [])) (kept out i (getD from i 0) ∙ c .same) (getD-set-same out i (getD from i 0) 0 l)
+          ∙ ap₂ (λ p q. p ++ (q ∷ [])) (take-set-le i out i (getD from i 0) (le-refl i) ∙ c .same) (getD-set-same out i (getD from i 0) 0 l)
           ∙ sym (take-suc from i 0 h)
           ∙ ap (λ n. take n from) (sym (add-one i));
       rest = ap (λ n. drop n (set out i (getD from i 0))) (add-one i)
@@ -83,12 +83,6 @@ copied {from} {out₀} {out} {i} c h k =
           ∙ drop-one i out ∙ ap (drop 1) (c .rest) ∙ sym (drop-one i out₀)
           ∙ ap (λ n. drop n out₀) (sym (add-one i));
     }
-  where
-    kept : (l : List ℕ) (m b : ℕ) → take m (set l m b) ≡ take m l
-    kept [] zero b = refl
-    kept [] (suc m) b = refl
-    kept (z ∷ l) zero b = refl
-    kept (z ∷ l) (suc m) b = ap (λ r. z ∷ r) (kept l m b)
 
 pub finished : {from out₀ out : List ℕ} {i n : ℕ} → Copied from out₀ out i → i ≤ n → n ≤ i → (take n out ≡ take n from) × (drop n out ≡ drop n out₀)
 finished {from} {out₀} {out} {i = i} {n = n} c h k = let e : i ≡ n = omega arith in (subst (λ m. take m out ≡ take m from) e (c .same), subst (λ m. drop m out ≡ drop m out₀) e (c .rest))

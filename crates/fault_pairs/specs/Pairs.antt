@@ -8,10 +8,12 @@ use Rattle.limits.specs.Limits.{maxNodes}
 use Rattle.calculus.specs.Trees.{Ty, Pat, Val, typeNodes}
 use Rattle.calculus.specs.Letters.{letters}
 use Rattle.model.specs.Services.{written}
+use Rattle.table_trees.specs.Unfolding.{typeOf, patternOf}
+use Rattle.table_walks.specs.InTable.{patternsAt}
 use Rattle.law_witnesses.specs.Shapes.{Shape, Side}
 use Rattle.law_witnesses.specs.Showing.{twice, setting}
 use Rattle.calculus.specs.Paper.{Of}
-use Rattle.law_witnesses.specs.Seeking.{better, inBoth, overlapIn}
+use Rattle.law_witnesses.specs.Seeking.{better, inBoth}
 
 -- the first `best` bytes of an area are the letters of a value of the type; 0 stands for none
 pub data Stored (a : Ty) : Option Val → List ℕ → ℕ → Type 0 where
@@ -40,3 +42,22 @@ pub record Keeps (a : Ty) (ps : List Pat) (out : List ℕ) (best : ℕ) : Type 0
 pub record OverlapValue (a : Ty) (ps : List Pat) (out₀ out : List ℕ) (r : ℕ) : Type 0 where
   pub given : Side a ps → (v : Val) → setting a (twice ps) ≡ some v → (r ≡ length (letters v)) × (out ≡ written (letters v) out₀)
   pub nothing : Side a ps → setting a (twice ps) ≡ none → (r ≡ 0) × (out ≡ out₀)
+
+-- ---- contracts: out is the area at entry, out′ at exit, with `best` and r letters kept there
+
+-- the first n bytes copied, the others left
+abbrev pub FrontCopied : List ℕ → ℕ → List ℕ → List ℕ → Type 0
+FrontCopied from n out out′ = (take n out′ ≡ take n from) × (drop n out′ ≡ drop n out)
+
+-- P lines p and q put to those kept for T line i
+abbrev pub PairAdded : List ℕ → ℕ → ℕ → ℕ → ℕ → List ℕ → List ℕ → ℕ → ℕ → Type 0
+PairAdded t base p q i out out′ best r = Adds (typeOf t i) (patternOf t base p) (patternOf t base q) out out′ best r
+
+-- P line p with each pattern in field f of the rows
+abbrev pub RowAdded : List ℕ → ℕ → ℕ → ℕ → List ℕ → ℕ → List ℕ → List ℕ → ℕ → ℕ → Type 0
+RowAdded t base p f rows i out out′ best r =
+    AddsAll (typeOf t i) (patternOf t base p) (patternsAt t base f rows) out out′ best r
+
+-- any two of the patterns in field f of the rows
+abbrev pub PairsKept : List ℕ → ℕ → ℕ → List ℕ → ℕ → List ℕ → ℕ → Type 0
+PairsKept t base f rows i out′ r = Keeps (typeOf t i) (patternsAt t base f rows) out′ r

@@ -3,15 +3,16 @@
 use area_words::wide;
 use check_overlap::compare;
 use fault_meets::write_common;
+use limits::RESULT_LENGTH;
 use table_trees::cell;
 ghost use mathlib.Core.Path.{_≡_};
 ghost use Prim.Native.Nat.{_≤_};
-ghost use lib.ListN.{length, take, drop};
-ghost use Rattle.limits.specs.Limits.{tableLength};
+ghost use lib.ListN.{length};
+ghost use Rattle.limits.specs.Limits.{tableLength, resultLength};
 ghost use Rattle.law_witnesses.specs.Showing.{sooner};
-ghost use Rattle.table_trees.specs.Unfolding.{typeOf, patternOf};
-ghost use Rattle.table_trees.specs.InTable.{patternsAt};
-ghost use Rattle.fault_pairs.specs.Pairs.{Adds, AddsAll, Keeps, OverlapValue};
+ghost use Rattle.table_trees.specs.Unfolding.{typeOf};
+ghost use Rattle.table_walks.specs.InTable.{patternsAt};
+ghost use Rattle.fault_pairs.specs.Pairs.{FrontCopied, PairAdded, RowAdded, PairsKept, OverlapValue};
 
 // Whether letters come before others: fewer, or as many and earlier bytes.
 pub fn is_sooner(x: &[u8], y: &[u8]) -> bool
@@ -39,7 +40,7 @@ pub fn is_sooner(x: &[u8], y: &[u8]) -> bool
 // Copies the first n bytes.
 fn copy_front(from: &[u8], n: usize, out: &mut [u8])
     requires { ⌜ (n ≤ length (now from)) × (n ≤ length (now out)) ⌝ }
-    ensures { λ r. ⌜ (take n (now (out .exit)) ≡ take n (now (from .entry))) × (drop n (now (out .exit)) ≡ drop n (now (out .entry))) ⌝ }
+    ensures { λ r. ⌜ FrontCopied (now (from .entry)) n (now (out .entry)) (now (out .exit)) ⌝ }
 {
     let mut i: usize = 0;
     while i < n {
@@ -59,19 +60,16 @@ pub fn with_pair(
     best: usize,
     out: &mut [u8],
 ) -> usize
-    requires { ⌜ (tableLength ≤ length (now t)) × (127 ≤ length (now out)) × (best ≤ 127) ⌝ }
-    ensures { λ r. ⌜
-        (r ≤ 127) × Adds (typeOf (now (t .entry)) i) (patternOf (now (t .entry)) base p)
-        (patternOf (now (t .entry)) base q) (now (out .entry)) (now (out .exit)) best r
-        ⌝ }
+    requires { ⌜ (tableLength ≤ length (now t)) × (resultLength ≤ length (now out)) × (best ≤ resultLength) ⌝ }
+    ensures { λ r. ⌜ (r ≤ resultLength) × PairAdded (now (t .entry)) base p q i (now (out .entry)) (now (out .exit)) best r ⌝ }
 {
     let c = compare(t, base, p, q);
     if c.clash {
         return best;
     }
-    let mut common = [0u8; 127];
+    let mut common = [0u8; RESULT_LENGTH];
     let n = write_common(t, base, p, q, i, &mut common, 0);
-    if 127 < n {
+    if RESULT_LENGTH < n {
         return best;
     }
     if best == 0 {
@@ -96,11 +94,10 @@ pub fn add_row(
     best: usize,
     out: &mut [u8],
 ) -> usize
-    requires { ⌜ (tableLength ≤ length (now t)) × (127 ≤ length (now out)) × (best ≤ 127) ⌝ }
+    requires { ⌜ (tableLength ≤ length (now t)) × (resultLength ≤ length (now out)) × (best ≤ resultLength) ⌝ }
     ensures { λ r. ⌜
-        (r ≤ 127) × AddsAll (typeOf (now (t .entry)) i) (patternOf (now (t .entry)) base p)
-        (patternsAt (now (t .entry)) base f (now (rows .entry))) (now (out .entry))
-        (now (out .exit)) best r
+        (r ≤ resultLength)
+        × RowAdded (now (t .entry)) base p f (now (rows .entry)) i (now (out .entry)) (now (out .exit)) best r
         ⌝ }
 {
     let mut b = best;
@@ -123,12 +120,8 @@ pub fn overlap_value(
     i: usize,
     out: &mut [u8],
 ) -> usize
-    requires { ⌜ (tableLength ≤ length (now t)) × (127 ≤ length (now out)) ⌝ }
-    ensures { λ r. ⌜
-        (r ≤ 127)
-        × Keeps (typeOf (now (t .entry)) i) (patternsAt (now (t .entry)) base f (now (rows .entry)))
-        (now (out .exit)) r
-        ⌝ }
+    requires { ⌜ (tableLength ≤ length (now t)) × (resultLength ≤ length (now out)) ⌝ }
+    ensures { λ r. ⌜ (r ≤ resultLength) × PairsKept (now (t .entry)) base f (now (rows .entry)) i (now (out .exit)) r ⌝ }
 {
     let mut best: usize = 0;
     let mut x = rows.len();
@@ -150,13 +143,13 @@ pub fn show_overlap(
     i: usize,
     out: &mut [u8],
 ) -> usize
-    requires { ⌜ (tableLength ≤ length (now t)) × (127 ≤ length (now out)) ⌝ }
+    requires { ⌜ (tableLength ≤ length (now t)) × (resultLength ≤ length (now out)) ⌝ }
     ensures { λ r. ⌜
         OverlapValue (typeOf (now (t .entry)) i) (patternsAt (now (t .entry)) base f (now (rows .entry)))
         (now (out .entry)) (now (out .exit)) r
         ⌝ }
 {
-    let mut kept = [0u8; 127];
+    let mut kept = [0u8; RESULT_LENGTH];
     let n = overlap_value(t, base, f, rows, i, &mut kept);
     copy_front(&kept, n, out);
     n

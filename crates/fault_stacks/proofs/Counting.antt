@@ -5,16 +5,17 @@ use native.Mathlib.Omega.{arith}
 use mathlib.Core.Path.{_≡_, refl, sym, ap, ap₂, _∙_, subst}
 use mathlib.Core.Logic.{_⊎_, inl, inr}
 use mathlib.Core.List.{List, [], _∷_, map}
-use lib.ListN.{length, getD, set, drop, length-set}
+use lib.ListN.{length, getD, set, drop, length-set, drop-of-length-le}
 use lib.Seq.{getD-set-same, getD-set-other, drop-cons}
 use Rattle.calculus.specs.Trees.{Ty, Pat}
 use Rattle.law_witnesses.specs.Shapes.{Shape}
 use Rattle.law_witnesses.specs.Seeking.{howMany, ways}
 use Rattle.table_trees.specs.Unfolding.{typeOf, patternOf}
 use Rattle.fault_tallies.proofs.Counting.{held-as}
-use Rattle.fault_tallies.specs.Tallies.{modulus, lengths, Holds, more, moreIn}
+use Rattle.fault_tallies.specs.Tallies.{modulus, Holds, more, moreIn}
 use Rattle.fault_tallies.proofs.Ways.{more-all, more-in}
-use Rattle.fault_stacks.specs.Stacks.{typesFrom, rowFrom, Shapes, also}
+use Rattle.fault_stacks.specs.Stacks.{typesFrom, rowFrom, Shapes, also, RowHolds}
+use Rattle.limits.specs.Limits.{lengths}
 
 pub record Zeroed (k : List ℕ) (i : ℕ) : Type 0 where
   pub within : i ≤ 128
@@ -37,12 +38,6 @@ empty-counts k i z h = record { at = go }
 
 -- ---- two functions that agree
 
-drop-end : (s : List ℕ) (n : ℕ) → length s ≤ n → drop n s ≡ []
-drop-end [] zero h = refl
-drop-end [] (suc n) h = refl
-drop-end (x ∷ s) zero h = absurd (omega arith)
-drop-end (x ∷ s) (suc n) h = drop-end s n (omega arith)
-
 -- the line before
 from-line : (s : List ℕ) (c : ℕ) → 0 < c → c ≤ length s → drop (c - 1) s ≡ getD s (c - 1) 0 ∷ drop c s
 from-line s c p h =
@@ -51,7 +46,7 @@ from-line s c p h =
 
 module _ (t : List ℕ) (ts : List ℕ) where
   pub types-end : (c : ℕ) → length ts ≤ c → typesFrom t ts c ≡ []
-  types-end c h = ap (map (typeOf t)) (drop-end ts c h)
+  types-end c h = ap (map (typeOf t)) (drop-of-length-le ts h)
 
   pub types-line : (c : ℕ) → 0 < c → c ≤ length ts → typesFrom t ts (c - 1) ≡ typeOf t (getD ts (c - 1) 0) ∷ typesFrom t ts c
   types-line c p h = ap (map (typeOf t)) (from-line ts c p h)
@@ -72,16 +67,12 @@ module _ (t : List ℕ) (ts : List ℕ) where
 
 module _ (t : List ℕ) (base : ℕ) (ps ts : List ℕ) where
   pub row-end : (c : ℕ) → length ps ≤ c → rowFrom t base ps c ≡ []
-  row-end c h = ap (map (patternOf t base)) (drop-end ps c h)
+  row-end c h = ap (map (patternOf t base)) (drop-of-length-le ps h)
 
   pub row-line : (c : ℕ) → 0 < c → c ≤ length ps → rowFrom t base ps (c - 1) ≡ patternOf t base (getD ps (c - 1) 0) ∷ rowFrom t base ps c
   row-line c p h = ap (map (patternOf t base)) (from-line ps c p h)
 
-  -- what holds of the lines from c on, where they fit
-  abbrev pub RowHolds : List ℕ → ℕ → Type 0
-  RowHolds k c = Shapes (rowFrom t base ps c) (typesFrom t ts c) → Holds k (λ n. ways n (typesFrom t ts c) (rowFrom t base ps c))
-
-  pub row-start : {k : List ℕ} → length ps ≡ 128 → length ts ≡ 128 → Holds k (λ n. ways n [] []) → RowHolds k 128
+  pub row-start : {k : List ℕ} → length ps ≡ 128 → length ts ≡ 128 → Holds k (λ n. ways n [] []) → RowHolds t base ps ts k 128
   row-start e f h s =
       held-as (λ n. ways n (typesFrom t ts 128) (rowFrom t base ps 128))
       (λ r. sym (ap₂ (ways r) (types-end t ts 128 (omega arith)) (row-end 128 (omega arith)))) h
@@ -89,8 +80,8 @@ module _ (t : List ℕ) (base : ℕ) (ps ts : List ℕ) where
   head-tail : {p : Pat} {a : Ty} {qs : List Pat} {as' : List Ty} → Shapes (p ∷ qs) (a ∷ as') → Shape p a × Shapes qs as'
   head-tail (also h s) = (h, s)
 
-  pub row-step : {k l : List ℕ} (c : ℕ) → 0 < c → c ≤ length ps → c ≤ length ts → RowHolds k c
-      → ((W : ℕ → ℕ) → Holds k W → Holds l (moreIn (patternOf t base (getD ps (c - 1) 0)) (typeOf t (getD ts (c - 1) 0)) W)) → RowHolds l (c - 1)
+  pub row-step : {k l : List ℕ} (c : ℕ) → 0 < c → c ≤ length ps → c ≤ length ts → RowHolds t base ps ts k c
+      → ((W : ℕ → ℕ) → Holds k W → Holds l (moreIn (patternOf t base (getD ps (c - 1) 0)) (typeOf t (getD ts (c - 1) 0)) W)) → RowHolds t base ps ts l (c - 1)
   row-step c p h g below f s =
       let r = row-line c p h in
       let u = types-line t ts c p g in

@@ -1,20 +1,18 @@
 -- Several letters: what is left of the way gives what the whole gives.
-use Prim.Native.Nat.{ℕ, zero, suc, _+_, _-_, _<_, _≤_}
-use native.Mathlib.Numerals.{add-one}
+use Prim.Native.Nat.{ℕ, _+_, _-_, _<_, _≤_}
 use native.Mathlib.Omega.{arith}
 use mathlib.Core.Path.{_≡_, refl, sym, ap, _∙_}
 use mathlib.Core.Bool.{Bool, cond, true, false}
 use mathlib.Core.Option.{none, some}
 use mathlib.Core.List.{List, [], _∷_, map}
 use lib.Dec.{eqb}
-use lib.ListN.{length, getD, set, drop, length-set}
-use lib.Seq.{drop-cons}
+use lib.ListN.{length, getD, set, drop, length-set, drop-of-length-le}
 use Rattle.calculus.specs.Tools.{_>>=_}
 use Rattle.law_witnesses.specs.Seeking.{after}
 use Rattle.table_trees.specs.Unfolding.{typeOf, patternOf}
-use Rattle.fault_stacks.specs.Stacks.{typesFrom, rowFrom, moveOf, topAfter, typesAlong, rowAlong}
+use Rattle.fault_stacks.specs.Stacks.{typesFrom, rowFrom, moveOf, topAfter, typesAlong, rowAlong, TypesStepped, TypesWalked, RowWalked}
 use Rattle.fault_stacks.proofs.Counting.{types-end, row-end}
-use Rattle.fault_stacks.proofs.Stepping.{replaced, Stepped}
+use Rattle.calculus.proofs.Basic.{drop-set-same, from-byte}
 
 -- the place moves by at most one
 pub top-near : (c top : ℕ) → 0 < top → (top ≤ topAfter c top + 1) × (topAfter c top ≤ top + 1)
@@ -27,27 +25,12 @@ top-near c top p = go (eqb c 85) (eqb c 76) (eqb c 82)
     go false false false = (omega arith, omega arith)
 
 last-line : (s : List ℕ) (v : ℕ) → length s ≡ 128 → drop 127 (set s 127 v) ≡ v ∷ []
-last-line s v e = replaced s 127 (omega arith) v ∙ ap (λ l. v ∷ l) (drop-past s 128 (omega arith))
-  where
-    drop-past : (s : List ℕ) (n : ℕ) → length s ≤ n → drop n s ≡ []
-    drop-past [] zero h = refl
-    drop-past [] (suc n) h = refl
-    drop-past (x ∷ s) zero h = absurd (omega arith)
-    drop-past (x ∷ s) (suc n) h = drop-past s n (omega arith)
-
-rest-cons : (w : List ℕ) (n : ℕ) → n < length w → drop n w ≡ getD w n 0 ∷ drop (n + 1) w
-rest-cons w n h = drop-cons w n 0 h ∙ ap (λ k. getD w n 0 ∷ drop k w) (sym (add-one n))
+last-line s v e = drop-set-same s 127 v (omega arith) ∙ ap (λ l. v ∷ l) (drop-of-length-le s {i = 128} (omega arith))
 
 -- nothing is to come any more
 along-none : (w : List ℕ) → typesAlong w [] ≡ []
 along-none [] = refl
 along-none (c ∷ w) = along-none w
-
-drop-all : (w : List ℕ) (n : ℕ) → length w ≤ n → drop n w ≡ []
-drop-all [] zero h = refl
-drop-all [] (suc n) h = refl
-drop-all (x ∷ w) zero h = absurd (omega arith)
-drop-all (x ∷ w) (suc n) h = drop-all w n (omega arith)
 
 -- ---- T lines
 
@@ -61,7 +44,7 @@ pub record TypesOn (t w s : List ℕ) (i n top : ℕ) : Type 0 where
 pub types-on : (t w s : List ℕ) (i : ℕ) → length s ≡ 128 → TypesOn t w (set s 127 i) i 0 127
 types-on t w s i e = record { within = omega arith; lower = omega arith; upper = omega arith; long = length-set s 127 i ∙ e; whole = ap (λ l. typesAlong w (map (typeOf t) l)) (last-line s i e) }
 
-pub types-more : {t w s s′ : List ℕ} {i n top r : ℕ} → TypesOn t w s i n top → n < length w → top ≤ 127 → length w ≤ 127 → length s′ ≡ length s → Stepped t (getD w n 0) s s′ top r
+pub types-more : {t w s s′ : List ℕ} {i n top r : ℕ} → TypesOn t w s i n top → n < length w → top ≤ 127 → length w ≤ 127 → length s′ ≡ length s → TypesStepped t (getD w n 0) s s′ top r
     → TypesOn t w s′ i (n + 1) r
 types-more {t} {w} {s} {s′} {i} {n} {top} {r} o h b l e st =
     let near = top-near (getD w n 0) top (omega (arith, o .lower)) in
@@ -70,17 +53,17 @@ types-more {t} {w} {s} {s′} {i} {n} {top} {r} o h b l e st =
       lower = omega (arith, o .lower, near .0, st .0);
       upper = omega (arith, near .1, st .0);
       long = e ∙ o .long;
-      whole = ap (typesAlong (drop (n + 1) w)) (st .1) ∙ ap (λ x. typesAlong x (typesFrom t s top)) (sym (rest-cons w n h)) ∙ o .whole;
+      whole = ap (typesAlong (drop (n + 1) w)) (st .1) ∙ ap (λ x. typesAlong x (typesFrom t s top)) (sym (from-byte w n h)) ∙ o .whole;
     }
 
-pub types-none : {t w s : List ℕ} {i n top : ℕ} → TypesOn t w s i n top → 127 < top → typesFrom t s 128 ≡ typesAlong w (typeOf t i ∷ [])
+pub types-none : {t w s : List ℕ} {i n top : ℕ} → TypesOn t w s i n top → 127 < top → TypesWalked t w s i 128
 types-none {t} {w} {s} {i} {n} {top} o h =
     let z = types-end t s 128 (omega (arith, o .long)) in
     let y = types-end t s top (omega (arith, o .long)) in
     z ∙ sym (along-none (drop n w)) ∙ ap (typesAlong (drop n w)) (sym y) ∙ o .whole
 
-pub types-all : {t w s : List ℕ} {i n top : ℕ} → TypesOn t w s i n top → length w ≤ n → typesFrom t s top ≡ typesAlong w (typeOf t i ∷ [])
-types-all {t} {w} {s} {i} {n} {top} o h = ap (λ x. typesAlong x (typesFrom t s top)) (sym (drop-all w n h)) ∙ o .whole
+pub types-all : {t w s : List ℕ} {i n top : ℕ} → TypesOn t w s i n top → length w ≤ n → TypesWalked t w s i top
+types-all {t} {w} {s} {i} {n} {top} o h = ap (λ x. typesAlong x (typesFrom t s top)) (sym (drop-of-length-le w h)) ∙ o .whole
 
 -- ---- P lines
 
@@ -93,7 +76,7 @@ row-on t base w s p e = record { long = length-set s 127 p ∙ e; whole = ap (λ
 
 module _ {t : List ℕ} {base : ℕ} {w s : List ℕ} {p n top : ℕ} (o : RowOn t base w s p n top) (h : n < length w) where
   one-more : rowAlong (drop n w) (rowFrom t base s top) ≡ (after (moveOf (getD w n 0)) (rowFrom t base s top) >>= λ r. rowAlong (drop (n + 1) w) r)
-  one-more = ap (λ x. rowAlong x (rowFrom t base s top)) (rest-cons w n h)
+  one-more = ap (λ x. rowAlong x (rowFrom t base s top)) (from-byte w n h)
 
   pub row-more : (s′ : List ℕ) {r : ℕ} → r ≡ topAfter (getD w n 0) top → length s′ ≡ length s → after (moveOf (getD w n 0)) (rowFrom t base s top) ≡ some (rowFrom t base s′ (topAfter (getD w n 0) top))
       → RowOn t base w s′ p (n + 1) r
@@ -110,20 +93,15 @@ module _ {t : List ℕ} {base : ℕ} {w s : List ℕ} {p n top : ℕ} (o : RowOn
   row-none b = row-dead (ap (after (moveOf (getD w n 0))) (row-end t base s s top (omega (arith, o .long))))
 
 pub row-all : {t : List ℕ} {base : ℕ} {w s : List ℕ} {p n top : ℕ} → RowOn t base w s p n top → length w ≤ n → rowAlong w (patternOf t base p ∷ []) ≡ some (rowFrom t base s top)
-row-all {t} {base} {w} {s} {p} {n} {top} o h = sym (o .whole) ∙ ap (λ x. rowAlong x (rowFrom t base s top)) (drop-all w n h)
+row-all {t} {base} {w} {s} {p} {n} {top} o h = sym (o .whole) ∙ ap (λ x. rowAlong x (rowFrom t base s top)) (drop-of-length-le w h)
 
 -- both
 pub record On (t : List ℕ) (base : ℕ) (w ps ts : List ℕ) (p i n top : ℕ) : Type 0 where
   pub types : TypesOn t w ts i n top
   pub row : RowOn t base w ps p n top
 
-abbrev pub Walked : List ℕ → ℕ → List ℕ → List ℕ → List ℕ → ℕ → ℕ → ℕ → Type 0
-Walked t base w ps ts p i r =
-    (r ≤ 128 → (rowAlong w (patternOf t base p ∷ []) ≡ some (rowFrom t base ps r)) × (typesFrom t ts r ≡ typesAlong w (typeOf t i ∷ [])))
-    × (128 < r → rowAlong w (patternOf t base p ∷ []) ≡ none)
-
-pub walked-dead : (t : List ℕ) (base : ℕ) (w ps ts : List ℕ) (p i : ℕ) → rowAlong w (patternOf t base p ∷ []) ≡ none → Walked t base w ps ts p i 129
+pub walked-dead : (t : List ℕ) (base : ℕ) (w ps ts : List ℕ) (p i : ℕ) → rowAlong w (patternOf t base p ∷ []) ≡ none → RowWalked t base w ps ts p i 129
 walked-dead t base w ps ts p i e = (λ h. absurd (omega arith), λ h. e)
 
-pub walked-all : {t : List ℕ} {base : ℕ} {w ps ts : List ℕ} {p i n top : ℕ} → On t base w ps ts p i n top → length w ≤ n → Walked t base w ps ts p i top
+pub walked-all : {t : List ℕ} {base : ℕ} {w ps ts : List ℕ} {p i n top : ℕ} → On t base w ps ts p i n top → length w ≤ n → RowWalked t base w ps ts p i top
 walked-all o h = (λ b. (row-all (o .row) h, types-all (o .types) h), λ b. absurd (omega (arith, o .types .upper)))

@@ -1,29 +1,39 @@
 // What is still to come of a value after some letters, as lines in an array of 128, and the counts of it.
 
+use codes::FIRST;
+use codes::KIND;
+use codes::LEFT;
+use codes::LETTER_LEFT;
+use codes::LETTER_RIGHT;
+use codes::LETTER_UNIT;
+use codes::PAIR;
+use codes::RIGHT;
+use codes::SECOND;
+use codes::VARIABLE;
 use fault_tallies::count_pattern;
 use fault_tallies::count_type;
 use fault_tallies::first_part;
 use fault_tallies::second_part;
+use limits::LENGTHS;
+use limits::MAX_NODES;
 use table_parts::pattern_part;
 use table_trees::pattern_cell;
 ghost use mathlib.Core.Path.{_≡_};
 ghost use Prim.Native.Nat.{_≤_, _<_};
-ghost use mathlib.Core.Bool.{true, false};
-ghost use mathlib.Core.Option.{none, some};
-ghost use mathlib.Core.List.{[], _∷_};
+ghost use mathlib.Core.List.{[]};
 ghost use lib.ListN.{length};
-ghost use Rattle.table_trees.specs.Unfolding.{typeOf, patternOf};
-ghost use Rattle.law_witnesses.specs.Seeking.{howMany, ways, after};
+ghost use Rattle.limits.specs.Limits.{maxNodes, lengths};
+ghost use Rattle.law_witnesses.specs.Seeking.{howMany, ways};
 ghost use Rattle.fault_tallies.specs.Tallies.{Holds};
-ghost use Rattle.fault_stacks.specs.Stacks.{typesFrom, rowFrom, Shapes, moveOf, typesAfter, topAfter, typesAlong, rowAlong};
+ghost use Rattle.fault_stacks.specs.Stacks.{typesFrom, RowHolds, TypesStepped, RowStepped, TypesWalked, RowWalked};
 
 // Nothing is to come.
 pub fn no_more(k: &mut [u64])
-    requires { ⌜ length (now k) ≡ 128 ⌝ }
+    requires { ⌜ length (now k) ≡ lengths ⌝ }
     ensures { λ r. ⌜ Holds (now (k .exit)) (λ n. ways n [] []) ⌝ }
 {
     let mut i: usize = 0;
-    while i < 128 {
+    while i < LENGTHS {
         k[i] = 0;
         i += 1;
     }
@@ -32,11 +42,11 @@ pub fn no_more(k: &mut [u64])
 
 // The ways to go on, by letters: all.
 pub fn count_types(t: &[u16], ts: &[usize], top: usize, k: &mut [u64])
-    requires { ⌜ (length (now ts) ≡ 128) × (length (now k) ≡ 128) × (top ≤ 128) ⌝ }
+    requires { ⌜ (length (now ts) ≡ lengths) × (length (now k) ≡ lengths) × (top ≤ lengths) ⌝ }
     ensures { λ r. ⌜ Holds (now (k .exit)) (λ n. howMany n (typesFrom (now (t .entry)) (now (ts .entry)) top)) ⌝ }
 {
     no_more(k);
-    let mut c: usize = 128;
+    let mut c: usize = LENGTHS;
     while top < c {
         c -= 1;
         count_type(t, ts[c], k);
@@ -45,16 +55,11 @@ pub fn count_types(t: &[u16], ts: &[usize], top: usize, k: &mut [u64])
 
 // Those that a row of patterns matches.
 pub fn count_row(t: &[u16], base: usize, ps: &[usize], ts: &[usize], top: usize, k: &mut [u64])
-    requires { ⌜ (length (now ps) ≡ 128) × (length (now ts) ≡ 128) × (length (now k) ≡ 128) × (top ≤ 128) ⌝ }
-    ensures { λ r. ⌜
-        (Shapes (rowFrom (now (t .entry)) base (now (ps .entry)) top)
-        (typesFrom (now (t .entry)) (now (ts .entry)) top)
-        → Holds (now (k .exit))
-        (λ n. ways n (typesFrom (now (t .entry)) (now (ts .entry)) top) (rowFrom (now (t .entry)) base (now (ps .entry)) top)))
-        ⌝ }
+    requires { ⌜ (length (now ps) ≡ lengths) × (length (now ts) ≡ lengths) × (length (now k) ≡ lengths) × (top ≤ lengths) ⌝ }
+    ensures { λ r. ⌜ RowHolds (now (t .entry)) base (now (ps .entry)) (now (ts .entry)) (now (k .exit)) top ⌝ }
 {
     no_more(k);
-    let mut c: usize = 128;
+    let mut c: usize = LENGTHS;
     while top < c {
         c -= 1;
         count_pattern(t, base, ps[c], ts[c], k);
@@ -63,23 +68,20 @@ pub fn count_row(t: &[u16], base: usize, ps: &[usize], ts: &[usize], top: usize,
 
 // The T lines after one letter more; the place of the next one.
 pub fn step_types(t: &[u16], ts: &mut [usize], top: usize, c: u8) -> usize
-    requires { ⌜ (length (now ts) ≡ 128) × (0 < top) × (top < 128) ⌝ }
-    ensures { λ r. ⌜
-        (r ≡ topAfter c top) × (typesFrom (now (t .entry)) (now (ts .exit)) r ≡ typesAfter (moveOf c)
-        (typesFrom (now (t .entry)) (now (ts .entry)) top))
-        ⌝ }
+    requires { ⌜ (length (now ts) ≡ lengths) × (0 < top) × (top < lengths) ⌝ }
+    ensures { λ r. ⌜ TypesStepped (now (t .entry)) c (now (ts .entry)) (now (ts .exit)) top r ⌝ }
 {
-    if c == 85 {
+    if c == LETTER_UNIT {
         return top + 1;
     }
     let i = ts[top];
-    if c == 76 {
+    if c == LETTER_LEFT {
         ts[top] = first_part(t, i);
         return top;
     }
     let b = second_part(t, i);
     ts[top] = b;
-    if c == 82 {
+    if c == LETTER_RIGHT {
         return top;
     }
     let next = top - 1;
@@ -89,68 +91,67 @@ pub fn step_types(t: &[u16], ts: &mut [usize], top: usize, c: u8) -> usize
 
 // The P lines after one letter more, if the row begins with it; the next one then stands where the next T line does.
 pub fn step_row(t: &[u16], base: usize, ps: &mut [usize], top: usize, c: u8) -> bool
-    requires { ⌜ (length (now ps) ≡ 128) × (0 < top) × (top < 128) ⌝ }
-    ensures { λ r. ⌜
-        ((r ≡ true → after (moveOf c) (rowFrom (now (t .entry)) base (now (ps .entry)) top) ≡ some
-        (rowFrom (now (t .entry)) base (now (ps .exit)) (topAfter c top)))
-        × (r ≡ false → after (moveOf c) (rowFrom (now (t .entry)) base (now (ps .entry)) top) ≡ none))
-        ⌝ }
+    requires { ⌜ (length (now ps) ≡ lengths) × (0 < top) × (top < lengths) ⌝ }
+    ensures { λ r. ⌜ RowStepped (now (t .entry)) base c (now (ps .entry)) (now (ps .exit)) top r ⌝ }
 {
     let p = ps[top];
-    let kind = pattern_cell(t, base, p, 1);
-    if c == 85 {
-        if kind < 2 {
+    let kind = pattern_cell(t, base, p, KIND);
+    if c == LETTER_UNIT {
+        if kind == LEFT {
+            return false;
+        }
+        if kind == RIGHT {
+            return false;
+        }
+        if kind == PAIR {
+            return false;
+        }
+        return true;
+    }
+    if c == LETTER_LEFT {
+        if kind == VARIABLE {
+            return true;
+        }
+        if kind == LEFT {
+            ps[top] = pattern_part(t, base, p, FIRST);
             return true;
         }
         return false;
     }
-    if c == 76 {
-        if kind == 1 {
+    if c == LETTER_RIGHT {
+        if kind == VARIABLE {
             return true;
         }
-        if kind == 2 {
-            ps[top] = pattern_part(t, base, p, 2);
-            return true;
-        }
-        return false;
-    }
-    if c == 82 {
-        if kind == 1 {
-            return true;
-        }
-        if kind == 3 {
-            ps[top] = pattern_part(t, base, p, 2);
+        if kind == RIGHT {
+            ps[top] = pattern_part(t, base, p, FIRST);
             return true;
         }
         return false;
     }
     let next = top - 1;
-    if kind == 1 {
+    if kind == VARIABLE {
         ps[next] = p;
         return true;
     }
-    if kind < 4 {
-        return false;
+    if kind == PAIR {
+        ps[top] = pattern_part(t, base, p, SECOND);
+        ps[next] = pattern_part(t, base, p, FIRST);
+        return true;
     }
-    ps[top] = pattern_part(t, base, p, 3);
-    ps[next] = pattern_part(t, base, p, 2);
-    true
+    false
 }
 
 // The T lines still to come after some letters of a value of T line i, from the place that is given on.
 pub fn walk_types(t: &[u16], i: usize, w: &[u8], ts: &mut [usize]) -> usize
-    requires { ⌜ (length (now ts) ≡ 128) × (length (now w) ≤ 127) ⌝ }
-    ensures { λ r. ⌜
-        (r ≤ 128) × (typesFrom (now (t .entry)) (now (ts .exit)) r ≡ typesAlong (now (w .entry))
-        (typeOf (now (t .entry)) i ∷ []))
-        ⌝ }
+    requires { ⌜ (length (now ts) ≡ lengths) × (length (now w) ≤ maxNodes) ⌝ }
+    ensures { λ r. ⌜ (r ≤ lengths) × TypesWalked (now (t .entry)) (now (w .entry)) (now (ts .exit)) i r ⌝ }
 {
-    ts[127] = i;
-    let mut top: usize = 127;
+    ts[MAX_NODES] = i;
+    let mut top: usize = MAX_NODES;
     let mut n: usize = 0;
     while n < w.len() {
-        if 127 < top {
-            return 128;
+        if MAX_NODES < top {
+            return LENGTHS;
         }
         top = step_types(t, ts, top, w[n]);
         n += 1;
@@ -158,7 +159,10 @@ pub fn walk_types(t: &[u16], i: usize, w: &[u8], ts: &mut [usize]) -> usize
     top
 }
 
-// The P lines still to come after some letters of a value that P line p matches, beside the T lines; 129 where none begins so.
+// Past all places: no value that a P line matches begins so.
+const NONE: usize = LENGTHS + 1;
+
+// The P lines still to come after some letters of a value that P line p matches, beside the T lines; more than 128 where none begins so.
 pub fn walk_row(
     t: &[u16],
     base: usize,
@@ -168,29 +172,23 @@ pub fn walk_row(
     ps: &mut [usize],
     ts: &mut [usize],
 ) -> usize
-    requires { ⌜ (length (now ps) ≡ 128) × (length (now ts) ≡ 128) × (length (now w) ≤ 127) ⌝ }
-    ensures { λ r. ⌜
-        (r ≤ 128
-        → (rowAlong (now (w .entry)) (patternOf (now (t .entry)) base p ∷ []) ≡ some (rowFrom (now (t .entry)) base (now (ps .exit)) r))
-        ×
-        (typesFrom (now (t .entry)) (now (ts .exit)) r ≡ typesAlong (now (w .entry)) (typeOf (now (t .entry)) i ∷ [])))
-        × (128 < r → rowAlong (now (w .entry)) (patternOf (now (t .entry)) base p ∷ []) ≡ none)
-        ⌝ }
+    requires { ⌜ (length (now ps) ≡ lengths) × (length (now ts) ≡ lengths) × (length (now w) ≤ maxNodes) ⌝ }
+    ensures { λ r. ⌜ RowWalked (now (t .entry)) base (now (w .entry)) (now (ps .exit)) (now (ts .exit)) p i r ⌝ }
 {
-    ps[127] = p;
-    ts[127] = i;
-    let mut top: usize = 127;
+    ps[MAX_NODES] = p;
+    ts[MAX_NODES] = i;
+    let mut top: usize = MAX_NODES;
     let mut n: usize = 0;
     while n < w.len() {
-        if 127 < top {
-            return 129;
+        if MAX_NODES < top {
+            return NONE;
         }
         let c = w[n];
         if step_row(t, base, ps, top, c) {
             top = step_types(t, ts, top, c);
             n += 1;
         } else {
-            return 129;
+            return NONE;
         }
     }
     top

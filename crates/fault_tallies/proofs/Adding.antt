@@ -8,11 +8,12 @@ use mathlib.Core.List.{List}
 use lib.ListN.{length}
 use Rattle.calculus.specs.Trees.{Ty, tunit}
 use Rattle.table_trees.specs.Unfolding.{cellOf, smallerOf, typeOf}
-use Rattle.table_trees.proofs.Unfolding.{rank, type-unit}
+use Rattle.table_trees.proofs.Unfolding.{rank}
 use Rattle.fault_tallies.specs.Tallies.{Holds, Shifts, Adds, Copies, Halved, shifted, more}
 use Rattle.fault_tallies.proofs.Linear.{Same, shift-same, more-same, more-shift, more-swap}
 use Rattle.fault_tallies.proofs.Counting.{held-shift, held-add, held-copy, held-as}
-use Rattle.fault_tallies.proofs.Lines.{line-sum, line-product, halves-fall}
+use Rattle.fault_tallies.proofs.Lines.{halves-fall}
+use Rattle.table_trees.proofs.Lines.{no-unit, line-sum, line-product, line-other}
 
 -- what an array gets, of any ways to go on and any counts before
 abbrev pub AddsType : Ty → List ℕ → List ℕ → List ℕ → Type 0
@@ -75,8 +76,8 @@ going-start t i e f c =
     }
 
 module _ (t : List ℕ) (i : ℕ) {w sum₀ k l sum : List ℕ} {j kind : ℕ} (g : Going t i w sum₀ k sum j) (s : Shifts k l) (e : kind ≡ cellOf t j 1) where
-  pub going-end : kind ≡ 0 → {out : List ℕ} → Adds sum l out → AddsType (typeOf t i) w sum₀ out
-  going-end z d W S h f = rest-unit s (g .at W S h f) (type-unit t j (sym e ∙ z)) d
+  pub going-end : (kind ≡ 1 → ⊥) → (kind ≡ 2 → ⊥) → {out : List ℕ} → Adds sum l out → AddsType (typeOf t i) w sum₀ out
+  going-end m n d W S h f = rest-unit s (g .at W S h f) (line-other t j e m n) d
 
   module _ {few many : ℕ} (h : Halved (smallerOf (cellOf t j 2) j) (smallerOf (cellOf t j 3) j) few many) where
     -- the parts of a sum, and of a product, in either order
@@ -89,28 +90,28 @@ module _ (t : List ℕ) (i : ℕ) {w sum₀ k l sum : List ℕ} {j kind : ℕ} (
         go true {x} {y} p q n =
             ap (λ a. more a W n) (line-sum t j e q p z) ∙ shift-same (λ m. add-comm (more (typeOf t y) W m) (more (typeOf t x) W m)) n
 
-    product-parts : (kind ≡ 0 → ⊥) → (kind ≡ 1 → ⊥) → (W : ℕ → ℕ) → Same (more (typeOf t j) W) (shifted (more (typeOf t many) (more (typeOf t few) W)))
-    product-parts z u W = go (h .turned) (h .few-is) (h .many-is)
+    product-parts : kind ≡ 2 → (W : ℕ → ℕ) → Same (more (typeOf t j) W) (shifted (more (typeOf t many) (more (typeOf t few) W)))
+    product-parts z W = go (h .turned) (h .few-is) (h .many-is)
       where
         go : (b : Bool) {x y : ℕ} → x ≡ cond b (smallerOf (cellOf t j 3) j) (smallerOf (cellOf t j 2) j) → y ≡ cond b (smallerOf (cellOf t j 2) j) (smallerOf (cellOf t j 3) j)
             → Same (more (typeOf t j) W) (shifted (more (typeOf t y) (more (typeOf t x) W)))
-        go false {x} {y} p q n = ap (λ a. more a W n) (line-product t j e p q z u) ∙ shift-same (more-swap (typeOf t x) (typeOf t y) W) n
-        go true p q n = ap (λ a. more a W n) (line-product t j e q p z u)
+        go false {x} {y} p q n = ap (λ a. more a W n) (line-product t j e p q z) ∙ shift-same (more-swap (typeOf t x) (typeOf t y) W) n
+        go true p q n = ap (λ a. more a W n) (line-product t j e q p z)
 
     pub going-sum : kind ≡ 1 → length l ≡ 128 → {out : List ℕ} → length out ≡ 128 → AddsType (typeOf t few) l sum out → Going t i w sum₀ l out many
     going-sum z len {out} wide d =
         record {
           long = len;
           wide = wide;
-          below = le-trans (le-of-lt (halves-fall t j e (λ q. absurd (omega arith)) h .1)) (g .below);
+          below = le-trans (le-of-lt (halves-fall t j e (no-unit z) h .1)) (g .below);
           at = λ W S x y. let r = g .at W S x y in rest-sum s r (typeOf t few) (typeOf t many) (sum-parts z (r .ways)) d;
         }
 
-    pub going-product : (kind ≡ 0 → ⊥) → (kind ≡ 1 → ⊥) → {m : List ℕ} → length m ≡ 128 → CountsType (typeOf t few) l m → Going t i w sum₀ m sum many
-    going-product z u len d =
+    pub going-product : kind ≡ 2 → {m : List ℕ} → length m ≡ 128 → CountsType (typeOf t few) l m → Going t i w sum₀ m sum many
+    going-product z len d =
         record {
           long = len;
           wide = g .wide;
-          below = le-trans (le-of-lt (halves-fall t j e z h .1)) (g .below);
-          at = λ W S x y. let r = g .at W S x y in rest-product s r (typeOf t few) (typeOf t many) (product-parts z u (r .ways)) d;
+          below = le-trans (le-of-lt (halves-fall t j e (no-unit z) h .1)) (g .below);
+          at = λ W S x y. let r = g .at W S x y in rest-product s r (typeOf t few) (typeOf t many) (product-parts z (r .ways)) d;
         }

@@ -9,10 +9,12 @@ use mathlib.Core.List.{List}
 use lib.Dec.{ltb}
 use lib.ListN.{getD, replicate}
 use borrow.Author.Tests.{ltb-true, ltb-false}
-use Rattle.fault_tallies.specs.Tallies.{modulus, lengths, plusOf, Holds, Shifts, Adds, Copies, shifted}
+use Rattle.fault_tallies.specs.Tallies.{modulus, plusOf, Holds, Shifts, Adds, Copies, shifted}
 use Rattle.fault_tallies.proofs.Linear.{Same}
+use Rattle.limits.specs.Limits.{lengths}
 
-below : (n : ℕ) → n % modulus < modulus
+-- modulo
+pub below : (n : ℕ) → n % modulus < modulus
 below n = mod-lt n (omega arith)
 
 -- the sum of two numbers below the modulus

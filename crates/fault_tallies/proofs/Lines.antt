@@ -1,21 +1,12 @@
--- The lines that a T line names: the tree above theirs, and that they rank lower.
+-- The lines that a T line names rank lower.
 use Prim.Native.Nat.{ℕ, _+_, _*_, _<_, _≤_}
 use native.Mathlib.Omega.{arith}
-use mathlib.Core.Path.{_≡_, sym, ap₂, _∙_, subst}
+use mathlib.Core.Path.{_≡_, sym, _∙_, subst}
 use mathlib.Core.Bool.{Bool, true, false, cond}
 use mathlib.Core.List.{List}
-use Rattle.calculus.specs.Trees.{tsum, tprod}
-use Rattle.table_trees.specs.Unfolding.{cellOf, smallerOf, typeOf}
+use Rattle.table_trees.specs.Unfolding.{cellOf, smallerOf}
 use Rattle.fault_tallies.specs.Tallies.{Halved}
-use Rattle.table_trees.proofs.Unfolding.{rank, type-falls, type-sum, type-prod}
-
--- k is the kind, l and r the lines that line i names
-module _ (t : List ℕ) (i : ℕ) {k l r : ℕ} (e : k ≡ cellOf t i 1) (nl : l ≡ smallerOf (cellOf t i 2) i) (nr : r ≡ smallerOf (cellOf t i 3) i) where
-  pub line-sum : k ≡ 1 → typeOf t i ≡ tsum (typeOf t l) (typeOf t r)
-  line-sum z = type-sum t i (sym e ∙ z) ∙ sym (ap₂ (λ a b. tsum (typeOf t a) (typeOf t b)) nl nr)
-
-  pub line-product : (k ≡ 0 → ⊥) → (k ≡ 1 → ⊥) → typeOf t i ≡ tprod (typeOf t l) (typeOf t r)
-  line-product n m = type-prod t i (subst (λ x. 2 ≤ x) e (omega arith)) ∙ sym (ap₂ (λ a b. tprod (typeOf t a) (typeOf t b)) nl nr)
+use Rattle.table_trees.proofs.Unfolding.{rank, type-falls}
 
 -- a line that is no unit names lower ones, whichever comes first
 pub halves-fall : (t : List ℕ) (i : ℕ) {k few many : ℕ} → k ≡ cellOf t i 1 → (k ≡ 0 → ⊥)

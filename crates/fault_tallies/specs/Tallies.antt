@@ -6,12 +6,10 @@ use mathlib.Core.List.{List}
 use lib.Dec.{ltb}
 use lib.ListN.{getD}
 use Rattle.calculus.specs.Trees.{Ty, tunit, tsum, tprod, Tag, left, right, Pat, punit, pvar, pinj, ppair}
+use Rattle.limits.specs.Limits.{lengths}
 
 abbrev pub modulus : ℕ
 modulus = 18446744073709551615
-
-abbrev pub lengths : ℕ
-lengths = 128
 
 -- the sum of two numbers below the modulus
 abbrev pub plusOf : ℕ → ℕ → ℕ

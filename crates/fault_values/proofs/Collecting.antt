@@ -1,34 +1,23 @@
 -- The rows of an iso's clauses: where they begin, and what each row makes of them.
-use Prim.Native.Nat.{ℕ, suc, _-_, _%_, _≤_, _<_}
+use Prim.Native.Nat.{ℕ, suc, _-_, _≤_, _<_}
 use native.Mathlib.Omega.{arith}
 use mathlib.Core.Path.{_≡_, refl, sym, ap, ap₂, _∙_, subst}
 use mathlib.Core.Option.{some}
 use mathlib.Core.List.{List, [], _∷_, map}
 use lib.ListN.{length, getElem?, drop, set, length-set, length-drop, length-map, drop-of-length-le}
-use lib.Seq.{drop-cons, getD-set-same, drop-set-lt}
-use Rattle.limits.specs.Limits.{maxClauses}
-use Rattle.calculus.specs.Trees.{Ty, Pat, punit, Clause}
+use Rattle.calculus.specs.Trees.{Ty, Pat}
 use Rattle.calculus.specs.Refusals.{Kind, typeLine, patternLine, isoLine, clauseLine, letLine}
 use Rattle.format.specs.Lines.{Row, letter}
 use Rattle.format.specs.Judge.{start, afterAll}
 use Rattle.format.specs.Unfold.{Tail, place}
 use Rattle.table_trees.specs.Unfolding.{cellOf, patternOf}
-use Rattle.table_trees.specs.InTable.{patternsAt}
-use Rattle.table_trees.specs.Walk.{FileIn, tailAt}
-use Rattle.table_trees.proofs.Tails.{clauses-few}
-use Rattle.table_trees.proofs.Walking.{row-of, lines-few, letter-iso, letter-clause, clause-left, clause-right, tail-kind, tail-end}
+use Rattle.table_walks.specs.InTable.{patternsAt}
+use Rattle.table_walks.specs.Walk.{FileIn, tailAt}
+use Rattle.table_walks.proofs.Tails.{clauses-few}
+use Rattle.table_walks.proofs.Walking.{row-of, lines-few, letter-iso, letter-clause, clause-left, clause-right, tail-kind, tail-end}
 use Rattle.fault_values.specs.Faults.{Collected}
 use Rattle.fault_values.specs.declared.Clauses as C
-
--- an array of 32 places, as a value has it, is a list of 32
-pub slots : (m : List ℕ) → length (map (λ v. v) m) ≡ 32 → length m ≡ 32
-slots m e = sym (length-map m (λ v. v)) ∙ e
-
--- a store in front of the rows that are kept
-stored : (l : List ℕ) (k a : ℕ) → k < length l → drop k (set l k a) ≡ a ∷ drop (suc k) l
-stored l k a h =
-    let wide : k < length (set l k a) = omega (arith, length-set l k a) in
-    drop-cons (set l k a) k 0 wide ∙ ap₂ _∷_ (getD-set-same l k a 0 h) (drop-set-lt (suc k) l k a (omega arith))
+use Rattle.calculus.proofs.Basic.{drop-set-same}
 
 -- a row that is neither a C nor an I line leaves the clauses as they are
 kept : (ts : List Ty) (ps : List Pat) (k : Kind) (n : ℕ) (r : Row) (o : Tail) → (letter k ≡ 67 → ⊥) → (letter k ≡ 73 → ⊥) → place ts ps k n r o .clauses ≡ o .clauses
@@ -85,7 +74,7 @@ module _ {t : List ℕ} {base patterns lines : ℕ} {rs : List Row} (f : FileIn 
           let front : suc (c .first - 1) ≡ c .first = omega (arith, room) in
           let rows : n ∷ drop (c .first) (c .rows) ≡ drop (r .first) (r .rows) =
           sym (ap₂ drop (k .1) (k .0)
-          ∙ stored (c .rows) (c .first - 1) n (omega (arith, room, s .places, s .within))
+          ∙ drop-set-same (c .rows) (c .first - 1) n (omega (arith, room, s .places, s .within))
           ∙ ap (λ i. n ∷ drop i (c .rows)) front) in
           record {
             places = ap length (k .0) ∙ length-set (c .rows) (c .first - 1) n ∙ s .places;

@@ -1,34 +1,33 @@
 -- The value that shows the fault of the iso refused: the rows of its clauses and its types are those of the table.
 use Prim.Native.Nat.{ℕ, suc, _-_, _≤_, _<_}
 use native.Mathlib.Omega.{arith}
-use mathlib.Core.Path.{_≡_, refl, sym, ap, ap₂, _∙_, subst}
+use mathlib.Core.Path.{_≡_, refl, sym, ap, _∙_, subst}
 use mathlib.Core.Bool.{true}
-use mathlib.Core.Logic.{_⊎_, inl, inr, ⊎-elim}
-use mathlib.Core.Option.{Option, none, some}
-use mathlib.Core.List.{List, [], _∷_, map}
+use mathlib.Core.Logic.{_⊎_, ⊎-elim}
+use mathlib.Core.Option.{some}
+use mathlib.Core.List.{List, map}
 use lib.Dec.{leb}
 use lib.ListN.{length, take, drop, length-drop}
 use lib.Seq.{take-all}
-use Rattle.calculus.specs.Trees.{Ty, Pat, Val, Iso}
+use Rattle.calculus.specs.Trees.{Ty, Pat, Iso}
 use Rattle.calculus.specs.Refusals.{Refusal, number}
 use Rattle.format.specs.Lines.{Row}
 use Rattle.format.specs.Unfold.{isosOf}
-use Rattle.calculus.specs.Clauses.{lefts, rights, sigsOf, fault}
-use Rattle.calculus.specs.Letters.{letters}
+use Rattle.calculus.specs.Clauses.{lefts, rights, fault}
 use Rattle.model.specs.Services.{written}
 use Rattle.calculus.proofs.Basic.{and-true, leb-le}
 use Rattle.model.proofs.Files.{InForm}
 use Rattle.law_witnesses.specs.Showing.{sided, shown, lettersOf?, showing}
 use Rattle.law_witnesses.proofs.Sides.{Found}
-use Rattle.law_witnesses.proofs.Showing.{Refused, refused-iso, showing-rows}
+use Rattle.law_witnesses.proofs.Showing.{refused-iso, showing-rows}
 use Rattle.table_trees.specs.Unfolding.{cellOf, typeOf}
-use Rattle.table_trees.specs.InTable.{patternsAt}
-use Rattle.table_trees.specs.Walk.{FileIn, tailAt}
+use Rattle.table_walks.specs.InTable.{patternsAt}
+use Rattle.table_walks.specs.Walk.{FileIn, tailAt}
 use Rattle.fault_pairs.specs.Pairs.{OverlapValue}
 use Rattle.fault_gaps.specs.Gaps.{GapValue}
 use Rattle.fault_values.specs.Faults.{Collected, SideShown, FaultShown}
 use Rattle.fault_values.specs.declared.Clauses as C
-use Rattle.fault_values.proofs.Heads.{Head, head}
+use Rattle.fault_values.proofs.Heads.{head}
 
 abbrev Given : List ℕ → List ℕ → ℕ → List ℕ → Type 0
 Given out₀ out r ls = (r ≡ length ls) × (out ≡ written ls out₀)

@@ -2,19 +2,19 @@
 use Prim.Native.Nat.{ℕ, suc, _+_, _<_}
 use native.Mathlib.Nat.{add-zero, add-suc, suc-add}
 use native.Mathlib.Omega.{arith}
-use mathlib.Core.Path.{_≡_, refl, sym, ap, _∙_, subst}
+use mathlib.Core.Path.{_≡_, refl, sym, ap, _∙_}
 use mathlib.Core.Option.{some}
 use mathlib.Core.List.{List, [], _∷_, List·Memᴰ}
 use lib.ListN.{getD, getElem?, drop}
-use Rattle.calculus.specs.Trees.{Ty, tunit, Pat, Clause, Iso}
+use Rattle.calculus.specs.Trees.{Ty, tunit, Pat, Iso}
 use Rattle.calculus.specs.Refusals.{Kind, typeLine, patternLine, isoLine, clauseLine, letLine}
 use Rattle.format.specs.Lines.{Row}
 use Rattle.format.specs.Judge.{start, afterAll}
 use Rattle.format.specs.Unfold.{place, tailFrom, isosOf}
 use Rattle.calculus.proofs.Basic.{each-nil, each-cons, index-below}
 use Rattle.table_trees.specs.Unfolding.{cellOf, typeOf}
-use Rattle.table_trees.specs.Walk.{FileIn, tailAt}
-use Rattle.table_trees.proofs.Walking.{iso-types}
+use Rattle.table_walks.specs.Walk.{FileIn, tailAt}
+use Rattle.table_walks.proofs.Walking.{iso-types}
 
 -- an iso of the rows from line a on
 record Headed (ts : List Ty) (ps : List Pat) (a : ℕ) (rs : List Row) (o : Iso) : Type 0 where

@@ -1,6 +1,7 @@
 -- The laws of the file: numerals, lines, rows, printing, turning.
 pub mod Refusing
 pub mod Numerals
+pub mod Naming
 pub mod Passing
 pub mod Turning
 pub mod Endings

@@ -185,3 +185,12 @@ formed {rs} d i o e c m =
     let s : Seen = afterAll start rs in
     let h : FormedTail 0 (tailFrom (s .types) (s .patterns) 1 rs) = tail-formed (s .types) (s .patterns) (patterns-formed d none-formed) 1 d in
     subst (λ k. FormedClause k c) (zero-add i) (h .isos i o e c m)
+
+-- what rows tell one after the other
+pub after-append : (s : Seen) (rs qs : List Row) → afterAll s (rs ++ qs) ≡ afterAll (afterAll s rs) qs
+after-append s [] qs = refl
+after-append s (r ∷ rs) qs = after-append (after s r) rs qs
+
+pub passes-append : {s : Seen} {rs qs : List Row} → Passes s rs → Passes (afterAll s rs) qs → Passes s (rs ++ qs)
+passes-append done k = k
+passes-append (next j h) k = next j (passes-append h k)

@@ -323,6 +323,17 @@ pub printRows-nil : printRows [] ≡ []
 unfolding printRows
 printRows-nil = refl
 
+pub print-append : (rs qs : List Row) → printRows (rs ++ qs) ≡ printRows rs ++ printRows qs
+print-append [] qs = ap (λ bs. bs ++ printRows qs) (sym printRows-nil)
+print-append (r ∷ rs) qs =
+    printRows-cons r (rs ++ qs)
+    ∙ ap (λ bs. print r ++ bs) (print-append rs qs)
+    ∙ sym (append-assoc (print r) (printRows rs) (printRows qs))
+    ∙ ap (λ bs. bs ++ printRows qs) (sym (printRows-cons r rs))
+
+pub print-one : (r : Row) → printRows (r ∷ []) ≡ print r
+print-one r = printRows-cons r [] ∙ ap (λ bs. print r ++ bs) printRows-nil ∙ append-nil (print r)
+
 pub printRows-concat : (rs : List Row) → printRows rs ≡ concat (map print rs)
 unfolding printRows
 printRows-concat rs = refl

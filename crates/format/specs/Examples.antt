@@ -1,7 +1,7 @@
 -- Rows by example, by computation.
 use mathlib.Core.Path.{_≡_, refl}
 use mathlib.Core.List.{[], _∷_, map}
-use Rattle.calculus.specs.Trees.{tunit, Iso}
+use Rattle.calculus.specs.Trees.{tunit}
 use Rattle.calculus.specs.Refusals.{typeLine, isoLine}
 use Rattle.format.specs.Lines.{Row}
 use Rattle.format.specs.Judge.{start}

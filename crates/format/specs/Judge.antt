@@ -1,5 +1,5 @@
 -- Refusals 4 to 7 of a row, judged by the rows above it, and the reading of a whole file.
-use Prim.Native.Nat.{ℕ, zero, suc, _+_}
+use Prim.Native.Nat.{ℕ, suc, _+_}
 use mathlib.Core.Path.{_≡_}
 use mathlib.Core.Bool.{Bool, true, false, _&&_}
 use mathlib.Core.Option.{Option, none, some}
@@ -11,6 +11,7 @@ use Rattle.calculus.specs.Tools.{firstFailing}
 use Rattle.calculus.specs.Trees.{Ty, tunit, tsum, tprod, Pat, punit, pvar, pinj, ppair, left, right, typeNodes, nodes, tags}
 use Rattle.calculus.specs.Refusals.{Kind, typeLine, patternLine, isoLine, clauseLine, letLine, Refusal, badLine, misplaced, badField, badName, ceiling}
 use Rattle.format.specs.Lines.{Row, rowOf}
+use Rattle.format.specs.Kinds.{TypeKind, unitType, sumType, productType, noType, typeKind, PatternKind, unitPattern, variablePattern, leftPattern, rightPattern, pairPattern, noPattern, patternKind}
 
 -- what the rows above tell: the kind of the last, the T and P lines as trees, how many I lines there are, how many C lines since
 -- the last I and L lines since the last C
@@ -25,21 +26,30 @@ pub record Seen : Type 0 where
 unfoldable pub start : Seen
 start = record { above = none; types = []; patterns = []; isos = 0; clauses = 0; lets = 0 }
 
--- "unfolding it gives a tree": the tree of a T line, and of a P line, over the earlier lines' trees
+-- "unfolding it gives a tree": the tree of a T line, and of a P line, over the earlier lines' trees. A number that is no kind gives a
+-- unit; no line of a file that was read has one, by `typeFields` and `patternFields`.
+abbrev pub typeNodeOf : TypeKind → Ty → Ty → Ty
+typeNodeOf unitType a b = tunit
+typeNodeOf sumType a b = tsum a b
+typeNodeOf productType a b = tprod a b
+typeNodeOf noType a b = tunit
+
 abbrev pub typeNode : ℕ → Ty → Ty → Ty
-typeNode zero a b = tunit
-typeNode (suc zero) a b = tsum a b
-typeNode (suc (suc k)) a b = tprod a b
+typeNode k a b = typeNodeOf (typeKind k) a b
 
 abbrev pub typeTree : List Ty → Row → Ty
 typeTree ts r = typeNode (r .x) (getD ts (r .y) tunit) (getD ts (r .z) tunit)
 
+abbrev pub patternNodeOf : PatternKind → ℕ → Pat → Pat → Pat
+patternNodeOf unitPattern n p q = punit
+patternNodeOf variablePattern n p q = pvar n
+patternNodeOf leftPattern n p q = pinj left p
+patternNodeOf rightPattern n p q = pinj right p
+patternNodeOf pairPattern n p q = ppair p q
+patternNodeOf noPattern n p q = punit
+
 abbrev pub patternNode : ℕ → ℕ → Pat → Pat → Pat
-patternNode zero n p q = punit
-patternNode (suc zero) n p q = pvar n
-patternNode (suc (suc zero)) n p q = pinj left p
-patternNode (suc (suc (suc zero))) n p q = pinj right p
-patternNode (suc (suc (suc (suc k)))) n p q = ppair p q
+patternNode k n p q = patternNodeOf (patternKind k) n p q
 
 abbrev pub patternTree : List Pat → Row → Pat
 patternTree ps r = patternNode (r .x) (r .y) (getD ps (r .y) punit) (getD ps (r .z) punit)
@@ -61,19 +71,25 @@ inOrder a clauseLine = leb 2 (stage a)
 inOrder a letLine = leb 3 (stage a)
 
 -- "kind not listed, idle field not 0, variable above 31"
+abbrev pub typeFieldsOf : TypeKind → ℕ → ℕ → Bool
+typeFieldsOf unitType a b = eqb a 0 && eqb b 0
+typeFieldsOf sumType a b = true
+typeFieldsOf productType a b = true
+typeFieldsOf noType a b = false
+
 abbrev pub typeFields : ℕ → ℕ → ℕ → Bool
-typeFields zero a b = eqb a 0 && eqb b 0
-typeFields (suc zero) a b = true
-typeFields (suc (suc zero)) a b = true
-typeFields (suc (suc (suc k))) a b = false
+typeFields k a b = typeFieldsOf (typeKind k) a b
+
+abbrev pub patternFieldsOf : PatternKind → ℕ → ℕ → Bool
+patternFieldsOf unitPattern a b = eqb a 0 && eqb b 0
+patternFieldsOf variablePattern a b = ltb a variables && eqb b 0
+patternFieldsOf leftPattern a b = eqb b 0
+patternFieldsOf rightPattern a b = eqb b 0
+patternFieldsOf pairPattern a b = true
+patternFieldsOf noPattern a b = false
 
 abbrev pub patternFields : ℕ → ℕ → ℕ → Bool
-patternFields zero a b = eqb a 0 && eqb b 0
-patternFields (suc zero) a b = ltb a variables && eqb b 0
-patternFields (suc (suc zero)) a b = eqb b 0
-patternFields (suc (suc (suc zero))) a b = eqb b 0
-patternFields (suc (suc (suc (suc zero)))) a b = true
-patternFields (suc (suc (suc (suc (suc k))))) a b = false
+patternFields k a b = patternFieldsOf (patternKind k) a b
 
 abbrev pub fieldsFit : Kind → Row → Bool
 fieldsFit typeLine r = typeFields (r .x) (r .y) (r .z)
@@ -82,17 +98,27 @@ fieldsFit isoLine r = true
 fieldsFit clauseLine r = true
 fieldsFit letLine r = true
 
--- "A T or P line names only earlier lines of its own letter. An L line names an iso earlier than its own."
+-- "A T or P line names only earlier lines of its own letter. An L line names an iso earlier than its own." A number that is no kind
+-- names nothing; its fields do not fit.
+abbrev pub typeNamesOf : ℕ → TypeKind → ℕ → ℕ → Bool
+typeNamesOf n unitType a b = true
+typeNamesOf n sumType a b = ltb a n && ltb b n
+typeNamesOf n productType a b = ltb a n && ltb b n
+typeNamesOf n noType a b = true
+
 abbrev pub typeNames : ℕ → ℕ → ℕ → ℕ → Bool
-typeNames n zero a b = true
-typeNames n (suc k) a b = ltb a n && ltb b n
+typeNames n k a b = typeNamesOf n (typeKind k) a b
+
+abbrev pub patternNamesOf : ℕ → PatternKind → ℕ → ℕ → Bool
+patternNamesOf n unitPattern a b = true
+patternNamesOf n variablePattern a b = true
+patternNamesOf n leftPattern a b = ltb a n
+patternNamesOf n rightPattern a b = ltb a n
+patternNamesOf n pairPattern a b = ltb a n && ltb b n
+patternNamesOf n noPattern a b = true
 
 abbrev pub patternNames : ℕ → ℕ → ℕ → ℕ → Bool
-patternNames n zero a b = true
-patternNames n (suc zero) a b = true
-patternNames n (suc (suc zero)) a b = ltb a n
-patternNames n (suc (suc (suc zero))) a b = ltb a n
-patternNames n (suc (suc (suc (suc k)))) a b = ltb a n && ltb b n
+patternNames n k a b = patternNamesOf n (patternKind k) a b
 
 abbrev pub named : Seen → Kind → Row → Bool
 named s typeLine r = typeNames (length (s .types)) (r .x) (r .y) (r .z)

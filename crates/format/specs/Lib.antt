@@ -1,4 +1,5 @@
 pub mod Lines
+pub mod Kinds
 pub mod Judge
 pub mod Unfold
 pub mod Examples

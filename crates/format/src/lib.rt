@@ -4,7 +4,7 @@
 ghost use mathlib.Core.Path.{_≡_};
 ghost use Rattle.calculus.specs.Refusals.{number, overlap, gap};
 ghost use Rattle.calculus.specs.Tools.{isSome};
-ghost use Rattle.format.specs.Code.{sideView, refusalView, numberOf};
+ghost use Rattle.format.specs.Code.{kindView, sideView, refusalView, numberOf};
 
 // The five line forms.
 pub enum Kind {
@@ -29,8 +29,8 @@ pub enum Side {
     Right,
 }
 
-// Why a call is refused; `Nothing` where it is not. A case holds the faulty line's kind where that
-// may be any.
+// Why a call is refused; `Nothing` where it is not. A case holds the faulty line's kind; `BadLine` is
+// that of no kind, and the others that hold none name no line.
 pub enum Refusal {
     Nothing,
     ShortArea,
@@ -40,11 +40,11 @@ pub enum Refusal {
     BadField(Kind),
     BadName(Kind),
     Ceiling(Kind),
-    Variable,
-    LetShape,
-    BadType,
-    Overlap(Side),
-    Gap(Side),
+    Variable(Kind),
+    LetShape(Kind),
+    BadType(Kind),
+    Overlap(Kind, Side),
+    Gap(Kind, Side),
     NoIso,
     NoValue,
     Spent,
@@ -69,8 +69,8 @@ pub fn is_refused(f: Refusal) -> bool
     }
 }
 
-fn overlap_number(s: Side) -> u8
-    ensures { λ n. ⌜ n ≡ number (overlap (sideView s)) ⌝ }
+fn overlap_number(k: Kind, s: Side) -> u8
+    ensures { λ n. ⌜ n ≡ number (overlap (kindView k) (sideView s)) ⌝ }
 {
     match s {
         Side::Left => 11,
@@ -78,8 +78,8 @@ fn overlap_number(s: Side) -> u8
     }
 }
 
-fn gap_number(s: Side) -> u8
-    ensures { λ n. ⌜ n ≡ number (gap (sideView s)) ⌝ }
+fn gap_number(k: Kind, s: Side) -> u8
+    ensures { λ n. ⌜ n ≡ number (gap (kindView k) (sideView s)) ⌝ }
 {
     match s {
         Side::Left => 13,
@@ -100,11 +100,11 @@ pub fn number_of(r: Refusal) -> u8
         Refusal::BadField(_) => 5,
         Refusal::BadName(_) => 6,
         Refusal::Ceiling(_) => 7,
-        Refusal::Variable => 8,
-        Refusal::LetShape => 9,
-        Refusal::BadType => 10,
-        Refusal::Overlap(s) => overlap_number(s),
-        Refusal::Gap(s) => gap_number(s),
+        Refusal::Variable(_) => 8,
+        Refusal::LetShape(_) => 9,
+        Refusal::BadType(_) => 10,
+        Refusal::Overlap(k, s) => overlap_number(k, s),
+        Refusal::Gap(k, s) => gap_number(k, s),
         Refusal::NoIso => 15,
         Refusal::NoValue => 16,
         Refusal::Spent => 17,

@@ -1,21 +1,21 @@
 -- The list of an import between two types: over 32 lines, 20, or the file.
 use Prim.Native.Nat.{ℕ, _≤_, _<_}
 use native.Mathlib.Omega.{arith}
-use mathlib.Core.Path.{_≡_, refl, sym, ap, _∙_, subst}
+use mathlib.Core.Path.{_≡_, sym, ap, _∙_, subst}
 use mathlib.Core.Bool.{Bool, true, false, cond}
-use mathlib.Core.Option.{Option, none, some}
+use mathlib.Core.Option.{none, some}
 use mathlib.Core.List.{List}
-use lib.Dec.{ltb}
 use lib.ListN.{length, take}
-use Rattle.limits.specs.Limits.{maxNodes, maxPairs, maxValues, maxClauses, importLength}
+use Rattle.limits.specs.Limits.{maxPairs, maxClauses}
 use Rattle.calculus.specs.Tools.{_>>=_, guard}
-use Rattle.calculus.specs.Trees.{Ty, typeNodes}
+use Rattle.calculus.specs.Trees.{Ty}
 use Rattle.calculus.specs.Refusals.{clauseLine, ceiling, badList}
 use Rattle.format.specs.Lines.{lines}
 use Rattle.format.specs.Code.{refusalView}
 use Rattle.calculus.proofs.Basic.{bind-some, some-inj, guard-true, lt-ltb, not-ltb}
-use Rattle.law_ranking.specs.Numbering.{count, Outcome, fails}
-use Rattle.law_pairlists.specs.PairLists.{tosOf, pairsUp, listOf, onList, onLines, settings, fileRows, writing}
+use Rattle.model.specs.Services.{Outcome, fails}
+use Rattle.law_ranking.specs.Numbering.{count}
+use Rattle.law_pairlists.specs.PairLists.{tosOf, pairsUp, listOf, onList, onLines}
 use Rattle.number_values.specs.Numbers.{Counts}
 use Rattle.number_values.proofs.Counting.{counted}
 use Rattle.list_file.specs.Filing.{FiledAs, FileMade}

@@ -12,15 +12,15 @@ use Rattle.calculus.specs.Tools.{isSome}
 use Rattle.calculus.specs.Trees.{Ty}
 use Rattle.calculus.specs.Refusals.{Refusal, noIso, tooMany}
 use Rattle.format.specs.Lines.{Row, lines}
-use Rattle.model.specs.Services.{written}
-use Rattle.format.specs.Code.{refusalView, numbered}
+use Rattle.model.specs.Services.{written, Outcome, fails, refusalOf, bytesFrom}
+use Rattle.format.specs.Code.{refusalView}
 use Rattle.format.specs.declared.Refusal as F
-use Rattle.calculus.proofs.Basic.{isSome-true, none≢some, some-inj, leb-le, leb-false, le-leb, not-leb, ltb-lt, ltb-false, lt-ltb, not-ltb}
+use Rattle.calculus.proofs.Basic.{isSome-true, none≢some, some-inj, leb-le, leb-false, le-leb, not-leb, ltb-false, lt-ltb, not-ltb}
 use Rattle.checker.proofs.Checks.{flag-none}
-use Rattle.law_ranking.specs.Numbering.{count, Outcome, fails, typesOf, refusalOf, lettersFrom}
+use Rattle.law_ranking.specs.Numbering.{count, typesOf}
 use Rattle.law_pairlists.specs.PairLists.{onTypes, onLines, importRows}
 use Rattle.table_trees.specs.Unfolding.{typeOf}
-use Rattle.table_trees.specs.Walk.{FileIn}
+use Rattle.table_walks.specs.Walk.{FileIn}
 use Rattle.number_values.specs.Numbers.{Counts}
 use Rattle.number_values.proofs.TypeLines.{absent, there, line-small}
 use Rattle.list_file.specs.Filing.{FiledAs}
@@ -31,9 +31,9 @@ use Rattle.imports.specs.ImportSays.{typesFault, ListFiled}
 pub filed-refused : {x : Outcome (List ℕ)} (o : List ℕ) (r : D.Filed) {z : Refusal} → x ≡ fails z → refusalView (r .refusal) ≡ some z → r .length ≡ 0 → FiledAs x o o r
 filed-refused o r e n k =
     record {
-      number = ap numbered n ∙ sym (ap refusalOf e);
-      bytes = k ∙ sym (ap (λ y. length (lettersFrom y)) e);
-      output = sym (ap (λ y. written (lettersFrom y) o) e);
+      refusal = n ∙ sym (ap refusalOf e);
+      bytes = k ∙ sym (ap (λ y. length (bytesFrom y)) e);
+      output = sym (ap (λ y. written (bytesFrom y) o) e);
     }
 
 -- ---- the tests

@@ -9,10 +9,11 @@ use lib.ListN.{length}
 use Rattle.limits.specs.Limits.{maxNodes, maxPairs, importLength}
 use Rattle.calculus.specs.Trees.{Ty, typeNodes}
 use Rattle.calculus.specs.Refusals.{Refusal, noIso, tooMany}
-use Rattle.format.specs.Lines.{lines}
-use Rattle.format.specs.Code.{numberOf}
+use Rattle.format.specs.Lines.{lines, Row}
+use Rattle.format.specs.Code.{refusalView, numberOf}
 use Rattle.law_ranking.specs.Numbering.{count}
-use Rattle.law_pairlists.specs.PairLists.{onLines, importService}
+use Rattle.law_pairlists.specs.PairLists.{onLines, importRows, importService}
+use Rattle.table_walks.specs.Walk.{FileIn}
 use Rattle.list_file.specs.Filing.{FiledAs}
 use Rattle.list_file.specs.declared.Filed as F
 use Rattle.imports.specs.declared.Imported as I
@@ -26,8 +27,15 @@ typesFault types i j a b =
 pub record ListFiled (a b : Ty) (list o o′ : List ℕ) (r : F.Filed) : Type 0 where
   pub does : typeNodes a ≤ maxNodes → typeNodes b ≤ maxNodes → count a ≤ maxPairs → count b ≤ maxPairs → importLength ≤ length o → FiledAs (onLines a b (lines list)) o o′ r
 
+-- the list between T lines i and j of whatever file with so many T lines the table holds
+abbrev pub ListImported : List ℕ → ℕ → ℕ → ℕ → List ℕ → List ℕ → List ℕ → F.Filed → Type 0
+ListImported t types i j list o o′ r =
+    (patterns lines : ℕ) (rs : List Row) → FileIn t types patterns lines rs → importLength ≤ length o
+    → FiledAs (importRows rs i j list) o o′ r
+
 -- the service; t, w and o are the areas at entry, t′, w′ and o′ at exit
 pub record ImportSays (file t w : List ℕ) (i j : ℕ) (list o t′ w′ o′ : List ℕ) (r : I.Imported) : Type 0 where
+  pub refusal : refusalView (r .answer .refusal) ≡ importService file t w i j list o .refusal
   pub number : numberOf (r .answer .refusal) ≡ importService file t w i j list o .answer .number
   pub line : r .answer .place ≡ importService file t w i j list o .answer .line
   pub bytes : r .length ≡ importService file t w i j list o .length

@@ -5,22 +5,18 @@ use format::Answer;
 use format::Kind;
 use format::Refusal;
 use format::is_refused;
+use limits::IMPORT_LENGTH;
+use limits::MAX_CLAUSES;
+use limits::MAX_PAIRS;
 use list_file::Filed;
 use list_file::write_file;
 use list_lines::read_list;
 use number_values::count_values;
 use read_split::count_lines;
 ghost use mathlib.Core.Path.{_≡_};
-ghost use mathlib.Core.List.{List};
-ghost use Prim.Native.Nat.{ℕ, _≤_};
-ghost use lib.ListN.{length};
-ghost use Rattle.format.specs.Lines.{Row as RowOf};
 ghost use Rattle.format.specs.Code.{refusalView};
-ghost use Rattle.law_pairlists.specs.PairLists.{importRows};
 ghost use Rattle.table_trees.specs.Unfolding.{typeOf};
-ghost use Rattle.table_trees.specs.Walk.{FileIn};
-ghost use Rattle.list_file.specs.Filing.{FiledAs};
-ghost use Rattle.imports.specs.ImportSays.{typesFault, ListFiled, ImportSays};
+ghost use Rattle.imports.specs.ImportSays.{typesFault, ListFiled, ListImported, ImportSays};
 
 // The answer to the call, and the number of bytes in the output area.
 pub struct Imported {
@@ -47,10 +43,10 @@ fn types_fault(t: &[u16], types: usize, i: usize, j: usize) -> Refusal
     if types <= j {
         return Refusal::NoIso;
     }
-    if 4096 < count_values(t, i) {
+    if MAX_PAIRS < count_values(t, i) {
         return Refusal::TooMany;
     }
-    if 4096 < count_values(t, j) {
+    if MAX_PAIRS < count_values(t, j) {
         return Refusal::TooMany;
     }
     Refusal::Nothing
@@ -64,10 +60,10 @@ fn import_list(t: &[u16], i: usize, j: usize, list: &[u8], out: &mut [u8]) -> Fi
         ⌝ }
 {
     let n = count_lines(list);
-    if 32 < n {
+    if MAX_CLAUSES < n {
         return not_filed(Refusal::Ceiling(Kind::Clause));
     }
-    let mut tos = [0u16; 32];
+    let mut tos = [0u16; MAX_CLAUSES];
     if !read_list(list, n, count_values(t, i), count_values(t, j), &mut tos) {
         return not_filed(Refusal::BadList);
     }
@@ -84,11 +80,7 @@ pub fn import_checked(
     list: &[u8],
     out: &mut [u8],
 ) -> Filed
-    ensures { λ r. ⌜
-        ((patterns lines : ℕ) (rs : List RowOf) → FileIn (now (t .entry)) types patterns lines rs
-        → 65536 ≤ length (now (out .entry))
-        → FiledAs (importRows rs i j (now (list .entry))) (now (out .entry)) (now (out .exit)) r)
-        ⌝ }
+    ensures { λ r. ⌜ ListImported (now (t .entry)) types i j (now (list .entry)) (now (out .entry)) (now (out .exit)) r ⌝ }
 {
     let f = types_fault(t, types, i, j);
     if is_refused(f) {
@@ -113,7 +105,7 @@ pub fn import(
         (now (output .entry)) (now (table .exit)) (now (work .exit)) (now (output .exit)) r
         ⌝ }
 {
-    if output.len() < 65536 {
+    if output.len() < IMPORT_LENGTH {
         return Imported {
             answer: Answer {
                 place: 0,

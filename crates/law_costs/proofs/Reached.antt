@@ -1,10 +1,10 @@
 -- Both bounds are reached where an iso's clauses have no let steps: they are 1, and so is the count of a run. So the bounds are not slack by
 -- definition.
-use Prim.Native.Nat.{ℕ, zero, suc, _≤_, min, max}
+use Prim.Native.Nat.{ℕ, zero, suc, _≤_}
 use native.Mathlib.Omega.{arith}
 use mathlib.Core.Path.{_≡_, refl, sym, ap, ap₂, _∙_, subst}
 use mathlib.Core.Bool.{Bool, true, false}
-use mathlib.Core.Option.{Option, none, some}
+use mathlib.Core.Option.{some}
 use mathlib.Core.List.{List, [], _∷_, map, reverse, List·Memᴰ, List·Memᴰ·head, List·Memᴰ·tail}
 use lib.ListN.{getD, getElem?, length}
 use Rattle.calculus.specs.Tools.{total, select}
@@ -22,7 +22,7 @@ use Rattle.calculus.proofs.Running.{clause-run, hit-only}
 use Rattle.calculus.proofs.Inverse.{reduce-unfold}
 use Rattle.format.proofs.Turning.{isos-turn}
 use Rattle.model.proofs.Runs.{GoodRows, good, good-toward, accepted-good, results, reduces-iff, run-iff}
-use Rattle.law_costs.specs.Costs.{leastOf, greatestOf, clauseCost, isoCost, costsFrom, leastCosts, greatestCosts}
+use Rattle.law_costs.specs.Costs.{leastOf, greatestOf, clauseCost, costsFrom, leastCosts, greatestCosts}
 use Rattle.law_costs.specs.Bounds.{told, bounds}
 use Rattle.law_costs.proofs.Between.{cost-at}
 use Rattle.law_costs.proofs.Answers.{earlier-of, bounds-present}
@@ -115,7 +115,7 @@ bounds-one file rs e i o f n =
 
 -- There is a run that counts 1, there and back, under any budget but 0.
 pub runs-one : (file : List ℕ) (rs : List Row) → verdict file ≡ accepted rs → (i : ℕ) (o : Iso) → getElem? (isosOf rs) i ≡ some o → NoLets o
-    → (back : Bool) (budget : ℕ) → 1 ≤ budget → (value : List ℕ) × (y : List ℕ) × (run file i back budget value ≡ gives 1 y)
+    → (back : Bool) (budget : ℕ) → 1 ≤ budget → (value : List ℕ) × (y : List ℕ) × (run file i back budget value ≡ gives (1, y))
 runs-one file rs e i o f n back budget h =
     let q = good-toward back rs (accepted-good file rs e) in
     let g = good (toward back rs) q in
@@ -128,5 +128,5 @@ runs-one file rs e i o f n back budget h =
     let u = ap (λ q. q i v) (reduce-unfold os) in
     let k = one-reduction os (length os) i p (t .1) (t .2) v (r .0) (r .1) (sym u ∙ r .2) .0 in
     let s = subst (λ c. reduce os i v ≡ some (r .0, c)) k (r .2) in
-    let says = run-iff file rs e i back budget (letters v) (gives 1 (letters (r .0))) in
+    let says = run-iff file rs e i back budget (letters v) (gives (1, letters (r .0))) in
     (letters v, letters (r .0), says .1 (done p v (r .0) 1 (t .1) refl (x .1) (reduces-iff os g i p (t .1) v (x .1) (r .0) 1 .1 s) h))

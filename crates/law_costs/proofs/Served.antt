@@ -3,23 +3,22 @@ use Prim.Native.Nat.{ℕ, _<_, _≤_}
 use native.Mathlib.Nat.{ne-of-gt}
 use native.Mathlib.Omega.{arith}
 use mathlib.Core.Path.{_≡_, refl, sym, ap, _∙_, subst}
-use mathlib.Core.Logic.{_↔_}
-use mathlib.Core.Bool.{Bool, true, false, cond, _||_}
-use mathlib.Core.Option.{Option, none, some}
+use mathlib.Core.Bool.{Bool, true, false, _||_}
+use mathlib.Core.Option.{none, some}
 use mathlib.Core.List.{List}
 use lib.Dec.{ltb}
 use lib.ListN.{length, getElem?}
 use Rattle.limits.specs.Limits.{resultLength}
 use Rattle.calculus.specs.Trees.{Iso}
-use Rattle.calculus.specs.Refusals.{Refusal, number, shortArea, noIso, spent}
+use Rattle.calculus.specs.Refusals.{number, noIso, spent}
 use Rattle.format.specs.Lines.{Row}
 use Rattle.format.specs.Unfold.{isosOf}
-use Rattle.model.specs.Services.{Verdict, accepted, refused, verdict, turned, short, unless, answerOf, check, Ran, gives, failed, toward, runOf, run, answerOfRun, runService}
+use Rattle.model.specs.Services.{Verdict, accepted, refused, verdict, turned, short, unless, answerOf, check, Ran, Outcome, gives, fails, goOn, toward, runOf, run, answerOfRun, runService}
 use Rattle.model.specs.Answers.{RunIs, absent, strange, passed, done}
 use Rattle.model.proofs.Files.{number-positive}
 use Rattle.model.proofs.Runs.{run-iff}
-use Rattle.law_costs.specs.Bounds.{maxCount, Bounds, noBounds, told, onIso, boundsOf, bounds, boundsService}
-use Rattle.law_costs.proofs.Answers.{bounds-present, bounds-absent, count-inside, never-spent, least-flagged, bounds-turned}
+use Rattle.law_costs.specs.Bounds.{maxCount, Bounds, noBounds, told, boundsFrom, onIso, boundsRows, boundsOf, bounds, boundsService}
+use Rattle.law_costs.proofs.Answers.{count-inside, never-spent, least-flagged, bounds-turned}
 use Rattle.law_costs.proofs.Reached.{NoLets, bounds-one, runs-one}
 
 -- ---- refusals
@@ -49,7 +48,7 @@ absent-iso file t w i rs e h a = go (short t w) h
   where
     go : (b : Bool) → answerOf (unless b (verdict file)) .number ≡ 0 → boundsOf (unless b (verdict file)) i ≡ noBounds noIso
     go true z = absurd (omega arith)
-    go false z = ap (λ v. boundsOf v i) e ∙ ap (onIso (isosOf rs) i) a
+    go false z = ap (λ v. boundsOf v i) e ∙ ap (λ x. boundsFrom (onIso (isosOf rs) i x)) a
 
 -- and no others: an iso of an accepted file is answered.
 pub present-iso : (file t w : List ℕ) (i : ℕ) (rs : List Row) (o : Iso) → verdict file ≡ accepted rs → check file t w .answer .number ≡ 0
@@ -59,25 +58,21 @@ present-iso file t w i rs o e h a = go (short t w) h
   where
     go : (b : Bool) → answerOf (unless b (verdict file)) .number ≡ 0 → boundsOf (unless b (verdict file)) i .number ≡ 0
     go true z = absurd (omega arith)
-    go false z = ap (λ v. boundsOf v i .number) e ∙ ap (λ x. onIso (isosOf rs) i x .number) a
+    go false z = ap (λ v. boundsOf v i .number) e ∙ ap (λ x. boundsFrom (onIso (isosOf rs) i x) .number) a
 
 -- "a refusal gives 0 for both, unflagged"
 pub refused-zero : (file t w : List ℕ) (i : ℕ) → 0 < boundsService file t w i .bounds .number
     → (boundsService file t w i .bounds .least ≡ 0) × (boundsService file t w i .bounds .greatest ≡ 0)
     × (boundsService file t w i .bounds .leastOver ≡ false) × (boundsService file t w i .bounds .greatestOver ≡ false)
 unfolding boundsService
-refused-zero file t w i = go (unless (short t w) (verdict file))
+refused-zero file t w i = go (goOn (unless (short t w) (verdict file)) (boundsRows i))
   where
     zeros : Bounds → Type 0
     zeros b = (b .least ≡ 0) × (b .greatest ≡ 0) × (b .leastOver ≡ false) × (b .greatestOver ≡ false)
 
-    on : (os : List Iso) (x : Option Iso) → 0 < onIso os i x .number → zeros (onIso os i x)
-    on os none h = (refl, refl, refl, refl)
-    on os (some o) h = absurd (omega arith)
-
-    go : (v : Verdict) → 0 < boundsOf v i .number → zeros (boundsOf v i)
-    go (accepted rs) h = on (isosOf rs) (getElem? (isosOf rs) i) h
-    go (refused f n) h = (refl, refl, refl, refl)
+    go : (x : Outcome (ℕ × ℕ)) → 0 < boundsFrom x .number → zeros (boundsFrom x)
+    go (gives r) h = absurd (omega arith)
+    go (fails f) h = (refl, refl, refl, refl)
 
 -- ---- what the two services say of each other
 
@@ -95,32 +90,32 @@ served file t w i = go (short t w) (verdict file) refl
 
 -- a run that is not refused gives something
 ran : (file t w : List ℕ) (i : ℕ) (back : Bool) (budget : ℕ) (value o : List ℕ) → runService file t w i back budget value o .number ≡ 0
-    → (y : List ℕ) × (run file i back budget value ≡ gives (runService file t w i back budget value o .count) y)
+    → (y : List ℕ) × (run file i back budget value ≡ gives (runService file t w i back budget value o .count, y))
 unfolding runService run
 ran file t w i back budget value o = go (short t w || ltb (length o) resultLength)
   where
-    on : (r : Ran) → answerOfRun r .number ≡ 0 → (y : List ℕ) × (r ≡ gives (answerOfRun r .count) y)
-    on (gives k y) h = (y, refl)
-    on (failed f) h = absurd (ne-of-gt (number-positive f) h)
+    on : (r : Ran) → answerOfRun r .number ≡ 0 → (y : List ℕ) × (r ≡ gives (answerOfRun r .count, y))
+    on (gives p) h = (p .1, refl)
+    on (fails f) h = absurd (ne-of-gt (number-positive f) h)
 
     go : (b : Bool) → answerOfRun (runOf (unless b (verdict file)) i back budget value) .number ≡ 0
-        → (y : List ℕ) × (runOf (verdict file) i back budget value ≡ gives (answerOfRun (runOf (unless b (verdict file)) i back budget value) .count) y)
+        → (y : List ℕ) × (runOf (verdict file) i back budget value ≡ gives (answerOfRun (runOf (unless b (verdict file)) i back budget value) .count, y))
     go true h = absurd (omega arith)
     go false h = on (runOf (verdict file) i back budget value) h
 
 -- a run of an accepted file that is refused 17 is spent
 spent-run : (file t w : List ℕ) (i : ℕ) (back : Bool) (budget : ℕ) (value o : List ℕ) (rs : List Row) → verdict file ≡ accepted rs
-    → runService file t w i back budget value o .number ≡ number spent → run file i back budget value ≡ failed spent
+    → runService file t w i back budget value o .number ≡ number spent → run file i back budget value ≡ fails spent
 unfolding runService run
 spent-run file t w i back budget value o rs e = go (short t w || ltb (length o) resultLength)
   where
-    on : (r : Ran) → RunIs (isosOf (toward back rs)) i budget value r → answerOfRun r .number ≡ 17 → r ≡ failed spent
+    on : (r : Ran) → RunIs (isosOf (toward back rs)) i budget value r → answerOfRun r .number ≡ 17 → r ≡ fails spent
     on _ (absent a) h = absurd (omega arith)
     on _ (strange p a n) h = absurd (omega arith)
     on _ (passed p v u k f x y s l) h = refl
     on _ (done p v u k f x y s l) h = absurd (omega arith)
 
-    go : (b : Bool) → answerOfRun (runOf (unless b (verdict file)) i back budget value) .number ≡ 17 → runOf (verdict file) i back budget value ≡ failed spent
+    go : (b : Bool) → answerOfRun (runOf (unless b (verdict file)) i back budget value) .number ≡ 17 → runOf (verdict file) i back budget value ≡ fails spent
     go true h = absurd (omega arith)
     go false h = on (runOf (verdict file) i back budget value) (run-iff file rs e i back budget value (runOf (verdict file) i back budget value) .0 refl) h
 
@@ -180,7 +175,7 @@ bounds-reached file t w i back budget o rs p e f n long room h =
     let b = bounds-one file rs e i p f n in
     go (short t w) (ltb (length o) resultLength) long room (r .0) (r .1) (r .2) b
   where
-    go : (a b : Bool) → a ≡ false → b ≡ false → (value y : List ℕ) → runOf (verdict file) i back budget value ≡ gives 1 y → boundsOf (verdict file) i ≡ told 1 1
+    go : (a b : Bool) → a ≡ false → b ≡ false → (value y : List ℕ) → runOf (verdict file) i back budget value ≡ gives (1, y) → boundsOf (verdict file) i ≡ told 1 1
         → (x : List ℕ) × (answerOfRun (runOf (unless (a || b) (verdict file)) i back budget x) .number ≡ 0)
         × (answerOfRun (runOf (unless (a || b) (verdict file)) i back budget x) .count ≡ boundsOf (unless a (verdict file)) i .least)
         × (answerOfRun (runOf (unless (a || b) (verdict file)) i back budget x) .count ≡ boundsOf (unless a (verdict file)) i .greatest)

@@ -7,8 +7,9 @@ use lib.Dec.{ltb}
 use lib.ListN.{getD, getElem?}
 use Rattle.calculus.specs.Trees.{Iso}
 use Rattle.calculus.specs.Refusals.{Refusal, number, noIso}
+use Rattle.format.specs.Lines.{Row}
 use Rattle.format.specs.Unfold.{isosOf}
-use Rattle.model.specs.Services.{Verdict, accepted, refused, verdict, tableAfter, workAfter, short, unless}
+use Rattle.model.specs.Services.{Verdict, verdict, short, Outcome, gives, fails, goOn, refusalOf, Served, serve}
 use Rattle.law_costs.specs.Costs.{leastCosts, greatestCosts}
 
 -- the greatest number of 32 bits, and so the greatest budget
@@ -38,14 +39,20 @@ noBounds f = record { number = number f; least = 0; greatest = 0; leastOver = fa
 abbrev pub told : ℕ → ℕ → Bounds
 told l g = record { number = 0; least = stopped l; greatest = stopped g; leastOver = over l; greatestOver = over g }
 
+abbrev pub boundsFrom : Outcome (ℕ × ℕ) → Bounds
+boundsFrom (gives r) = told (r .0) (r .1)
+boundsFrom (fails f) = noBounds f
+
 -- "for a given iso (15 if absent)"
-abbrev pub onIso : List Iso → ℕ → Option Iso → Bounds
-onIso os i none = noBounds noIso
-onIso os i (some o) = told (getD (leastCosts os) i 0) (getD (greatestCosts os) i 0)
+abbrev pub onIso : List Iso → ℕ → Option Iso → Outcome (ℕ × ℕ)
+onIso os i none = fails noIso
+onIso os i (some o) = gives (getD (leastCosts os) i 0, getD (greatestCosts os) i 0)
+
+abbrev pub boundsRows : ℕ → List Row → Outcome (ℕ × ℕ)
+boundsRows i rs = onIso (isosOf rs) i (getElem? (isosOf rs) i)
 
 abbrev pub boundsOf : Verdict → ℕ → Bounds
-boundsOf (accepted rs) i = onIso (isosOf rs) i (getElem? (isosOf rs) i)
-boundsOf (refused f n) i = noBounds f
+boundsOf v i = boundsFrom (goOn v (boundsRows i))
 
 unfoldable pub bounds : List ℕ → ℕ → Bounds
 unfolding verdict isosOf leastCosts greatestCosts
@@ -53,12 +60,17 @@ bounds file i = boundsOf (verdict file) i
 
 -- the service
 pub record BoundsResult : Type 0 where
+  pub refusal : Option Refusal
   pub bounds : Bounds
   pub table : List ℕ
   pub work : List ℕ
 
+abbrev pub boundsBy : Served (ℕ × ℕ) → BoundsResult
+boundsBy s = record { refusal = refusalOf (s .outcome); bounds = boundsFrom (s .outcome); table = s .table; work = s .work }
+
+abbrev pub boundsServed : List ℕ → List ℕ → List ℕ → ℕ → Served (ℕ × ℕ)
+boundsServed file table work i = serve (short table work) (verdict file) (boundsRows i) table work
+
 unfoldable pub boundsService : List ℕ → List ℕ → List ℕ → ℕ → BoundsResult
 unfolding bounds
-boundsService file table work i =
-    let v : Verdict = unless (short table work) (verdict file) in
-    record { bounds = boundsOf v i; table = tableAfter v table; work = workAfter v work }
+boundsService file table work i = boundsBy (boundsServed file table work i)

@@ -4,10 +4,10 @@ use mathlib.Core.Path.{_≡_, refl}
 use mathlib.Core.Bool.{true, false}
 use mathlib.Core.List.{List, [], _∷_, _++_, map}
 use lib.ListN.{getElem?}
-use Rattle.calculus.specs.Trees.{tunit, punit, Let, Clause, Iso}
+use Rattle.calculus.specs.Trees.{tunit, punit, Clause, Iso}
 use Rattle.model.specs.Cases.{fileS}
 use Rattle.law_costs.specs.Costs.{leastCosts, greatestCosts}
-use Rattle.law_costs.specs.Bounds.{Bounds, onIso, bounds}
+use Rattle.law_costs.specs.Bounds.{Bounds, boundsFrom, onIso, bounds}
 
 -- S's first iso takes one application, its second one or two, and it has no third.
 bounds-of-S : (bounds fileS 0 ≡ record { number = 0; least = 1; greatest = 1; leastOver = false; greatestOver = false })
@@ -31,7 +31,7 @@ doubling (suc (suc n)) = doubling (suc n) ++ (one (n ∷ n ∷ []) ∷ [])
 
 -- the answer for iso 31 behind them, whose let steps name these
 abbrev asked : List ℕ → Bounds
-asked js = onIso (doubling 31 ++ (one js ∷ [])) 31 (getElem? (doubling 31 ++ (one js ∷ [])) 31)
+asked js = boundsFrom (onIso (doubling 31 ++ (one js ∷ [])) 31 (getElem? (doubling 31 ++ (one js ∷ [])) 31))
 
 one-below : asked (30 ∷ 29 ∷ 29 ∷ []) ≡ record { number = 0; least = 4294967294; greatest = 4294967294; leastOver = false; greatestOver = false }
 unfolding leastCosts greatestCosts
@@ -46,10 +46,10 @@ unfolding leastCosts greatestCosts
 one-above = refl
 
 -- clauses of 1 and of 2 below an iso that calls them twice: 1 + 1 + 1 and 1 + 2 + 2
-two-clauses : onIso
+two-clauses : boundsFrom (onIso
     (one [] ∷ record { line = 0; from = tunit; to = tunit; clauses = calling [] ∷ calling (0 ∷ []) ∷ [] } ∷ one (1 ∷ 1 ∷ []) ∷ [])
     2
-    (getElem? (one [] ∷ []) 0)
+    (getElem? (one [] ∷ []) 0))
     ≡ record { number = 0; least = 3; greatest = 5; leastOver = false; greatestOver = false }
 unfolding leastCosts greatestCosts
 two-clauses = refl

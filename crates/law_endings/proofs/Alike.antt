@@ -12,11 +12,10 @@ use Rattle.calculus.specs.Tools.{_>>=_, guard, concat}
 use Rattle.calculus.specs.Refusals.{tooLong}
 use Rattle.format.specs.Lines.{lines, skip}
 use Rattle.format.specs.Judge.{start}
-use Rattle.model.specs.Services.{Verdict, accepted, refused, afterReading, over, verdict, answerOf, check, turnedOf, turn, runOf, run, RunAnswer, answerOfRun, runService}
-use Rattle.model.specs.Services.{written, tableAfter, workAfter, short, unless}
+use Rattle.model.specs.Services.{Verdict, accepted, refused, afterReading, over, verdict, answerOf, refusalBy, checkBy, check, serve, turnedRows, turnedBy, turn, runOf, run, answerOfRun, runBy, runService, tableAfter, workAfter, short, unless}
 use Rattle.model.specs.Desk.{Query, queryIn, queryOf, answerTo, queryLine, fileLine, fileLines, queryLines, queryAnswers, desk}
 use Rattle.model.specs.Sheet.{answersTo, numbersAfter, lettersAfter, narrowSheet, sheet}
-use Rattle.law_ranking.specs.Numbering.{Outcome, numberOn, settingOn, refusalOf, numberFrom, lettersFrom, numberService, settingService}
+use Rattle.law_ranking.specs.Numbering.{numberRows, settingRows, numberedBy, letteredBy, numberService, settingService}
 use Rattle.calculus.proofs.Basic.{some-bind, not-ltb}
 use Rattle.format.proofs.Endings.{feed, both, text-both}
 use Rattle.format.proofs.Printing.{printFields, fields-print}
@@ -42,15 +41,13 @@ module _ (bs cs table work : List ℕ) (same : Resaved bs cs) (short-bs : length
 
   pub check-alike : check bs table work ≡ check cs table work
   unfolding check
-  check-alike = ap (λ u. let v : Verdict = unless (short table work) u in record { answer = answerOf v; table = tableAfter v table; work = workAfter v work }) e
+  check-alike = ap (λ v. checkBy v table work) e
 
   -- the output area is long enough for both files
   pub turn-alike : (output : List ℕ) → length bs ≤ length output → length cs ≤ length output → turn bs table work output ≡ turn cs table work output
   unfolding turn
   turn-alike output m n =
-      ap
-      (λ v. record { answer = answerOf v; length = length (turnedOf v); table = tableAfter v table; work = workAfter v work; output = written (turnedOf v) output })
-      (ap₂ (λ b u. unless (short table work || b) u) (not-ltb m ∙ sym (not-ltb n)) e)
+      ap₂ (λ b v. turnedBy output (serve (short table work || b) v turnedRows table work)) (not-ltb m ∙ sym (not-ltb n)) e
 
   pub run-alike : (i : ℕ) (back : Bool) (budget : ℕ) (value : List ℕ) → run bs i back budget value ≡ run cs i back budget value
   unfolding run
@@ -59,33 +56,16 @@ module _ (bs cs table work : List ℕ) (same : Resaved bs cs) (short-bs : length
   pub run-service-alike : (i : ℕ) (back : Bool) (budget : ℕ) (value result : List ℕ)
       → runService bs table work i back budget value result ≡ runService cs table work i back budget value result
   unfolding runService
-  run-service-alike i back budget value result =
-      ap
-      (λ u.
-      let v : Verdict = unless (short table work || ltb (length result) resultLength) u in
-      let a : RunAnswer = answerOfRun (runOf v i back budget value) in
-      record { number = a .number; count = a .count; length = length (a .letters); table = tableAfter v table; work = workAfter v work; result = written (a .letters) result })
-      e
+  run-service-alike i back budget value result = ap (λ v. runBy v table work i back budget value result) e
 
   pub number-alike : (i : ℕ) (value : List ℕ) → numberService bs table work i value ≡ numberService cs table work i value
   unfolding numberService
-  number-alike i value =
-      ap
-      (λ u.
-      let v : Verdict = unless (short table work) u in
-      let o : Outcome ℕ = numberOn v i value in
-      record { number = refusalOf o; setting = numberFrom o; table = tableAfter v table; work = workAfter v work })
-      e
+  number-alike i value = ap (λ v. numberedBy (serve (short table work) v (numberRows i value) table work)) e
 
   pub setting-alike : (i n : ℕ) (result : List ℕ) → settingService bs table work i n result ≡ settingService cs table work i n result
   unfolding settingService
   setting-alike i n result =
-      ap
-      (λ u.
-      let v : Verdict = unless (short table work || ltb (length result) resultLength) u in
-      let o : Outcome (List ℕ) = settingOn v i n in
-      record { number = refusalOf o; length = length (lettersFrom o); table = tableAfter v table; work = workAfter v work; result = written (lettersFrom o) result })
-      e
+      ap (λ v. letteredBy result (serve (short table work || ltb (length result) resultLength) v (settingRows i n) table work)) e
 
 -- ---- queries
 
@@ -143,7 +123,7 @@ sheet-alike bs cs table work qs ps numbers letters same m n h k =
     let v = verdicts (length (lines qs)) (verdict bs) in
     let same-verdict : v ≡ verdicts (length (lines ps)) (verdict cs) = ap₂ verdicts (count-same h) (verdict-alike bs cs same m n) in
     ap₂
-    (λ v rs. record { answer = answerOf v; queries = length rs; table = tableAfter v table; work = workAfter v work; numbers = numbersAfter rs numbers; letters = lettersAfter rs letters })
+    (λ v rs. record { refusal = refusalBy v; answer = answerOf v; queries = length rs; table = tableAfter v table; work = workAfter v work; numbers = numbersAfter rs numbers; letters = lettersAfter rs letters })
     same-verdict
     (answers-alike v h k ∙ ap (λ v. answersTo v (lines ps)) same-verdict)
 

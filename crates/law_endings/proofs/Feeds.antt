@@ -19,6 +19,7 @@ use Rattle.format.proofs.Turning.{turn-turn}
 use Rattle.format.proofs.Endings.{feed, both, Ended, by-feed, by-both, Returnless, text-ended, without-concat, without-line}
 use Rattle.format.proofs.Printing.{returnless-body, read-print, read-each, concat-lines}
 use Rattle.model.proofs.Files.{refused≢accepted, accepted-form, answer-zero, printed, turned-accepted, turned-length, turned-fits, turned-twice, turned-accepted-bytes}
+use Rattle.model.proofs.Outcomes.{turn-answer}
 use Rattle.law_endings.specs.Resaved.{feedsAlone}
 
 -- ---- carriage returns before line feeds, and all of them
@@ -101,7 +102,7 @@ module _ (bs table work output : List ℕ) where
   -- Turn answers 0 for an accepted file alone, in areas that are long enough
   pub turn-accepts : turn bs table work output .answer .number ≡ 0 → (rs : List Row) × (verdict bs ≡ accepted rs) × (tight ≡ false)
   unfolding turn
-  turn-accepts e = go tight refl (answer-zero (unless tight (verdict bs)) e)
+  turn-accepts e = go tight refl (answer-zero (unless tight (verdict bs)) (ap (λ a. a .number) (sym (turn-answer bs table work output)) ∙ e))
     where
       go : (b : Bool) → tight ≡ b → ((rs : List Row) × (unless tight (verdict bs) ≡ accepted rs)) → (rs : List Row) × (verdict bs ≡ accepted rs) × (tight ≡ false)
       go true t h = absurd (refused≢accepted (sym (ap (λ b. unless b (verdict bs)) t) ∙ h .1))
@@ -114,7 +115,7 @@ module _ (bs table work output : List ℕ) where
     -- it then answers by the verdict and writes the turned file
     pub turn-answers : turn bs table work output .answer ≡ answerOf (verdict bs)
     unfolding turn
-    turn-answers = ap answerOf there
+    turn-answers = turn-answer bs table work output ∙ ap answerOf there
 
     pub turn-writes : writes bs table work output ≡ turned bs
     unfolding turn turned

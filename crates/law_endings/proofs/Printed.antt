@@ -16,7 +16,7 @@ use Rattle.format.specs.Lines.{Row, lines, isDigit, decimal}
 use Rattle.calculus.specs.Letters.{letters}
 use Rattle.calculus.specs.Reduction.{reduce}
 use Rattle.format.specs.Unfold.{isosOf}
-use Rattle.model.specs.Services.{Verdict, accepted, refused, verdict, Answer, answerOf, Ran, gives, failed, within, argument, from, onIso, runRows, toward, RunAnswer, answerOfRun}
+use Rattle.model.specs.Services.{Verdict, accepted, refused, verdict, Answer, answerOf, Ran, gives, fails, within, argument, from, onIso, runRows, toward, RunAnswer, answerOfRun}
 use Rattle.model.specs.Desk.{Query, queryOf, answerTo, queryLine, fileLine, fileLines, queryLines, queryAnswers, desk}
 use Rattle.calculus.proofs.Basic.{not-eqb, each-nil, each-cons, each-append, all-mem}
 use Rattle.format.proofs.Numerals.{digit-lower, decimal-digits}
@@ -31,7 +31,7 @@ joined xs h k = each-append NoReturn xs h k
 behind : (b : ℕ) {bs : List ℕ} → NoReturn b → Returnless bs → Returnless (b ∷ bs)
 behind b h k = each-cons NoReturn h k
 
-decimal-plain : (n : ℕ) → Returnless (decimal n)
+pub decimal-plain : (n : ℕ) → Returnless (decimal n)
 decimal-plain n b m = let low = digit-lower b (all-mem isDigit (decimal-digits n) m) in not-eqb {m = b} {n = carriageReturn} (ne-of-gt (omega arith))
 
 letters-plain : (v : Val) → Returnless (letters v)
@@ -48,7 +48,7 @@ within-plain : (budget : ℕ) (o : Option (Val × ℕ)) → Plain (within budget
 within-plain budget none = nothing
 within-plain budget (some r) = go (leb (r .1) budget)
   where
-    go : (b : Bool) → Plain (cond b (gives (r .1) (letters (r .0))) (failed spent))
+    go : (b : Bool) → Plain (cond b (gives (r .1, letters (r .0))) (fails spent))
     go true = letters-plain (r .0)
     go false = nothing
 

@@ -7,7 +7,7 @@ use lib.Dec.{ltb}
 use lib.ListN.{length}
 use Rattle.limits.specs.Limits.{maxBytes, maxLines, resultLength}
 use Rattle.format.specs.Judge.{start}
-use Rattle.model.specs.Services.{Verdict, over, answerOf, tableAfter, workAfter, short, unless, written}
+use Rattle.model.specs.Services.{Verdict, over, answerOf, refusalBy, tableAfter, workAfter, short, unless, written}
 use Rattle.calculus.proofs.Basic.{not-ltb}
 use Rattle.law_witnesses.specs.Showing.{Shown, shownOf, showing, showService}
 use Rattle.law_endings.specs.Resaved.{Resaved}
@@ -29,4 +29,4 @@ witness-alike bs cs table work result h m n = ap₂ served (verdict-alike bs cs 
         let s : Bool = short table work || ltb (length result) resultLength in
         let v : Verdict = unless s u in
         let ls : List ℕ = cond s [] shown in
-        record { answer = answerOf v; length = length ls; table = tableAfter v table; work = workAfter v work; result = written ls result }
+        record { refusal = refusalBy v; answer = answerOf v; length = length ls; table = tableAfter v table; work = workAfter v work; result = written ls result }

@@ -1,35 +1,34 @@
 -- Request 07: the list of an exported iso pairs all settings of its two types, and importing it gives an iso that answers as the exported one.
-use Prim.Native.Nat.{ℕ, zero, suc, _+_, _*_, _≤_, _<_}
+use Prim.Native.Nat.{ℕ, zero, suc, _+_, _≤_, _<_}
 use native.Mathlib.Nat.{not-suc-le-zero, le-antisymm, lt-irrefl, add-zero, add-suc, suc-add, zero-add}
 use native.Mathlib.Omega.{arith}
-use mathlib.Core.Path.{_≡_, refl, sym, ap, ap₂, _∙_, subst}
-use mathlib.Core.Logic.{_⊎_, inl, inr}
-use mathlib.Core.Bool.{Bool, true, false, cond, _||_}
+use mathlib.Core.Path.{_≡_, refl, sym, ap, _∙_, subst}
+use mathlib.Core.Bool.{Bool, true, false, cond}
 use mathlib.Core.Option.{Option, none, some}
-use mathlib.Core.List.{List, [], _∷_, map, List·Memᴰ, List·Memᴰ·head, List·Memᴰ·tail}
-use lib.Dec.{leb, ltb, eqb}
+use mathlib.Core.List.{List, [], _∷_, map, List·Memᴰ}
+use lib.Dec.{leb, ltb}
 use lib.ListN.{length, getElem?}
-use Rattle.limits.specs.Limits.{fieldBound, maxPairs, maxClauses, exportLength}
+use Rattle.limits.specs.Limits.{maxPairs, exportLength}
 use Rattle.calculus.specs.Tools.{_>>=_, guard, all}
 use Rattle.calculus.specs.Trees.{Ty, Val, Iso, invert}
-use Rattle.calculus.specs.Refusals.{spent, tooMany}
+use Rattle.calculus.specs.Refusals.{tooMany}
 use Rattle.format.specs.Lines.{Row, lines}
 use Rattle.format.specs.Unfold.{isosOf}
 use Rattle.calculus.specs.Reduction.{reduce}
 use Rattle.calculus.specs.Clauses.{lefts, rights}
-use Rattle.law_ranking.specs.Numbering.{count, rank, unrank, Outcome, gives, fails, typesOf}
-use Rattle.model.specs.Services.{accepted, verdict}
+use Rattle.law_ranking.specs.Numbering.{count, rank, unrank}
+use Rattle.model.specs.Services.{accepted, verdict, gives, fails}
 use Rattle.calculus.specs.Paper.{Of, Apart, Distinct, nobody, another}
-use Rattle.law_pairlists.specs.PairLists.{pairLines, tosOf, toFrom, upwards, onPairs, onExported, exportRows, exportOn, importOn}
-use Rattle.calculus.proofs.Basic.{bind-some, none≢some, some-inj, guard-true, leb-le, ltb-false, index-mem, index-below, mem-index, index-map}
+use Rattle.law_pairlists.specs.PairLists.{pairLines, tosOf, toFrom, upwards, onPairs, onExported, exportRows}
+use Rattle.calculus.proofs.Basic.{bind-some, none≢some, some-inj, ltb-false, index-below, mem-index, index-map}
 use Rattle.calculus.proofs.Letters.{inhabits-of, of-inhabits}
 use Rattle.calculus.proofs.Inverse.{reduce-inverse}
 use Rattle.model.proofs.Runs.{Good, results, preserves, GoodRows, good, good-invert, accepted-good}
-use Rattle.law_ranking.proofs.Outcomes.{fails≢gives}
+use Rattle.model.proofs.Outcomes.{fails≢gives, gives-inj}
 use Rattle.law_ranking.proofs.Numbering.{rank-below, unrank-rank, unrank-inhabits, rank-unrank}
 use Rattle.law_pairlists.proofs.Iso.{rank-inj}
 use Rattle.law_pairlists.proofs.List.{Taken, distinct-few, printed-tos, pairs-room}
-use Rattle.law_pairlists.proofs.Imports.{gives-inj, Imported, imported, import-accepted, Trades, traded-run}
+use Rattle.law_pairlists.proofs.Imports.{Imported, Trades, traded-run}
 
 -- ---- an export that is not refused
 

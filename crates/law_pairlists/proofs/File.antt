@@ -1,26 +1,28 @@
 -- Request 07: the file that import writes. Its T and P rows unfold to the types and the closed values, its rows pass the judge, and its one iso has a
 -- clause of closed values for each pair.
 use Prim.Native.Nat.{ℕ, zero, suc, _+_, _≤_, _<_}
-use native.Mathlib.Nat.{lt-irrefl, le-trans, le-of-lt, lt-of-lt-of-le, add-zero, add-suc, suc-add}
+use native.Mathlib.Nat.{lt-irrefl, add-zero, add-suc, suc-add}
 use native.Mathlib.Omega.{arith}
 use mathlib.Core.Path.{_≡_, refl, sym, ap, ap₂, _∙_, subst}
 use mathlib.Core.Logic.{_⊎_, inl, inr, _↔_}
-use mathlib.Core.Bool.{Bool, true, false, cond, _&&_, false≢true}
-use mathlib.Core.Option.{Option, none, some}
+use mathlib.Core.Bool.{true, _&&_, false≢true}
+use mathlib.Core.Option.{none, some}
 use mathlib.Core.List.{List, [], _∷_, _++_, append-nil, append-assoc, List·Memᴰ, List·Memᴰ·head, List·Memᴰ·tail}
 use lib.Dec.{eqb, ltb, leb}
 use lib.ListN.{length, getElem?, getD, List·getD-append, length-append}
 use Rattle.limits.specs.Limits.{variables, fieldBound, maxTypes, maxPatterns, maxIsos, maxClauses, maxNodes, maxTags}
-use Rattle.calculus.specs.Trees.{Ty, tunit, tsum, tprod, left, right, Pat, punit, pvar, pinj, ppair, Val, vunit, vinj, vpair, Clause, Iso, typeNodes, nodes, tags}
-use Rattle.calculus.specs.Refusals.{Kind, typeLine, patternLine, isoLine, clauseLine, letLine}
+use Rattle.calculus.specs.Trees.{Ty, tunit, tsum, tprod, left, right, Pat, punit, pinj, ppair, Val, vunit, vinj, vpair, Clause, Iso, typeNodes, nodes, tags}
+use Rattle.calculus.specs.Refusals.{typeLine, patternLine, isoLine, clauseLine}
 use Rattle.format.specs.Lines.{Row, fieldCount}
-use Rattle.format.specs.Judge.{Seen, start, stage, inOrder, typeFields, typeNames, typeNode, typeTree, patternFields, patternNames, patternNode, patternTree, fieldsFit, named, withinCeilings, judge, afterKind, after, afterAll}
+use Rattle.format.specs.Judge.{Seen, start, stage, typeFields, typeNames, typeNode, typeTree, patternFields, patternNames, patternTree, withinCeilings, judge, afterKind, after, afterAll}
+use Rattle.format.specs.Kinds.{typeKind, patternKind}
 use Rattle.format.specs.Unfold.{Tail, place, tailFrom, isosOf}
-use Rattle.law_pairlists.specs.PairLists.{Entry, entry, enter, typeRow, patternRow, clauseRow, isoRow, writeType, writeValue, Written, writePairs, fileRows, withinAll}
-use Rattle.calculus.proofs.Basic.{none≢some, some-inj, and-true, true-and, ltb-lt, lt-ltb, le-leb, leb-le, index-below, index-mem, mem-index, eqb-eq, each-nil, each-cons, each-append}
-use Rattle.format.proofs.Passing.{Passes, done, next, Fit, judge-fit, fit-judge, type-fit, pattern-fit}
+use Rattle.law_pairlists.specs.PairLists.{Entry, entry, typeRow, patternRow, clauseRow, isoRow, writeType, writeValue, Written, writePairs, fileRows, withinAll}
+use Rattle.calculus.proofs.Basic.{and-true, true-and, ltb-lt, lt-ltb, le-leb, index-below, mem-index, eqb-eq, each-nil, each-cons, each-append, index-default}
+use Rattle.format.proofs.Naming.{type-by-names, type-names-mono, pattern-by-names, pattern-names-mono}
+use Rattle.format.proofs.Passing.{Passes, done, next, Fit, judge-fit, fit-judge, after-append, passes-append}
 use Rattle.format.proofs.Printing.{WellFormed}
-use Rattle.law_pairlists.proofs.Rows.{Stored, nothing, more, Entered, entered, still, after-others, same-length, ok-at, length-snoc, index-default, index-front, enter-length, enter-grows}
+use Rattle.law_pairlists.proofs.Rows.{Stored, nothing, more, Entered, entered, still, after-others, same-length, ok-at, length-snoc, index-front, enter-length, enter-grows}
 
 -- ---- T rows
 
@@ -35,25 +37,14 @@ below-both n a b e = let h = and-true (ltb a n) (ltb b n) e in (ltb-lt a n (h .0
 both-below : {n a b : ℕ} → a < n → b < n → (ltb a n && ltb b n) ≡ true
 both-below h k = true-and (lt-ltb h) (lt-ltb k)
 
-both-mono : (m n a b : ℕ) → m ≤ n → (ltb a m && ltb b m) ≡ true → (ltb a n && ltb b n) ≡ true
-both-mono m n a b l e = let h = below-both m a b e in both-below (lt-of-lt-of-le (h .0) l) (lt-of-lt-of-le (h .1) l)
-
-type-keep-at : (ts us : List Ty) (k a b : ℕ) → typeNames (length ts) k a b ≡ true
-    → typeNode k (getD (ts ++ us) a tunit) (getD (ts ++ us) b tunit) ≡ typeNode k (getD ts a tunit) (getD ts b tunit)
-type-keep-at ts us zero a b e = refl
-type-keep-at ts us (suc k) a b e =
-    let h = below-both (length ts) a b e in
-    ap₂ (typeNode (suc k)) (List·getD-append ts us tunit a (h .0)) (List·getD-append ts us tunit b (h .1))
-
 pub type-keep : (ts us : List Ty) (r : Row) → TypeOk (length ts) r → typeTree (ts ++ us) r ≡ typeTree ts r
-type-keep ts us r h = type-keep-at ts us (r .x) (r .y) (r .z) (h .names)
-
-type-mono-at : (m n k a b : ℕ) → m ≤ n → typeNames m k a b ≡ true → typeNames n k a b ≡ true
-type-mono-at m n zero a b l e = refl
-type-mono-at m n (suc k) a b l e = both-mono m n a b l e
+type-keep ts us r h =
+    type-by-names (length ts) (typeKind (r .x)) (r .y) (r .z) (h .names)
+    (λ l. List·getD-append ts us tunit (r .y) l)
+    (λ l. List·getD-append ts us tunit (r .z) l)
 
 pub type-mono : (m n : ℕ) (r : Row) → m ≤ n → TypeOk m r → TypeOk n r
-type-mono m n r l h = record { kind = h .kind; fields = h .fields; names = type-mono-at m n (r .x) (r .y) (r .z) l (h .names) }
+type-mono m n r l h = record { kind = h .kind; fields = h .fields; names = type-names-mono (typeKind (r .x)) (r .y) (r .z) l (h .names) }
 
 abbrev pub SmallType : Ty → Type 0
 SmallType a = typeNodes a ≤ maxNodes
@@ -65,14 +56,15 @@ abbrev pub TypeEntered : Entry → List Ty → Ty → Type 0
 TypeEntered = Entered typeTree TypeOk SmallType type-keep type-mono
 
 -- a sum or product whose parts have their numbers
-two-parts : {rs : List Row} {ts : List Ty} (k i j : ℕ) (a b : Ty) → Types rs ts → ((n : ℕ) → typeFields (suc k) i j ≡ true)
-    → getElem? ts i ≡ some a → getElem? ts j ≡ some b → typeNodes (typeNode (suc k) a b) ≤ maxNodes
-    → TypeEntered (entry (typeRow (suc k) i j) rs) ts (typeNode (suc k) a b)
-two-parts {rs} {ts} k i j a b s f p q l =
-    let e : typeTree ts (typeRow (suc k) i j) ≡ typeNode (suc k) a b = ap₂ (typeNode (suc k)) (index-default ts i tunit p) (index-default ts j tunit q) in
-    subst (TypeEntered (entry (typeRow (suc k) i j) rs) ts) e
-    (entered typeTree TypeOk SmallType type-keep type-mono (typeRow (suc k) i j) s
-    (record { kind = refl; fields = f 0; names = both-below (index-below ts i p) (index-below ts j q) })
+two-parts : {rs : List Row} {ts : List Ty} (k i j : ℕ) (a b : Ty) → Types rs ts → typeFields k i j ≡ true
+    → ((n : ℕ) → (ltb i n && ltb j n) ≡ true → typeNames n k i j ≡ true)
+    → getElem? ts i ≡ some a → getElem? ts j ≡ some b → typeNodes (typeNode k a b) ≤ maxNodes
+    → TypeEntered (entry (typeRow k i j) rs) ts (typeNode k a b)
+two-parts {rs} {ts} k i j a b s f n p q l =
+    let e : typeTree ts (typeRow k i j) ≡ typeNode k a b = ap₂ (typeNode k) (index-default ts i tunit p) (index-default ts j tunit q) in
+    subst (TypeEntered (entry (typeRow k i j) rs) ts) e
+    (entered typeTree TypeOk SmallType type-keep type-mono (typeRow k i j) s
+    (record { kind = refl; fields = f; names = n (length ts) (both-below (index-below ts i p) (index-below ts j q)) })
     (subst SmallType (sym e) l))
 
 -- writing a type gives rows whose unfolding at its number is that type, and changes no tree that was there
@@ -82,12 +74,12 @@ type-written tunit s l =
 type-written (tsum a b) s l =
     let f = type-written a s (omega arith) in
     let g = type-written b (f .stored) (omega arith) in
-    let h = two-parts 0 _ _ a b (g .stored) (λ n. refl) (still typeTree TypeOk SmallType type-keep type-mono g _ (f .here)) (g .here) l in
+    let h = two-parts 1 _ _ a b (g .stored) refl (λ n e. e) (still typeTree TypeOk SmallType type-keep type-mono g _ (f .here)) (g .here) l in
     after-others typeTree TypeOk SmallType type-keep type-mono f (after-others typeTree TypeOk SmallType type-keep type-mono g h)
 type-written (tprod a b) s l =
     let f = type-written a s (omega arith) in
     let g = type-written b (f .stored) (omega arith) in
-    let h = two-parts 1 _ _ a b (g .stored) (λ n. refl) (still typeTree TypeOk SmallType type-keep type-mono g _ (f .here)) (g .here) l in
+    let h = two-parts 2 _ _ a b (g .stored) refl (λ n e. e) (still typeTree TypeOk SmallType type-keep type-mono g _ (f .here)) (g .here) l in
     after-others typeTree TypeOk SmallType type-keep type-mono f (after-others typeTree TypeOk SmallType type-keep type-mono g h)
 
 -- no more rows than nodes
@@ -133,27 +125,14 @@ pub record PatternOk (n : ℕ) (r : Row) : Type 0 where
   pub fields : patternFields (r .x) (r .y) (r .z) ≡ true
   pub names : patternNames n (r .x) (r .y) (r .z) ≡ true
 
-pattern-keep-at : (ts us : List Pat) (k a b : ℕ) → patternNames (length ts) k a b ≡ true
-    → patternNode k a (getD (ts ++ us) a punit) (getD (ts ++ us) b punit) ≡ patternNode k a (getD ts a punit) (getD ts b punit)
-pattern-keep-at ts us zero a b e = refl
-pattern-keep-at ts us (suc zero) a b e = refl
-pattern-keep-at ts us (suc (suc zero)) a b e = ap (pinj left) (List·getD-append ts us punit a (ltb-lt a (length ts) e))
-pattern-keep-at ts us (suc (suc (suc zero))) a b e = ap (pinj right) (List·getD-append ts us punit a (ltb-lt a (length ts) e))
-pattern-keep-at ts us (suc (suc (suc (suc k)))) a b e =
-    let h = below-both (length ts) a b e in ap₂ ppair (List·getD-append ts us punit a (h .0)) (List·getD-append ts us punit b (h .1))
-
 pub pattern-keep : (ts us : List Pat) (r : Row) → PatternOk (length ts) r → patternTree (ts ++ us) r ≡ patternTree ts r
-pattern-keep ts us r h = pattern-keep-at ts us (r .x) (r .y) (r .z) (h .names)
-
-pattern-mono-at : (m n k a b : ℕ) → m ≤ n → patternNames m k a b ≡ true → patternNames n k a b ≡ true
-pattern-mono-at m n zero a b l e = refl
-pattern-mono-at m n (suc zero) a b l e = refl
-pattern-mono-at m n (suc (suc zero)) a b l e = lt-ltb (lt-of-lt-of-le (ltb-lt a m e) l)
-pattern-mono-at m n (suc (suc (suc zero))) a b l e = lt-ltb (lt-of-lt-of-le (ltb-lt a m e) l)
-pattern-mono-at m n (suc (suc (suc (suc k)))) a b l e = both-mono m n a b l e
+pattern-keep ts us r h =
+    pattern-by-names (length ts) (patternKind (r .x)) (r .y) (r .z) (h .names)
+    (λ l. List·getD-append ts us punit (r .y) l)
+    (λ l. List·getD-append ts us punit (r .z) l)
 
 pub pattern-mono : (m n : ℕ) (r : Row) → m ≤ n → PatternOk m r → PatternOk n r
-pattern-mono m n r l h = record { kind = h .kind; fields = h .fields; names = pattern-mono-at m n (r .x) (r .y) (r .z) l (h .names) }
+pattern-mono m n r l h = record { kind = h .kind; fields = h .fields; names = pattern-names-mono (patternKind (r .x)) (r .y) (r .z) l (h .names) }
 
 abbrev pub SmallPattern : Pat → Type 0
 SmallPattern p = (nodes p ≤ maxNodes) × (tags p ≤ maxTags)
@@ -270,14 +249,6 @@ pairs-written (c ∷ cs) {rs} {ts} h s =
     front xs ys e i g = ap (λ z. getElem? z i) e ∙ index-front xs ys i g
 
 -- ---- rows that pass
-
-pub after-append : (s : Seen) (rs qs : List Row) → afterAll s (rs ++ qs) ≡ afterAll (afterAll s rs) qs
-after-append s [] qs = refl
-after-append s (r ∷ rs) qs = after-append (after s r) rs qs
-
-pub passes-append : {s : Seen} {rs qs : List Row} → Passes s rs → Passes (afterAll s rs) qs → Passes s (rs ++ qs)
-passes-append done k = k
-passes-append (next j h) k = next j (passes-append h k)
 
 -- what T rows tell
 pub record TypesSeen (s : Seen) (ts : List Ty) : Type 0 where

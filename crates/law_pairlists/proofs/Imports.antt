@@ -1,43 +1,36 @@
 -- Request 07, pair lists in and out: an imported file is accepted and answers as its list says, its export is the list, and an exported iso's list
 -- pairs all settings of the two types.
-use Prim.Native.Nat.{ℕ, zero, suc, _+_, _*_, _≤_, _<_}
-use native.Mathlib.Nat.{le-trans, le-antisymm, add-zero, add-suc, suc-add, zero-add}
+use Prim.Native.Nat.{ℕ, suc, _+_, _*_, _≤_, _<_}
+use native.Mathlib.Nat.{le-trans, add-zero, add-suc, suc-add, zero-add}
 use native.Mathlib.Omega.{arith}
 use mathlib.Core.Path.{_≡_, refl, sym, ap, ap₂, _∙_, subst}
-use mathlib.Core.Logic.{_⊎_, inl, inr, _↔_}
-use mathlib.Core.Bool.{Bool, true, false, cond, _||_, false≢true}
+use mathlib.Core.Logic.{_↔_}
+use mathlib.Core.Bool.{Bool, true, false, cond, _||_}
 use mathlib.Core.Option.{Option, none, some}
-use mathlib.Core.List.{List, [], _∷_, _++_, map, List·Memᴰ, List·Memᴰ·head, List·Memᴰ·tail, Memᴰ·map}
-use lib.Dec.{eqb, ltb, leb}
-use lib.ListN.{length, getElem?, take, length-map, length-append}
-use Rattle.limits.specs.Limits.{fieldBound, maxBytes, maxLines, maxClauses, maxPatterns, maxNodes, maxTags, maxPairs, exportLength, importLength}
+use mathlib.Core.List.{List, [], _∷_, map, List·Memᴰ, List·Memᴰ·head, List·Memᴰ·tail, Memᴰ·map}
+use lib.Dec.{ltb, leb}
+use lib.ListN.{length, getElem?, length-map, length-append}
+use Rattle.limits.specs.Limits.{fieldBound, maxBytes, maxLines, maxClauses, maxPatterns, maxNodes, maxPairs, importLength}
 use Rattle.calculus.specs.Tools.{_>>=_, guard, total}
-use Rattle.calculus.specs.Trees.{Ty, Val, Iso, invert, typeNodes}
-use Rattle.calculus.specs.Refusals.{Kind, typeLine, patternLine, isoLine, clauseLine, letLine, Refusal, spent, noIso, ceiling, tooMany, badList}
-use Rattle.format.specs.Lines.{Row, fieldCount, lines, withoutReturns, decimal, print, printField, printRows}
+use Rattle.calculus.specs.Trees.{Ty, Val, Iso, typeNodes}
+use Rattle.calculus.specs.Refusals.{Kind, typeLine, patternLine, isoLine, clauseLine, letLine, ceiling, tooMany}
+use Rattle.format.specs.Lines.{Row, lines, withoutReturns, decimal, print, printRows}
 use Rattle.format.specs.Judge.{start}
 use Rattle.format.specs.Unfold.{isosOf}
 use Rattle.calculus.specs.Reduction.{reduce}
-use Rattle.law_ranking.specs.Numbering.{count, rank, unrank, Outcome, gives, fails, typesOf}
-use Rattle.model.specs.Services.{Verdict, accepted, refused, verdict, over}
-use Rattle.calculus.specs.Paper.{Of, Apart, Distinct, nobody, another, FileOk}
-use Rattle.calculus.specs.Clauses.{lefts, rights}
-use Rattle.law_pairlists.specs.PairLists.{pairLines, toOf, tosOf, pairsUp, listOf, settings, writePairs, fileRows, withinAll, writing, onList, onLines, onTypes, importRows, toFrom, upwards, onPairs, onExported, exportRows, exportOn, importOn}
-use Rattle.calculus.proofs.Basic.{bind-some, some-bind, none≢some, some-inj, some-pair, guard-true, true-guard, true-and, bool-cases, neither, le-leb, leb-le, ltb-false, not-ltb, eq-eqb, lt-ltb, mem-all, mem-index, index-mem, index-below, index-map, each-nil, each-cons}
-use Rattle.calculus.proofs.Letters.{inhabits-of, of-inhabits}
+use Rattle.law_ranking.specs.Numbering.{count, rank, unrank, typesOf}
+use Rattle.model.specs.Services.{accepted, verdict, over, gives, fails}
+use Rattle.calculus.specs.Paper.{FileOk}
+use Rattle.law_pairlists.specs.PairLists.{pairLines, tosOf, pairsUp, listOf, settings, writePairs, fileRows, withinAll, onList, onLines, onTypes, importRows, toFrom, upwards, onPairs, onExported, exportRows, exportOn, importOn}
+use Rattle.calculus.proofs.Basic.{bind-some, some-bind, some-inj, guard-true, true-guard, neither, le-leb, ltb-false, not-ltb, index-mem, each-nil, each-cons}
 use Rattle.format.proofs.Printing.{WellFormed, shown, printFields, length-print, length-printRows, lines-print, printed-reading, concat-lines}
-use Rattle.model.proofs.Files.{InForm, accepted-iff}
-use Rattle.calculus.proofs.Inverse.{reduce-inverse}
-use Rattle.model.proofs.Runs.{Good, results, preserves, GoodRows, good, good-invert, accepted-good}
-use Rattle.law_ranking.proofs.Outcomes.{fails≢gives, small-type}
-use Rattle.law_ranking.proofs.Numbering.{count-positive, rank-below, unrank-rank, unrank-inhabits, rank-unrank}
-use Rattle.law_pairlists.proofs.Rows.{length-snoc}
-use Rattle.law_pairlists.proofs.File.{SmallPair, SmallPattern, closed, closedIso, FileWritten, file-written, ceiling-of-patterns}
+use Rattle.model.proofs.Files.{accepted-iff}
+use Rattle.model.proofs.Outcomes.{fails≢gives, gives-inj}
+use Rattle.law_ranking.proofs.Outcomes.{small-type}
+use Rattle.law_ranking.proofs.Numbering.{rank-unrank}
+use Rattle.law_pairlists.proofs.File.{SmallPair, closedIso, FileWritten, file-written, ceiling-of-patterns}
 use Rattle.law_pairlists.proofs.Iso.{Lists, firsts, seconds, closed-nodes, closed-tags, closed-ok, closed-run}
-use Rattle.law_pairlists.proofs.List.{Taken, pairs-taken, lefts-all, rights-all, settings-length, settings-at, tos-printed, tos-length, printed-tos, decimal-few, distinct-few, upFrom, pairs-room, twice-none}
-
-pub gives-inj : {A : Type 0} {x y : A} → _≡_ {A = Outcome A} (gives x) (gives y) → x ≡ y
-gives-inj e = cc
+use Rattle.law_pairlists.proofs.List.{Taken, pairs-taken, lefts-all, rights-all, settings-length, settings-at, tos-printed, tos-length, decimal-few}
 
 -- ---- an import that is not refused
 

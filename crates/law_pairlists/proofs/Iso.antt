@@ -1,29 +1,27 @@
 -- Request 07: an iso of closed values, one clause a pair. Where each side lists all values of its type, each once, it keeps the rules of clause and iso,
 -- and each of its runs takes one application.
-use Prim.Native.Nat.{ℕ, zero, suc, _+_, _*_, _≤_, _<_}
-use native.Mathlib.Nat.{lt-irrefl, le-refl, suc-mul, mul-le-mul, mul-one}
+use Prim.Native.Nat.{ℕ, suc, _+_, _*_, _≤_, _<_}
+use native.Mathlib.Nat.{le-refl, suc-mul, mul-le-mul}
 use native.Mathlib.Omega.{arith}
 use mathlib.Core.Path.{_≡_, refl, sym, ap, ap₂, _∙_, subst}
 use mathlib.Core.Logic.{_⊎_, inl, inr}
-use mathlib.Core.Bool.{Bool, true, false, cond, not, _&&_, true≢false, false≢true}
-use mathlib.Core.Option.{Option, none, some}
-use mathlib.Core.List.{List, [], _∷_, _++_, map, List·Memᴰ, List·Memᴰ·head, List·Memᴰ·tail, List·Memᴰ·not-nil, Memᴰ·map, Memᴰ·of-map, Memᴰ·cast}
-use lib.Dec.{eqb, ltb}
-use lib.ListN.{length, getElem?}
-use Rattle.calculus.specs.Tools.{_>>=_, guard, isSome, all, select}
-use Rattle.calculus.specs.Trees.{Ty, tunit, tsum, tprod, Tag, left, right, Pat, punit, pvar, pinj, ppair, Val, vunit, vinj, vpair, Let, Clause, Iso, vars, part, nodes, tags, typeNodes}
+use mathlib.Core.Bool.{true, false, false≢true}
+use mathlib.Core.Option.{none, some}
+use mathlib.Core.List.{List, [], _∷_, _++_, map, List·Memᴰ, List·Memᴰ·head, List·Memᴰ·tail, List·Memᴰ·not-nil, Memᴰ·map, Memᴰ·of-map}
+use lib.Dec.{eqb}
+use Rattle.calculus.specs.Tools.{_>>=_, isSome}
+use Rattle.calculus.specs.Trees.{Ty, left, right, ppair, Val, vunit, vinj, vpair, Clause, Iso, vars, nodes, tags, typeNodes}
 use Rattle.calculus.specs.Slots.{Slots, empty, allEmpty}
-use Rattle.calculus.specs.Clauses.{Sigs, sigsOf, lefts, rights, events, history, deeds, binds, uses}
-use Rattle.calculus.specs.Reduction.{Call, bind, build, runClause, hits, only, apply, reduceTo, reduce}
-use Rattle.calculus.specs.Letters.{letters, inhabits}
+use Rattle.calculus.specs.Clauses.{Sigs, sigsOf, events, history, binds, uses}
+use Rattle.calculus.specs.Reduction.{bind, build, runClause, reduceTo, reduce}
 use Rattle.law_ranking.specs.Numbering.{count, rank, unrank}
-use Rattle.calculus.specs.Paper.{Of, Join, Fits, Chain, Linear, Alternate, BoundThenUsed, LetProducts, Orth, Apart, Matched, fill, Covers, ClauseOk, IsoOk, FileOk, Distinct, nobody, another}
-use Rattle.calculus.proofs.Basic.{bind-some, some-bind, none≢some, some-inj, true-guard, sameTag-refl, and-true, true-and, bool-cases, not-both, eqb-eq, eq-eqb, each-nil, each-cons, all-mem, mem-all, select-true, select-false, select-mem, is-false}
-use Rattle.calculus.proofs.Letters.{inhabits-of, of-inhabits}
+use Rattle.calculus.specs.Paper.{Of, Join, Fits, Chain, Alternate, Orth, Apart, Matched, fill, Covers, ClauseOk, IsoOk, FileOk}
+use Rattle.calculus.proofs.Basic.{some-bind, true-guard, sameTag-refl, bool-cases, not-both, eqb-eq, eq-eqb, each-nil, each-cons}
+use Rattle.calculus.proofs.Letters.{of-inhabits}
 use Rattle.calculus.proofs.Slots.{length-empty, allEmpty-empty}
 use Rattle.calculus.proofs.Running.{run-clause, only-hit}
 use Rattle.calculus.proofs.Inverse.{reduce-unfold}
-use Rattle.law_ranking.proofs.Numbering.{count-positive, rank-below, unrank-rank, unrank-inhabits, rank-unrank}
+use Rattle.law_ranking.proofs.Numbering.{count-positive, unrank-rank}
 use Rattle.law_pairlists.proofs.File.{closed, closedClauses, closedIso}
 
 -- ---- closed patterns

@@ -4,25 +4,26 @@ use native.Mathlib.Nat.{lt-irrefl, ne-of-gt, not-suc-le-zero, pow-suc, add-zero,
 use native.Mathlib.Omega.{arith}
 use mathlib.Core.Path.{_≡_, refl, sym, ap, ap₂, _∙_, subst}
 use mathlib.Core.Logic.{_⊎_, inl, inr}
-use mathlib.Core.Bool.{Bool, true, false, cond, not, _&&_, true≢false, false≢true}
-use mathlib.Core.Option.{Option, none, some}
+use mathlib.Core.Bool.{Bool, true, false, cond, not, _&&_}
+use mathlib.Core.Option.{some}
 use mathlib.Core.List.{List, [], _∷_, _++_, map, append-assoc, append-nil, List·Memᴰ, List·Memᴰ·head, List·Memᴰ·tail, List·Memᴰ·not-nil, Memᴰ·map, Memᴰ·of-map, Memᴰ·cast}
 use lib.Dec.{eqb, ltb}
-use lib.ListN.{length, getElem?, length-map, length-append}
-use Rattle.limits.specs.Limits.{budgetBound, comma, lineFeed, carriageReturn, digitZero}
-use Rattle.calculus.specs.Tools.{_>>=_, guard, all, select, concat}
-use Rattle.calculus.specs.Trees.{Ty, Val}
+use lib.ListN.{length, getElem?, length-append}
+use Rattle.limits.specs.Limits.{budgetBound, comma, lineFeed, digitZero}
+use Rattle.calculus.specs.Tools.{guard, all, select, concat}
+use Rattle.calculus.specs.Trees.{Ty}
 use Rattle.format.specs.Lines.{lines, text, withoutReturns, isDigit, numeral, skip, ended, decimalOf, decimal}
 use Rattle.law_ranking.specs.Numbering.{count, rank, unrank}
-use Rattle.law_pairlists.specs.PairLists.{pairLine, pairLines, toIn, toOf, tosOf, noneTwice, pairsUp, listOf, settings}
+use Rattle.law_pairlists.specs.PairLists.{pairLine, pairLines, toIn, toOf, tosOf, noneTwice, pairsUp, settings}
 use Rattle.calculus.specs.Paper.{Of, Distinct, nobody, another}
-use Rattle.calculus.proofs.Basic.{bind-some, some-bind, none≢some, some-inj, guard-true, true-guard, and-true, true-and, bool-cases, not-both, not-true, eqb-eq, eq-eqb, not-eqb, eqb-false, ltb-lt, ltb-false, each-nil, each-cons, each-append, all-mem, mem-all, select-true, select-false, select-mem}
+use Rattle.calculus.proofs.Basic.{bind-some, some-bind, none≢some, some-inj, guard-true, true-guard, and-true, true-and, bool-cases, not-both, not-true, eqb-eq, eq-eqb, not-eqb, eqb-false, ltb-lt, ltb-false, each-cons, each-append, all-mem, mem-all, select-true, select-false, select-mem}
 use Rattle.calculus.proofs.Letters.{inhabits-of, of-inhabits}
 use Rattle.format.proofs.Numerals.{read-numeral, numeral-decimal, decimal-digits, digit-lower}
 use Rattle.format.proofs.Endings.{feed, NoReturn, Returnless, text-ended, text-feed, without-append, without-line}
-use Rattle.format.proofs.Printing.{skip-some, ended-some, concat-lines, lines-feed, NoFeed, Feedless}
+use Rattle.format.proofs.Printing.{skip-some, ended-some, lines-feed, NoFeed, Feedless}
 use Rattle.law_ranking.proofs.Numbering.{rank-below, unrank-rank, unrank-inhabits, rank-unrank}
 use Rattle.law_pairlists.proofs.Iso.{Differ, alone, beside, Lists, firsts, seconds}
+use Rattle.law_endings.proofs.Printed.{decimal-plain}
 
 -- ---- no number twice
 
@@ -208,10 +209,7 @@ line-text : (k t : ℕ) → pairLine k t ≡ pairText k t ++ feed
 line-text k t = pairLine-shape k t ∙ sym (append-assoc (decimal k) (comma ∷ decimal t) feed)
 
 returnless-text : (k t : ℕ) → Returnless (pairText k t)
-returnless-text k t = each-append NoReturn (decimal k) (digits k) (each-cons NoReturn refl (digits t))
-  where
-    digits : (n : ℕ) → Returnless (decimal n)
-    digits n b m = let low = digit-lower b (all-mem isDigit (decimal-digits n) m) in not-eqb {m = b} {n = carriageReturn} (ne-of-gt (omega arith))
+returnless-text k t = each-append NoReturn (decimal k) (decimal-plain k) (each-cons NoReturn refl (decimal-plain t))
 
 -- a text that reads is what is printed
 to-in : (k : ℕ) (bs : List ℕ) (t : ℕ) → toIn k bs ≡ some t → bs ≡ pairText k t

@@ -1,11 +1,10 @@
 -- Request 07: "no equal line twice". No two rows of a file that import writes are equal, and no two of its lines.
-use Prim.Native.Nat.{ℕ, zero, suc, _+_, _≤_, _<_}
-use native.Mathlib.Nat.{lt-irrefl}
+use Prim.Native.Nat.{ℕ, zero, suc, _+_, _≤_}
 use native.Mathlib.Omega.{arith}
 use mathlib.Core.Path.{_≡_, refl, sym, ap, _∙_, subst}
 use mathlib.Core.Logic.{_⊎_, inl, inr}
-use mathlib.Core.Option.{Option, none, some}
-use mathlib.Core.List.{List, [], _∷_, _++_, map, List·Memᴰ, List·Memᴰ·head, List·Memᴰ·tail, List·Memᴰ·not-nil}
+use mathlib.Core.Option.{some}
+use mathlib.Core.List.{List, [], _∷_, _++_, List·Memᴰ, List·Memᴰ·head, List·Memᴰ·tail, List·Memᴰ·not-nil}
 use lib.ListN.{length, getElem?}
 use Rattle.limits.specs.Limits.{maxNodes, maxClauses, maxPatterns}
 use Rattle.calculus.specs.Trees.{Ty, Pat, Val, typeNodes}
@@ -14,15 +13,14 @@ use Rattle.format.specs.Lines.{Row, letter, lines, rowOf, print, printRows}
 use Rattle.format.specs.Judge.{typeTree, patternTree}
 use Rattle.calculus.specs.Slots.{empty}
 use Rattle.calculus.specs.Reduction.{build}
-use Rattle.model.specs.Services.{accepted, verdict}
-use Rattle.calculus.proofs.Basic.{none≢some, some-inj, index-mem, mem-index, index-of-map, each-nil, each-cons, each-append}
-use Rattle.format.proofs.Printing.{WellFormed, print-read, lines-print}
-use Rattle.law_pairlists.specs.PairLists.{Entry, writeType, Written, writePairs, clauseRow, isoRow, settings, fileRows}
+use Rattle.calculus.proofs.Basic.{none≢some, some-inj, index-mem, mem-index, index-of-map, each-cons, each-append}
+use Rattle.format.proofs.Printing.{print-read, lines-print}
+use Rattle.law_pairlists.specs.PairLists.{writeType, writePairs, clauseRow, isoRow, settings, fileRows}
 use Rattle.law_pairlists.proofs.Rows.{nothing, once, ok-at}
-use Rattle.law_pairlists.proofs.File.{TypeOk, type-keep, type-mono, SmallType, type-written, PatternOk, pattern-keep, pattern-mono, SmallPattern, closed, Named, unnamed, one, SmallPair, pairs-written, FileWritten}
-use Rattle.law_pairlists.proofs.Iso.{Differ, alone, beside, firsts, closed-build}
+use Rattle.law_pairlists.proofs.File.{TypeOk, type-keep, type-mono, SmallType, type-written, PatternOk, pattern-keep, pattern-mono, SmallPattern, closed, Named, unnamed, one, pairs-written}
+use Rattle.law_pairlists.proofs.Iso.{Differ, beside, firsts, closed-build}
 use Rattle.law_pairlists.proofs.List.{Taken, lefts-all}
-use Rattle.law_pairlists.proofs.Imports.{Imported, small, whole, written-ceiling}
+use Rattle.law_pairlists.proofs.Imports.{small, whole}
 
 -- each row at one place
 abbrev Once : List Row → Type 0

@@ -1,20 +1,18 @@
 -- Request 07: rows written each once. The tree of a number stays while rows are added, a tree written has its number, and no row stands twice.
-use Prim.Native.Nat.{ℕ, zero, suc, _+_, _≤_, _<_}
-use native.Mathlib.Nat.{le-trans, le-of-lt, lt-of-lt-of-le, lt-irrefl}
+use Prim.Native.Nat.{ℕ, zero, suc, _+_, _≤_}
 use native.Mathlib.Omega.{arith}
 use mathlib.Core.Path.{_≡_, refl, sym, ap, ap₂, _∙_, subst}
 use mathlib.Core.Logic.{_⊎_, inl, inr, ⊎-elim}
-use mathlib.Core.Bool.{Bool, true, false, cond, _&&_, false≢true}
-use mathlib.Core.Option.{Option, none, some}
+use mathlib.Core.Bool.{Bool, true, false, cond, _&&_}
+use mathlib.Core.Option.{some}
 use mathlib.Core.List.{List, [], _∷_, _++_, append-assoc, append-nil, List·Memᴰ, List·Memᴰ·head, List·Memᴰ·tail, List·Memᴰ·not-nil}
 use lib.Dec.{eqb}
-use lib.ListN.{length, getElem?, getD, length-append}
+use lib.ListN.{length, getElem?}
 use Rattle.calculus.specs.Refusals.{Kind}
-use Rattle.format.specs.Lines.{Row, letter}
+use Rattle.format.specs.Lines.{Row, letter, kindOf}
 use Rattle.law_pairlists.specs.PairLists.{sameRow, find, enter, Entry, entry}
-use Rattle.calculus.proofs.Basic.{none≢some, some-inj, and-true, true-and, bool-cases, eqb-eq, eq-eqb, not-both, index-mem, index-below}
+use Rattle.calculus.proofs.Basic.{none≢some, some-inj, and-true, true-and, eqb-eq, eq-eqb, not-both, index-mem}
 use Rattle.format.proofs.Printing.{kindOf-letter}
-use Rattle.format.specs.Lines.{kindOf}
 
 -- ---- equal rows
 
@@ -177,12 +175,7 @@ module _ {X : Type 0} (tree : List X → Row → X) (ok : ℕ → Row → Type 0
         here = k .here;
       }
 
--- ---- defaults, and how many rows there are
-
-pub index-default : {A : Type 0} (xs : List A) (i : ℕ) {x : A} (d : A) → getElem? xs i ≡ some x → getD xs i d ≡ x
-index-default [] i d e = absurd (none≢some e)
-index-default (y ∷ xs) zero d e = some-inj e
-index-default (y ∷ xs) (suc i) d e = index-default xs i d e
+-- ---- how many rows there are
 
 pub enter-length : (r : Row) (rs : List Row) → length (enter r rs) ≤ suc (length rs)
 enter-length r rs = go (finding r rs)

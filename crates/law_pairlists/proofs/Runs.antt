@@ -4,39 +4,36 @@ use native.Mathlib.Nat.{zero-add, add-zero, add-suc, suc-add}
 use native.Mathlib.Omega.{arith}
 use mathlib.Core.Path.{_≡_, refl, sym, ap, ap₂, _∙_, subst}
 use mathlib.Core.Logic.{_⊎_, inl, inr, _↔_}
-use mathlib.Core.Bool.{Bool, true, false, false≢true, cond, _||_, _&&_, or-true}
+use mathlib.Core.Bool.{Bool, true, false, cond, _||_, or-true}
 use mathlib.Core.Option.{Option, none, some}
-use mathlib.Core.List.{List, [], _∷_, List·Memᴰ, map}
-use lib.Dec.{ltb, eqb, leb}
+use mathlib.Core.List.{List, [], _∷_}
+use lib.Dec.{ltb, leb}
 use lib.ListN.{length, getElem?}
-use Rattle.limits.specs.Limits.{maxPairs, maxClauses, maxPatterns, maxNodes}
+use Rattle.limits.specs.Limits.{maxPairs, maxClauses, maxPatterns}
 use Rattle.calculus.specs.Tools.{_>>=_, guard, all}
 use Rattle.calculus.specs.Trees.{Ty, Val, Iso, invert}
-use Rattle.calculus.specs.Refusals.{Refusal, noIso, noValue, tooMany, ceiling, clauseLine, patternLine, badList, spent}
+use Rattle.calculus.specs.Refusals.{noIso, noValue, tooMany, ceiling, clauseLine, patternLine, badList, spent}
 use Rattle.format.specs.Lines.{Row, lines, printRows}
 use Rattle.format.specs.Judge.{start}
 use Rattle.format.specs.Unfold.{isosOf}
 use Rattle.calculus.specs.Reduction.{reduce}
 use Rattle.calculus.specs.Letters.{letters, inhabits}
-use Rattle.law_ranking.specs.Numbering.{count, rank, unrank, Outcome, fails, typesOf}
-use Rattle.law_ranking.specs.Numbering.{gives as pays}
-use Rattle.model.specs.Services.{Verdict, accepted, verdict, Ran, gives, failed, within, from, onIso, runRows, runOf, run, turned, toward}
+use Rattle.law_ranking.specs.Numbering.{count, rank, unrank, typesOf}
+use Rattle.model.specs.Services.{accepted, verdict, gives, fails, Ran, within, from, onIso, runRows, runOf, run, toward}
 use Rattle.calculus.specs.Paper.{Of}
 use Rattle.model.specs.Answers.{RunIs, strange, done}
-use Rattle.law_pairlists.specs.PairLists.{upwards, onPairs, onExported, exportRows, tosOf, noneTwice, pairsUp, listOf, settings, writePairs, fileRows, withinAll, toFrom, onList, onLines, onTypes, importRows}
-use Rattle.calculus.proofs.Basic.{bind-some, not-some, guard-true, leb-le, some-bind, some-inj, none≢some, true-guard, true-and, eq-eqb, lt-ltb, not-ltb, mem-all, index-mem, index-below, index-map}
+use Rattle.law_pairlists.specs.PairLists.{upwards, onPairs, onExported, exportRows, tosOf, pairsUp, listOf, settings, writePairs, fileRows, withinAll, toFrom, onList, onLines, onTypes, importRows}
+use Rattle.calculus.proofs.Basic.{bind-some, not-some, guard-true, leb-le, some-bind, some-inj, none≢some, true-guard, true-and, eq-eqb, lt-ltb, not-ltb, mem-all, index-below, index-map}
 use Rattle.calculus.proofs.Letters.{value-letters, inhabits-of, of-inhabits}
 use Rattle.format.proofs.Turning.{isos-turn}
 use Rattle.model.proofs.Runs.{results, accepted-good, good, preserves, reduces-iff, run-iff, there-and-back, run-back}
 use Rattle.law_ranking.proofs.Numbering.{unrank-inhabits, unrank-rank}
-use Rattle.law_ranking.proofs.Outcomes.{fails≢gives, small-type}
+use Rattle.model.proofs.Outcomes.{fails≢gives}
+use Rattle.law_ranking.proofs.Outcomes.{small-type}
 use Rattle.law_pairlists.proofs.File.{closedIso, ceiling-of-patterns}
 use Rattle.law_pairlists.proofs.List.{Taken, twice-none, lefts-all, rights-all, settings-length, tos-length}
 use Rattle.law_pairlists.proofs.Imports.{Imported, Trades, traded-run, small-pairs, import-accepted}
 use Rattle.law_pairlists.proofs.Exports.{Exported, upwards-at, there-is, export-taken, export-reads, export-import}
-
-gives≢failed : {k : ℕ} {y : List ℕ} {f : Refusal} → gives k y ≡ failed f → ⊥
-gives≢failed e = false≢true cc
 
 -- the first pair that is not sent
 upwards-none : (f : ℕ → Option ℕ) (k n : ℕ) → upwards f k n ≡ none → (j : ℕ) × (j < n) × (f (k + j) ≡ none)
@@ -56,14 +53,14 @@ upwards-none f k (suc n) e = go (f k) refl (upwards-none f (suc k) n)
 
 -- a run forward of a value of the from-type
 run-gives : (file : List ℕ) (rs : List Row) → verdict file ≡ accepted rs → (i : ℕ) (o : Iso) → getElem? (isosOf rs) i ≡ some o → (v w : Val) (c budget : ℕ)
-    → Of v (o .from) → reduce (isosOf rs) i v ≡ some (w, c) → c ≤ budget → run file i false budget (letters v) ≡ gives c (letters w)
+    → Of v (o .from) → reduce (isosOf rs) i v ≡ some (w, c) → c ≤ budget → run file i false budget (letters v) ≡ gives (c, letters w)
 run-gives file rs e i o p v w c budget h r l =
-    run-iff file rs e i false budget (letters v) (gives c (letters w)) .1
+    run-iff file rs e i false budget (letters v) (gives (c, letters w)) .1
     (done o v w c p refl h (reduces-iff (isosOf rs) (good rs (accepted-good file rs e)) i o p v h w c .1 r) l)
 
 -- the run of setting k of an imported file counts 1 and gives setting `to` of line k
 pub import-run : (a b : Ty) (ts out : List ℕ) → Taken a b ts → (m : Trades a b ts out) → (k t budget : ℕ) → getElem? ts k ≡ some t → 1 ≤ budget
-    → run out 0 false budget (letters (unrank a k)) ≡ gives 1 (letters (unrank b t))
+    → run out 0 false budget (letters (unrank a k)) ≡ gives (1, letters (unrank b t))
 import-run a b ts out h m k t budget e l =
     let n = index-below ts k e in
     let f = h .froms in
@@ -73,11 +70,11 @@ import-run a b ts out h m k t budget e l =
 -- Whatever the exported iso gives, under any budget, the import of the export gives in one application.
 pub answers-alike : (file : List ℕ) (rs : List Row) → verdict file ≡ accepted rs → (i budget : ℕ) (list : List ℕ) (x : Exported rs i budget list)
     → (a b : ℕ) (out : List ℕ) (m : Imported rs a b list out) → m .from ≡ x .iso .from → m .to ≡ x .iso .to
-    → (any c : ℕ) (p q : List ℕ) → run file i false any p ≡ gives c q → run out 0 false 1 p ≡ gives 1 q
+    → (any c : ℕ) (p q : List ℕ) → run file i false any p ≡ gives (c, q) → run out 0 false 1 p ≡ gives (1, q)
 answers-alike file rs e i budget list x a b out m f g any c p q r =
-    let t = import-accepted file rs e a b list out m in go c q t (run-iff file rs e i false any p (gives c q) .0 r)
+    let t = import-accepted file rs e a b list out m in go c q t (run-iff file rs e i false any p (gives (c, q)) .0 r)
   where
-    go : (d : ℕ) (y : List ℕ) → Trades (m .from) (m .to) (m .tos) out → RunIs (isosOf rs) i any p (gives d y) → run out 0 false 1 p ≡ gives 1 y
+    go : (d : ℕ) (y : List ℕ) → Trades (m .from) (m .to) (m .tos) out → RunIs (isosOf rs) i any p (gives (d, y)) → run out 0 false 1 p ≡ gives (1, y)
     go d n t (done o v w k s y h z l) =
         let same : o ≡ x .iso = some-inj (sym s ∙ x .there) in
         let hx : Of v (x .iso .from) = subst (λ (n : Iso). Of v (n .from)) same h in
@@ -90,7 +87,7 @@ answers-alike file rs e i budget list x a b out m f g any c p q r =
 -- and back
 pub answers-back : (file : List ℕ) (rs : List Row) → verdict file ≡ accepted rs → (i budget : ℕ) (list : List ℕ) (x : Exported rs i budget list)
     → (a b : ℕ) (out : List ℕ) (m : Imported rs a b list out) → m .from ≡ x .iso .from → m .to ≡ x .iso .to
-    → (any c : ℕ) (p q : List ℕ) → run file i true any q ≡ gives c p → run out 0 true 1 q ≡ gives 1 p
+    → (any c : ℕ) (p q : List ℕ) → run file i true any q ≡ gives (c, p) → run out 0 true 1 q ≡ gives (1, p)
 answers-back file rs e i budget list x a b out m f g any c p q r =
     let t = import-accepted file rs e a b list out m in
     let h = there-and-back file rs e i false any c p q .1 (sym (run-back file rs e i any q) ∙ r) in
@@ -100,11 +97,11 @@ answers-back file rs e i budget list x a b out m f g any c p q r =
 -- The import of the export gives nothing else: whatever it gives, under any budget, the exported iso gives under some budget, its count.
 pub answers-only : (file : List ℕ) (rs : List Row) → verdict file ≡ accepted rs → (i budget : ℕ) (list : List ℕ) (x : Exported rs i budget list)
     → (a b : ℕ) (out : List ℕ) (m : Imported rs a b list out) → m .from ≡ x .iso .from → m .to ≡ x .iso .to
-    → (any c : ℕ) (p q : List ℕ) → run out 0 false any p ≡ gives c q → (k : ℕ) × (run file i false k p ≡ gives k q)
+    → (any c : ℕ) (p q : List ℕ) → run out 0 false any p ≡ gives (c, q) → (k : ℕ) × (run file i false k p ≡ gives (k, q))
 answers-only file rs e i budget list x a b out m f g any c p q r =
-    let t = import-accepted file rs e a b list out m in go c q t (run-iff out (t .rows) (t .accepts) 0 false any p (gives c q) .0 r)
+    let t = import-accepted file rs e a b list out m in go c q t (run-iff out (t .rows) (t .accepts) 0 false any p (gives (c, q)) .0 r)
   where
-    go : (d : ℕ) (y : List ℕ) → (t : Trades (m .from) (m .to) (m .tos) out) → RunIs (isosOf (t .rows)) 0 any p (gives d y) → (k : ℕ) × (run file i false k p ≡ gives k y)
+    go : (d : ℕ) (y : List ℕ) → (t : Trades (m .from) (m .to) (m .tos) out) → RunIs (isosOf (t .rows)) 0 any p (gives (d, y)) → (k : ℕ) × (run file i false k p ≡ gives (k, y))
     go d n t (done o v w k s y h z l) =
         let same : o ≡ closedIso (t .line) (m .from) (m .to) (settings (m .from) (m .to) 0 (m .tos)) = some-inj (sym s ∙ ap (λ (os : List Iso). getElem? os 0) (t .isos)) in
         let hx : Of v (x .iso .from) = subst (Of v) f (subst (λ (n : Iso). Of v (n .from)) same h) in
@@ -115,13 +112,13 @@ answers-only file rs e i budget list x a b out m f g any c p q r =
           u .1,
           ap (run file i false (u .1)) y
               ∙ run-gives file rs e i (x .iso) (x .there) v (u .0) (u .1) (u .1) hx (u .2) (omega arith)
-              ∙ ap (λ (r : Val). gives (u .1) (letters r)) alike,
+              ∙ ap (λ (r : Val). gives (u .1, letters r)) alike,
         )
 
 -- and back
 pub answers-only-back : (file : List ℕ) (rs : List Row) → verdict file ≡ accepted rs → (i budget : ℕ) (list : List ℕ) (x : Exported rs i budget list)
     → (a b : ℕ) (out : List ℕ) (m : Imported rs a b list out) → m .from ≡ x .iso .from → m .to ≡ x .iso .to
-    → (any c : ℕ) (p q : List ℕ) → run out 0 true any q ≡ gives c p → (k : ℕ) × (run file i true k q ≡ gives k p)
+    → (any c : ℕ) (p q : List ℕ) → run out 0 true any q ≡ gives (c, p) → (k : ℕ) × (run file i true k q ≡ gives (k, p))
 answers-only-back file rs e i budget list x a b out m f g any c p q r =
     let t = import-accepted file rs e a b list out m in
     let h = there-and-back out (t .rows) (t .accepts) 0 false any c p q .1 (sym (run-back out (t .rows) (t .accepts) 0 any q) ∙ r) in
@@ -130,12 +127,12 @@ answers-only-back file rs e i budget list x a b out m f g any c p q r =
 
 -- where an iso takes values of a type, a run of it is 16 exactly for bytes that are no value of that type
 strange-iff : (file : List ℕ) (rs : List Row) → verdict file ≡ accepted rs → (i : ℕ) (back : Bool) (o : Iso) → getElem? (isosOf (toward back rs)) i ≡ some o
-    → (budget : ℕ) (p : List ℕ) → (run file i back budget p ≡ failed noValue) ↔ ((v : Val) → p ≡ letters v → Of v (o .from) → ⊥)
+    → (budget : ℕ) (p : List ℕ) → (run file i back budget p ≡ fails noValue) ↔ ((v : Val) → p ≡ letters v → Of v (o .from) → ⊥)
 strange-iff file rs e i back o s budget p =
-    let h = run-iff file rs e i back budget p (failed noValue) in
+    let h = run-iff file rs e i back budget p (fails noValue) in
     (λ r. go (h .0 r), λ f. h .1 (strange o s f))
   where
-    go : RunIs (isosOf (toward back rs)) i budget p (failed noValue) → (v : Val) → p ≡ letters v → Of v (o .from) → ⊥
+    go : RunIs (isosOf (toward back rs)) i budget p (fails noValue) → (v : Val) → p ≡ letters v → Of v (o .from) → ⊥
     go (strange n t none-such) v y k = none-such v y (subst (λ (z : Iso). Of v (z .from)) (some-inj (sym s ∙ t)) k)
 
 -- an iso of the turned rows
@@ -147,7 +144,7 @@ turned-iso file rs e i o s =
 -- The import of the export refuses the same bytes with 16, there and back, under any budgets.
 pub refuses-alike : (file : List ℕ) (rs : List Row) → verdict file ≡ accepted rs → (i budget : ℕ) (list : List ℕ) (x : Exported rs i budget list)
     → (a b : ℕ) (out : List ℕ) (m : Imported rs a b list out) → m .from ≡ x .iso .from → m .to ≡ x .iso .to
-    → (back : Bool) (any any′ : ℕ) (p : List ℕ) → (run file i back any p ≡ failed noValue) ↔ (run out 0 back any′ p ≡ failed noValue)
+    → (back : Bool) (any any′ : ℕ) (p : List ℕ) → (run file i back any p ≡ fails noValue) ↔ (run out 0 back any′ p ≡ fails noValue)
 refuses-alike file rs e i budget list x a b out m f g back any any′ p = go back (import-accepted file rs e a b list out m)
   where
     own : Trades (m .from) (m .to) (m .tos) out → Iso
@@ -156,7 +153,7 @@ refuses-alike file rs e i budget list x a b out m f g back any any′ p = go bac
     first : (t : Trades (m .from) (m .to) (m .tos) out) → getElem? (isosOf (t .rows)) 0 ≡ some (own t)
     first t = ap (λ (os : List Iso). getElem? os 0) (t .isos)
 
-    go : (c : Bool) → Trades (m .from) (m .to) (m .tos) out → (run file i c any p ≡ failed noValue) ↔ (run out 0 c any′ p ≡ failed noValue)
+    go : (c : Bool) → Trades (m .from) (m .to) (m .tos) out → (run file i c any p ≡ fails noValue) ↔ (run out 0 c any′ p ≡ fails noValue)
     go false t =
         let h = strange-iff file rs e i false (x .iso) (x .there) any p in
         let k = strange-iff out (t .rows) (t .accepts) 0 false (own t) (first t) any′ p in
@@ -221,18 +218,18 @@ module _ (rs : List Row) (i j : ℕ) (list : List ℕ) where
           pub import-ceiling : withinAll start (fileRows a b (settings a b 0 ts)) ≡ false → importRows rs i j list ≡ fails (ceiling patternLine)
           import-ceiling w =
               listed ∙ ap (onList a b) taken-list
-              ∙ ap (λ c. cond c (pays (printRows (fileRows a b (settings a b 0 ts)))) (fails (ceiling patternLine))) w
+              ∙ ap (λ c. cond c (gives (printRows (fileRows a b (settings a b 0 ts)))) (fails (ceiling patternLine))) w
 
-          pub import-given : withinAll start (fileRows a b (settings a b 0 ts)) ≡ true → importRows rs i j list ≡ pays (printRows (fileRows a b (settings a b 0 ts)))
+          pub import-given : withinAll start (fileRows a b (settings a b 0 ts)) ≡ true → importRows rs i j list ≡ gives (printRows (fileRows a b (settings a b 0 ts)))
           import-given w =
               listed ∙ ap (onList a b) taken-list
-              ∙ ap (λ c. cond c (pays (printRows (fileRows a b (settings a b 0 ts)))) (fails (ceiling patternLine))) w
+              ∙ ap (λ c. cond c (gives (printRows (fileRows a b (settings a b 0 ts)))) (fails (ceiling patternLine))) w
 
 -- An exported list of at most 32 lines is imported between the iso's types, unless its values take more than 1,024 P lines.
 pub export-importable : (file : List ℕ) (rs : List Row) → verdict file ≡ accepted rs → (i budget : ℕ) (list : List ℕ) (x : Exported rs i budget list)
     → (a b : ℕ) → getElem? (typesOf rs) a ≡ some (x .iso .from) → getElem? (typesOf rs) b ≡ some (x .iso .to) → count (x .iso .from) ≤ maxClauses
     → length (writePairs (settings (x .iso .from) (x .iso .to) 0 (x .tos)) [] .patterns) ≤ maxPatterns
-    → importRows rs a b list ≡ pays (printRows (fileRows (x .iso .from) (x .iso .to) (settings (x .iso .from) (x .iso .to) 0 (x .tos))))
+    → importRows rs a b list ≡ gives (printRows (fileRows (x .iso .from) (x .iso .to) (settings (x .iso .from) (x .iso .to) 0 (x .tos))))
 export-importable file rs e i budget list x a b p q l r =
     let t = export-taken file rs e i budget list x in
     let f = t .froms in
@@ -290,7 +287,7 @@ module _ (file : List ℕ) (rs : List Row) (e : verdict file ≡ accepted rs) (i
   lone k = run file i false budget (letters (unrank (o .from) k))
 
   -- one pair
-  pair-spent : (k : ℕ) → k < count (o .from) → (sent k ≡ none) ↔ (lone k ≡ failed spent)
+  pair-spent : (k : ℕ) → k < count (o .from) → (sent k ≡ none) ↔ (lone k ≡ fails spent)
   pair-spent k h = go (reduce (isosOf rs) i (unrank (o .from) k)) refl
     where
       typed : Of (unrank (o .from) k) (o .from)
@@ -299,21 +296,21 @@ module _ (file : List ℕ) (rs : List Row) (e : verdict file ≡ accepted rs) (i
       is : lone k ≡ within budget (reduce (isosOf rs) i (unrank (o .from) k))
       is = run-is file rs e i o p budget (unrank (o .from) k) typed
 
-      by : (r : Val × ℕ) → reduce (isosOf rs) i (unrank (o .from) k) ≡ some r → (c : Bool) → leb (r .1) budget ≡ c → (sent k ≡ none) ↔ (lone k ≡ failed spent)
+      by : (r : Val × ℕ) → reduce (isosOf rs) i (unrank (o .from) k) ≡ some r → (c : Bool) → leb (r .1) budget ≡ c → (sent k ≡ none) ↔ (lone k ≡ fails spent)
       by r g true c =
           let s : sent k ≡ some (rank (r .0) (o .to)) = some-bind (λ q. guard (leb (q .1) budget) >>= λ _. some (rank (q .0) (o .to))) g ∙ ap (λ b. guard b >>= λ _. some (rank (r .0) (o .to))) c in
-          let l : lone k ≡ gives (r .1) (letters (r .0)) = is ∙ ap (within budget) g ∙ ap (λ b. cond b (gives (r .1) (letters (r .0))) (failed spent)) c in
-          (λ n. absurd (none≢some (sym n ∙ s)), λ n. absurd (gives≢failed (sym l ∙ n)))
+          let l : lone k ≡ gives (r .1, letters (r .0)) = is ∙ ap (within budget) g ∙ ap (λ b. cond b (gives (r .1, letters (r .0))) (fails spent)) c in
+          (λ n. absurd (none≢some (sym n ∙ s)), λ n. absurd (fails≢gives (sym n ∙ l)))
       by r g false c =
           let s : sent k ≡ none = some-bind (λ q. guard (leb (q .1) budget) >>= λ _. some (rank (q .0) (o .to))) g ∙ ap (λ b. guard b >>= λ _. some (rank (r .0) (o .to))) c in
-          let l : lone k ≡ failed spent = is ∙ ap (within budget) g ∙ ap (λ b. cond b (gives (r .1) (letters (r .0))) (failed spent)) c in
+          let l : lone k ≡ fails spent = is ∙ ap (within budget) g ∙ ap (λ b. cond b (gives (r .1, letters (r .0))) (fails spent)) c in
           (λ n. l, λ n. s)
 
-      go : (x : Option (Val × ℕ)) → reduce (isosOf rs) i (unrank (o .from) k) ≡ x → (sent k ≡ none) ↔ (lone k ≡ failed spent)
+      go : (x : Option (Val × ℕ)) → reduce (isosOf rs) i (unrank (o .from) k) ≡ x → (sent k ≡ none) ↔ (lone k ≡ fails spent)
       go none g = (λ n. is ∙ ap (within budget) g, λ n. ap (λ x. x >>= λ q. guard (leb (q .1) budget) >>= λ _. some (rank (q .0) (o .to))) g)
       go (some r) g = by r g (leb (r .1) budget) refl
 
-  pub export-spent : count (o .from) ≤ maxPairs → (exportRows rs i budget ≡ fails spent) ↔ ((k : ℕ) × (k < count (o .from)) × (lone k ≡ failed spent))
+  pub export-spent : count (o .from) ≤ maxPairs → (exportRows rs i budget ≡ fails spent) ↔ ((k : ℕ) × (k < count (o .from)) × (lone k ≡ fails spent))
   export-spent few = (
     λ x. let u = upwards-none sent 0 (count (o .from)) (pairs-none (upwards sent 0 (count (o .from))) (sym (export-few rs i budget o p few) ∙ x)) in
         let z = zero-add (u .0) in
@@ -333,7 +330,7 @@ module _ (file : List ℕ) (rs : List Row) (e : verdict file ≡ accepted rs) (i
 
 -- The to of line k is the number of what Run gives for setting k under the budget.
 pub export-run : (file : List ℕ) (rs : List Row) → verdict file ≡ accepted rs → (i budget : ℕ) (list : List ℕ) (x : Exported rs i budget list)
-    → (k t : ℕ) → getElem? (x .tos) k ≡ some t → (c : ℕ) × (run file i false budget (letters (unrank (x .iso .from) k)) ≡ gives c (letters (unrank (x .iso .to) t)))
+    → (k t : ℕ) → getElem? (x .tos) k ≡ some t → (c : ℕ) × (run file i false budget (letters (unrank (x .iso .from) k)) ≡ gives (c, letters (unrank (x .iso .to) t)))
 export-run file rs e i budget list x k t g =
     let os : List Iso = isosOf rs in
     let u = upwards-at (toFrom os i (x .iso) budget) 0 (count (x .iso .from)) (x .tos) (x .all) in
@@ -346,5 +343,5 @@ export-run file rs e i budget list x k t g =
     let w = preserves os (good rs (accepted-good file rs e)) i (x .iso) (x .there) (unrank (x .iso .from) k) (p .0 .0) (p .0 .1) h (p .1) in (
       p .0 .1,
       run-gives file rs e i (x .iso) (x .there) (unrank (x .iso .from) k) (p .0 .0) (p .0 .1) budget h (p .1) (leb-le (p .0 .1) budget (guard-true (leb (p .0 .1) budget) (q .1)))
-          ∙ ap (λ v. gives (p .0 .1) (letters v)) (sym (unrank-rank (p .0 .0) (x .iso .to) (of-inhabits w)) ∙ ap (unrank (x .iso .to)) (some-inj (q .2))),
+          ∙ ap (λ v. gives (p .0 .1, letters v)) (sym (unrank-rank (p .0 .0) (x .iso .to) (of-inhabits w)) ∙ ap (unrank (x .iso .to)) (some-inj (q .2))),
     )

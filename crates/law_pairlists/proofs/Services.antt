@@ -9,20 +9,20 @@ use mathlib.Core.List.{List, [], _∷_}
 use lib.Dec.{ltb}
 use lib.ListN.{length, take, drop, getElem?}
 use lib.Seq.{take-append-seam}
-use Rattle.limits.specs.Limits.{maxPairs, tableLength, workLength, resultLength, exportLength, importLength}
-use Rattle.calculus.specs.Trees.{Ty, Iso}
-use Rattle.calculus.specs.Refusals.{number, noValue, spent}
+use Rattle.limits.specs.Limits.{maxPairs, tableLength, workLength, exportLength, importLength}
+use Rattle.calculus.specs.Trees.{Iso}
+use Rattle.calculus.specs.Refusals.{number, shortArea, noValue, spent}
 use Rattle.format.specs.Lines.{Row, lines, withoutReturns}
 use Rattle.format.specs.Unfold.{isosOf}
 use Rattle.calculus.specs.Letters.{letters}
-use Rattle.model.specs.Services.{Verdict, accepted, refused, verdict, written, tableAfter, workAfter, short, unless, answerOf, Checked, checkBy, check, Ran, run, RunResult, runBy, runService, failed}
-use Rattle.model.specs.Services.{gives as pays}
+use Rattle.model.specs.Services.{Verdict, accepted, refused, verdict, written, tableAfter, workAfter, short, unless, answerOf, check, run, Outcome, gives, fails, refusalNumber, bytesFrom, served, serve}
 use Rattle.calculus.proofs.Basic.{some-inj, lt-ltb, not-ltb}
 use Rattle.model.proofs.Files.{number-positive}
 use Rattle.model.proofs.Sheets.{long-enough}
-use Rattle.law_ranking.specs.Numbering.{count, unrank, Outcome, gives, fails, typesOf, refusalOf, lettersFrom}
-use Rattle.law_ranking.proofs.Outcomes.{fails≢gives, small-type}
-use Rattle.law_pairlists.specs.PairLists.{pairLines, tosOf, settings, toFrom, upwards, onPairs, exportRows, importRows, exportOn, importOn, lineOf, Traded, tradedBy, exportService, importService}
+use Rattle.law_ranking.specs.Numbering.{count, unrank, typesOf}
+use Rattle.model.proofs.Outcomes.{past-short, given-accepted}
+use Rattle.law_ranking.proofs.Outcomes.{small-type}
+use Rattle.law_pairlists.specs.PairLists.{pairLines, tosOf, settings, toFrom, upwards, onPairs, exportRows, importRows, exportOn, importOn, Traded, tradedBy, exportService, importService}
 use Rattle.law_pairlists.proofs.File.{closedIso}
 use Rattle.law_pairlists.proofs.List.{Taken, tos-length}
 use Rattle.law_pairlists.proofs.Imports.{Imported, imported, Trades, import-accepted, written-ceiling, import-export}
@@ -32,22 +32,14 @@ use Rattle.law_pairlists.proofs.Once.{lines-once}
 
 -- ---- outcomes and verdicts
 
-given-bytes : (x : Outcome (List ℕ)) → refusalOf x ≡ 0 → x ≡ gives (lettersFrom x)
+given-bytes : (x : Outcome (List ℕ)) → refusalNumber x ≡ 0 → x ≡ gives (bytesFrom x)
 given-bytes (gives bs) e = refl
 given-bytes (fails f) e = absurd (omega (arith, e, number-positive f))
 
 -- a refusal writes nothing
-nothing : (o : List ℕ) (x : Outcome (List ℕ)) → 0 < refusalOf x → (length (lettersFrom x) ≡ 0) × (written (lettersFrom x) o ≡ o)
+nothing : (o : List ℕ) (x : Outcome (List ℕ)) → 0 < refusalNumber x → (length (bytesFrom x) ≡ 0) × (written (bytesFrom x) o ≡ o)
 nothing o (gives bs) h = absurd (omega arith)
 nothing o (fails f) h = (refl, refl)
-
-import-past : (b : Bool) (v : Verdict) (i j : ℕ) (list : List ℕ) {out : List ℕ} → importOn (unless b v) i j list ≡ gives out → importOn v i j list ≡ gives out
-import-past true v i j list e = absurd (fails≢gives e)
-import-past false v i j list e = e
-
-export-past : (b : Bool) (v : Verdict) (i budget : ℕ) {out : List ℕ} → exportOn (unless b v) i budget ≡ gives out → exportOn v i budget ≡ gives out
-export-past true v i budget e = absurd (fails≢gives e)
-export-past false v i budget e = e
 
 -- areas of the stated lengths
 room-enough : (t w o : List ℕ) (n : ℕ) → tableLength ≤ length t → workLength ≤ length w → n ≤ length o → (short t w || ltb (length o) n) ≡ false
@@ -61,10 +53,10 @@ module _ (file t w : List ℕ) (i j : ℕ) (list o : List ℕ) where
   writtenFile = take (importService file t w i j list o .length) (importService file t w i j list o .output)
 
   -- an output area below 65,536 bytes is 1 before anything else, and nothing changes
-  pub import-short : length o < importLength → importService file t w i j list o ≡ record { answer = record { number = 1; line = 0 }; length = 0; table = t; work = w; output = o }
+  pub import-short : length o < importLength → importService file t w i j list o ≡ record { refusal = some shortArea; answer = record { number = 1; line = 0 }; length = 0; table = t; work = w; output = o }
   unfolding importService
   import-short h =
-      ap (λ b. tradedBy t w o (unless b (verdict file)) (importOn (unless b (verdict file)) i j list)) (ap (λ b. short t w || b) (lt-ltb h) ∙ or-true (short t w))
+      ap (λ b. tradedBy o (serve b (verdict file) (λ rs. importRows rs i j list) t w)) (ap (λ b. short t w || b) (lt-ltb h) ∙ or-true (short t w))
 
   -- a refusal writes nothing
   pub import-refused : 0 < importService file t w i j list o .answer .number
@@ -77,8 +69,8 @@ module _ (file t w : List ℕ) (i j : ℕ) (list o : List ℕ) where
   unfolding importService
   import-given e =
       let x : Outcome (List ℕ) = importOn (unless (short t w || ltb (length o) importLength) (verdict file)) i j list in
-      import-past (short t w || ltb (length o) importLength) (verdict file) i j list (given-bytes x e)
-      ∙ ap gives (sym (take-append-seam (lettersFrom x) (drop (length (lettersFrom x)) o)))
+      past-short (short t w || ltb (length o) importLength) (verdict file) (λ rs. importRows rs i j list) (given-bytes x e)
+      ∙ ap gives (sym (take-append-seam (bytesFrom x) (drop (length (bytesFrom x)) o)))
 
   -- "with either 7 the table holds the accepted file's lines": table and work area are as after Check, whatever is answered
   pub import-areas : importLength ≤ length o → (importService file t w i j list o .table ≡ check file t w .table) × (importService file t w i j list o .work ≡ check file t w .work)
@@ -91,21 +83,18 @@ module _ (file t w : List ℕ) (i j : ℕ) (list o : List ℕ) where
   pub import-check : importLength ≤ length o → 0 < check file t w .answer .number → importService file t w i j list o .answer ≡ check file t w .answer
   unfolding check importService
   import-check room h =
-      ap (λ b. tradedBy t w o (unless b (verdict file)) (importOn (unless b (verdict file)) i j list) .answer) (ap (λ b. short t w || b) (not-ltb room) ∙ or-false (short t w))
+      ap (λ b. tradedBy o (serve b (verdict file) (λ rs. importRows rs i j list) t w) .answer) (ap (λ b. short t w || b) (not-ltb room) ∙ or-false (short t w))
       ∙ go (unless (short t w) (verdict file)) h
     where
-      go : (v : Verdict) → 0 < answerOf v .number → tradedBy t w o v (importOn v i j list) .answer ≡ answerOf v
+      go : (v : Verdict) → 0 < answerOf v .number → tradedBy o (served v (importOn v i j list) t w) .answer ≡ answerOf v
       go (accepted rs) k = absurd (omega arith)
       go (refused f n) k = refl
 
   module _ (done : importService file t w i j list o .answer .number ≡ 0) where
     -- an accepted file, and what its list comes to
     pub import-of : (rs : List Row) × (verdict file ≡ accepted rs) × Imported rs i j list writtenFile
-    import-of = go (verdict file) refl (import-given done)
-      where
-        go : (v : Verdict) → verdict file ≡ v → importOn v i j list ≡ gives writtenFile → (rs : List Row) × (verdict file ≡ accepted rs) × Imported rs i j list writtenFile
-        go (accepted rs) e g = (rs, e, imported rs i j list writtenFile g)
-        go (refused f n) e g = absurd (fails≢gives g)
+    import-of =
+        let (rs, e, g) = given-accepted (verdict file) (λ rs. importRows rs i j list) (import-given done) in (rs, e, imported rs i j list writtenFile g)
 
     abbrev source : Imported (import-of .0) i j list writtenFile
     source = import-of .2
@@ -126,7 +115,7 @@ module _ (file t w : List ℕ) (i j : ℕ) (list o : List ℕ) where
 
     -- and its run of value k counts 1 and gives value `to` of line k
     pub import-runs : (k to budget : ℕ) → getElem? (source .tos) k ≡ some to → 1 ≤ budget
-        → run writtenFile 0 false budget (letters (unrank (source .from) k)) ≡ pays 1 (letters (unrank (source .to) to))
+        → run writtenFile 0 false budget (letters (unrank (source .from) k)) ≡ gives (1, letters (unrank (source .to) to))
     import-runs k to budget e l = import-run (source .from) (source .to) (source .tos) writtenFile (source .taken) trades k to budget e l
 
     -- "Exporting an imported list with a budget of 1 or more gives the list without its carriage returns."
@@ -137,9 +126,9 @@ module _ (file t w : List ℕ) (i j : ℕ) (list o : List ℕ) where
     unfolding exportService
     import-exports budget t₂ w₂ o₂ l long wide room =
         let x = import-export file (import-of .0) (import-of .1) i j list writtenFile (import-given done) budget l in
-        let u : exportService writtenFile t₂ w₂ 0 budget o₂ ≡ tradedBy t₂ w₂ o₂ (accepted (trades .rows)) (gives (withoutReturns list)) =
-        ap (λ b. tradedBy t₂ w₂ o₂ (unless b (verdict writtenFile)) (exportOn (unless b (verdict writtenFile)) 0 budget)) (room-enough t₂ w₂ o₂ exportLength long wide room)
-        ∙ ap (tradedBy t₂ w₂ o₂ (verdict writtenFile)) x ∙ ap (λ v. tradedBy t₂ w₂ o₂ v (gives (withoutReturns list))) (trades .accepts) in
+        let u : exportService writtenFile t₂ w₂ 0 budget o₂ ≡ tradedBy o₂ (served (accepted (trades .rows)) (gives (withoutReturns list)) t₂ w₂) =
+        ap (λ b. tradedBy o₂ (serve b (verdict writtenFile) (λ rs. exportRows rs 0 budget) t₂ w₂)) (room-enough t₂ w₂ o₂ exportLength long wide room)
+        ∙ ap (λ y. tradedBy o₂ (served (verdict writtenFile) y t₂ w₂)) x ∙ ap (λ v. tradedBy o₂ (served v (gives (withoutReturns list)) t₂ w₂)) (trades .accepts) in
         (ap (λ (r : Traded). r .answer) u, ap (λ (r : Traded). r .length) u, ap (λ (r : Traded). r .output) u)
 
     -- "no equal line twice": no two lines of a written file are equal
@@ -166,7 +155,7 @@ only-spent rs i budget x p few = subst Ended (sym (export-few rs i budget x p fe
     go none = over
     go (some ts) = given (pairLines 0 ts)
 
-is-spent : (y : Outcome (List ℕ)) → Ended y → refusalOf y ≡ 17 → y ≡ fails spent
+is-spent : (y : Outcome (List ℕ)) → Ended y → refusalNumber y ≡ 17 → y ≡ fails spent
 is-spent y (given bs) e = absurd (omega arith)
 is-spent y over e = refl
 
@@ -175,10 +164,10 @@ module _ (file t w : List ℕ) (i budget : ℕ) (o : List ℕ) where
   abbrev pub writtenList : List ℕ
   writtenList = take (exportService file t w i budget o .length) (exportService file t w i budget o .output)
 
-  pub export-short : length o < exportLength → exportService file t w i budget o ≡ record { answer = record { number = 1; line = 0 }; length = 0; table = t; work = w; output = o }
+  pub export-short : length o < exportLength → exportService file t w i budget o ≡ record { refusal = some shortArea; answer = record { number = 1; line = 0 }; length = 0; table = t; work = w; output = o }
   unfolding exportService
   export-short h =
-      ap (λ b. tradedBy t w o (unless b (verdict file)) (exportOn (unless b (verdict file)) i budget)) (ap (λ b. short t w || b) (lt-ltb h) ∙ or-true (short t w))
+      ap (λ b. tradedBy o (serve b (verdict file) (λ rs. exportRows rs i budget) t w)) (ap (λ b. short t w || b) (lt-ltb h) ∙ or-true (short t w))
 
   pub export-refused : 0 < exportService file t w i budget o .answer .number
       → (exportService file t w i budget o .length ≡ 0) × (exportService file t w i budget o .output ≡ o)
@@ -189,8 +178,8 @@ module _ (file t w : List ℕ) (i budget : ℕ) (o : List ℕ) where
   unfolding exportService
   export-given e =
       let x : Outcome (List ℕ) = exportOn (unless (short t w || ltb (length o) exportLength) (verdict file)) i budget in
-      export-past (short t w || ltb (length o) exportLength) (verdict file) i budget (given-bytes x e)
-      ∙ ap gives (sym (take-append-seam (lettersFrom x) (drop (length (lettersFrom x)) o)))
+      past-short (short t w || ltb (length o) exportLength) (verdict file) (λ rs. exportRows rs i budget) (given-bytes x e)
+      ∙ ap gives (sym (take-append-seam (bytesFrom x) (drop (length (bytesFrom x)) o)))
 
   pub export-areas : exportLength ≤ length o → (exportService file t w i budget o .table ≡ check file t w .table) × (exportService file t w i budget o .work ≡ check file t w .work)
   unfolding check exportService
@@ -201,22 +190,19 @@ module _ (file t w : List ℕ) (i budget : ℕ) (o : List ℕ) where
   -- export's 17 is that of some lone run, and of no other: of an accepted file with areas of the stated lengths, for an iso that is there and has few values
   pub export-17 : (rs : List Row) → verdict file ≡ accepted rs → (x : Iso) → getElem? (isosOf rs) i ≡ some x → count (x .from) ≤ maxPairs
       → tableLength ≤ length t → workLength ≤ length w → exportLength ≤ length o
-      → ((exportService file t w i budget o .answer .number ≡ 17) → (k : ℕ) × (k < count (x .from)) × (run file i false budget (letters (unrank (x .from) k)) ≡ failed spent))
-      × (((k : ℕ) × (k < count (x .from)) × (run file i false budget (letters (unrank (x .from) k)) ≡ failed spent)) → exportService file t w i budget o .answer .number ≡ 17)
+      → ((exportService file t w i budget o .answer .number ≡ 17) → (k : ℕ) × (k < count (x .from)) × (run file i false budget (letters (unrank (x .from) k)) ≡ fails spent))
+      × (((k : ℕ) × (k < count (x .from)) × (run file i false budget (letters (unrank (x .from) k)) ≡ fails spent)) → exportService file t w i budget o .answer .number ≡ 17)
   unfolding exportService
   export-17 rs e x p few long wide room =
-      let u : exportService file t w i budget o .answer .number ≡ refusalOf (exportRows rs i budget) =
-      ap (λ b. refusalOf (exportOn (unless b (verdict file)) i budget)) (room-enough t w o exportLength long wide room) ∙ ap (λ v. refusalOf (exportOn v i budget)) e in
+      let u : exportService file t w i budget o .answer .number ≡ refusalNumber (exportRows rs i budget) =
+      ap (λ b. refusalNumber (exportOn (unless b (verdict file)) i budget)) (room-enough t w o exportLength long wide room) ∙ ap (λ v. refusalNumber (exportOn v i budget)) e in
       let s = export-spent file rs e i budget x p few in
-      (λ n. s .0 (is-spent (exportRows rs i budget) (only-spent rs i budget x p few) (sym u ∙ n)), λ k. u ∙ ap refusalOf (s .1 k))
+      (λ n. s .0 (is-spent (exportRows rs i budget) (only-spent rs i budget x p few) (sym u ∙ n)), λ k. u ∙ ap refusalNumber (s .1 k))
 
   module _ (done : exportService file t w i budget o .answer .number ≡ 0) where
     pub export-of : (rs : List Row) × (verdict file ≡ accepted rs) × Exported rs i budget writtenList
-    export-of = go (verdict file) refl (export-given done)
-      where
-        go : (v : Verdict) → verdict file ≡ v → exportOn v i budget ≡ gives writtenList → (rs : List Row) × (verdict file ≡ accepted rs) × Exported rs i budget writtenList
-        go (accepted rs) e g = (rs, e, exported rs i budget writtenList g)
-        go (refused f n) e g = absurd (fails≢gives g)
+    export-of =
+        let (rs, e, g) = given-accepted (verdict file) (λ rs. exportRows rs i budget) (export-given done) in (rs, e, exported rs i budget writtenList g)
 
     -- export's lines are a permutation of the to-numbers: as many as either type has values, each below the count, none twice
     pub export-permutes : (tosOf 0 (lines writtenList) ≡ some (export-of .2 .tos)) × Taken (export-of .2 .iso .from) (export-of .2 .iso .to) (export-of .2 .tos)
@@ -254,7 +240,7 @@ module _ (file t w : List ℕ) (i budget : ℕ) (o : List ℕ) (done : exportSer
     -- T lines a and b have the types of the exported iso: the imported file answers every run as that iso does, the count aside, there and back. What that iso
     -- gives, it gives,
     pub export-imports : (any c : ℕ) (p q : List ℕ)
-        → (run file i false any p ≡ pays c q → run out 0 false 1 p ≡ pays 1 q) × (run file i true any q ≡ pays c p → run out 0 true 1 q ≡ pays 1 p)
+        → (run file i false any p ≡ gives (c, q) → run out 0 false 1 p ≡ gives (1, q)) × (run file i true any q ≡ gives (c, p) → run out 0 true 1 q ≡ gives (1, p))
     export-imports any c p q =
         let e = export-of file t w i budget o done .1 in
         let x = export-of file t w i budget o done .2 in
@@ -262,13 +248,13 @@ module _ (file t w : List ℕ) (i budget : ℕ) (o : List ℕ) (done : exportSer
 
     -- and nothing else: what it gives, that iso gives under some budget;
     pub export-imports-only : (any c : ℕ) (p q : List ℕ)
-        → (run out 0 false any p ≡ pays c q → (k : ℕ) × (run file i false k p ≡ pays k q)) × (run out 0 true any q ≡ pays c p → (k : ℕ) × (run file i true k q ≡ pays k p))
+        → (run out 0 false any p ≡ gives (c, q) → (k : ℕ) × (run file i false k p ≡ gives (k, q))) × (run out 0 true any q ≡ gives (c, p) → (k : ℕ) × (run file i true k q ≡ gives (k, p)))
     export-imports-only any c p q =
         let e = export-of file t w i budget o done .1 in
         let x = export-of file t w i budget o done .2 in
         (answers-only file rs e i budget list x a b out trade from-same to-same any c p q, answers-only-back file rs e i budget list x a b out trade from-same to-same any c p q)
 
     -- and what is no value of the starting type for the one is none for the other
-    pub export-imports-strange : (back : Bool) (any any′ : ℕ) (p : List ℕ) → (run file i back any p ≡ failed noValue) ↔ (run out 0 back any′ p ≡ failed noValue)
+    pub export-imports-strange : (back : Bool) (any any′ : ℕ) (p : List ℕ) → (run file i back any p ≡ fails noValue) ↔ (run out 0 back any′ p ≡ fails noValue)
     export-imports-strange =
         refuses-alike file rs (export-of file t w i budget o done .1) i budget list (export-of file t w i budget o done .2) a b out trade from-same to-same

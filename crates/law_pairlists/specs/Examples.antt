@@ -1,8 +1,7 @@
 -- Request 07: examples that shut out wrong readings. Each holds by computation.
 use mathlib.Core.Path.{_≡_, refl}
 use Rattle.calculus.specs.Refusals.{noIso, spent, badList}
-use Rattle.model.specs.Services.{verdict}
-use Rattle.law_ranking.specs.Numbering.{Outcome, gives, fails}
+use Rattle.model.specs.Services.{verdict, gives, fails}
 use Rattle.model.specs.Cases.{bytes, fileS}
 use Rattle.law_pairlists.specs.PairLists.{exportOn, importOn, exportRows, importRows}
 

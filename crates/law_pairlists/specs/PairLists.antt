@@ -1,7 +1,7 @@
 -- Request 07, "Pair lists in and out": an iso as lines `from,to` of setting numbers, a list of such lines as a file with one iso, and what the two
 -- services answer and leave in every lent area.
 use Prim.Native.Nat.{ℕ, zero, suc}
-use mathlib.Core.Bool.{Bool, true, false, cond, not, _&&_, _||_}
+use mathlib.Core.Bool.{Bool, true, cond, not, _&&_, _||_}
 use mathlib.Core.Option.{Option, none, some}
 use mathlib.Core.List.{List, [], _∷_, _++_}
 use lib.Dec.{ltb, leb, eqb}
@@ -9,13 +9,13 @@ use lib.ListN.{length, getElem?}
 use Rattle.limits.specs.Limits.{budgetBound, comma, lineFeed, maxClauses, maxPairs, exportLength, importLength}
 use Rattle.calculus.specs.Tools.{_>>=_, guard, all}
 use Rattle.calculus.specs.Trees.{Ty, tunit, tsum, tprod, left, right, Val, vunit, vinj, vpair, Iso}
-use Rattle.calculus.specs.Refusals.{Refusal, number, typeLine, patternLine, isoLine, clauseLine, noIso, spent, ceiling, tooMany, badList}
+use Rattle.calculus.specs.Refusals.{Refusal, typeLine, patternLine, isoLine, clauseLine, noIso, spent, ceiling, tooMany, badList}
 use Rattle.format.specs.Lines.{Row, letter, lines, text, numeral, skip, ended, decimal, printRows}
 use Rattle.format.specs.Judge.{Seen, start, withinCeilings, after}
 use Rattle.format.specs.Unfold.{isosOf}
 use Rattle.calculus.specs.Reduction.{reduce}
-use Rattle.law_ranking.specs.Numbering.{count, rank, unrank, Outcome, gives, fails, typesOf, refusalOf, lettersFrom}
-use Rattle.model.specs.Services.{Verdict, accepted, refused, verdict, Answer, written, tableAfter, workAfter, short, unless}
+use Rattle.law_ranking.specs.Numbering.{count, rank, unrank, typesOf}
+use Rattle.model.specs.Services.{Verdict, verdict, Answer, written, short, Outcome, gives, fails, goOn, refusalOf, bytesFrom, Served, serve, answerFrom}
 
 -- ---- the list as bytes
 
@@ -194,46 +194,45 @@ exportRows rs i budget = onExported (isosOf rs) i budget (getElem? (isosOf rs) i
 -- ---- the services
 
 abbrev pub exportOn : Verdict → ℕ → ℕ → Outcome (List ℕ)
-exportOn (accepted rs) i budget = exportRows rs i budget
-exportOn (refused f n) i budget = fails f
+exportOn v i budget = goOn v (λ rs. exportRows rs i budget)
 
 abbrev pub importOn : Verdict → ℕ → ℕ → List ℕ → Outcome (List ℕ)
-importOn (accepted rs) i j list = importRows rs i j list
-importOn (refused f n) i j list = fails f
-
--- the line of a refused file; "Where no line is named for a refusal, it is 0"
-abbrev pub lineOf : Verdict → ℕ
-lineOf (accepted rs) = 0
-lineOf (refused f n) = n
+importOn v i j list = goOn v (λ rs. importRows rs i j list)
 
 pub record Traded : Type 0 where
+  pub refusal : Option Refusal
   pub answer : Answer
   pub length : ℕ
   pub table : List ℕ
   pub work : List ℕ
   pub output : List ℕ
 
--- what a call answers by an outcome, and leaves in its areas by a verdict
-abbrev pub tradedBy : List ℕ → List ℕ → List ℕ → Verdict → Outcome (List ℕ) → Traded
-tradedBy table work output v o =
+abbrev pub tradedBy : List ℕ → Served (List ℕ) → Traded
+tradedBy output s =
+    let bs : List ℕ = bytesFrom (s .outcome) in
     record {
-      answer = record { number = refusalOf o; line = lineOf v };
-      length = length (lettersFrom o);
-      table = tableAfter v table;
-      work = workAfter v work;
-      output = written (lettersFrom o) output;
+      refusal = refusalOf (s .outcome);
+      answer = answerFrom s;
+      length = length bs;
+      table = s .table;
+      work = s .work;
+      output = written bs output;
     }
 
 -- "into an area of 40,960 bytes"
+abbrev pub exportServed : List ℕ → List ℕ → List ℕ → ℕ → ℕ → List ℕ → Served (List ℕ)
+exportServed file table work i budget output =
+    serve (short table work || ltb (length output) exportLength) (verdict file) (λ rs. exportRows rs i budget) table work
+
 unfoldable pub exportService : List ℕ → List ℕ → List ℕ → ℕ → ℕ → List ℕ → Traded
 unfolding verdict exportRows
-exportService file table work i budget output =
-    let v : Verdict = unless (short table work || ltb (length output) exportLength) (verdict file) in
-    tradedBy table work output v (exportOn v i budget)
+exportService file table work i budget output = tradedBy output (exportServed file table work i budget output)
 
 -- "into an area of 65,536 bytes"
+abbrev pub importServed : List ℕ → List ℕ → List ℕ → ℕ → ℕ → List ℕ → List ℕ → Served (List ℕ)
+importServed file table work i j list output =
+    serve (short table work || ltb (length output) importLength) (verdict file) (λ rs. importRows rs i j list) table work
+
 unfoldable pub importService : List ℕ → List ℕ → List ℕ → ℕ → ℕ → List ℕ → List ℕ → Traded
 unfolding verdict importRows
-importService file table work i j list output =
-    let v : Verdict = unless (short table work || ltb (length output) importLength) (verdict file) in
-    tradedBy table work output v (importOn v i j list)
+importService file table work i j list output = tradedBy output (importServed file table work i j list output)

@@ -1,32 +1,30 @@
 -- Request 02, settings as numbers, for a T line of a file's rows: when each refusal is given, each way undone by the other, the order, the room.
-use Prim.Native.Nat.{ℕ, zero, suc, _≤_, _<_}
+use Prim.Native.Nat.{ℕ, _≤_, _<_}
 use native.Mathlib.Nat.{le-trans}
 use native.Mathlib.Omega.{arith}
 use mathlib.Core.Path.{_≡_, refl, sym, ap, ap₂, _∙_, subst}
 use mathlib.Core.Logic.{_↔_}
-use mathlib.Core.Bool.{Bool, true, false, cond, false≢true}
+use mathlib.Core.Bool.{Bool, true, false, cond}
 use mathlib.Core.Option.{Option, none, some}
-use mathlib.Core.List.{List, [], _∷_}
+use mathlib.Core.List.{List}
 use lib.Dec.{ltb}
-use lib.ListN.{length, getD, getElem?}
+use lib.ListN.{length, getElem?}
 use Rattle.limits.specs.Limits.{maxNodes, maxValues, resultLength}
 use Rattle.calculus.specs.Tools.{_>>=_, guard}
 use Rattle.calculus.specs.Trees.{Ty, tunit, Val, typeNodes}
 use Rattle.calculus.specs.Refusals.{Refusal, noIso, noValue, tooMany, tooHigh}
 use Rattle.format.specs.Lines.{Row}
 use Rattle.calculus.specs.Letters.{letters, inhabits}
-use Rattle.model.specs.Services.{Verdict, accepted, refused, verdict, valueIn}
+use Rattle.model.specs.Services.{Verdict, accepted, refused, verdict, valueIn, Outcome, gives, fails}
 use Rattle.calculus.specs.Paper.{Of}
-use Rattle.calculus.proofs.Basic.{some-bind, none≢some, some-inj, not-some, true-guard, ltb-lt, lt-ltb, ltb-false, not-ltb}
+use Rattle.calculus.proofs.Basic.{some-bind, some-inj, not-some, true-guard, ltb-lt, lt-ltb, ltb-false, not-ltb, index-default}
 use Rattle.calculus.proofs.Letters.{value-letters, inhabits-of, of-inhabits}
+use Rattle.model.proofs.Outcomes.{fails≢gives}
 use Rattle.model.proofs.Runs.{accepted-good, value-in}
 use Rattle.model.proofs.Sizes.{types-small}
-use Rattle.law_ranking.specs.Numbering.{count, rank, unrank, before, Outcome, gives, fails, typesOf, onType, numberIn, toNumber, toSetting, numberOn, settingOn}
+use Rattle.law_ranking.specs.Numbering.{count, rank, unrank, before, typesOf, onType, numberIn, toNumber, toSetting, numberOn, settingOn}
 use Rattle.law_ranking.specs.Answers.{LineFault, LineOf, NumberIs, SettingIs}
 use Rattle.law_ranking.proofs.Numbering.{rank-below, unrank-rank, unrank-inhabits, rank-unrank, rank-order, letters-bound}
-
-pub fails≢gives : {A : Type 0} {f : Refusal} {y : A} → _≡_ {A = Outcome A} (fails f) (gives y) → ⊥
-fails≢gives e = false≢true cc
 
 -- ---- one type
 
@@ -174,12 +172,6 @@ number-order (accepted rs) i ls ms m n d e =
     ∙ ap₂ before (sym (q .3)) (sym (r .3))
 
 -- ---- room
-
--- a type that is there
-index-default : {A : Type 0} (xs : List A) (i : ℕ) {x : A} (d : A) → getElem? xs i ≡ some x → getD xs i d ≡ x
-index-default [] i d e = absurd (none≢some e)
-index-default (y ∷ xs) zero d e = some-inj e
-index-default (y ∷ xs) (suc i) d e = index-default xs i d e
 
 -- the T lines of an accepted file have few nodes
 pub small-type : (file : List ℕ) (rs : List Row) → verdict file ≡ accepted rs → (i : ℕ) (a : Ty) → getElem? (typesOf rs) i ≡ some a → typeNodes a ≤ maxNodes

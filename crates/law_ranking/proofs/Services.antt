@@ -2,41 +2,35 @@
 use Prim.Native.Nat.{ℕ, _≤_, _<_}
 use native.Mathlib.Nat.{le-trans}
 use native.Mathlib.Omega.{arith}
-use mathlib.Core.Path.{_≡_, refl, sym, ap, ap₂, _∙_, subst}
+use mathlib.Core.Path.{_≡_, refl, sym, ap, _∙_}
 use mathlib.Core.Bool.{Bool, true, false, _||_, or-true, or-false}
-use mathlib.Core.List.{List, []}
+use mathlib.Core.Option.{some}
+use mathlib.Core.List.{List}
 use lib.Dec.{ltb}
 use lib.ListN.{length, take, drop}
 use lib.Seq.{take-append-seam, drop-append-seam}
 use Rattle.limits.specs.Limits.{tableLength, workLength, resultLength, maxValues}
+use Rattle.calculus.specs.Refusals.{shortArea}
 use Rattle.format.specs.Lines.{Row}
-use Rattle.model.specs.Services.{Verdict, accepted, refused, verdict, written, tableAfter, workAfter, short, unless, answerOf, check}
+use Rattle.model.specs.Services.{Verdict, accepted, refused, verdict, written, tableAfter, workAfter, short, unless, answerOf, check, Outcome, gives, fails, refusalNumber, bytesFrom, served, serve}
 use Rattle.calculus.proofs.Basic.{lt-ltb, not-ltb, ltb-false, neither}
 use Rattle.model.proofs.Files.{number-positive}
+use Rattle.model.proofs.Outcomes.{past-short, refused-first}
 use Rattle.model.proofs.Sheets.{long-enough, written-length}
-use Rattle.law_ranking.specs.Numbering.{before, Outcome, gives, fails, numberOn, settingOn, refusalOf, numberFrom, lettersFrom, Numbered, Lettered, numberedBy, letteredBy, numberService, settingService}
+use Rattle.law_ranking.specs.Numbering.{before, numberRows, settingRows, numberOn, settingOn, numberFrom, Numbered, Lettered, numberedBy, letteredBy, numberService, settingService}
 use Rattle.law_ranking.specs.Answers.{NumberIs, SettingIs}
-use Rattle.law_ranking.proofs.Outcomes.{fails≢gives, number-in, setting-in, number-setting, setting-number, number-below, number-order, setting-room}
+use Rattle.law_ranking.proofs.Outcomes.{number-in, setting-in, number-setting, setting-number, number-below, number-order, setting-room}
 
 -- ---- outcomes and verdicts
 
 -- what is given, where nothing is refused
-gives-number : (x : Outcome ℕ) → refusalOf x ≡ 0 → x ≡ gives (numberFrom x)
+gives-number : (x : Outcome ℕ) → refusalNumber x ≡ 0 → x ≡ gives (numberFrom x)
 gives-number (gives n) e = refl
 gives-number (fails f) e = absurd (omega (arith, e, number-positive f))
 
-gives-letters : (x : Outcome (List ℕ)) → refusalOf x ≡ 0 → x ≡ gives (lettersFrom x)
+gives-letters : (x : Outcome (List ℕ)) → refusalNumber x ≡ 0 → x ≡ gives (bytesFrom x)
 gives-letters (gives ls) e = refl
 gives-letters (fails f) e = absurd (omega (arith, e, number-positive f))
-
--- nothing is given under refusal 1
-number-past : (b : Bool) (v : Verdict) (i : ℕ) (ls : List ℕ) {n : ℕ} → numberOn (unless b v) i ls ≡ gives n → numberOn v i ls ≡ gives n
-number-past true v i ls e = absurd (fails≢gives e)
-number-past false v i ls e = e
-
-setting-past : (b : Bool) (v : Verdict) (i n : ℕ) {ls : List ℕ} → settingOn (unless b v) i n ≡ gives ls → settingOn v i n ≡ gives ls
-setting-past true v i n e = absurd (fails≢gives e)
-setting-past false v i n e = e
 
 -- ---- letters to number
 
@@ -51,7 +45,7 @@ module _ (file t w : List ℕ) (i : ℕ) (value : List ℕ) where
   unfolding check numberService
   number-check = go (unless (short t w) (verdict file))
     where
-      go : (v : Verdict) → 0 < answerOf v .number → (refusalOf (numberOn v i value) ≡ answerOf v .number) × (numberFrom (numberOn v i value) ≡ 0)
+      go : (v : Verdict) → 0 < answerOf v .number → (refusalNumber (numberOn v i value) ≡ answerOf v .number) × (numberFrom (numberOn v i value) ≡ 0)
       go (accepted rs) h = absurd (omega arith)
       go (refused f n) h = (refl, refl)
 
@@ -60,14 +54,14 @@ module _ (file t w : List ℕ) (i : ℕ) (value : List ℕ) where
   unfolding numberService
   number-refused = go (numberOn (unless (short t w) (verdict file)) i value)
     where
-      go : (x : Outcome ℕ) → 0 < refusalOf x → numberFrom x ≡ 0
+      go : (x : Outcome ℕ) → 0 < refusalNumber x → numberFrom x ≡ 0
       go (gives n) h = absurd (omega arith)
       go (fails f) h = refl
 
   -- what is answered without a refusal
   pub number-given : numberService file t w i value .number ≡ 0 → numberOn (verdict file) i value ≡ gives (numberService file t w i value .setting)
   unfolding numberService
-  number-given e = number-past (short t w) (verdict file) i value (gives-number (numberOn (unless (short t w) (verdict file)) i value) e)
+  number-given e = past-short (short t w) (verdict file) (numberRows i value) (gives-number (numberOn (unless (short t w) (verdict file)) i value) e)
 
   -- "a count above 4,294,967,295" is refused: the number fits 32 bits
   pub number-fits : numberService file t w i value .number ≡ 0 → numberService file t w i value .setting < maxValues
@@ -75,14 +69,14 @@ module _ (file t w : List ℕ) (i : ℕ) (value : List ℕ) where
 
   -- an accepted file and areas of the stated lengths
   module _ (long : tableLength ≤ length t) (wide : workLength ≤ length w) where
-    under : (numberService file t w i value) ≡ numberedBy t w (verdict file) (numberOn (verdict file) i value)
+    under : (numberService file t w i value) ≡ numberedBy (served (verdict file) (numberOn (verdict file) i value) t w)
     unfolding numberService
-    under = ap (λ b. numberedBy t w (unless b (verdict file)) (numberOn (unless b (verdict file)) i value)) (long-enough t w long wide)
+    under = ap (λ b. numberedBy (serve b (verdict file) (numberRows i value) t w)) (long-enough t w long wide)
 
     -- 15, 18, 16 or the number: one of the cases of `NumberIs` holds (`number-case`), and the service answers by it
-    pub number-answers : (rs : List Row) → verdict file ≡ accepted rs → (x : Outcome ℕ) → NumberIs rs i value x → numberService file t w i value ≡ numberedBy t w (accepted rs) x
+    pub number-answers : (rs : List Row) → verdict file ≡ accepted rs → (x : Outcome ℕ) → NumberIs rs i value x → numberService file t w i value ≡ numberedBy (served (accepted rs) x t w)
     number-answers rs e x h =
-        under ∙ ap (λ v. numberedBy t w v (numberOn v i value)) e ∙ ap (numberedBy t w (accepted rs)) (number-in rs i value h)
+        under ∙ ap (λ v. numberedBy (served v (numberOn v i value) t w)) e ∙ ap (λ y. numberedBy (served (accepted rs) y t w)) (number-in rs i value h)
 
 -- ---- number to letters
 
@@ -91,17 +85,17 @@ module _ (file t w : List ℕ) (i n : ℕ) (o : List ℕ) where
   narrow = short t w || ltb (length o) resultLength
 
   -- a result area below 127 bytes is 1 before anything else, and nothing changes
-  pub setting-short : length o < resultLength → settingService file t w i n o ≡ record { number = 1; length = 0; table = t; work = w; result = o }
+  pub setting-short : length o < resultLength → settingService file t w i n o ≡ record { refusal = some shortArea; number = 1; length = 0; table = t; work = w; result = o }
   unfolding settingService
   setting-short h =
-      ap (λ b. letteredBy t w o (unless b (verdict file)) (settingOn (unless b (verdict file)) i n)) (ap (λ b. short t w || b) (lt-ltb h) ∙ or-true (short t w))
+      ap (λ b. letteredBy o (serve b (verdict file) (settingRows i n) t w)) (ap (λ b. short t w || b) (lt-ltb h) ∙ or-true (short t w))
 
   -- a refusal writes nothing
   pub setting-refused : 0 < settingService file t w i n o .number → (settingService file t w i n o .length ≡ 0) × (settingService file t w i n o .result ≡ o)
   unfolding settingService
   setting-refused = go (settingOn (unless narrow (verdict file)) i n)
     where
-      go : (x : Outcome (List ℕ)) → 0 < refusalOf x → (length (lettersFrom x) ≡ 0) × (written (lettersFrom x) o ≡ o)
+      go : (x : Outcome (List ℕ)) → 0 < refusalNumber x → (length (bytesFrom x) ≡ 0) × (written (bytesFrom x) o ≡ o)
       go (gives ls) h = absurd (omega arith)
       go (fails f) h = (refl, refl)
 
@@ -111,10 +105,10 @@ module _ (file t w : List ℕ) (i n : ℕ) (o : List ℕ) where
   unfolding settingService
   setting-given e =
       let x : Outcome (List ℕ) = settingOn (unless narrow (verdict file)) i n in
-      setting-past narrow (verdict file) i n (gives-letters x e)
-      ∙ ap gives (sym (take-append-seam (lettersFrom x) (drop (length (lettersFrom x)) o)))
+      past-short narrow (verdict file) (settingRows i n) (gives-letters x e)
+      ∙ ap gives (sym (take-append-seam (bytesFrom x) (drop (length (bytesFrom x)) o)))
 
-  given-short : (x : Outcome (List ℕ)) → settingOn (verdict file) i n ≡ x → length (lettersFrom x) ≤ resultLength
+  given-short : (x : Outcome (List ℕ)) → settingOn (verdict file) i n ≡ x → length (bytesFrom x) ≤ resultLength
   given-short (gives ls) e = setting-room file i n ls e
   given-short (fails f) e = omega arith
 
@@ -123,7 +117,7 @@ module _ (file t w : List ℕ) (i n : ℕ) (o : List ℕ) where
   unfolding settingService
   setting-letters = go narrow
     where
-      go : (b : Bool) → length (lettersFrom (settingOn (unless b (verdict file)) i n)) ≤ resultLength
+      go : (b : Bool) → length (bytesFrom (settingOn (unless b (verdict file)) i n)) ≤ resultLength
       go true = omega arith
       go false = given-short (settingOn (verdict file) i n) refl
 
@@ -131,17 +125,17 @@ module _ (file t w : List ℕ) (i n : ℕ) (o : List ℕ) where
   pub setting-kept : (length (settingService file t w i n o .result) ≡ length o)
       × (drop (settingService file t w i n o .length) (settingService file t w i n o .result) ≡ drop (settingService file t w i n o .length) o)
   unfolding settingService
-  setting-kept = (go narrow refl, drop-append-seam (lettersFrom x) (drop (length (lettersFrom x)) o))
+  setting-kept = (go narrow refl, drop-append-seam (bytesFrom x) (drop (length (bytesFrom x)) o))
     where
       x : Outcome (List ℕ)
       x = settingOn (unless narrow (verdict file)) i n
 
-      go : (b : Bool) → narrow ≡ b → length (written (lettersFrom (settingOn (unless b (verdict file)) i n)) o) ≡ length o
+      go : (b : Bool) → narrow ≡ b → length (written (bytesFrom (settingOn (unless b (verdict file)) i n)) o) ≡ length o
       go true e = refl
       go false e =
           let l = given-short (settingOn (verdict file) i n) refl in
           let r = ltb-false (length o) resultLength (neither (short t w) (ltb (length o) resultLength) e .1) in
-          written-length (lettersFrom (settingOn (verdict file) i n)) o (le-trans l r)
+          written-length (bytesFrom (settingOn (verdict file) i n)) o (le-trans l r)
 
   module _ (room : resultLength ≤ length o) where
     enough : narrow ≡ short t w
@@ -155,23 +149,19 @@ module _ (file t w : List ℕ) (i n : ℕ) (o : List ℕ) where
     -- and Check's own refusals come first
     pub setting-check : 0 < check file t w .answer .number → settingService file t w i n o .number ≡ check file t w .answer .number
     unfolding check settingService
-    setting-check h = ap (λ b. refusalOf (settingOn (unless b (verdict file)) i n)) enough ∙ go (unless (short t w) (verdict file)) h
-      where
-        go : (v : Verdict) → 0 < answerOf v .number → refusalOf (settingOn v i n) ≡ answerOf v .number
-        go (accepted rs) h = absurd (omega arith)
-        go (refused f m) h = refl
+    setting-check h = ap (λ b. refusalNumber (settingOn (unless b (verdict file)) i n)) enough ∙ refused-first (unless (short t w) (verdict file)) (settingRows i n) h .0
 
     -- an accepted file and areas of the stated lengths
     module _ (long : tableLength ≤ length t) (wide : workLength ≤ length w) where
-      under-all : settingService file t w i n o ≡ letteredBy t w o (verdict file) (settingOn (verdict file) i n)
+      under-all : settingService file t w i n o ≡ letteredBy o (served (verdict file) (settingOn (verdict file) i n) t w)
       unfolding settingService
       under-all =
-          ap (λ b. letteredBy t w o (unless b (verdict file)) (settingOn (unless b (verdict file)) i n)) (enough ∙ long-enough t w long wide)
+          ap (λ b. letteredBy o (serve b (verdict file) (settingRows i n) t w)) (enough ∙ long-enough t w long wide)
 
       -- 15, 18, 19 or the letters: one of the cases of `SettingIs` holds (`setting-case`), and the service answers by it
-      pub setting-answers : (rs : List Row) → verdict file ≡ accepted rs → (x : Outcome (List ℕ)) → SettingIs rs i n x → settingService file t w i n o ≡ letteredBy t w o (accepted rs) x
+      pub setting-answers : (rs : List Row) → verdict file ≡ accepted rs → (x : Outcome (List ℕ)) → SettingIs rs i n x → settingService file t w i n o ≡ letteredBy o (served (accepted rs) x t w)
       setting-answers rs e x h =
-          under-all ∙ ap (λ v. letteredBy t w o v (settingOn v i n)) e ∙ ap (letteredBy t w o (accepted rs)) (setting-in rs i n h)
+          under-all ∙ ap (λ v. letteredBy o (served v (settingOn v i n) t w)) e ∙ ap (λ y. letteredBy o (served (accepted rs) y t w)) (setting-in rs i n h)
 
 -- ---- each undoing the other
 
@@ -185,7 +175,7 @@ module _ (file t w t₂ w₂ : List ℕ) (i : ℕ) (long : tableLength ≤ lengt
   number-undone value o room e =
       let n = numberService file t w i value .setting in
       let s = number-setting (verdict file) i value n (number-given file t w i value e) in
-      let u = under-all file t₂ w₂ i n o room long wide ∙ ap (letteredBy t₂ w₂ o (verdict file)) s in
+      let u = under-all file t₂ w₂ i n o room long wide ∙ ap (λ y. letteredBy o (served (verdict file) y t₂ w₂)) s in
       (ap (λ (r : Lettered). r .number) u, ap (λ (r : Lettered). r .length) u, ap (λ (r : Lettered). r .result) u)
 
   -- "each undoing the other": the letters of a number, as they stand in the result area, give the number back
@@ -195,7 +185,7 @@ module _ (file t w t₂ w₂ : List ℕ) (i : ℕ) (long : tableLength ≤ lengt
   setting-undone n o e =
       let ls = take (settingService file t w i n o .length) (settingService file t w i n o .result) in
       let s = setting-number (verdict file) i n ls (setting-given file t w i n o e) in
-      let u = under file t₂ w₂ i ls long wide ∙ ap (numberedBy t₂ w₂ (verdict file)) s in
+      let u = under file t₂ w₂ i ls long wide ∙ ap (λ y. numberedBy (served (verdict file) y t₂ w₂)) s in
       (ap (λ (r : Numbered). r .number) u, ap (λ (r : Numbered). r .setting) u)
 
 -- ---- the order

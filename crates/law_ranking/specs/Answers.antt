@@ -10,7 +10,8 @@ use Rattle.calculus.specs.Refusals.{Refusal, noIso, noValue, tooMany, tooHigh}
 use Rattle.format.specs.Lines.{Row}
 use Rattle.calculus.specs.Letters.{letters}
 use Rattle.calculus.specs.Paper.{Of}
-use Rattle.law_ranking.specs.Numbering.{count, rank, Outcome, gives, fails, typesOf}
+use Rattle.model.specs.Services.{Outcome, gives, fails}
+use Rattle.law_ranking.specs.Numbering.{count, rank, typesOf}
 
 -- "An absent T line is 15"; "18 "too many values", a count above 4,294,967,295 …, after 15"
 pub data LineFault (rs : List Row) (i : ℕ) : Refusal → Type 0 where

@@ -7,11 +7,11 @@ use lib.Dec.{ltb, eqb}
 use lib.ListN.{length, getElem?}
 use Rattle.limits.specs.Limits.{resultLength, maxValues}
 use Rattle.calculus.specs.Trees.{Ty, tunit, tsum, tprod, Tag, left, right, Val, vunit, vinj, vpair, part}
-use Rattle.calculus.specs.Refusals.{Refusal, number, noIso, noValue, tooMany, tooHigh}
+use Rattle.calculus.specs.Refusals.{Refusal, noIso, noValue, tooMany, tooHigh}
 use Rattle.format.specs.Lines.{Row}
 use Rattle.format.specs.Judge.{start, afterAll}
 use Rattle.calculus.specs.Letters.{letters, valueOf}
-use Rattle.model.specs.Services.{Verdict, accepted, refused, verdict, valueIn, written, tableAfter, workAfter, short, unless}
+use Rattle.model.specs.Services.{Verdict, verdict, valueIn, written, short, Outcome, gives, fails, goOn, refusalOf, refusalNumber, bytesFrom, Served, serve}
 
 -- how many closed values a type has
 abbrev pub count : Ty → ℕ
@@ -49,11 +49,6 @@ before (b ∷ bs) (c ∷ cs) = ltb b c || cond (eqb b c) (before bs cs) false
 
 -- ---- the services
 
--- a refusal, or what is asked for
-pub data Outcome (A : Type 0) : Type 0 where
-  gives : A → Outcome A
-  fails : Refusal → Outcome A
-
 -- the types of a file's T lines, numbered from 0
 unfoldable pub typesOf : List Row → List Ty
 unfolding start
@@ -77,62 +72,73 @@ abbrev pub toSetting : ℕ → Ty → Outcome (List ℕ)
 toSetting n a = cond (ltb n (count a)) (gives (letters (unrank a n))) (fails tooHigh)
 
 -- "for any T line of an accepted file"
+abbrev pub numberRows : ℕ → List ℕ → List Row → Outcome ℕ
+numberRows i ls rs = onType (getElem? (typesOf rs) i) (toNumber ls)
+
+abbrev pub settingRows : ℕ → ℕ → List Row → Outcome (List ℕ)
+settingRows i n rs = onType (getElem? (typesOf rs) i) (toSetting n)
+
 abbrev pub numberOn : Verdict → ℕ → List ℕ → Outcome ℕ
-numberOn (accepted rs) i ls = onType (getElem? (typesOf rs) i) (toNumber ls)
-numberOn (refused f n) i ls = fails f
+numberOn v i ls = goOn v (numberRows i ls)
 
 abbrev pub settingOn : Verdict → ℕ → ℕ → Outcome (List ℕ)
-settingOn (accepted rs) i n = onType (getElem? (typesOf rs) i) (toSetting n)
-settingOn (refused f m) i n = fails f
+settingOn v i n = goOn v (settingRows i n)
 
--- the refusal's number, 0 where there is none; "With a refusal the setting number is 0"
-abbrev pub refusalOf : {A : Type 0} → Outcome A → ℕ
-refusalOf (gives a) = 0
-refusalOf (fails f) = number f
-
+-- "With a refusal the setting number is 0"
 abbrev pub numberFrom : Outcome ℕ → ℕ
 numberFrom (gives n) = n
 numberFrom (fails f) = 0
 
-abbrev pub lettersFrom : Outcome (List ℕ) → List ℕ
-lettersFrom (gives ls) = ls
-lettersFrom (fails f) = []
-
 -- letters to number
 pub record Numbered : Type 0 where
+  pub refusal : Option Refusal
   pub number : ℕ
   pub setting : ℕ
   pub table : List ℕ
   pub work : List ℕ
 
--- what a call answers by an outcome, and leaves in its areas by a verdict
-abbrev pub numberedBy : List ℕ → List ℕ → Verdict → Outcome ℕ → Numbered
-numberedBy table work v o = record { number = refusalOf o; setting = numberFrom o; table = tableAfter v table; work = workAfter v work }
+abbrev pub numberedBy : Served ℕ → Numbered
+numberedBy s =
+    record {
+      refusal = refusalOf (s .outcome);
+      number = refusalNumber (s .outcome);
+      setting = numberFrom (s .outcome);
+      table = s .table;
+      work = s .work;
+    }
+
+abbrev pub numberServed : List ℕ → List ℕ → List ℕ → ℕ → List ℕ → Served ℕ
+numberServed file table work i value = serve (short table work) (verdict file) (numberRows i value) table work
 
 unfoldable pub numberService : List ℕ → List ℕ → List ℕ → ℕ → List ℕ → Numbered
 unfolding verdict typesOf valueOf
-numberService file table work i value =
-    let v : Verdict = unless (short table work) (verdict file) in numberedBy table work v (numberOn v i value)
+numberService file table work i value = numberedBy (numberServed file table work i value)
 
 -- number to letters, "letters written into 127 lent bytes"
 pub record Lettered : Type 0 where
+  pub refusal : Option Refusal
   pub number : ℕ
   pub length : ℕ
   pub table : List ℕ
   pub work : List ℕ
   pub result : List ℕ
 
-abbrev pub letteredBy : List ℕ → List ℕ → List ℕ → Verdict → Outcome (List ℕ) → Lettered
-letteredBy table work result v o =
+abbrev pub letteredBy : List ℕ → Served (List ℕ) → Lettered
+letteredBy result s =
+    let ls : List ℕ = bytesFrom (s .outcome) in
     record {
-      number = refusalOf o;
-      length = length (lettersFrom o);
-      table = tableAfter v table;
-      work = workAfter v work;
-      result = written (lettersFrom o) result;
+      refusal = refusalOf (s .outcome);
+      number = refusalNumber (s .outcome);
+      length = length ls;
+      table = s .table;
+      work = s .work;
+      result = written ls result;
     }
+
+abbrev pub settingServed : List ℕ → List ℕ → List ℕ → ℕ → ℕ → List ℕ → Served (List ℕ)
+settingServed file table work i n result =
+    serve (short table work || ltb (length result) resultLength) (verdict file) (settingRows i n) table work
 
 unfoldable pub settingService : List ℕ → List ℕ → List ℕ → ℕ → ℕ → List ℕ → Lettered
 unfolding verdict typesOf
-settingService file table work i n result =
-    let v : Verdict = unless (short table work || ltb (length result) resultLength) (verdict file) in letteredBy table work result v (settingOn v i n)
+settingService file table work i n result = letteredBy result (settingServed file table work i n result)

@@ -11,7 +11,7 @@ use lib.ListN.{getElem?, length}
 use Rattle.limits.specs.Limits.{maxTags}
 use Rattle.calculus.specs.Tools.{_>>=_, all, select, total, firstOf, orElse, firstFailing}
 use Rattle.calculus.specs.Trees.{Ty, Tag, left, right, Pat, punit, pvar, pinj, ppair, Val, Clause, Iso, sameTag, invertClause, invert}
-use Rattle.calculus.specs.Refusals.{Refusal, number, overlap, gap}
+use Rattle.calculus.specs.Refusals.{Refusal, number, isoLine, overlap, gap}
 use Rattle.calculus.specs.Reduction.{Call, runClause, hits, only, apply, reduceTo, reduce}
 use Rattle.calculus.specs.Clauses.{Sigs, variablesRule, letShapes, typed, clauseFault, clash, apart, weight, fullWeight, lefts, rights, sideFault, at, isoFault, fault, sigsOf}
 use Rattle.law_reordering.specs.Reordered.{Permuted, empty, keep, swap, then, bare, AlikeIso, Alike, more}
@@ -162,9 +162,9 @@ module _ {o n : Iso} (a : AlikeIso o n) where
   pub alike-sides : sideFault o ≡ sideFault n
   unfolding sideFault
   alike-sides =
-      ap₂ (λ p q. firstFailing ((p, overlap left) ∷ (q, overlap right) ∷ (fullWeight (lefts o), gap left) ∷ (fullWeight (rights o), gap right) ∷ []))
+      ap₂ (λ p q. firstFailing ((p, overlap isoLine left) ∷ (q, overlap isoLine right) ∷ (fullWeight (lefts o), gap isoLine left) ∷ (fullWeight (rights o), gap isoLine right) ∷ []))
       (perm-apart alike-lefts) (perm-apart alike-rights)
-      ∙ ap₂ (λ p q. firstFailing ((apart (lefts n), overlap left) ∷ (apart (rights n), overlap right) ∷ (p, gap left) ∷ (q, gap right) ∷ []))
+      ∙ ap₂ (λ p q. firstFailing ((apart (lefts n), overlap isoLine left) ∷ (apart (rights n), overlap isoLine right) ∷ (p, gap isoLine left) ∷ (q, gap isoLine right) ∷ []))
       (perm-full alike-lefts) (perm-full alike-rights)
 
   -- a clause of the one stands in the other, at whatever line

@@ -7,10 +7,11 @@ use mathlib.Core.Bool.{false}
 use mathlib.Core.List.{List, [], _∷_, _++_}
 use lib.ListN.{getD}
 use Rattle.format.specs.Lines.{lines}
-use Rattle.model.specs.Services.{verdict, answerOf, gives, run}
+use Rattle.model.specs.Services.{verdict, answerOf, gives, Ran, run}
 use Rattle.model.specs.Desk.{desk}
 use Rattle.model.specs.Cases.{bytes, fileS}
 use Rattle.model.proofs.Files.{answer-zero}
+use Rattle.model.proofs.Outcomes.{gives-inj}
 use Rattle.law_reordering.specs.Reordered.{SameButOrder, keep, swap, then, Shuffled}
 use Rattle.law_reordering.proofs.Orders.{every-order}
 use Rattle.law_reordering.proofs.Services.{run-rows}
@@ -71,11 +72,11 @@ clausesThere = head ++ bytes "I,2,2\nC,1,1\nC,2,4\nC,4,2\nI,2,2\nC,1,2\nC,2,1\nC
 
 -- what each gives
 moved-answers :
-    (run letsHere 1 false 9 (bytes "PLULU") ≡ gives 2 (bytes "PLURU"))
-    × (run letsThere 1 false 9 (bytes "PLULU") ≡ gives 1 (bytes "PLULU"))
-    × (run firstThenSecond 2 false 9 (bytes "LU") ≡ gives 3 (bytes "RRU"))
-    × (run secondThenFirst 2 false 9 (bytes "LU") ≡ gives 3 (bytes "RLU"))
-    × (run clausesThere 2 false 9 (bytes "LU") ≡ gives 3 (bytes "RLU"))
+    (run letsHere 1 false 9 (bytes "PLULU") ≡ gives (2, bytes "PLURU"))
+    × (run letsThere 1 false 9 (bytes "PLULU") ≡ gives (1, bytes "PLULU"))
+    × (run firstThenSecond 2 false 9 (bytes "LU") ≡ gives (3, bytes "RRU"))
+    × (run secondThenFirst 2 false 9 (bytes "LU") ≡ gives (3, bytes "RLU"))
+    × (run clausesThere 2 false 9 (bytes "LU") ≡ gives (3, bytes "RLU"))
 unfolding run
 moved-answers = (refl, refl, refl, refl, refl)
 
@@ -83,8 +84,8 @@ accepted-here : (answerOf (verdict letsHere) .number ≡ 0) × (answerOf (verdic
 unfolding verdict
 accepted-here = (refl, refl)
 
-gave : {k m : ℕ} {x y : List ℕ} → gives k x ≡ gives m y → (k ≡ m) × (x ≡ y)
-gave e = (cc, cc)
+gave : {p q : ℕ × List ℕ} → _≡_ {A = Ran} (gives p) (gives q) → (p .0 ≡ q .0) × (p .1 ≡ q .1)
+gave e = let same = gives-inj e in (ap (λ p. p .0) same, ap (λ p. p .1) same)
 
 no-let-moved : SameButOrder letsHere letsThere → ⊥
 no-let-moved r =

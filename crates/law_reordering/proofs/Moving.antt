@@ -14,7 +14,7 @@ use Rattle.format.specs.Unfold.{Tail, place, tailFrom, isosOf, exchange, turnRo
 use Rattle.law_ranking.specs.Numbering.{typesOf}
 use Rattle.law_reordering.specs.Reordered.{Permuted, keep, swap, bare, Alike, more}
 use Rattle.calculus.proofs.Basic.{leb-le, le-leb, lt-ltb}
-use Rattle.format.proofs.Passing.{Passes, done, next, Fit, judge-fit, fit-judge, clause-fit}
+use Rattle.format.proofs.Passing.{Passes, done, next, Fit, judge-fit, fit-judge, clause-fit, after-append, passes-append}
 use Rattle.format.proofs.Turning.{AllLets, held-lets, judge-let, let-judge, passes-next, after-let}
 use Rattle.law_reordering.proofs.Alike.{perm-refl, alike-refl}
 
@@ -47,14 +47,6 @@ pub record Moved (rs qs : List Row) : Type 0 where
 pub passes-split : {s : Seen} (xs : List Row) {ys : List Row} → Passes s (xs ++ ys) → Passes s xs × Passes (afterAll s xs) ys
 passes-split [] p = (done, p)
 passes-split (x ∷ xs) p = let n = passes-next p in let h = passes-split xs (n .1) in (next (n .0) (h .0), h .1)
-
-pub passes-join : {s : Seen} (xs : List Row) {ys : List Row} → Passes s xs → Passes (afterAll s xs) ys → Passes s (xs ++ ys)
-passes-join [] p q = q
-passes-join (x ∷ xs) p q = let n = passes-next p in next (n .0) (passes-join xs (n .1) q)
-
-pub after-append : (s : Seen) (xs ys : List Row) → afterAll s (xs ++ ys) ≡ afterAll (afterAll s xs) ys
-after-append s [] ys = refl
-after-append s (x ∷ xs) ys = after-append (after s x) xs ys
 
 after-clause : (s : Seen) (c : Row) → c .kind ≡ clauseLine → after s c ≡ afterKind clauseLine s c
 after-clause s c e = ap (λ k. afterKind k s c) e
@@ -194,7 +186,7 @@ pair-moved s c ls d ms xs ec ul ed um w p =
     let same = trees-same xs (seen ts ps n (b₂ .above) (suc (suc k)) (b₂ .lets)) (seen ts ps n (b₄ .above) (suc (suc k)) (b₄ .lets)) refl refl in
     record {
       moved =
-          passes-join (d ∷ ms) q₁ (subst (λ t. Passes t (c ∷ (ls ++ xs))) (sym (b₃ .is)) (passes-join (c ∷ ls) q₂ (subst (λ t. Passes t xs) (sym (b₄ .is)) q₃)));
+          passes-append q₁ (subst (λ t. Passes t (c ∷ (ls ++ xs))) (sym (b₃ .is)) (passes-append q₂ (subst (λ t. Passes t xs) (sym (b₄ .is)) q₃)));
       types = ap (λ (t : Seen). t .types) one ∙ same .0 ∙ ap (λ (t : Seen). t .types) (sym two);
       patterns = ap (λ (t : Seen). t .patterns) one ∙ same .1 ∙ ap (λ (t : Seen). t .patterns) (sym two);
       lets = behind-lets ts ps n xs w (b₂ .above) (suc (suc k)) (b₂ .lets) (b₂ .late) p₃;
@@ -286,7 +278,7 @@ pub moved-passes : {rs qs : List Row} → Moved rs qs → Passes start rs → Pa
 moved-passes {rs} {qs} v p =
     let s = passes-split (v .before) (subst (Passes start) (v .here) p) in
     let r = pair-moved (afterAll start (v .before)) (v .c) (v .ls) (v .d) (v .ms) (v .behind) (v .cKind) (v .lsLets) (v .dKind) (v .msLets) (v .whole) (s .1) in
-    subst (Passes start) (sym (v .there)) (passes-join (v .before) (s .0) (r .moved))
+    subst (Passes start) (sym (v .there)) (passes-append (s .0) (r .moved))
 
 -- the T lines stay
 pub moved-types : {rs qs : List Row} → Moved rs qs → Passes start rs → typesOf rs ≡ typesOf qs

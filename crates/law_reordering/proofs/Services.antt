@@ -16,8 +16,7 @@ use Rattle.calculus.specs.Refusals.{Kind, typeLine, patternLine, isoLine, claus
 use Rattle.format.specs.Lines.{Row, ontoFirst, lines, letter, rowOf}
 use Rattle.format.specs.Judge.{start}
 use Rattle.format.specs.Unfold.{isosOf, turnRows}
-use Rattle.model.specs.Services.{Verdict, accepted, refused, verdict, answerOf, Checked, checkBy, check, Turned, turned, turnedOf, turnBy, turn, onIso, from, within}
-use Rattle.model.specs.Services.{argument, valueIn, runRows, toward, runOf, run, RunAnswer, answerOfRun, RunResult, runBy, runService, written, tableAfter, workAfter, short, unless}
+use Rattle.model.specs.Services.{Verdict, accepted, refused, verdict, answerOf, Checked, checkBy, check, gives, goOn, refusalBy, served, Turned, turned, turnedOf, turnedRows, turnedBy, turnBy, turn, onIso, from, within, argument, valueIn, runRows, toward, runOf, run, RunAnswer, answerOfRun, RunResult, ranBy, runBy, runService, tableAfter, workAfter, short, unless}
 use Rattle.model.specs.Desk.{isQuery, fileLines, queryLines, Query, queryOf, answerTo, queryLine, fileLine, queryAnswers, desk}
 use Rattle.model.specs.Sheet.{answersTo, numbersAfter, lettersAfter, narrowSheet, Sheet, sheetBy, sheet}
 use Rattle.calculus.proofs.Basic.{eqb-eq, each-append, each-cons, each-nil}
@@ -27,8 +26,8 @@ use Rattle.format.proofs.Printing.{body, row-iff, NoFeed, Feedless, feedless-bo
 use Rattle.model.proofs.Files.{accepted-form, number-positive, answer-zero, turned-accepted}
 use Rattle.model.proofs.Runs.{run-accepted}
 use Rattle.model.proofs.Sheets.{desk-same as answers-printed}
-use Rattle.law_ranking.specs.Numbering.{Outcome, onType, toNumber, toSetting, numberOn, settingOn, refusalOf, numberFrom, lettersFrom, Numbered, Lettered, numberService, settingService}
-use Rattle.law_costs.specs.Bounds.{told, onIso as boundsOn, boundsOf, BoundsResult, boundsService}
+use Rattle.law_ranking.specs.Numbering.{onType, toNumber, toSetting, numberOn, settingOn, Numbered, numberedBy, Lettered, letteredBy, numberService, settingService}
+use Rattle.law_costs.specs.Bounds.{onIso as boundsOn, boundsRows, boundsBy, BoundsResult, boundsService}
 use Rattle.law_reordering.specs.Reordered.{SameButOrder, AlikeIso, Alike}
 use Rattle.law_reordering.specs.Answers.{checkedBut, turnedBut, ranBut, sheetBut, numberedBut, letteredBut, boundsBut, beginsQueries}
 use Rattle.law_reordering.proofs.Alike.{alike-invert, index-alike, reduce-alike}
@@ -63,7 +62,7 @@ bounds-alike {os} {ns} h i = go (index-alike h i)
     go (inl (p, q)) = ap (boundsOn os i) p ∙ sym (ap (boundsOn ns i) q)
     go (inr (o, n, p, q, a)) =
         ap (boundsOn os i) p
-        ∙ ap₂ (λ ls gs. told (getD ls i 0) (getD gs i 0)) (least-alike h) (greatest-alike h)
+        ∙ ap₂ (λ ls gs. gives (getD ls i 0, getD gs i 0)) (least-alike h) (greatest-alike h)
         ∙ sym (ap (boundsOn ns i) q)
 
 run-rows-alike : (rs qs : List Row) → Alike (isosOf rs) (isosOf qs) → (i budget : ℕ) (value : List ℕ) → runRows rs i budget value ≡ runRows qs i budget value
@@ -93,7 +92,7 @@ module _ {rs qs : List Row} (t : Twins rs qs) where
   setting-twins : (i n : ℕ) → settingOn (accepted rs) i n ≡ settingOn (accepted qs) i n
   setting-twins i n = ap (λ ts. onType (getElem? ts i) (toSetting n)) (t .types)
 
-  bounds-twins : (i : ℕ) → boundsOf (accepted rs) i ≡ boundsOf (accepted qs) i
+  bounds-twins : (i : ℕ) → boundsRows i rs ≡ boundsRows i qs
   bounds-twins i = bounds-alike (t .alike) i
 
 -- ---- the services, refusal 1 told by a test
@@ -107,68 +106,53 @@ module _ (table work : List ℕ) where
   check-under rs qs false = refl
 
   abbrev turnUnder : List ℕ → Verdict → Turned
-  turnUnder output v =
-      record { answer = answerOf v; length = length (turnedOf v); table = tableAfter v table; work = workAfter v work; output = written (turnedOf v) output }
+  turnUnder output v = turnedBy output (served v (goOn v turnedRows) table work)
 
   turn-under : (output : List ℕ) (rs qs : List Row) → length (turnedOf (accepted rs)) ≡ length (turnedOf (accepted qs)) → (b : Bool)
       → turnedBut (turnUnder output (unless b (accepted rs))) ≡ turnedBut (turnUnder output (unless b (accepted qs)))
   turn-under output rs qs e true = refl
-  turn-under output rs qs e false = ap (λ n. record { answer = answerOf (accepted rs); length = n; table = []; work = workAfter (accepted rs) work; output = [] }) e
+  turn-under output rs qs e false = ap (λ n. record { refusal = none; answer = answerOf (accepted rs); length = n; table = []; work = workAfter (accepted rs) work; output = [] }) e
 
   module _ {rs qs : List Row} (t : Twins rs qs) where
     abbrev runUnder : ℕ → Bool → ℕ → List ℕ → List ℕ → Verdict → RunResult
-    runUnder i back budget value result v =
-        let a : RunAnswer = answerOfRun (runOf v i back budget value) in
-        record {
-          number = a .number;
-          count = a .count;
-          length = length (a .letters);
-          table = tableAfter v table;
-          work = workAfter v work;
-          result = written (a .letters) result;
-        }
+    runUnder i back budget value result v = ranBy result (served v (runOf v i back budget value) table work)
 
     run-under : (i : ℕ) (back : Bool) (budget : ℕ) (value result : List ℕ) (b : Bool)
         → ranBut (runUnder i back budget value result (unless b (accepted rs))) ≡ ranBut (runUnder i back budget value result (unless b (accepted qs)))
     run-under i back budget value result true = refl
     run-under i back budget value result false =
-        ap (λ r. let a : RunAnswer = answerOfRun r in
-        record { number = a .number; count = a .count; length = length (a .letters); table = []; work = workAfter (accepted rs) work; result = written (a .letters) result })
-        (run-twins t i back budget value)
+        ap (λ r. ranBut (ranBy result (served (accepted rs) r table work))) (run-twins t i back budget value)
 
     abbrev numberUnder : ℕ → List ℕ → Verdict → Numbered
-    numberUnder i value v =
-        let o : Outcome ℕ = numberOn v i value in record { number = refusalOf o; setting = numberFrom o; table = tableAfter v table; work = workAfter v work }
+    numberUnder i value v = numberedBy (served v (numberOn v i value) table work)
 
     number-under : (i : ℕ) (value : List ℕ) (b : Bool)
         → numberedBut (numberUnder i value (unless b (accepted rs))) ≡ numberedBut (numberUnder i value (unless b (accepted qs)))
     number-under i value true = refl
     number-under i value false =
-        ap (λ o. record { number = refusalOf o; setting = numberFrom o; table = []; work = workAfter (accepted rs) work }) (number-twins t i value)
+        ap (λ o. numberedBut (numberedBy (served (accepted rs) o table work))) (number-twins t i value)
 
     abbrev settingUnder : ℕ → ℕ → List ℕ → Verdict → Lettered
-    settingUnder i n result v =
-        let o : Outcome (List ℕ) = settingOn v i n in
-        record { number = refusalOf o; length = length (lettersFrom o); table = tableAfter v table; work = workAfter v work; result = written (lettersFrom o) result }
+    settingUnder i n result v = letteredBy result (served v (settingOn v i n) table work)
 
     setting-under : (i n : ℕ) (result : List ℕ) (b : Bool)
         → letteredBut (settingUnder i n result (unless b (accepted rs))) ≡ letteredBut (settingUnder i n result (unless b (accepted qs)))
     setting-under i n result true = refl
     setting-under i n result false =
-        ap (λ o. record { number = refusalOf o; length = length (lettersFrom o); table = []; work = workAfter (accepted rs) work; result = written (lettersFrom o) result })
-        (setting-twins t i n)
+        ap (λ o. letteredBut (letteredBy result (served (accepted rs) o table work))) (setting-twins t i n)
 
     abbrev boundsUnder : ℕ → Verdict → BoundsResult
-    boundsUnder i v = record { bounds = boundsOf v i; table = tableAfter v table; work = workAfter v work }
+    boundsUnder i v = boundsBy (served v (goOn v (boundsRows i)) table work)
 
     bounds-under : (i : ℕ) (b : Bool) → boundsBut (boundsUnder i (unless b (accepted rs))) ≡ boundsBut (boundsUnder i (unless b (accepted qs)))
     bounds-under i true = refl
-    bounds-under i false = ap (λ b. record { bounds = b; table = []; work = workAfter (accepted rs) work }) (bounds-twins t i)
+    bounds-under i false = ap (λ o. boundsBut (boundsBy (served (accepted rs) o table work))) (bounds-twins t i)
 
     abbrev sheetUnder : List (List ℕ) → List ℕ → List ℕ → Verdict → Sheet
     sheetUnder ls numbers letters v =
         let as₁ : List RunAnswer = answersTo v ls in
         record {
+          refusal = refusalBy v;
           answer = answerOf v;
           queries = length as₁;
           table = tableAfter v table;
@@ -184,6 +168,7 @@ module _ (table work : List ℕ) where
     sheet-under ls numbers letters false true = refl
     sheet-under ls numbers letters false false =
         ap (λ us. record {
+          refusal = none;
           answer = answerOf (accepted rs);
           queries = length us;
           table = [];

@@ -9,11 +9,10 @@ use mathlib.Core.List.{List, [], _∷_, _++_}
 use lib.ListN.{length, getElem?}
 use Rattle.calculus.specs.Tools.{all, firstFailing}
 use Rattle.calculus.specs.Trees.{Ty, Pat}
-use Rattle.calculus.specs.Refusals.{Kind, typeLine, patternLine, isoLine, clauseLine, letLine, Refusal, badLine, misplaced, badField, badName, ceiling}
+use Rattle.calculus.specs.Refusals.{Kind, typeLine, patternLine, isoLine, clauseLine, letLine, Refusal, badLine, misplaced, badField, badName, ceiling, tooLong}
 use Rattle.format.specs.Lines.{Row, lines, rowOf}
 use Rattle.format.specs.Judge.{Seen, start, stage, inOrder, fieldsFit, named, withinCeilings, judge, afterKind, after, afterAll, Reading, rows, faulty, withRow, onRow, onJudged, readFrom}
 use Rattle.model.specs.Services.{refused, over, afterReading, verdict, checkBy, check}
-use Rattle.calculus.specs.Refusals.{tooLong}
 use Rattle.law_reordering.specs.Reordered.{isClause, isLet, isBlock, isWhole, Reordered, SameButOrder}
 use Rattle.calculus.proofs.Basic.{some-inj, and-true, le-leb, leb-le, not-leb, none-failing, true-or-left, true-or-right}
 use Rattle.format.proofs.Passing.{Passes, done, next}
@@ -31,7 +30,7 @@ pub data Stops : Seen → ℕ → List (List ℕ) → Refusal → ℕ → List �
   past : {s : Seen} {n m : ℕ} {l k : List ℕ} {ls : List (List ℕ)} {f : Refusal} (r : Row) → rowOf l ≡ some r → judge s r ≡ none
       → Stops (after s r) (suc n) ls f m k → Stops s n (l ∷ ls) f m k
 
-withRow-faulty : (r : Row) (x : Reading) (f : Refusal) (n : ℕ) → withRow r x ≡ faulty f n → x ≡ faulty f n
+pub withRow-faulty : (r : Row) (x : Reading) (f : Refusal) (n : ℕ) → withRow r x ≡ faulty f n → x ≡ faulty f n
 withRow-faulty r (rows rs) f n e = absurd (rows≢faulty e)
 withRow-faulty r (faulty g m) f n e = e
 

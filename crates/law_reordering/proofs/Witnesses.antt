@@ -16,7 +16,8 @@ use Rattle.calculus.specs.Clauses.{Sigs, sigsOf, lefts, rights, clauseFault, is
 use Rattle.model.specs.Services.{short, written}
 use Rattle.calculus.proofs.Checking.{clause-fault-iff}
 use Rattle.model.proofs.Files.{InForm}
-use Rattle.law_witnesses.specs.Showing.{hit, hits, find, valuesWith, countUp, setting, twice, never, shownBy, shown, shownOr, shownFirst, lettersOf?, showing, showService}
+use Rattle.calculus.specs.Hits.{hit, hits}
+use Rattle.law_witnesses.specs.Showing.{find, valuesWith, countUp, setting, twice, never, shownBy, shown, shownOr, shownFirst, lettersOf?, showing, showService}
 use Rattle.law_witnesses.proofs.Spelling.{firstOf-ext}
 use Rattle.law_witnesses.proofs.Sides.{fault-unsided}
 use Rattle.law_witnesses.proofs.Showing.{unshown, showing-rows}

@@ -19,23 +19,23 @@ abbrev pub checkedBut : Checked → Checked
 checkedBut c = record { answer = c .answer; table = []; work = c .work }
 
 abbrev pub ranBut : RunResult → RunResult
-ranBut r = record { number = r .number; count = r .count; length = r .length; table = []; work = r .work; result = r .result }
+ranBut r = record { refusal = r .refusal; number = r .number; count = r .count; length = r .length; table = []; work = r .work; result = r .result }
 
 abbrev pub sheetBut : Sheet → Sheet
-sheetBut s = record { answer = s .answer; queries = s .queries; table = []; work = s .work; numbers = s .numbers; letters = s .letters }
+sheetBut s = record { refusal = s .refusal; answer = s .answer; queries = s .queries; table = []; work = s .work; numbers = s .numbers; letters = s .letters }
 
 abbrev pub numberedBut : Numbered → Numbered
-numberedBut n = record { number = n .number; setting = n .setting; table = []; work = n .work }
+numberedBut n = record { refusal = n .refusal; number = n .number; setting = n .setting; table = []; work = n .work }
 
 abbrev pub letteredBut : Lettered → Lettered
-letteredBut n = record { number = n .number; length = n .length; table = []; work = n .work; result = n .result }
+letteredBut n = record { refusal = n .refusal; number = n .number; length = n .length; table = []; work = n .work; result = n .result }
 
 abbrev pub boundsBut : BoundsResult → BoundsResult
-boundsBut r = record { bounds = r .bounds; table = []; work = r .work }
+boundsBut r = record { refusal = r .refusal; bounds = r .bounds; table = []; work = r .work }
 
 -- all but the table and the turned file, of which the law `turned-same` tells
 abbrev pub turnedBut : Turned → Turned
-turnedBut r = record { answer = r .answer; length = r .length; table = []; work = r .work; output = [] }
+turnedBut r = record { refusal = r .refusal; answer = r .answer; length = r .length; table = []; work = r .work; output = [] }
 
 -- what `rules` reads behind a file: nothing, or queries
 abbrev pub beginsQueries : List ℕ → Bool

@@ -1,25 +1,24 @@
 -- The linear typing of Table 1 is the variables rule with some assignment of types to the bindings of the clause.
 use Prim.Native.Nat.{ℕ, zero, suc, _<_}
-use mathlib.Core.Path.{_≡_, refl, sym, ap, ap₂, _∙_, subst}
+use mathlib.Core.Path.{_≡_, refl, sym, ap, _∙_, subst}
 use mathlib.Core.Logic.{_⊎_, inl, inr, _↔_}
-use mathlib.Core.Bool.{Bool, true, false}
+use mathlib.Core.Bool.{true, false}
 use mathlib.Core.Option.{Option, none, some}
-use mathlib.Core.List.{List, [], _∷_, _++_, append-nil, append-assoc, List·Memᴰ, List·Memᴰ·head, List·Memᴰ·tail}
-use mathlib.Core.List.{Memᴰ·append-left, Memᴰ·append-right, Memᴰ·map}
+use mathlib.Core.List.{List, [], _∷_, _++_, append-nil, append-assoc, List·Memᴰ, List·Memᴰ·head, List·Memᴰ·tail, Memᴰ·append-left, Memᴰ·append-right, Memᴰ·map}
 use lib.Dec.{eqb}
-use lib.ListN.{getElem?, length}
+use lib.ListN.{length}
 use Rattle.limits.specs.Limits.{variables}
 use Rattle.calculus.specs.Tools.{_>>=_, guard}
 use Rattle.calculus.specs.Trees.{Ty, tunit, Pat, ppair, Let, Clause, sameType, vars}
 use Rattle.calculus.specs.Slots.{Slots, get, empty, allEmpty}
-use Rattle.calculus.specs.Refusals.{badType}
-use Rattle.calculus.specs.Clauses.{Deed, binds, uses, deeds, letEvents, history, Sigs, learn, spend, typeLets}
+use Rattle.calculus.specs.Refusals.{clauseLine, badType}
+use Rattle.calculus.specs.Clauses.{Deed, binds, uses, deeds, history, Sigs, learn, spend}
 use Rattle.calculus.specs.Paper.{Join, Fits, Chain, Linear, Alternate, BoundThenUsed, LetProducts, ClauseOk}
 use Rattle.calculus.specs.Faulty.{ClauseFault}
 use Rattle.calculus.proofs.Basic.{some-bind, none≢some, some-inj, not-some, true-guard, bool-cases, eqb-eq, eqb-false, sameType-refl}
 use Rattle.calculus.proofs.Formed.{FormedLet, FormedClause}
 use Rattle.calculus.proofs.Slots.{slot, put-of-get, put-filled, put-empty, slot-allEmpty, slot-empty, length-empty}
-use Rattle.calculus.proofs.Variables.{mark, history-append, history-hit, history-miss, mem-history, Only, more, only-marks, not-used}
+use Rattle.calculus.proofs.Variables.{mark, history-append, history-hit, history-miss, mem-history, Only, only-marks, not-used}
 use Rattle.calculus.proofs.Typing.{learn-length, spend-length, typed-let, ChainTyped, typed-clause, typed-iff}
 use Rattle.law_reuse.specs.Bindings.{Under, Along, Assigned}
 use Rattle.law_reuse.proofs.Histories.{marks-append, only-comm, after, history-step, JoinAt, neither, first, second, join-at, linear-variables}
@@ -250,8 +249,8 @@ module _ {i : ℕ} (sigs : Sigs) (a b : Ty) (c : Clause) (f : FormedClause i c) 
   assigned-iff h = (linear-assigned sigs a b c, assigned-linear sigs a b c f h)
 
   -- 10 "no such assignment"
-  pub type-fault-iff : ClauseFault sigs a b c badType ↔ (BoundThenUsed c × LetProducts c × ¬ Assigned sigs a b c)
+  pub type-fault-iff : ClauseFault sigs a b c (badType clauseLine) ↔ (BoundThenUsed c × LetProducts c × ¬ Assigned sigs a b c)
   type-fault-iff = (there, λ h. ClauseFault.types (h .0) (h .1) (λ l. h .2 (linear-assigned sigs a b c l)))
     where
-      there : ClauseFault sigs a b c badType → BoundThenUsed c × LetProducts c × ¬ Assigned sigs a b c
+      there : ClauseFault sigs a b c (badType clauseLine) → BoundThenUsed c × LetProducts c × ¬ Assigned sigs a b c
       there (ClauseFault.types h k l) = (h, k, λ t. l (assigned-linear sigs a b c f h t))

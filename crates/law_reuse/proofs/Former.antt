@@ -2,16 +2,15 @@
 use Prim.Native.Nat.{ℕ}
 use mathlib.Core.Path.{_≡_, refl, sym, ap, ap₂, _∙_, subst}
 use mathlib.Core.Logic.{_⊎_, inl, inr}
-use mathlib.Core.Bool.{Bool, true, false, cond, not, _||_, false≢true}
+use mathlib.Core.Bool.{Bool, true, false, cond, not, false≢true}
 use mathlib.Core.Option.{Option, none, some}
-use mathlib.Core.List.{List, [], _∷_, _++_, List·Memᴰ, List·Memᴰ·head, List·Memᴰ·tail}
-use mathlib.Core.List.{List·Memᴰ·not-nil, Memᴰ·append-left, Memᴰ·append-right}
+use mathlib.Core.List.{List, [], _∷_, _++_, List·Memᴰ, List·Memᴰ·head, List·Memᴰ·tail, Memᴰ·append-left, Memᴰ·append-right}
 use lib.Dec.{eqb}
 use lib.ListN.{getElem?, length}
 use Rattle.calculus.specs.Tools.{all, firstOf, orElse}
 use Rattle.calculus.specs.Trees.{Ty, tunit, tsum, tprod, Pat, punit, pvar, pinj, ppair, Let, Clause, Iso, sameType, part}
-use Rattle.calculus.specs.Refusals.{Refusal, variable, letShape, badType, tooLong}
-use Rattle.calculus.specs.Clauses.{Deed, binds, uses, Event, events, history, alternate, variablesRule, letShapes, Sigs, sigsOf, typed, sideFault, at}
+use Rattle.calculus.specs.Refusals.{Refusal, clauseLine, variable, letShape, badType, tooLong}
+use Rattle.calculus.specs.Clauses.{Deed, binds, uses, events, history, alternate, variablesRule, letShapes, Sigs, sigsOf, sideFault, at}
 use Rattle.calculus.specs.Clauses as today
 use Rattle.format.specs.Lines.{Row, lines}
 use Rattle.format.specs.Judge.{Reading, rows, faulty, start, readFrom}
@@ -135,12 +134,12 @@ once-assigned sigs a b c h =
 clause-kept : {i : ℕ} (sigs : Sigs) (a b : Ty) (c : Clause) → FormedClause i c → clauseFault sigs a b c ≡ none → today.clauseFault sigs a b c ≡ none
 unfolding clauseFault today.clauseFault
 clause-kept sigs a b c f e =
-    let e₁ = none-failing (onceRule c) variable _ e in
-    let e₂ = none-failing (letShapes c) letShape _ (e₁ .1) in
-    let e₃ = none-failing (typedOnce sigs a b c) badType _ (e₂ .1) in
+    let e₁ = none-failing (onceRule c) (variable clauseLine) _ e in
+    let e₂ = none-failing (letShapes c) (letShape clauseLine) _ (e₁ .1) in
+    let e₃ = none-failing (typedOnce sigs a b c) (badType clauseLine) _ (e₂ .1) in
     let v = once-variables c (e₁ .0) in
     let t = assigned-linear sigs a b c f (variables-iff c .0 v) (once-assigned sigs a b c (e₃ .0)) in
-    failing-none variable v (failing-none letShape (e₂ .0) (failing-none badType (typed-iff sigs a b c .1 t) refl))
+    failing-none (variable clauseLine) v (failing-none (letShape clauseLine) (e₂ .0) (failing-none (badType clauseLine) (typed-iff sigs a b c .1 t) refl))
 
 at-kept : (n : ℕ) (x y : Option Refusal) → (x ≡ none → y ≡ none) → at n x ≡ none → at n y ≡ none
 at-kept n none y h e = ap (at n) (h refl)

@@ -8,7 +8,7 @@ use mathlib.Core.List.{List, [], _∷_, _++_, append-nil, append-assoc, map-appe
 use lib.Dec.{eqb}
 use Rattle.calculus.specs.Trees.{Ty, Pat, Let, Clause, vars}
 use Rattle.calculus.specs.Slots.{Slots}
-use Rattle.calculus.specs.Clauses.{Deed, binds, uses, Event, deeds, letEvents, events, history, Sigs}
+use Rattle.calculus.specs.Clauses.{Deed, binds, uses, Event, deeds, letEvents, history, Sigs}
 use Rattle.calculus.specs.Paper.{Join, Fits, Chain, Linear, Alternate, BoundThenUsed}
 use Rattle.calculus.proofs.Basic.{bool-cases, eqb-eq, eqb-false}
 use Rattle.calculus.proofs.Slots.{slot, put-filled, slot-allEmpty}

@@ -8,7 +8,7 @@ use lib.Dec.{eqb}
 use lib.ListN.{getElem?}
 use Rattle.calculus.specs.Tools.{_>>=_, all, firstFailing, firstOf, orElse}
 use Rattle.calculus.specs.Trees.{Ty, tunit, tsum, tprod, Pat, punit, pvar, pinj, ppair, Let, Clause, Iso, sameType, part}
-use Rattle.calculus.specs.Refusals.{Refusal, variable, letShape, badType, tooLong}
+use Rattle.calculus.specs.Refusals.{Refusal, clauseLine, variable, letShape, badType, tooLong}
 use Rattle.calculus.specs.Clauses.{Deed, binds, uses, events, history, letShapes, Sigs, sigsOf, sideFault, at}
 use Rattle.format.specs.Lines.{lines}
 use Rattle.format.specs.Judge.{Reading, rows, faulty, start, judge, readFrom}
@@ -73,7 +73,7 @@ typedOnce sigs a b c = agreeing (demands sigs a b c)
 unfoldable pub clauseFault : Sigs → Ty → Ty → Clause → Option Refusal
 unfolding onceRule letShapes typedOnce
 clauseFault sigs a b c =
-    firstFailing ((onceRule c, variable) ∷ (letShapes c, letShape) ∷ (typedOnce sigs a b c, badType) ∷ [])
+    firstFailing ((onceRule c, variable clauseLine) ∷ (letShapes c, letShape clauseLine) ∷ (typedOnce sigs a b c, badType clauseLine) ∷ [])
 
 unfoldable pub isoFault : Sigs → Iso → Option (Refusal × ℕ)
 unfolding clauseFault sideFault

@@ -16,12 +16,12 @@ use Rattle.calculus.specs.Letters.{letters}
 use Rattle.calculus.specs.Slots.{Slots}
 use Rattle.calculus.specs.Clauses.{fullWeight}
 use Rattle.calculus.specs.Paper.{Of, Fits, Apart, Matched, Distinct}
-use Rattle.law_witnesses.specs.Showing.{Never, hit, hits, Move, unit, both, tag, letterOn, moves, made, spelled, the, valuesWith, find, countUp, never, setting}
+use Rattle.calculus.specs.Hits.{hit, hits}
+use Rattle.law_witnesses.specs.Showing.{Never, Move, unit, both, tag, letterOn, moves, made, spelled, the, valuesWith, find, countUp, never, setting}
 use Rattle.law_witnesses.specs.Seeking.{after, orZero, howMany, ways, also, keep, on, lacks, gapFrom, alone, gapIn}
 use Rattle.calculus.proofs.Basic.{none≢some, some-inj, ltb-lt, ltb-false, eqb-eq, eq-eqb, not-eqb, each-nil, each-cons}
 use Rattle.model.proofs.Sizes.{of-small}
-use Rattle.calculus.proofs.Covering.{uncovered}
-use Rattle.law_witnesses.proofs.Hits.{hit-le, matched-hit, hit-matched, hits-le, hit-le-hits}
+use Rattle.calculus.proofs.Covering.{uncovered, hit-le, matched-hit, hit-matched, hits-le, hit-le-hits}
 use Rattle.law_witnesses.proofs.Spelling.{Ofs, ends, also as with, allLetters, sound, find-map, find-step, firstOf-ext, one-ofs, one-letters, setting-none}
 
 -- ---- values side by side and a row of patterns

@@ -1,4 +1,3 @@
-pub mod Hits
 pub mod Shortlex
 pub mod Spelling
 pub mod Overlaps

@@ -4,7 +4,7 @@ use native.Mathlib.Nat.{one-mul, mul-one, zero-mul, mul-zero, le-trans, eq-or-lt
 use native.Mathlib.Omega.{arith}
 use mathlib.Core.Path.{_≡_, refl, sym, ap, ap₂, _∙_, subst}
 use mathlib.Core.Logic.{_⊎_, inl, inr, ⊎-elim, _↔_}
-use mathlib.Core.Bool.{Bool, true, false, cond, not, _&&_, false≢true}
+use mathlib.Core.Bool.{Bool, true, false, cond, _&&_, false≢true}
 use mathlib.Core.Option.{Option, none, some}
 use mathlib.Core.List.{List, [], _∷_, List·Memᴰ, List·Memᴰ·head, List·Memᴰ·tail}
 use lib.Dec.{leb}
@@ -16,12 +16,13 @@ use Rattle.calculus.specs.Letters.{letterP, letterOf, letters}
 use Rattle.calculus.specs.Slots.{Slots}
 use Rattle.calculus.specs.Clauses.{clash, apart}
 use Rattle.calculus.specs.Paper.{Of, Fits, Distinct}
-use Rattle.law_witnesses.specs.Showing.{sooner, Twice, here, there, hit, hits, twice, setting}
+use Rattle.calculus.specs.Hits.{hit, hits}
+use Rattle.law_witnesses.specs.Showing.{sooner, Twice, here, there, twice, setting}
 use Rattle.law_witnesses.specs.Shapes.{Shape}
 use Rattle.law_witnesses.specs.Seeking.{shorter, least, leastIn, meet, better, inBoth, overlapWith, overlapIn}
 use Rattle.calculus.proofs.Basic.{none≢some, some-inj, not-some, leb-le, leb-false, ltb-lt, lt-ltb, neither, sameTag-refl}
 use Rattle.model.proofs.Sizes.{of-small}
-use Rattle.law_witnesses.proofs.Hits.{hit-le, matched-hit, hit-matched, factors}
+use Rattle.calculus.proofs.Covering.{hit-le, matched-hit, hit-matched, factors}
 use Rattle.law_witnesses.proofs.Shortlex.{NotAfter, fewer, earlier, lower, not-after-refl, not-after-trans, not-after-under, not-after-append, not-after-length, not-after-sooner, sooner-not-after, total-order}
 use Rattle.law_witnesses.proofs.Spelling.{setting-least, least-setting}
 

@@ -8,12 +8,12 @@ use lib.Dec.{leb, ltb}
 use lib.ListN.{length}
 use Rattle.limits.specs.Limits.{resultLength}
 use Rattle.calculus.specs.Tools.{firstFailing}
-use Rattle.calculus.specs.Refusals.{Refusal, number, tooLong, misplaced, badField, badName, ceiling}
+use Rattle.calculus.specs.Refusals.{Refusal, number, shortArea, tooLong, misplaced, badField, badName, ceiling}
 use Rattle.format.specs.Lines.{Row, rowOf, lines}
 use Rattle.format.specs.Judge.{Seen, start, inOrder, fieldsFit, named, withinCeilings, judge, after, Reading, rows, faulty, withRow, onRow, onJudged, readFrom}
 use Rattle.format.specs.Unfold.{isosOf}
 use Rattle.calculus.specs.Clauses.{fault}
-use Rattle.model.specs.Services.{refused, judged, afterReading, over, verdict, Answer, answerOf, tableAfter, workAfter, short, unless, written, check}
+use Rattle.model.specs.Services.{refused, judged, afterReading, over, verdict, Answer, answerOf, refusalBy, tableAfter, workAfter, short, unless, written, check}
 use Rattle.calculus.proofs.Basic.{none≢some, some-inj, not-both}
 use Rattle.model.proofs.Files.{InForm, verdict-in-form}
 use Rattle.law_witnesses.specs.Showing.{Shows, sided, Shown, showing, shownOf, showService}
@@ -25,6 +25,7 @@ use Rattle.law_witnesses.proofs.Showing.{shows, silent}
 abbrev served : List ℕ → List ℕ → List ℕ → List ℕ → Bool → Shown
 served file t w r b =
     record {
+      refusal = refusalBy (unless b (verdict file));
       answer = answerOf (unless b (verdict file));
       length = length (cond b [] (showing file));
       table = tableAfter (unless b (verdict file)) t;
@@ -45,9 +46,14 @@ unfolding check showService
 as-check file t w r h =
     let e = ap (served file t w r) (or-off (short t w) h) in (ap (λ s. s .answer) e, ap (λ s. s .table) e, ap (λ s. s .work) e)
 
+-- with Check's refusal
+pub as-refused : (file t w r : List ℕ) → ltb (length r) resultLength ≡ false → showService file t w r .refusal ≡ refusalBy (unless (short t w) (verdict file))
+unfolding showService
+as-refused file t w r h = ap (λ s. s .refusal) (ap (served file t w r) (or-off (short t w) h))
+
 -- "a lent area is shorter than stated": 1, and every area as it was
 pub short-area : (file t w r : List ℕ) → (short t w || ltb (length r) resultLength) ≡ true
-    → showService file t w r ≡ record { answer = record { number = 1; line = 0 }; length = 0; table = t; work = w; result = r }
+    → showService file t w r ≡ record { refusal = some shortArea; answer = record { number = 1; line = 0 }; length = 0; table = t; work = w; result = r }
 unfolding showService
 short-area file t w r h = ap (served file t w r) h
 

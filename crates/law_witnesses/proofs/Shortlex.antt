@@ -6,11 +6,11 @@ use mathlib.Core.Path.{_≡_, refl, sym, ap, ap₂, _∙_}
 use mathlib.Core.Logic.{_⊎_, inl, inr, ⊎-elim}
 use mathlib.Core.Bool.{true, false, cond, _||_}
 use mathlib.Core.List.{List, [], _∷_, _++_}
-use lib.Dec.{leb, ltb, eqb}
+use lib.Dec.{ltb, eqb}
 use lib.ListN.{length, length-append}
 use Rattle.law_ranking.specs.Numbering.{before}
 use Rattle.law_witnesses.specs.Showing.{sooner}
-use Rattle.calculus.proofs.Basic.{bool-cases, not-both, neither, leb-le, leb-false, ltb-false, not-ltb, eq-eqb, not-eqb}
+use Rattle.calculus.proofs.Basic.{not-both, neither, ltb-false, not-ltb, eq-eqb, not-eqb, le-or-lt}
 
 -- lists of one length, of which the first is the second or stands before it in byte order
 pub data Upto : List ℕ → List ℕ → Type 0 where
@@ -53,9 +53,6 @@ upto-not-before done = refl
 upto-not-before (lower {xs = xs} {ys = ys} l e) = ap₂ (λ p q. p || cond q (before ys xs) false) (not-ltb (le-of-lt l)) (not-eqb (λ h. ne-of-gt l h))
 upto-not-before (same {x} {y} {xs} {ys} e u) =
     ap₂ (λ p q. p || cond q (before ys xs) false) (not-ltb (le-of-eq e)) (eq-eqb (sym e)) ∙ upto-not-before u
-
-le-or-lt : (m n : ℕ) → (m ≤ n) ⊎ (n < m)
-le-or-lt m n = ⊎-elim (λ e. inl (leb-le m n e)) (λ e. inr (leb-false m n e)) (bool-cases (leb m n))
 
 not-before-upto : (xs ys : List ℕ) → length xs ≡ length ys → before ys xs ≡ false → Upto xs ys
 not-before-upto [] [] e h = done

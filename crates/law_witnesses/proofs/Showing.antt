@@ -11,7 +11,6 @@ use Rattle.calculus.specs.Refusals.{Refusal, number}
 use Rattle.format.specs.Lines.{Row, lines}
 use Rattle.format.specs.Judge.{start, readFrom}
 use Rattle.format.specs.Unfold.{isosOf}
-use Rattle.model.specs.Services.{refused}
 use Rattle.calculus.specs.Clauses.{Sigs, sigsOf, isoFault, fault}
 use Rattle.law_witnesses.specs.Showing.{Shows, sided, shownBy, shown, shownOr, shownFirst, lettersOf?, shownOf, showing}
 use Rattle.calculus.proofs.Basic.{none≢some, some-inj, not-both, not-eqb}

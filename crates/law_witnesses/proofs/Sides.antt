@@ -7,28 +7,22 @@ use mathlib.Core.Bool.{Bool, true, false}
 use mathlib.Core.Option.{Option, none, some}
 use mathlib.Core.List.{List, List·Memᴰ}
 use Rattle.limits.specs.Limits.{maxNodes, maxTags}
-use Rattle.calculus.specs.Trees.{Ty, left, right, Pat, Val, Let, Clause, Iso, vars, tags, typeNodes}
-use Rattle.calculus.specs.Refusals.{Refusal, overlap, gap}
-use Rattle.model.specs.Services.{refused}
+use Rattle.calculus.specs.Trees.{Ty, left, right, Pat, Val, Clause, Iso, vars, tags, typeNodes}
+use Rattle.calculus.specs.Refusals.{Refusal, isoLine, overlap, gap}
 use Rattle.calculus.specs.Slots.{Slots}
-use Rattle.calculus.specs.Clauses.{Sigs, lefts, rights, apart, fullWeight, isoFault, fault}
-use Rattle.calculus.specs.Paper.{Of, Fits, Apart, Covers, Distinct, Chain, ClauseOk}
+use Rattle.calculus.specs.Clauses.{Sigs, lefts, rights, apart, fullWeight, isoFault}
+use Rattle.calculus.specs.Paper.{Of, Fits, Apart, Covers, Distinct, ClauseOk}
 use Rattle.calculus.specs.Faulty.{SideFault, IsoFault, FirstClause, ClauseFault}
 use Rattle.law_witnesses.specs.Shapes.{Side}
 use Rattle.law_witnesses.specs.Showing.{Least, Twice, Never, twice, never, setting, sided}
 use Rattle.calculus.proofs.Basic.{not-both, is-false, each-map}
 use Rattle.calculus.proofs.Variables.{distinct-lhs, distinct-rhs}
-use Rattle.calculus.proofs.Checking.{Light, apart-iff, iso-fault}
+use Rattle.calculus.proofs.Checking.{Light, apart-iff, iso-fault, rhs-fits}
 use Rattle.calculus.proofs.Covering.{covering}
 use Rattle.model.proofs.Sizes.{of-small}
-use Rattle.model.proofs.Files.{passes}
 use Rattle.law_witnesses.proofs.Spelling.{setting-least, setting-none}
 use Rattle.law_witnesses.proofs.Overlaps.{fits-shape, overlap-found, twice-iff}
 use Rattle.law_witnesses.proofs.Gaps.{never-iff, gap-found}
-
-rhs-fits : {sigs : Sigs} {d : Slots Ty} {ls : List Let} {p : Pat} {b : Ty} → Chain sigs d ls p b → (e : Slots Ty) × Fits e p b
-rhs-fits (Chain.value {d = d} f) = (d, f)
-rhs-fits (Chain.step s k j x y i c) = rhs-fits c
 
 -- a least value under another description
 least-iff : (a : Ty) (F G : Val → Type 0) → ((v : Val) → F v ↔ G v) → (v : Val) → Least a F v → Least a G v
@@ -60,10 +54,10 @@ module _ (a : Ty) (ps : List Pat) (small : typeNodes a ≤ maxNodes) (fits : (p 
 
 -- a refused side has a least value that shows the fault; where it has a gap it has no overlap
 pub data Found (o : Iso) : Refusal → Type 0 where
-  overlapLeft : (v : Val) → Side (o .from) (lefts o) → setting (o .from) (twice (lefts o)) ≡ some v → Least (o .from) (Twice (lefts o)) v → Found o (overlap left)
-  overlapRight : (v : Val) → Side (o .to) (rights o) → setting (o .to) (twice (rights o)) ≡ some v → Least (o .to) (Twice (rights o)) v → Found o (overlap right)
-  gapLeft : (v : Val) → Side (o .from) (lefts o) → Apart (lefts o) → setting (o .from) (never (lefts o)) ≡ some v → Least (o .from) (Never (lefts o)) v → Found o (gap left)
-  gapRight : (v : Val) → Side (o .to) (rights o) → Apart (rights o) → setting (o .to) (never (rights o)) ≡ some v → Least (o .to) (Never (rights o)) v → Found o (gap right)
+  overlapLeft : (v : Val) → Side (o .from) (lefts o) → setting (o .from) (twice (lefts o)) ≡ some v → Least (o .from) (Twice (lefts o)) v → Found o (overlap isoLine left)
+  overlapRight : (v : Val) → Side (o .to) (rights o) → setting (o .to) (twice (rights o)) ≡ some v → Least (o .to) (Twice (rights o)) v → Found o (overlap isoLine right)
+  gapLeft : (v : Val) → Side (o .from) (lefts o) → Apart (lefts o) → setting (o .from) (never (lefts o)) ≡ some v → Least (o .from) (Never (lefts o)) v → Found o (gap isoLine left)
+  gapRight : (v : Val) → Side (o .to) (rights o) → Apart (rights o) → setting (o .to) (never (rights o)) ≡ some v → Least (o .to) (Never (rights o)) v → Found o (gap isoLine right)
 
 -- what is known of an iso of a file in form
 pub record Known (o : Iso) : Type 0 where

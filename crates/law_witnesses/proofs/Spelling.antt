@@ -12,12 +12,12 @@ use lib.ListN.{length}
 use Rattle.limits.specs.Limits.{resultLength}
 use Rattle.calculus.specs.Tools.{concat, firstOf, orElse}
 use Rattle.calculus.specs.Trees.{Ty, tunit, tsum, tprod, Tag, left, right, Val, part}
-use Rattle.calculus.specs.Letters.{letterU, letterOf, letterP, letters, valueOf}
+use Rattle.calculus.specs.Letters.{letterU, letterOf, letterP, letters}
 use Rattle.calculus.specs.Paper.{Of}
 use Rattle.law_witnesses.specs.Showing.{Move, unit, both, tag, letterOn, moves, made, spelled, the, valuesWith, find, countUp, setting, Least}
 use Rattle.law_witnesses.specs.Seeking.{on}
 use Rattle.calculus.proofs.Basic.{none≢some, some-inj, not-both, each-nil, each-cons}
-use Rattle.calculus.proofs.Letters.{value-letters}
+use Rattle.calculus.proofs.Letters.{letters-injective}
 use Rattle.law_witnesses.proofs.Shortlex.{Upto, done, lower, same, NotAfter, fewer, earlier, not-after-sooner, sooner-not-after, not-after-antisym}
 
 -- ---- values side by side
@@ -309,9 +309,6 @@ search-from f a (suc n) k = go (find f (valuesWith k a)) (search-one k a f) (sea
 
 abbrev Passing : (Val → Bool) → Val → Type 0
 Passing f v = f v ≡ true
-
-letters-injective : (v w : Val) → letters v ≡ letters w → v ≡ w
-letters-injective v w e = some-inj (sym (value-letters v) ∙ ap valueOf e ∙ value-letters w)
 
 -- there is at most one least value
 pub least-unique : (a : Ty) (F : Val → Type 0) (v w : Val) → Least a F v → Least a F w → v ≡ w

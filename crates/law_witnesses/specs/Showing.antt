@@ -1,6 +1,6 @@
 -- Request 09, "A setting that shows the fault": the value with the fewest letters, the first in byte order among those, that two or more
 -- patterns of a side match (11, 12), or none (13, 14); and what the service answers and leaves in every lent area.
-use Prim.Native.Nat.{ℕ, zero, suc, _+_, _*_}
+use Prim.Native.Nat.{ℕ, zero, suc, _+_}
 use mathlib.Core.Path.{_≡_}
 use mathlib.Core.Bool.{Bool, false, cond, _&&_, _||_}
 use mathlib.Core.Option.{Option, none, some}
@@ -8,17 +8,18 @@ use mathlib.Core.List.{List, [], _∷_, _++_, map, List·Memᴰ}
 use lib.Dec.{leb, ltb, eqb}
 use lib.ListN.{length}
 use Rattle.limits.specs.Limits.{resultLength}
-use Rattle.calculus.specs.Tools.{concat, total, firstOf}
-use Rattle.calculus.specs.Trees.{Ty, tunit, tsum, tprod, Tag, left, right, Pat, punit, pvar, pinj, ppair, Val, vunit, vinj, vpair, Iso, sameTag}
-use Rattle.calculus.specs.Refusals.{Refusal, number, overlap, gap}
+use Rattle.calculus.specs.Tools.{concat, firstOf}
+use Rattle.calculus.specs.Trees.{Ty, tunit, tsum, tprod, Tag, left, right, Pat, Val, vunit, vinj, vpair, Iso}
+use Rattle.calculus.specs.Refusals.{Refusal, number, isoLine, overlap, gap}
 use Rattle.format.specs.Lines.{lines}
 use Rattle.format.specs.Judge.{start, judge, Reading, rows, faulty, readFrom}
 use Rattle.format.specs.Unfold.{isosOf}
-use Rattle.calculus.specs.Clauses.{Sigs, sigsOf, lefts, rights, isoFault, fault}
+use Rattle.calculus.specs.Clauses.{Sigs, sigsOf, lefts, rights, isoFault}
 use Rattle.calculus.specs.Letters.{letterU, letterOf, letterP, letters}
-use Rattle.model.specs.Services.{Answer, Verdict, over, verdict, answerOf, tableAfter, workAfter, short, unless, written}
+use Rattle.model.specs.Services.{Answer, Verdict, over, verdict, answerOf, refusalBy, tableAfter, workAfter, short, unless, written}
 use Rattle.law_ranking.specs.Numbering.{before}
 use Rattle.calculus.specs.Paper.{Of, Matched}
+use Rattle.calculus.specs.Hits.{hits}
 
 -- ---- what a reader must believe
 
@@ -43,29 +44,12 @@ Never ps v = (p : Pat) → List·Memᴰ p ps → Matched p v → ⊥
 
 -- "for the iso and side refused": what is given with refusals 11 to 14 of an iso of the file
 pub data Shows (os : List Iso) (n : ℕ) (ls : List ℕ) : Refusal → Type 0 where
-  overlapLeft : (o : Iso) (v : Val) → List·Memᴰ o os → n ≡ o .line → Least (o .from) (Twice (lefts o)) v → ls ≡ letters v → Shows os n ls (overlap left)
-  overlapRight : (o : Iso) (v : Val) → List·Memᴰ o os → n ≡ o .line → Least (o .to) (Twice (rights o)) v → ls ≡ letters v → Shows os n ls (overlap right)
-  gapLeft : (o : Iso) (v : Val) → List·Memᴰ o os → n ≡ o .line → Least (o .from) (Never (lefts o)) v → ls ≡ letters v → Shows os n ls (gap left)
-  gapRight : (o : Iso) (v : Val) → List·Memᴰ o os → n ≡ o .line → Least (o .to) (Never (rights o)) v → ls ≡ letters v → Shows os n ls (gap right)
+  overlapLeft : (o : Iso) (v : Val) → List·Memᴰ o os → n ≡ o .line → Least (o .from) (Twice (lefts o)) v → ls ≡ letters v → Shows os n ls (overlap isoLine left)
+  overlapRight : (o : Iso) (v : Val) → List·Memᴰ o os → n ≡ o .line → Least (o .to) (Twice (rights o)) v → ls ≡ letters v → Shows os n ls (overlap isoLine right)
+  gapLeft : (o : Iso) (v : Val) → List·Memᴰ o os → n ≡ o .line → Least (o .from) (Never (lefts o)) v → ls ≡ letters v → Shows os n ls (gap isoLine left)
+  gapRight : (o : Iso) (v : Val) → List·Memᴰ o os → n ≡ o .line → Least (o .to) (Never (rights o)) v → ls ≡ letters v → Shows os n ls (gap isoLine right)
 
 -- ---- the same as functions
-
--- 1 where the pattern, its variables taken for blanks, matches; 0 elsewhere
-abbrev pub hit : Pat → Val → ℕ
-hit punit vunit = 1
-hit punit (vinj t v) = 0
-hit punit (vpair v w) = 0
-hit (pvar n) v = 1
-hit (pinj s p) vunit = 0
-hit (pinj s p) (vinj t v) = cond (sameTag s t) (hit p v) 0
-hit (pinj s p) (vpair v w) = 0
-hit (ppair p q) vunit = 0
-hit (ppair p q) (vinj t v) = 0
-hit (ppair p q) (vpair v w) = hit p v * hit q w
-
--- how many patterns match
-abbrev pub hits : List Pat → Val → ℕ
-hits ps v = total (map (λ p. hit p v) ps)
 
 -- What one letter does: it ends a unit, puts a tag before a value, makes a pair of two.
 pub data Move : Type 0 where
@@ -166,6 +150,7 @@ unfolding over start judge isosOf isoFault setting
 showing bs = cond (over bs) [] (shownOf (readFrom start 1 (lines bs)))
 
 pub record Shown : Type 0 where
+  pub refusal : Option Refusal
   pub answer : Answer
   pub length : ℕ
   pub table : List ℕ
@@ -179,4 +164,11 @@ showService file table work result =
     let s : Bool = short table work || ltb (length result) resultLength in
     let v : Verdict = unless s (verdict file) in
     let ls : List ℕ = cond s [] (showing file) in
-    record { answer = answerOf v; length = length ls; table = tableAfter v table; work = workAfter v work; result = written ls result }
+    record {
+      refusal = refusalBy v;
+      answer = answerOf v;
+      length = length ls;
+      table = tableAfter v table;
+      work = workAfter v work;
+      result = written ls result;
+    }

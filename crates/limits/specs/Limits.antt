@@ -1,5 +1,5 @@
 -- Every number that document 01 states, once. "Ceilings", the lengths of the lent areas, and the codes of letters.
-use Prim.Native.Nat.{ℕ}
+use Prim.Native.Nat.{ℕ, suc, _+_, _*_}
 
 -- the longest file, in bytes and in lines
 abbrev pub maxBytes : ℕ
@@ -31,6 +31,13 @@ maxNodes = 127
 abbrev pub maxTags : ℕ
 maxTags = 40
 
+-- what stands for more of either where nodes are counted
+abbrev pub manyNodes : ℕ
+manyNodes = suc maxNodes
+
+abbrev pub manyTags : ℕ
+manyTags = suc maxTags
+
 -- variables are numbered below this, the numbers of a line stand below that, a budget below the last
 abbrev pub variables : ℕ
 variables = 32
@@ -46,13 +53,25 @@ abbrev pub rowWidth : ℕ
 rowWidth = 4
 
 abbrev pub tableLength : ℕ
-tableLength = 16384
+tableLength = maxLines * rowWidth
 
 abbrev pub workLength : ℕ
 workLength = 65536
 
 abbrev pub resultLength : ℕ
-resultLength = 127
+resultLength = maxNodes
+
+-- a value has fewer letters than this
+abbrev pub lengths : ℕ
+lengths = suc maxNodes
+
+-- the letters that one application keeps: its argument, the results of its let steps and its own result; and the part of the work area
+-- that the frames of a run fill, one for each iso
+abbrev pub frame : ℕ
+frame = (maxLets + 2) * lengths
+
+abbrev pub runRoom : ℕ
+runRoom = maxIsos * frame
 
 -- a query's bytes, its ending included
 abbrev pub queryLength : ℕ
@@ -74,7 +93,7 @@ abbrev pub exportLength : ℕ
 exportLength = 40960
 
 abbrev pub importLength : ℕ
-importLength = 65536
+importLength = maxBytes
 
 abbrev pub lineFeed : ℕ
 lineFeed = 10

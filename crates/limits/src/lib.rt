@@ -1,4 +1,4 @@
-// Every number that document 01 states, by name, as model/specs/Limits.antt has them for the definitions.
+// Every number that document 01 states, by name, as limits/specs/Limits.antt has them for the definitions.
 
 // The longest file, in bytes and in lines.
 pub const MAX_BYTES: usize = 65536;
@@ -21,8 +21,20 @@ pub const MAX_NODES: usize = 127;
 
 pub const MAX_TAGS: usize = 40;
 
-// Variables are numbered below this.
+// What stands for more of either where nodes are counted.
+pub const MANY_NODES: usize = MAX_NODES + 1;
+
+pub const MANY_TAGS: usize = MAX_TAGS + 1;
+
+// Variables are numbered below this, the numbers of a line stand below that, a budget below the last.
 pub const VARIABLES: usize = 32;
+
+pub const FIELD_BOUND: usize = 65536;
+
+pub const BUDGET_BOUND: usize = 4294967296;
+
+// The greatest budget; pair lists read their numbers with the same bound.
+pub const MAX_BUDGET: u32 = 4294967295;
 
 // The numbers that a line takes in the table, and the lengths of the lent areas.
 pub const ROW_WIDTH: usize = 4;
@@ -31,12 +43,27 @@ pub const TABLE_LENGTH: usize = MAX_LINES * ROW_WIDTH;
 
 pub const WORK_LENGTH: usize = 65536;
 
-pub const RESULT_LENGTH: usize = 127;
+pub const RESULT_LENGTH: usize = MAX_NODES;
+
+// A value has fewer letters than this.
+pub const LENGTHS: usize = MAX_NODES + 1;
 
 // A query's bytes, its ending included, and the most queries in one call.
 pub const QUERY_LENGTH: usize = 200;
 
 pub const MAX_QUERIES: usize = 600;
 
+// The most values that are numbered.
+pub const MAX_VALUES: usize = BUDGET_BOUND - 1;
+
+// The most values of a type whose pairs are listed, and the lengths of the areas for a list and for a file.
+pub const MAX_PAIRS: usize = 4096;
+
+pub const EXPORT_LENGTH: usize = 40960;
+
+pub const IMPORT_LENGTH: usize = MAX_BYTES;
+
 // An index (crate `run_index`): a place for each iso and one behind the last, the rows of the I and C lines, and the number of rows.
-pub const INDEX_LENGTH: usize = MAX_ISOS + 1 + MAX_ISOS * (MAX_CLAUSES + 1) + 1;
+pub const INDEX_END: usize = MAX_ISOS + 1 + MAX_ISOS * (MAX_CLAUSES + 1);
+
+pub const INDEX_LENGTH: usize = INDEX_END + 1;

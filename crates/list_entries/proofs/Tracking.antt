@@ -4,16 +4,15 @@ use native.Mathlib.Nat.{lt-irrefl, le-of-lt, le-of-eq, mod-eq-of-lt}
 use native.Mathlib.Omega.{arith}
 use mathlib.Core.Path.{_≡_, refl, sym, ap, ap₂, _∙_, subst}
 use mathlib.Core.Logic.{_⊎_, inl, inr}
-use mathlib.Core.Bool.{Bool, true, false, cond}
-use mathlib.Core.Option.{some}
+use mathlib.Core.Bool.{true, false, cond}
 use mathlib.Core.List.{List, [], _∷_, _++_}
-use lib.Dec.{ltb, leb, eqb}
+use lib.Dec.{ltb, leb}
 use lib.ListN.{length, getD, set, length-set}
 use lib.Seq.{getD-set-same, getD-set-other}
 use Rattle.calculus.specs.Refusals.{Kind}
 use Rattle.format.specs.Lines.{Row}
 use Rattle.law_pairlists.specs.PairLists.{find, enter}
-use Rattle.calculus.proofs.Basic.{bool-cases, leb-le, leb-false, ltb-lt, ltb-false, lt-ltb, eqb-eq, eqb-false, index-below}
+use Rattle.calculus.proofs.Basic.{bool-cases, leb-le, leb-false, ltb-lt, ltb-false, lt-ltb, index-below}
 use Rattle.law_pairlists.proofs.Rows.{Finding, there, fresh, finding, length-snoc, enter-grows}
 use Rattle.table_trees.specs.Unfolding.{cellOf}
 use Rattle.list_entries.specs.Entries.{rowOf, entryAt, entriesAt, storeEntry, Tracks, Room, Follows, Entering}
@@ -29,7 +28,7 @@ cell-stays s to x y z row j h l =
     ∙ getD-set-other (set s (to * 4 + 1) (x % 65536)) (to * 4 + 2) (row * 4 + j) (y % 65536) 0 (λ e. h (omega arith))
     ∙ getD-set-other s (to * 4 + 1) (row * 4 + j) (x % 65536) 0 (λ e. h (omega arith)))
 
-row-eq : (k : Kind) {x x′ y y′ z z′ : ℕ} → x ≡ x′ → y ≡ y′ → z ≡ z′ → rowOf k x y z ≡ rowOf k x′ y′ z′
+pub row-eq : (k : Kind) {x x′ y y′ z z′ : ℕ} → x ≡ x′ → y ≡ y′ → z ≡ z′ → rowOf k x y z ≡ rowOf k x′ y′ z′
 row-eq k p q r = λ i. rowOf k (p i) (q i) (r i)
 
 entry-stays : (k : Kind) (s : List ℕ) (to x y z row : ℕ) → (row ≡ to → ⊥) → entryAt k (storeEntry s to x y z) row ≡ entryAt k s row

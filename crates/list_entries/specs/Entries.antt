@@ -9,6 +9,11 @@ use Rattle.calculus.specs.Refusals.{Kind}
 use Rattle.format.specs.Lines.{Row}
 use Rattle.law_pairlists.specs.PairLists.{find, enter}
 use Rattle.table_trees.specs.Unfolding.{cellOf}
+use Rattle.limits.specs.Limits.{maxPatterns, rowWidth, fieldBound}
+
+-- one row more than the ceiling of P lines, so that a file past it is told
+abbrev pub maxEntries : ℕ
+maxEntries = suc maxPatterns
 
 abbrev pub rowOf : Kind → ℕ → ℕ → ℕ → Row
 rowOf k x y z = record { kind = k; x = x; y = y; z = z }
@@ -25,25 +30,25 @@ unfoldable pub sameEntry : List ℕ → ℕ → ℕ → ℕ → ℕ → Bool
 sameEntry s row x y z = eqb x (cellOf s row 1) && (eqb y (cellOf s row 2) && eqb z (cellOf s row 3))
 
 unfoldable pub storeEntry : List ℕ → ℕ → ℕ → ℕ → ℕ → List ℕ
-storeEntry s row x y z = set (set (set s (row * 4 + 1) (x % 65536)) (row * 4 + 2) (y % 65536)) (row * 4 + 3) (z % 65536)
+storeEntry s row x y z = set (set (set s (row * rowWidth + 1) (x % fieldBound)) (row * rowWidth + 2) (y % fieldBound)) (row * rowWidth + 3) (z % fieldBound)
 
 -- An area follows the rows of the definition, up to 1,025 of them; from there on it says that there are more than 1,024.
 pub record Tracks (k : Kind) (s : List ℕ) (to : ℕ) (rs : List Row) : Type 0 where
-  pub few : to ≤ 1025
-  pub exact : length rs ≤ 1025 → entriesAt k s 0 to ≡ rs
-  pub full : 1025 < length rs → to ≡ 1025
+  pub few : to ≤ maxEntries
+  pub exact : length rs ≤ maxEntries → entriesAt k s 0 to ≡ rs
+  pub full : maxEntries < length rs → to ≡ maxEntries
 
 -- room for 1,025 rows
 pub record Room (s : List ℕ) : Type 0 where
-  pub words : 4100 ≤ length s
+  pub words : maxEntries * rowWidth ≤ length s
 
 -- the area follows the rows `qs`, of which row number m is meant
 pub record Follows (k : Kind) (s s′ : List ℕ) (n e : ℕ) (qs : List Row) (m : ℕ) : Type 0 where
   pub tracks : Tracks k s′ e qs
-  pub number : length qs ≤ 1025 → n ≡ m
-  pub bound : n ≤ 1025
+  pub number : length qs ≤ maxEntries → n ≡ m
+  pub bound : n ≤ maxEntries
   pub long : length s′ ≡ length s
 
 -- a row entered among the rows `rs`: n is its number, e the end of the rows with it
 pub record Entering (k : Kind) (s s′ : List ℕ) (to x y z n e : ℕ) (rs : List Row) : Type 0 where
-  pub does : x < 65536 → y < 65536 → z < 65536 → Room s → Tracks k s to rs → Follows k s s′ n e (enter (rowOf k x y z) rs) (find (rowOf k x y z) rs)
+  pub does : x < fieldBound → y < fieldBound → z < fieldBound → Room s → Tracks k s to rs → Follows k s s′ n e (enter (rowOf k x y z) rs) (find (rowOf k x y z) rs)

@@ -2,14 +2,23 @@
 
 use area_words::narrow;
 use area_words::store_word;
+use codes::FIRST;
+use codes::KIND;
+use codes::SECOND;
+use limits::MAX_PATTERNS;
+use limits::ROW_WIDTH;
 use table_trees::cell;
 ghost use mathlib.Core.Path.{_≡_};
 ghost use mathlib.Core.List.{List};
 ghost use Prim.Native.Nat.{_<_};
+ghost use Rattle.limits.specs.Limits.{maxLines};
 ghost use Rattle.calculus.specs.Refusals.{Kind};
 ghost use Rattle.format.specs.Lines.{Row as RowOf};
 ghost use Rattle.law_pairlists.specs.PairLists.{find};
 ghost use Rattle.list_entries.specs.Entries.{rowOf, entriesAt, sameEntry, storeEntry, Entering};
+
+// One row more than a file may have of a letter, so that a file past its ceiling is told.
+pub const MAX_ENTRIES: usize = MAX_PATTERNS + 1;
 
 // The number of a row, and the end of the rows with it.
 pub struct Entry {
@@ -21,13 +30,13 @@ pub struct Entry {
 fn same_entry(s: &[u16], row: usize, x: usize, y: usize, z: usize) -> bool
     ensures { λ r. ⌜ r ≡ sameEntry (now (s .entry)) row x y z ⌝ }
 {
-    if cell(s, row, 1) != x {
+    if cell(s, row, KIND) != x {
         return false;
     }
-    if cell(s, row, 2) != y {
+    if cell(s, row, FIRST) != y {
         return false;
     }
-    if cell(s, row, 3) != z {
+    if cell(s, row, SECOND) != z {
         return false;
     }
     true
@@ -49,12 +58,12 @@ fn find_entry(s: &[u16], to: usize, x: usize, y: usize, z: usize) -> usize
 
 // Stores three numbers as a row.
 pub fn store_entry(s: &mut [u16], row: usize, x: usize, y: usize, z: usize)
-    requires { ⌜ row < 4096 ⌝ }
+    requires { ⌜ row < maxLines ⌝ }
     ensures { λ r. ⌜ now (s .exit) ≡ storeEntry (now (s .entry)) row x y z ⌝ }
 {
-    store_word(s, row * 4 + 1, narrow(x));
-    store_word(s, row * 4 + 2, narrow(y));
-    store_word(s, row * 4 + 3, narrow(z));
+    store_word(s, row * ROW_WIDTH + KIND, narrow(x));
+    store_word(s, row * ROW_WIDTH + FIRST, narrow(y));
+    store_word(s, row * ROW_WIDTH + SECOND, narrow(z));
 }
 
 // Enters a row among those up to row `to`, unless it is there; no more than 1,025.
@@ -65,7 +74,7 @@ pub fn enter_entry(s: &mut [u16], to: usize, x: usize, y: usize, z: usize) -> En
     if n < to {
         return Entry { number: n, end: to };
     }
-    if 1025 <= to {
+    if MAX_ENTRIES <= to {
         return Entry { number: n, end: to };
     }
     store_entry(s, to, x, y, z);

@@ -1,33 +1,33 @@
 -- The rows of a file in three areas, and its bytes, or refusal 7.
-use Prim.Native.Nat.{ℕ, suc, _+_, _≤_, _<_}
+use Prim.Native.Nat.{ℕ, _+_, _≤_, _<_}
 use native.Mathlib.Nat.{lt-irrefl, zero-add}
 use native.Mathlib.Omega.{arith}
-use mathlib.Core.Path.{_≡_, refl, sym, ap, ap₂, _∙_, subst}
+use mathlib.Core.Path.{_≡_, refl, sym, ap, _∙_, subst}
 use mathlib.Core.Logic.{_⊎_, inl, inr}
-use mathlib.Core.Bool.{Bool, true, false, cond}
+use mathlib.Core.Bool.{true, false, cond}
 use mathlib.Core.Option.{none, some}
 use mathlib.Core.List.{List, [], _∷_, _++_}
 use lib.Dec.{leb}
 use lib.ListN.{length, take, drop}
 use lib.Seq.{sets-eq, length-take-le}
-use Rattle.limits.specs.Limits.{maxNodes, maxValues, maxClauses, maxPatterns, importLength}
+use Rattle.limits.specs.Limits.{maxNodes, maxValues, maxClauses}
 use Rattle.calculus.specs.Trees.{Ty, Val, typeNodes}
-use Rattle.calculus.specs.Refusals.{Refusal, typeLine, patternLine, clauseLine, ceiling}
+use Rattle.calculus.specs.Refusals.{typeLine, patternLine, clauseLine, ceiling}
 use Rattle.format.specs.Lines.{Row, printRows}
 use Rattle.format.specs.Judge.{start}
-use Rattle.model.specs.Services.{written}
-use Rattle.format.specs.Code.{refusalView, numberOf, numbered}
+use Rattle.model.specs.Services.{written, gives, fails, refusalOf, bytesFrom}
+use Rattle.format.specs.Code.{refusalView}
 use Rattle.calculus.proofs.Basic.{bool-cases, leb-le, leb-false, is-false}
-use Rattle.law_ranking.specs.Numbering.{count, Outcome, gives, fails, refusalOf, lettersFrom}
+use Rattle.law_ranking.specs.Numbering.{count}
 use Rattle.area_cells.specs.Areas.{Writes}
-use Rattle.law_pairlists.specs.PairLists.{Entry, writeType, Written, writePairs, isoRow, pairsUp, settings, fileRows, withinAll, writing}
+use Rattle.law_pairlists.specs.PairLists.{writeType, writePairs, isoRow, settings, fileRows, withinAll, writing}
 use Rattle.law_pairlists.proofs.File.{type-room}
 use Rattle.law_pairlists.proofs.List.{Taken, pairs-taken}
 use Rattle.law_pairlists.proofs.Imports.{written-ceiling, written-room}
 use Rattle.list_entries.specs.Entries.{entriesAt, Tracks, Room, Follows}
 use Rattle.list_entries.proofs.Tracking.{entries-length}
 use Rattle.list_writing.specs.Writing.{TypeDone, PairsDone}
-use Rattle.list_file.specs.Filing.{FiledAs, FileMade}
+use Rattle.list_file.specs.Filing.{FileMade}
 use Rattle.list_file.specs.declared.Filed as F
 
 -- no rows yet
@@ -107,9 +107,9 @@ module _ (a b : Ty) (tos : List ℕ) (k : ℕ) (o : List ℕ) (most : k ≤ 32) 
               let no-room : withinAll start rows ≡ false = is-false (withinAll start rows) (λ w. tracks-many (d .0) h (written-ceiling a b (take k tos) ha hb (short-list le) t .0 w)) in
               let x : writing rows ≡ fails (ceiling patternLine) = ap (λ y. cond y (gives (printRows rows)) (fails (ceiling patternLine))) no-room in
               record {
-                number = ap numbered n ∙ sym (ap refusalOf x);
-                bytes = l ∙ sym (ap (λ y. length (lettersFrom y)) x);
-                output = sym (ap (λ y. written (lettersFrom y) o) x);
+                refusal = n ∙ sym (ap refusalOf x);
+                bytes = l ∙ sym (ap (λ y. length (bytesFrom y)) x);
+                output = sym (ap (λ y. written (bytesFrom y) o) x);
               };
         }
 
@@ -134,8 +134,8 @@ module _ (a b : Ty) (tos : List ℕ) (k : ℕ) (o : List ℕ) (most : k ≤ 32) 
               let zero : 0 + length bs ≡ length bs = zero-add (length bs) in
               let fits : 0 + length bs ≤ length o = omega (arith, written-room a b (take k tos) ha hb (short-list le) t few) in
               record {
-                number = ap numbered j ∙ sym (ap refusalOf x);
-                bytes = l ∙ put .place fits ∙ zero ∙ sym (ap (λ y. length (lettersFrom y)) x);
-                output = put .area fits ∙ sets-eq bs o 0 fits ∙ ap (λ y. bs ++ drop y o) zero ∙ sym (ap (λ y. written (lettersFrom y) o) x);
+                refusal = j ∙ sym (ap refusalOf x);
+                bytes = l ∙ put .place fits ∙ zero ∙ sym (ap (λ y. length (bytesFrom y)) x);
+                output = put .area fits ∙ sets-eq bs o 0 fits ∙ ap (λ y. bs ++ drop y o) zero ∙ sym (ap (λ y. written (bytesFrom y) o) x);
               };
         }

@@ -1,27 +1,18 @@
 -- The rows of an area printed one after the other.
-use Prim.Native.Nat.{ℕ, suc, _+_, _≤_, _<_}
+use Prim.Native.Nat.{ℕ, _+_, _≤_, _<_}
 use native.Mathlib.Numerals.{add-one}
 use native.Mathlib.Omega.{arith}
-use mathlib.Core.Path.{_≡_, refl, sym, ap, _∙_, subst}
-use mathlib.Core.List.{List, [], _∷_, _++_, append-assoc, append-nil}
+use mathlib.Core.Path.{_≡_, refl, sym, ap, _∙_}
+use mathlib.Core.List.{List, [], _∷_, _++_, append-assoc}
 use lib.ListN.{length}
 use Rattle.calculus.specs.Refusals.{Kind}
 use Rattle.format.specs.Lines.{Row, print, printRows}
-use Rattle.format.proofs.Printing.{printRows-nil, printRows-cons}
+use Rattle.format.proofs.Printing.{printRows-nil, printRows-cons, print-append, print-one}
 use Rattle.area_cells.specs.Areas.{Writes}
 use Rattle.area_cells.proofs.Writing.{writes-none, writes-both, writes-as}
 use Rattle.table_trees.specs.Unfolding.{cellOf}
 use Rattle.list_entries.specs.Entries.{rowOf, entryAt, entriesAt}
 use Rattle.list_entries.proofs.Tracking.{entries-snoc}
-
-pub print-append : (rs qs : List Row) → printRows (rs ++ qs) ≡ printRows rs ++ printRows qs
-print-append [] qs = ap (λ bs. bs ++ printRows qs) (sym printRows-nil)
-print-append (r ∷ rs) qs =
-    printRows-cons r (rs ++ qs) ∙ ap (λ bs. print r ++ bs) (print-append rs qs) ∙ sym (append-assoc (print r) (printRows rs) (printRows qs))
-    ∙ ap (λ bs. bs ++ printRows qs) (sym (printRows-cons r rs))
-
-print-one : (r : Row) → printRows (r ∷ []) ≡ print r
-print-one r = printRows-cons r [] ∙ ap (λ bs. print r ++ bs) printRows-nil ∙ append-nil (print r)
 
 -- one row, its numbers being those of the area
 pub entry-printed : (k : Kind) (s : List ℕ) (row : ℕ) {x y z : ℕ} {l l′ : List ℕ} {at end : ℕ} → (x ≡ cellOf s row 1) × (x < 65536) → (y ≡ cellOf s row 2) × (y < 65536) → (z ≡ cellOf s row 3) × (z < 65536)

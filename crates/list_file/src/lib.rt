@@ -1,22 +1,32 @@
 // The file of an imported list: its rows built in areas of their own, then printed, unless they pass a ceiling.
 
+use codes::FIRST;
+use codes::KIND;
+use codes::SECOND;
 use format::Kind;
 use format::Refusal;
 use format::Row;
+use limits::MAX_CLAUSES;
+use limits::MAX_PATTERNS;
+use limits::ROW_WIDTH;
+use list_entries::MAX_ENTRIES;
 use list_writing::write_pairs;
 use list_writing::write_type;
 use print_text::put_row;
 use table_trees::cell;
-ghost use mathlib.Core.List.{_∷_, _++_};
-ghost use Prim.Native.Nat.{_≤_, _<_};
-ghost use Rattle.calculus.specs.Refusals.{typeLine, patternLine, clauseLine};
+ghost use Prim.Native.Nat.{_≤_};
+ghost use Rattle.limits.specs.Limits.{maxClauses};
 ghost use Rattle.format.specs.Lines.{print, printRows};
 ghost use Rattle.format.specs.Code.{kindView};
-ghost use Rattle.law_pairlists.specs.PairLists.{isoRow};
 ghost use Rattle.area_cells.specs.Areas.{Writes};
 ghost use Rattle.table_trees.specs.Unfolding.{typeOf};
 ghost use Rattle.list_entries.specs.Entries.{entryAt, entriesAt};
-ghost use Rattle.list_file.specs.Filing.{FileMade};
+ghost use Rattle.list_file.specs.Filing.{FilePut, FileMade};
+
+// The words of the T rows, of the P rows and of the C rows.
+const ENTRY_WORDS: usize = MAX_ENTRIES * ROW_WIDTH;
+
+const CLAUSE_WORDS: usize = MAX_CLAUSES * ROW_WIDTH;
 
 // A refusal or none, and the number of bytes in the output area.
 pub struct Filed {
@@ -33,9 +43,9 @@ fn put_entry(s: &[u16], kind: Kind, row: usize, out: &mut [u8], at: usize) -> us
         at,
         Row {
             kind: kind,
-            x: cell(s, row, 1),
-            y: cell(s, row, 2),
-            z: cell(s, row, 3),
+            x: cell(s, row, KIND),
+            y: cell(s, row, FIRST),
+            z: cell(s, row, SECOND),
         },
     )
 }
@@ -64,13 +74,7 @@ struct Made {
 
 // The file of these rows.
 fn put_file(ts: &[u16], ps: &[u16], cs: &[u16], m: Made, out: &mut [u8]) -> usize
-    ensures { λ r. ⌜
-        (m .from < 10000000000 → m .to < 10000000000 → Writes (now (out .entry)) (now (out .exit)) 0 r
-        (printRows
-        (entriesAt typeLine (now (ts .entry)) 0 (m .types)
-        ++ (entriesAt patternLine (now (ps .entry)) 0 (m .patterns)
-        ++ (isoRow (m .from) (m .to) ∷ entriesAt clauseLine (now (cs .entry)) 0 (m .clauses))))))
-        ⌝ }
+    ensures { λ r. ⌜ FilePut (now (ts .entry)) (now (ps .entry)) (now (cs .entry)) m (now (out .entry)) (now (out .exit)) r ⌝ }
 {
     let x = put_entries(ts, Kind::Type, m.types, out, 0);
     let y = put_entries(ps, Kind::Pattern, m.patterns, out, x);
@@ -90,19 +94,19 @@ fn put_file(ts: &[u16], ps: &[u16], cs: &[u16], m: Made, out: &mut [u8]) -> usiz
 // Writes the file whose iso sends value k of T line i to value tos[k] of T line j, for n values. The output area needs 65,536 bytes; a
 // refusal leaves it untouched.
 pub fn write_file(t: &[u16], i: usize, j: usize, tos: &[u16], n: usize, out: &mut [u8]) -> Filed
-    requires { ⌜ n ≤ 32 ⌝ }
+    requires { ⌜ n ≤ maxClauses ⌝ }
     ensures { λ r. ⌜
         FileMade (typeOf (now (t .entry)) i) (typeOf (now (t .entry)) j) (now (tos .entry)) n
         (now (out .entry)) (now (out .exit)) r
         ⌝ }
 {
-    let mut ts = [0u16; 4100];
-    let mut ps = [0u16; 4100];
-    let mut cs = [0u16; 128];
+    let mut ts = [0u16; ENTRY_WORDS];
+    let mut ps = [0u16; ENTRY_WORDS];
+    let mut cs = [0u16; CLAUSE_WORDS];
     let a = write_type(t, i, &mut ts, 0);
     let b = write_type(t, j, &mut ts, a.end);
     let end = write_pairs(t, i, j, tos, n, &mut ps, &mut cs);
-    if 1024 < end {
+    if MAX_PATTERNS < end {
         return Filed {
             refusal: Refusal::Ceiling(Kind::Pattern),
             length: 0,

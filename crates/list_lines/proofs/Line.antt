@@ -1,20 +1,23 @@
 -- A line of a list: its from, its to, its ending.
 use Prim.Native.Nat.{ℕ}
-use mathlib.Core.Path.{_≡_, refl, sym, ap, _∙_}
-use mathlib.Core.Bool.{Bool, true, false}
+use mathlib.Core.Path.{_≡_, sym, ap, _∙_}
 use mathlib.Core.Option.{Option, none, some}
 use mathlib.Core.List.{List}
 use lib.Dec.{eqb}
+use lib.ListN.{drop}
 use Rattle.limits.specs.Limits.{budgetBound, comma}
 use Rattle.calculus.specs.Tools.{_>>=_, guard}
 use Rattle.format.specs.Lines.{text, numeral, skip, ended}
-use Rattle.calculus.proofs.Basic.{eq-eqb, not-eqb}
+use Rattle.calculus.proofs.Basic.{eq-eqb, not-eqb, bind-assoc}
 use Rattle.law_pairlists.specs.PairLists.{toIn, toOf}
-use Rattle.read_fields.specs.Views.{asField, asEnd}
-
-bind-assoc : {A B C : Type 0} (x : Option A) (f : A → Option B) (g : B → Option C) → ((x >>= f) >>= g) ≡ (x >>= λ a. f a >>= g)
-bind-assoc none f g = refl
-bind-assoc (some a) f g = refl
+use Rattle.read_fields.specs.declared.Cursor as C
+use Rattle.read_fields.specs.declared.Skipped as S
+use Rattle.read_fields.specs.declared.Skipped.the-variants as skips
+use Rattle.read_fields.specs.declared.Number as N
+use Rattle.read_fields.specs.declared.Number.the-variants as numbers
+use Rattle.read_fields.specs.Views.{asSkipped, asNumber, asField, asEnd}
+use Rattle.read_fields.proofs.Bytes.{is-end, not-end}
+use Rattle.read_fields.proofs.Fields.{value}
 
 -- the to behind a from
 abbrev finish : Option (ℕ × List ℕ) → Option ℕ
@@ -41,15 +44,15 @@ module _ (k : ℕ) (bs : List ℕ) where
       pub no-to : asField budgetBound cs ≡ none → none ≡ toIn k bs
       no-to e = sym (by-to ∙ ap finish e)
 
-      module _ {t : ℕ} {ds : List ℕ} (second : asField budgetBound cs ≡ some (t, ds)) (b : Bool) (end : asEnd b ≡ ended ds) where
-        by-end : toIn k bs ≡ (guard b >>= λ _. some t)
-        by-end = by-to ∙ ap finish second ∙ ap (λ o. o >>= λ _. some t) (sym end)
+      module _ (s : List ℕ) {read : N.Number} {t : ℕ} {d : C.Cursor} (p : read ≡ numbers.Value t d) (q : asNumber s read ≡ asField budgetBound cs) where
+        by-end : toIn k bs ≡ (ended (drop (d .at) s) >>= λ _. some t)
+        by-end = by-to ∙ ap finish (value s p q)
 
-        pub to-there : b ≡ true → some t ≡ toIn k bs
-        to-there e = sym (by-end ∙ ap (λ c. guard c >>= λ _. some t) e)
+        pub to-there : {r : S.Skipped} {c : C.Cursor} → r ≡ skips.Past c → asSkipped s r ≡ asEnd (drop (d .at) s) → some t ≡ toIn k bs
+        to-there e f = sym (by-end ∙ ap (λ o. o >>= λ _. some t) (is-end s (drop (d .at) s) e f))
 
-        pub no-end : b ≡ false → none ≡ toIn k bs
-        no-end e = sym (by-end ∙ ap (λ c. guard c >>= λ _. some t) e)
+        pub no-end : {r : S.Skipped} → r ≡ skips.Other → asSkipped s r ≡ asEnd (drop (d .at) s) → none ≡ toIn k bs
+        no-end e f = sym (by-end ∙ ap (λ o. o >>= λ _. some t) (not-end s (drop (d .at) s) e f))
 
 -- the ending
 pub no-ending : (k : ℕ) (l : List ℕ) → text l ≡ none → none ≡ toOf k l

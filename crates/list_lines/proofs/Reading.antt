@@ -9,16 +9,16 @@ use mathlib.Core.Bool.{Bool, true, false, cond, not, _&&_, false≢true}
 use mathlib.Core.Option.{Option, none, some}
 use mathlib.Core.List.{List, [], _∷_, _++_, append-assoc, append-nil, List·Memᴰ, List·Memᴰ·head, List·Memᴰ·tail, List·Memᴰ·not-nil}
 use lib.Dec.{eqb, ltb}
-use lib.ListN.{length, getD, set, take, drop, length-set, length-append, drop-of-length-le}
-use lib.Seq.{take-suc, take-suc-set, length-take-le}
+use lib.ListN.{length, getD, set, take, drop, length-set, drop-of-length-le}
+use lib.Seq.{take-suc, take-suc-set}
 use borrow.Rule.Slice.PartMut.{midOf}
 use Rattle.calculus.specs.Tools.{_>>=_, guard, all}
 use Rattle.format.specs.Lines.{lines}
 use Rattle.calculus.specs.Paper.{Distinct, nobody, another}
 use Rattle.calculus.specs.Trees.{Ty}
-use Rattle.calculus.proofs.Basic.{bind-some, some-bind, none≢some, some-inj, not-some, guard-true, true-guard, and-true, true-and, bool-cases, eq-eqb, eqb-eq, not-eqb, not-true, ltb-lt, lt-ltb, all-mem, mem-all}
+use Rattle.calculus.proofs.Basic.{bind-some, some-bind, some-inj, not-some, guard-true, true-guard, and-true, true-and, bool-cases, eq-eqb, eqb-eq, not-eqb, ltb-lt, lt-ltb, all-mem}
 use Rattle.law_ranking.specs.Numbering.{count}
-use Rattle.read_split.specs.Split.{LineEnd}
+use Rattle.read_fields.specs.Views.{LineEnd}
 use Rattle.law_pairlists.specs.PairLists.{toOf, tosOf, noneTwice, pairsUp, listOf}
 use Rattle.law_pairlists.proofs.List.{none-twice, twice-none, tos-length}
 use Rattle.list_lines.specs.declared.To as T

@@ -5,15 +5,16 @@ use area_words::narrow;
 use area_words::store_word;
 use area_words::wide;
 use area_words::word_at;
+use limits::MAX_BUDGET;
 use read_fields::Cursor;
 use read_fields::Number;
 use read_fields::Skipped;
-use read_split::line_end;
 ghost use mathlib.Core.Path.{_≡_};
 ghost use mathlib.Core.Bool.{cond};
 ghost use mathlib.Core.Option.{none, some};
 ghost use Prim.Native.Nat.{_≤_};
 ghost use lib.ListN.{length, take};
+ghost use Rattle.limits.specs.Limits.{fieldBound};
 ghost use Rattle.calculus.specs.Trees.{Ty};
 ghost use Rattle.format.specs.Lines.{lines};
 ghost use Rattle.law_ranking.specs.Numbering.{count};
@@ -31,19 +32,19 @@ fn to_in(s: &[u8], k: usize) -> To
     ensures { λ r. ⌜ asTo r ≡ toIn k (now (s .entry)) ⌝ }
 {
     let start = Cursor { at: 0 };
-    let Number::Value(from, c) = start.number(s, 4294967295) else {
+    let Number::Value(from, c) = start.number(s, MAX_BUDGET) else {
         return To::Bad;
     };
     if from != k {
         return To::Bad;
     }
-    let Number::Value(to, d) = c.field(s, 4294967295) else {
+    let Number::Value(to, d) = c.field(s, MAX_BUDGET) else {
         return To::Bad;
     };
-    if d.ends(s) {
-        return To::Of(to);
+    match d.end(s) {
+        Skipped::Past(_) => To::Of(to),
+        Skipped::Other => To::Bad,
     }
-    To::Bad
 }
 
 // The to of a line whose from is k.
@@ -73,7 +74,7 @@ fn is_among(words: &[u16], n: usize, x: usize) -> bool
 // Reads the tos of a list's lines: whether each is below `most`, and none is repeated.
 fn read_tos(list: &[u8], most: usize, tos: &mut [u16]) -> bool
     ensures { λ r. ⌜
-        (length (lines (now (list .entry))) ≤ length (now (tos .entry)) → most ≤ 65536
+        (length (lines (now (list .entry))) ≤ length (now (tos .entry)) → most ≤ fieldBound
         → taking most (lines (now (list .entry))) ≡ cond r
         (some (take (length (lines (now (list .entry)))) (now (tos .exit)))) none)
         ⌝ }
@@ -81,7 +82,7 @@ fn read_tos(list: &[u8], most: usize, tos: &mut [u16]) -> bool
     let mut at: usize = 0;
     let mut k: usize = 0;
     while at < list.len() {
-        let end = line_end(list, at);
+        let end = Cursor { at: at }.line_end(list).at;
         let To::Of(to) = to_of(&list[at..end], k) else {
             return false;
         };
@@ -102,7 +103,7 @@ fn read_tos(list: &[u8], most: usize, tos: &mut [u16]) -> bool
 pub fn read_list(list: &[u8], n: usize, froms: usize, most: usize, tos: &mut [u16]) -> bool
     ensures { λ r. ⌜
         ((a b : Ty) → froms ≡ count a → most ≡ count b → n ≡ length (lines (now (list .entry)))
-        → n ≤ length (now (tos .entry)) → most ≤ 65536
+        → n ≤ length (now (tos .entry)) → most ≤ fieldBound
         → listOf a b (lines (now (list .entry))) ≡ cond r (some (take n (now (tos .exit)))) none)
         ⌝ }
 {

@@ -7,6 +7,7 @@ use mathlib.Core.Option.{Option, none, some}
 use mathlib.Core.List.{List, [], _∷_, _++_, append-nil, append-assoc}
 use lib.ListN.{length, take, drop, set, length-append}
 use lib.Seq.{set-split, take-at, length-take-le}
+use Rattle.limits.specs.Limits.{runRoom, workLength}
 use Rattle.calculus.specs.Tools.{_>>=_, isSome}
 use Rattle.calculus.specs.Trees.{Iso}
 use Rattle.format.specs.Lines.{Row}
@@ -68,7 +69,7 @@ pub record Through (t : List ℕ) (base : ℕ) (index : List ℕ) (isos i n budg
   pub within : k ≤ n
   pub works : length w ≡ length w₀
   pub wide : length l ≡ length l₀
-  pub so : (rs : List Row) (o : Iso) → Runnable t base index isos rs i o → n ≤ count (o .from) → n ≤ length l₀ → 40960 ≤ length w₀ → length w₀ ≤ 65536
+  pub so : (rs : List Row) (o : Iso) → Runnable t base index isos rs i o → n ≤ count (o .from) → n ≤ length l₀ → runRoom ≤ length w₀ → length w₀ ≤ 65536
       → So (toFrom (isosOf rs) i o budget) n k l
 
 pub through-start : (t : List ℕ) (base : ℕ) (index : List ℕ) (isos i n budget : ℕ) (w l : List ℕ) → Through t base index isos i n budget w l w l 0
@@ -84,10 +85,10 @@ through-start t base index isos i n budget w l =
 
 module _ {t : List ℕ} {base : ℕ} {index : List ℕ} {isos i n budget : ℕ} {w₀ l₀ w l : List ℕ} {k : ℕ} (x : Through t base index isos i n budget w₀ l₀ w l k) where
   module _ (h : k < n) {l′ : List ℕ} {r : Bool}
-      (one : (rs : List Row) (o : Iso) → Runnable t base index isos rs i o → k < count (o .from) → 40960 ≤ length w → length w ≤ 65536
+      (one : (rs : List Row) (o : Iso) → Runnable t base index isos rs i o → k < count (o .from) → runRoom ≤ length w → length w ≤ workLength
       → Stores (toFrom (isosOf rs) i o budget k) k l l′ r) where
     -- the budget is passed
-    pub through-spent : r ≡ false → (rs : List Row) (o : Iso) → Runnable t base index isos rs i o → n ≤ count (o .from) → n ≤ length l₀ → 40960 ≤ length w₀
+    pub through-spent : r ≡ false → (rs : List Row) (o : Iso) → Runnable t base index isos rs i o → n ≤ count (o .from) → n ≤ length l₀ → runRoom ≤ length w₀
         → length w₀ ≤ 65536 → Found rs i o budget n l′ false
     through-spent y rs o run a b c d =
         let same = x .works in
@@ -114,6 +115,6 @@ module _ {t : List ℕ} {base : ℕ} {index : List ℕ} {isos i n budget : ℕ} 
               subst (So f n (k + 1)) (sym e) (so-next f n k l (u .0) (x .so rs o run a b c d) h (omega (arith, wide)) (u .1));
         }
 
-  pub through-end : n ≤ k → (rs : List Row) (o : Iso) → Runnable t base index isos rs i o → n ≤ count (o .from) → n ≤ length l₀ → 40960 ≤ length w₀
+  pub through-end : n ≤ k → (rs : List Row) (o : Iso) → Runnable t base index isos rs i o → n ≤ count (o .from) → n ≤ length l₀ → runRoom ≤ length w₀
       → length w₀ ≤ 65536 → Found rs i o budget n l true
   through-end h rs o run a b c d = record { tos = so-end (toFrom (isosOf rs) i o budget) n k l (x .so rs o run a b c d) (x .within) h }

@@ -18,7 +18,7 @@ use Rattle.format.specs.Unfold.{isosOf}
 use Rattle.calculus.specs.Reduction.{reduce}
 use Rattle.calculus.specs.Letters.{letters, inhabits}
 use Rattle.calculus.specs.Paper.{Of}
-use Rattle.model.specs.Services.{Ran, gives, failed, within, argument, from, onIso, runRows, answerOfRun, written}
+use Rattle.model.specs.Services.{Ran, gives, fails, within, argument, from, onIso, runRows, answerOfRun, written}
 use Rattle.format.specs.Code.{refusalView, numbered}
 use Rattle.calculus.proofs.Basic.{some-bind, isSome-true}
 use Rattle.calculus.proofs.Letters.{value-letters, of-inhabits, inhabits-of}
@@ -108,9 +108,9 @@ module _ {t : List ℕ} {base : ℕ} {index : List ℕ} {isos : ℕ} {rs : List 
         some-bind (λ r. guard (leb (r .1) budget) >>= λ _. some (rank (r .0) (o .to))) (sent .2) ∙ ap (λ c. guard c >>= λ _. some (rank (sent .0) (o .to))) e
 
     answer-by : (budget : ℕ) (b : Bool) → leb (sent .1) budget ≡ b
-        → answerFor rs i false budget (letters v) ≡ answerOfRun (cond b (gives (sent .1) (letters (sent .0))) (failed spent))
+        → answerFor rs i false budget (letters v) ≡ answerOfRun (cond b (gives (sent .1, letters (sent .0))) (fails spent))
     answer-by budget b e =
-        ap answerOfRun (answered budget ∙ ap (λ c. cond c (gives (sent .1) (letters (sent .0))) (failed spent)) e)
+        ap answerOfRun (answered budget ∙ ap (λ c. cond c (gives (sent .1, letters (sent .0))) (fails spent)) e)
 
     module _ (budget : ℕ) {x x′ : List ℕ} (r : R.Ran) (ran : RanAs (answerFor rs i false budget (letters v)) x x′ r) {b : Bool} (f : b ≡ isSome (refusalView (r .refusal))) where
       -- the budget is passed

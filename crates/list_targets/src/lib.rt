@@ -3,7 +3,10 @@
 use area_parts::front;
 use area_words::narrow;
 use area_words::store_word;
+use codes::ISO_FROM;
+use codes::ISO_TO;
 use format::is_refused;
+use limits::RESULT_LENGTH;
 use number_values::rank_at;
 use number_values::unrank_at;
 use run_direction::place;
@@ -11,20 +14,11 @@ use runner::run::Ran;
 use runner::run::run_checked;
 use table_trees::cell;
 ghost use mathlib.Core.Path.{_≡_};
-ghost use mathlib.Core.Bool.{false};
-ghost use mathlib.Core.List.{List};
-ghost use Prim.Native.Nat.{_≤_, _<_};
-ghost use lib.ListN.{length};
-ghost use Rattle.calculus.specs.Trees.{Iso};
-ghost use Rattle.format.specs.Lines.{Row as RowOf};
 ghost use Rattle.format.specs.Unfold.{isosOf};
-ghost use Rattle.calculus.specs.Letters.{letters};
-ghost use Rattle.law_ranking.specs.Numbering.{count, unrank};
 ghost use Rattle.law_pairlists.specs.PairLists.{toFrom};
 ghost use Rattle.table_trees.specs.Unfolding.{cellOf};
 ghost use Rattle.run_index.specs.Index.{placeAt};
-ghost use Rattle.runner.specs.RunSays.{answerFor, RanAs};
-ghost use Rattle.list_targets.specs.Targets.{Runnable, Stores, Found};
+ghost use Rattle.list_targets.specs.Targets.{Stores, OnPair, SettingRan, AllFound};
 
 // Field k of the I row of iso i, as the index finds it.
 pub fn iso_cell(t: &[u16], index: &[u16], i: usize, k: usize) -> usize
@@ -46,15 +40,12 @@ fn run_setting(
     result: &mut [u8],
 ) -> Ran
     ensures { λ r. ⌜
-        ((rs : List RowOf) (o : Iso) → Runnable (now (t .entry)) base (now (index .entry)) isos rs i o
-        → k < count (o .from) → 40960 ≤ length (now (work .entry)) → length (now (work .entry)) ≤ 65536
-        → 127 ≤ length (now (result .entry))
-        → RanAs (answerFor rs i false budget (letters (unrank (o .from) k))) (now (result .entry))
-        (now (result .exit)) r)
+        OnPair (now (t .entry)) base (now (index .entry)) isos i k (now (work .entry))
+        (λ rs o. SettingRan rs i o k budget (now (result .entry)) (now (result .exit)) r)
         ⌝ }
 {
-    let mut value = [0u8; 127];
-    let n = unrank_at(t, iso_cell(t, index, i, 1), k, &mut value, 0);
+    let mut value = [0u8; RESULT_LENGTH];
+    let n = unrank_at(t, iso_cell(t, index, i, ISO_FROM), k, &mut value, 0);
     run_checked(
         t,
         base,
@@ -82,18 +73,17 @@ fn find_to(
     tos: &mut [u16],
 ) -> bool
     ensures { λ r. ⌜
-        ((rs : List RowOf) (o : Iso) → Runnable (now (t .entry)) base (now (index .entry)) isos rs i o
-        → k < count (o .from) → 40960 ≤ length (now (work .entry)) → length (now (work .entry)) ≤ 65536
-        → Stores (toFrom (isosOf rs) i o budget k) k (now (tos .entry)) (now (tos .exit)) r)
+        OnPair (now (t .entry)) base (now (index .entry)) isos i k (now (work .entry))
+        (λ rs o. Stores (toFrom (isosOf rs) i o budget k) k (now (tos .entry)) (now (tos .exit)) r)
         ⌝ }
 {
-    let mut result = [0u8; 127];
+    let mut result = [0u8; RESULT_LENGTH];
     let r = run_setting(t, base, index, isos, i, k, budget, work, &mut result);
     let f = r.refusal;
     if is_refused(f) {
         return false;
     }
-    let x = rank_at(t, iso_cell(t, index, i, 2), &result, 0);
+    let x = rank_at(t, iso_cell(t, index, i, ISO_TO), &result, 0);
     store_word(tos, k, narrow(x.number));
     true
 }
@@ -111,9 +101,8 @@ pub fn find_tos(
     tos: &mut [u16],
 ) -> bool
     ensures { λ r. ⌜
-        ((rs : List RowOf) (o : Iso) → Runnable (now (t .entry)) base (now (index .entry)) isos rs i o
-        → n ≤ count (o .from) → n ≤ length (now (tos .entry)) → 40960 ≤ length (now (work .entry))
-        → length (now (work .entry)) ≤ 65536 → Found rs i o budget n (now (tos .exit)) r)
+        AllFound (now (t .entry)) base (now (index .entry)) isos i n budget (now (work .entry))
+        (now (tos .entry)) (now (tos .exit)) r
         ⌝ }
 {
     let mut k: usize = 0;

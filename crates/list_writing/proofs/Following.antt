@@ -1,33 +1,28 @@
 -- The rows of types and of closed values, written parts before wholes: an area follows the definition's rows.
-use Prim.Native.Nat.{ℕ, zero, suc, _+_, _-_, _*_, _/_, _%_, _≤_, _<_}
+use Prim.Native.Nat.{ℕ, _-_, _/_, _%_, _≤_, _<_}
 use native.Mathlib.Nat.{lt-irrefl}
 use native.Mathlib.Omega.{arith}
 use mathlib.Core.Path.{_≡_, refl, sym, ap, ap₂, _∙_, subst}
 use mathlib.Core.Logic.{_⊎_, inl, inr}
-use mathlib.Core.Bool.{Bool, true, false, cond}
-use mathlib.Core.List.{List, [], _∷_, _++_}
-use lib.Dec.{ltb, leb, eqb}
+use mathlib.Core.Bool.{true, false, cond}
+use mathlib.Core.List.{List}
+use lib.Dec.{leb}
 use lib.ListN.{length}
 use Rattle.limits.specs.Limits.{maxValues}
 use Rattle.calculus.specs.Refusals.{Kind, typeLine, patternLine}
 use Rattle.format.specs.Lines.{Row}
 use Rattle.calculus.specs.Trees.{Ty, tunit, tsum, tprod, Tag, left, right, Val, vunit, vinj, vpair}
-use Rattle.format.specs.Judge.{typeNode}
 use Rattle.law_ranking.specs.Numbering.{count, unrank}
 use Rattle.law_pairlists.specs.PairLists.{find, enter, Entry, entry, typeRow, writeType, writeValue}
-use Rattle.calculus.proofs.Basic.{bool-cases, leb-le, leb-false, eqb-eq, eqb-false, lt-ltb, not-ltb}
-use Rattle.law_ranking.proofs.Numbering.{count-positive, count-left, count-right, count-first, count-second}
+use Rattle.calculus.proofs.Basic.{bool-cases, leb-le, leb-false, lt-ltb, not-ltb}
+use Rattle.law_ranking.proofs.Numbering.{count-left, count-right, count-first, count-second}
 use Rattle.law_pairlists.proofs.File.{type-grows, value-grows}
 use Rattle.law_pairlists.proofs.Rows.{enter-grows}
-use Rattle.table_trees.specs.Unfolding.{cellOf, smallerOf, typeOf}
-use Rattle.table_trees.proofs.Unfolding.{type-node, type-unit, node-sum, node-prod}
 use Rattle.number_values.specs.Numbers.{Counts}
 use Rattle.number_values.proofs.Counting.{counted}
 use Rattle.list_entries.specs.Entries.{rowOf, Tracks, Room, Follows, Entering}
 use Rattle.list_writing.specs.Writing.{TypeDone, RowsOf, ValueDone}
-
-row-eq : (k : Kind) {x x′ y y′ z z′ : ℕ} → x ≡ x′ → y ≡ y′ → z ≡ z′ → rowOf k x y z ≡ rowOf k x′ y′ z′
-row-eq k p q r = λ i. rowOf k (p i) (q i) (r i)
+use Rattle.list_entries.proofs.Tracking.{row-eq}
 
 -- ---- a type written
 
@@ -101,39 +96,13 @@ pub node-done : (a b c : Ty) {s s₁ s₂ s₃ : List ℕ} {to x n₁ e₁ n₂ 
     → TypeDone a s s₁ to n₁ e₁ → TypeDone b s₁ s₂ e₁ n₂ e₂ → ((k : Kind) (rs : List Row) → Entering k s₂ s₃ e₂ x n₁ n₂ n₃ e₃ rs) → TypeDone c s s₃ to n₃ e₃
 node-done a b c {s} {s₁} {s₂} {s₃} {to} {x} {n₁} {e₁} {n₂} {e₂} {n₃} {e₃} l u f g h = record { does = node-does a b c l u f g h }
 
--- the three kinds of a T line
-pub line-done : (t : List ℕ) (i : ℕ) {k u v l r x : ℕ} {s s₁ s₂ s₃ : List ℕ} {to n₁ e₁ n₂ e₂ n₃ e₃ : ℕ} → k ≡ cellOf t i 1 → (k ≡ 0 → ⊥) → u ≡ cellOf t i 2
-    → l ≡ smallerOf u i → v ≡ cellOf t i 3 → r ≡ smallerOf v i → ((k ≡ 1 → x ≡ 1) × ((k ≡ 1 → ⊥) → x ≡ 2) × (x ≤ 2))
-    → TypeDone (typeOf t l) s s₁ to n₁ e₁ → TypeDone (typeOf t r) s₁ s₂ e₁ n₂ e₂ → ((m : Kind) (rs : List Row) → Entering m s₂ s₃ e₂ x n₁ n₂ n₃ e₃ rs)
-    → TypeDone (typeOf t i) s s₃ to n₃ e₃
-line-done t i {k} {u} {v} {l} {r} {x} {s} {s₁} {s₂} {s₃} {to} {n₁} {e₁} {n₂} {e₂} {n₃} {e₃} e z fu nu fv nv kx f g h =
-    subst (λ c. TypeDone c s s₃ to n₃ e₃) (sym node) (go (bool-cases (eqb k 1)))
-  where
-    node : typeOf t i ≡ typeNode k (typeOf t l) (typeOf t r)
-    node =
-        type-node t i
-        ∙ sym
-        (ap (λ y. typeNode y (typeOf t l) (typeOf t r)) e
-        ∙ ap₂ (λ a b. typeNode (cellOf t i 1) (typeOf t a) (typeOf t b)) (nu ∙ ap (λ y. smallerOf y i) fu) (nv ∙ ap (λ y. smallerOf y i) fv))
+-- a sum and a product
+module _ (a b : Ty) {c : Ty} {s s₁ s₂ s₃ : List ℕ} {to n₁ e₁ n₂ e₂ n₃ e₃ : ℕ} (f : TypeDone a s s₁ to n₁ e₁) (g : TypeDone b s₁ s₂ e₁ n₂ e₂) where
+  pub sum-done : c ≡ tsum a b → ((k : Kind) (rs : List Row) → Entering k s₂ s₃ e₂ 1 n₁ n₂ n₃ e₃ rs) → TypeDone c s s₃ to n₃ e₃
+  sum-done p h = subst (λ d. TypeDone d s s₃ to n₃ e₃) (sym p) (node-done a b (tsum a b) (omega arith) (λ rs. refl) f g h)
 
-    at-kind : (c : Ty) → typeNode k (typeOf t l) (typeOf t r) ≡ c → TypeDone c s s₃ to n₃ e₃ → TypeDone (typeNode k (typeOf t l) (typeOf t r)) s s₃ to n₃ e₃
-    at-kind c p d = subst (λ y. TypeDone y s s₃ to n₃ e₃) (sym p) d
-
-    go : (eqb k 1 ≡ true) ⊎ (eqb k 1 ≡ false) → TypeDone (typeNode k (typeOf t l) (typeOf t r)) s s₃ to n₃ e₃
-    go (inl c) =
-        let q = eqb-eq k 1 c in
-        at-kind (tsum (typeOf t l) (typeOf t r)) (node-sum (typeOf t l) (typeOf t r) q)
-        (node-done (typeOf t l) (typeOf t r) (tsum (typeOf t l) (typeOf t r)) (kx .2)
-        (λ rs. ap (λ y. let a : Entry = writeType (typeOf t l) rs in let b : Entry = writeType (typeOf t r) (a .rows) in entry (typeRow y (a .number) (b .number)) (b .rows)) (sym (kx .0 q))) f g h)
-    go (inr c) =
-        let q : k ≡ 1 → ⊥ = λ p. eqb-false c p in
-        at-kind (tprod (typeOf t l) (typeOf t r)) (node-prod {k = k} (typeOf t l) (typeOf t r) (omega arith))
-        (node-done (typeOf t l) (typeOf t r) (tprod (typeOf t l) (typeOf t r)) (kx .2)
-        (λ rs. ap (λ y. let a : Entry = writeType (typeOf t l) rs in let b : Entry = writeType (typeOf t r) (a .rows) in entry (typeRow y (a .number) (b .number)) (b .rows)) (sym (kx .1 q))) f g h)
-
-pub unit-line : (t : List ℕ) (i : ℕ) {k : ℕ} {s s′ : List ℕ} {to n e : ℕ} → k ≡ cellOf t i 1 → k ≡ 0 → ((m : Kind) (rs : List Row) → Entering m s s′ to 0 0 0 n e rs)
-    → TypeDone (typeOf t i) s s′ to n e
-unit-line t i p z h = unit-done (type-unit t i (sym p ∙ z)) h
+  pub product-done : c ≡ tprod a b → ((k : Kind) (rs : List Row) → Entering k s₂ s₃ e₂ 2 n₁ n₂ n₃ e₃ rs) → TypeDone c s s₃ to n₃ e₃
+  product-done p h = subst (λ d. TypeDone d s s₃ to n₃ e₃) (sym p) (node-done a b (tprod a b) (omega arith) (λ rs. refl) f g h)
 
 -- ---- a value written
 

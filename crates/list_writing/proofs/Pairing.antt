@@ -1,5 +1,5 @@
 -- Pairs written one after the other: the P rows and the C rows so far, and what is still to come.
-use Prim.Native.Nat.{ℕ, zero, suc, _+_, _-_, _*_, _≤_, _<_}
+use Prim.Native.Nat.{ℕ, _+_, _-_, _≤_, _<_}
 use native.Mathlib.Nat.{lt-irrefl}
 use native.Mathlib.Numerals.{add-one}
 use native.Mathlib.Omega.{arith}
@@ -9,10 +9,10 @@ use lib.ListN.{length, getD, take, drop, drop-of-length-le}
 use lib.Seq.{drop-cons, getD-take, length-take-le}
 use Rattle.limits.specs.Limits.{maxValues}
 use Rattle.calculus.specs.Refusals.{patternLine, clauseLine}
-use Rattle.calculus.specs.Trees.{Ty, Val}
+use Rattle.calculus.specs.Trees.{Ty}
 use Rattle.format.specs.Lines.{Row}
 use Rattle.law_ranking.specs.Numbering.{count, unrank}
-use Rattle.law_pairlists.specs.PairLists.{Entry, writeValue, clauseRow, Written, writePairs, settings}
+use Rattle.law_pairlists.specs.PairLists.{clauseRow, writePairs, settings}
 use Rattle.law_pairlists.proofs.File.{value-grows}
 use Rattle.list_entries.specs.Entries.{rowOf, entriesAt, storeEntry, Tracks, Room, Follows}
 use Rattle.list_entries.proofs.Tracking.{entries-stored}

@@ -1,15 +1,15 @@
 -- Areas that follow the rows of the definition while types, values and pairs are written.
-use Prim.Native.Nat.{ℕ, _+_, _≤_, _<_}
+use Prim.Native.Nat.{ℕ, _+_, _≤_, _<_, _*_}
 use mathlib.Core.Path.{_≡_}
 use mathlib.Core.List.{List, [], _∷_, _++_}
 use lib.ListN.{length, take}
-use Rattle.limits.specs.Limits.{maxValues}
+use Rattle.limits.specs.Limits.{maxValues, maxClauses, rowWidth}
 use Rattle.calculus.specs.Refusals.{typeLine, patternLine, clauseLine}
 use Rattle.calculus.specs.Trees.{Ty, Val}
 use Rattle.format.specs.Lines.{Row}
 use Rattle.law_ranking.specs.Numbering.{count, unrank}
 use Rattle.law_pairlists.specs.PairLists.{Entry, writeType, writeValue, clauseRow, writePairs, settings}
-use Rattle.list_entries.specs.Entries.{entriesAt, Tracks, Room, Follows}
+use Rattle.list_entries.specs.Entries.{entriesAt, Tracks, Room, Follows, maxEntries}
 
 -- the rows of a type written: n is the number of its row, e the end of the rows with it
 pub record TypeDone (a : Ty) (s s′ : List ℕ) (to n e : ℕ) : Type 0 where
@@ -33,7 +33,7 @@ right a b k m rs = writeValue (unrank b m) (left a k rs .rows)
 -- the rows of a pair written: the P rows behind those up to row `to`, the C row as row k of the area q
 pub record PairRows (a b : Ty) (k m : ℕ) (rs : List Row) (s′ q q′ : List ℕ) (e : ℕ) : Type 0 where
   pub tracks : Tracks patternLine s′ e (right a b k m rs .rows)
-  pub clause : length (right a b k m rs .rows) ≤ 1025 → k < 32 → 128 ≤ length q
+  pub clause : length (right a b k m rs .rows) ≤ maxEntries → k < 32 → maxClauses * rowWidth ≤ length q
       → entriesAt clauseLine q′ 0 (k + 1)
       ≡ entriesAt clauseLine q 0 k ++ (clauseRow (left a k rs .number) (right a b k m rs .number) ∷ [])
 
@@ -42,6 +42,6 @@ pub record ClauseDone (a b : Ty) (k m : ℕ) (s s′ : List ℕ) (to : ℕ) (q q
 
 -- the rows of the first n pairs written, whose tos stand in an area: s holds the P rows, q the C rows
 pub record PairsDone (a b : Ty) (tos : List ℕ) (n : ℕ) (s s′ q q′ : List ℕ) (e : ℕ) : Type 0 where
-  pub does : count a ≤ maxValues → count b ≤ maxValues → n ≤ length tos → Room s → 128 ≤ length q
+  pub does : count a ≤ maxValues → count b ≤ maxValues → n ≤ length tos → Room s → maxClauses * rowWidth ≤ length q
       → Tracks patternLine s′ e (writePairs (settings a b 0 (take n tos)) [] .patterns)
-      × (length (writePairs (settings a b 0 (take n tos)) [] .patterns) ≤ 1025 → entriesAt clauseLine q′ 0 n ≡ writePairs (settings a b 0 (take n tos)) [] .clauses)
+      × (length (writePairs (settings a b 0 (take n tos)) [] .patterns) ≤ maxEntries → entriesAt clauseLine q′ 0 n ≡ writePairs (settings a b 0 (take n tos)) [] .clauses)

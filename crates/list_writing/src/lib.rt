@@ -2,51 +2,56 @@
 
 use area_words::wide;
 use area_words::word_at;
+use codes::FIRST;
+use codes::KIND;
+use codes::LEFT;
+use codes::PAIR;
+use codes::PRODUCT;
+use codes::RIGHT;
+use codes::SECOND;
+use codes::SUM;
+use codes::TYPE_UNIT;
+use codes::UNIT;
 use list_entries::Entry;
 use list_entries::enter_entry;
 use list_entries::store_entry;
 use number_values::count_values;
 use table_trees::cell;
 use table_trees::smaller;
-ghost use mathlib.Core.Path.{_≡_};
 ghost use Prim.Native.Nat.{_≤_, _<_};
+ghost use Rattle.limits.specs.Limits.{maxLines, maxClauses};
 ghost use Rattle.calculus.specs.Trees.{tsum, tprod};
 ghost use Rattle.table_trees.specs.Unfolding.{typeOf};
 ghost use Rattle.list_writing.specs.Writing.{TypeDone, ValueDone, ClauseDone, PairsDone};
-
-// 1 for a sum, 2 for a product.
-fn type_kind(kind: usize) -> usize
-    ensures { λ r. ⌜ (kind ≡ 1 → r ≡ 1) × ((kind ≡ 1 → ⊥) → r ≡ 2) × (r ≤ 2) ⌝ }
-{
-    if kind == 1 {
-        return 1;
-    }
-    2
-}
 
 // Writes the rows of T line i behind the rows that stand up to row `to`.
 pub fn write_type(t: &[u16], i: usize, s: &mut [u16], to: usize) -> Entry
     ensures { λ r. ⌜ TypeDone (typeOf (now (t .entry)) i) (now (s .entry)) (now (s .exit)) to (r .number) (r .end) ⌝ }
 {
-    let kind = cell(t, i, 1);
-    if kind == 0 {
-        return enter_entry(s, to, 0, 0, 0);
+    let kind = cell(t, i, KIND);
+    if kind == SUM {
+        let a = write_type(t, smaller(cell(t, i, FIRST), i), s, to);
+        let b = write_type(t, smaller(cell(t, i, SECOND), i), s, a.end);
+        return enter_entry(s, b.end, SUM, a.number, b.number);
     }
-    let a = write_type(t, smaller(cell(t, i, 2), i), s, to);
-    let b = write_type(t, smaller(cell(t, i, 3), i), s, a.end);
-    enter_entry(s, b.end, type_kind(kind), a.number, b.number)
+    if kind == PRODUCT {
+        let a = write_type(t, smaller(cell(t, i, FIRST), i), s, to);
+        let b = write_type(t, smaller(cell(t, i, SECOND), i), s, a.end);
+        return enter_entry(s, b.end, PRODUCT, a.number, b.number);
+    }
+    enter_entry(s, to, TYPE_UNIT, 0, 0)
 }
 
 // Writes the rows of the value of T line i with number n behind the rows that stand up to row `to`.
 pub fn write_value(t: &[u16], i: usize, n: usize, s: &mut [u16], to: usize) -> Entry
     ensures { λ r. ⌜ ValueDone (typeOf (now (t .entry)) i) n (now (s .entry)) (now (s .exit)) to (r .number) (r .end) ⌝ }
 {
-    let left = smaller(cell(t, i, 2), i);
-    let right = smaller(cell(t, i, 3), i);
-    match cell(t, i, 1) {
-        0 => enter_entry(s, to, 0, 0, 0),
-        1 => write_tag(t, left, right, n, s, to),
-        _ => write_pair(t, left, right, n, s, to),
+    let left = smaller(cell(t, i, FIRST), i);
+    let right = smaller(cell(t, i, SECOND), i);
+    match cell(t, i, KIND) {
+        SUM => write_tag(t, left, right, n, s, to),
+        PRODUCT => write_pair(t, left, right, n, s, to),
+        _ => enter_entry(s, to, UNIT, 0, 0),
     }
 }
 
@@ -60,10 +65,10 @@ fn write_tag(t: &[u16], left: usize, right: usize, n: usize, s: &mut [u16], to: 
     let c = count_values(t, left);
     if n < c {
         let v = write_value(t, left, n, s, to);
-        return enter_entry(s, v.end, 2, v.number, 0);
+        return enter_entry(s, v.end, LEFT, v.number, 0);
     }
     let w = write_value(t, right, n - c, s, to);
-    enter_entry(s, w.end, 3, w.number, 0)
+    enter_entry(s, w.end, RIGHT, w.number, 0)
 }
 
 // The same for a pair.
@@ -76,7 +81,7 @@ fn write_pair(t: &[u16], left: usize, right: usize, n: usize, s: &mut [u16], to:
     let c = count_values(t, right);
     let v = write_value(t, left, n / c, s, to);
     let w = write_value(t, right, n % c, s, v.end);
-    enter_entry(s, w.end, 4, v.number, w.number)
+    enter_entry(s, w.end, PAIR, v.number, w.number)
 }
 
 // Writes the P rows of pair k, left before right, behind those up to row `to`, and its C row; n is the number of its right value. Gives the
@@ -91,7 +96,7 @@ fn write_clause(
     to: usize,
     q: &mut [u16],
 ) -> usize
-    requires { ⌜ k < 4096 ⌝ }
+    requires { ⌜ k < maxLines ⌝ }
     ensures { λ r. ⌜
         ClauseDone (typeOf (now (t .entry)) i) (typeOf (now (t .entry)) j) k n (now (s .entry))
         (now (s .exit)) to (now (q .entry)) (now (q .exit)) r
@@ -113,7 +118,7 @@ pub fn write_pairs(
     s: &mut [u16],
     q: &mut [u16],
 ) -> usize
-    requires { ⌜ n ≤ 32 ⌝ }
+    requires { ⌜ n ≤ maxClauses ⌝ }
     ensures { λ r. ⌜
         PairsDone (typeOf (now (t .entry)) i) (typeOf (now (t .entry)) j) (now (tos .entry)) n
         (now (s .entry)) (now (s .exit)) (now (q .entry)) (now (q .exit)) r

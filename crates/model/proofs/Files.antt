@@ -6,22 +6,24 @@ use mathlib.Core.Path.{_≡_, refl, sym, ap, ap₂, _∙_, subst}
 use mathlib.Core.Logic.{_↔_}
 use mathlib.Core.Bool.{Bool, true, false, cond, _||_, false≢true}
 use mathlib.Core.Option.{Option, none, some}
-use mathlib.Core.List.{List, List·Memᴰ}
+use mathlib.Core.List.{List, List·Memᴰ, List·Memᴰ·head}
 use lib.Dec.{ltb}
 use lib.ListN.{length, length-map}
 use borrow.Author.Tests.{lt-ltb}
 use Rattle.limits.specs.Limits.{maxBytes, maxLines}
+use Rattle.calculus.specs.Tools.{stages}
 use Rattle.calculus.specs.Trees.{left, right}
 use Rattle.calculus.specs.Refusals.{Refusal, number, shortArea, tooLong, badLine, misplaced, badField, badName, ceiling, variable, letShape, badType, overlap, gap, noIso, noValue, spent, tooMany, tooHigh, badList}
 use Rattle.format.specs.Lines.{Row, lines, withoutReturns, print, printRows}
 use Rattle.format.specs.Judge.{start, Reading, rows, faulty, readFrom}
 use Rattle.format.specs.Unfold.{isosOf, turnRows}
+use Rattle.format.specs.Code.{numbered}
 use Rattle.calculus.specs.Clauses.{fault, sigsOf}
-use Rattle.model.specs.Services.{Verdict, accepted, refused, judged, afterReading, over, verdict, answerOf, turned, turnedOf}
+use Rattle.model.specs.Services.{Verdict, accepted, refused, judged, fileTests, afterReading, over, verdict, answerOf, refusalBy, turned, turnedOf}
 use Rattle.calculus.specs.Paper.{FileOk}
 use Rattle.calculus.specs.Faulty.{FirstIso}
 pub use Rattle.model.specs.Answers.{InForm}
-use Rattle.calculus.proofs.Basic.{some-pair, neither, ltb-false, not-ltb}
+use Rattle.calculus.proofs.Basic.{stages-none, some-pair, neither, ltb-false, not-ltb}
 use Rattle.calculus.proofs.Formed.{Formed}
 use Rattle.calculus.proofs.Checking.{file-ok, file-fault}
 use Rattle.calculus.proofs.Inverted.{file-invert}
@@ -55,6 +57,10 @@ pub judged-accepted : (rs qs : List Row) (x : Option (Refusal × ℕ)) → judge
 judged-accepted rs qs none e = (accepted-inj e, refl)
 judged-accepted rs qs (some f) e = absurd (refused≢accepted e)
 
+-- rows that pass every stage behind the reading have no faulty iso
+isos-stage : (rs : List Row) → stages fileTests rs ≡ none → fault (isosOf rs) ≡ none
+isos-stage rs e = stages-none rs fileTests e (λ qs. fault (isosOf qs)) (List·Memᴰ·head refl)
+
 -- an accepted file is in form, and no iso of it has a fault
 pub accepted-form : (bs : List ℕ) (rs : List Row) → verdict bs ≡ accepted rs → InForm bs rs × (fault (isosOf rs) ≡ none)
 unfolding verdict
@@ -65,8 +71,8 @@ accepted-form bs rs = go (over bs) (readFrom start 1 (lines bs)) refl refl
     go true r hb hr e = absurd (refused≢accepted e)
     go false (faulty f n) hb hr e = absurd (refused≢accepted e)
     go false (rows qs) hb hr e =
-        let j = judged-accepted qs rs (fault (isosOf qs)) e in
-        (record { fits = hb; reads = hr ∙ ap rows (j .0) }, subst (λ q. fault (isosOf q) ≡ none) (j .0) (j .1))
+        let j = judged-accepted qs rs (stages fileTests qs) e in
+        (record { fits = hb; reads = hr ∙ ap rows (j .0) }, subst (λ q. fault (isosOf q) ≡ none) (j .0) (isos-stage qs (j .1)))
 
 -- Check's verdict is "accepted" exactly when the lines are in form and the judgements hold of the unfolded file.
 pub accepted-iff : (bs : List ℕ) (rs : List Row) → (verdict bs ≡ accepted rs) ↔ (InForm bs rs × FileOk (isosOf rs))
@@ -100,19 +106,24 @@ number-positive (misplaced k) = omega arith
 number-positive (badField k) = omega arith
 number-positive (badName k) = omega arith
 number-positive (ceiling k) = omega arith
-number-positive variable = omega arith
-number-positive letShape = omega arith
-number-positive badType = omega arith
-number-positive (overlap left) = omega arith
-number-positive (overlap right) = omega arith
-number-positive (gap left) = omega arith
-number-positive (gap right) = omega arith
+number-positive (variable k) = omega arith
+number-positive (letShape k) = omega arith
+number-positive (badType k) = omega arith
+number-positive (overlap k left) = omega arith
+number-positive (overlap k right) = omega arith
+number-positive (gap k left) = omega arith
+number-positive (gap k right) = omega arith
 number-positive noIso = omega arith
 number-positive noValue = omega arith
 number-positive spent = omega arith
 number-positive tooMany = omega arith
 number-positive tooHigh = omega arith
 number-positive badList = omega arith
+
+-- the number of an answer is that of its refusal
+pub number-by : (v : Verdict) → numbered (refusalBy v) ≡ answerOf v .number
+number-by (accepted rs) = refl
+number-by (refused f n) = refl
 
 -- an answer whose number is 0 is of an accepted file
 pub answer-zero : (v : Verdict) → answerOf v .number ≡ 0 → (rs : List Row) × (v ≡ accepted rs)

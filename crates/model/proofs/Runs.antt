@@ -2,20 +2,19 @@
 use Prim.Native.Nat.{ℕ, _<_}
 use mathlib.Core.Path.{_≡_, refl, sym, ap, _∙_, subst}
 use mathlib.Core.Logic.{_↔_, ⊎-elim}
-use mathlib.Core.Bool.{Bool, true, false, cond, false≢true}
+use mathlib.Core.Bool.{Bool, true, false, cond}
 use mathlib.Core.Option.{Option, none, some}
 use mathlib.Core.List.{List, map, List·Memᴰ}
 use lib.Dec.{leb}
 use lib.ListN.{getElem?, length}
 use Rattle.calculus.specs.Tools.{_>>=_, guard}
 use Rattle.calculus.specs.Trees.{Ty, Val, Iso, invert}
-use Rattle.calculus.specs.Refusals.{Refusal, spent}
+use Rattle.calculus.specs.Refusals.{spent}
 use Rattle.format.specs.Lines.{Row}
-use Rattle.format.specs.Judge.{start}
 use Rattle.format.specs.Unfold.{isosOf, turnRows}
 use Rattle.calculus.specs.Reduction.{reduce}
 use Rattle.calculus.specs.Letters.{letters, valueOf, inhabits}
-use Rattle.model.specs.Services.{accepted, verdict, turned, Ran, gives, failed, within, valueIn, argument, from, onIso, runRows, toward, runOf, run}
+use Rattle.model.specs.Services.{accepted, verdict, turned, Ran, gives, fails, within, valueIn, argument, from, onIso, runRows, toward, runOf, run}
 use Rattle.calculus.specs.Paper.{Of, Apart, FileOk, OnWay, ExactlyOne}
 use Rattle.calculus.specs.Clauses.{lefts, rights}
 use Rattle.calculus.specs.Terms.{Steps, eapp, valTerm}
@@ -28,9 +27,10 @@ use Rattle.calculus.proofs.Letters.{value-letters, letters-value, inhabits-of, 
 use Rattle.calculus.proofs.Inverse.{reduce-inverse, reduce-unfold}
 use Rattle.calculus.proofs.Totality.{Sound, total, on-way}
 use Rattle.calculus.proofs.Steps.{reduction}
-use Rattle.format.proofs.Passing.{Passes, formed}
+use Rattle.format.proofs.Passing.{formed}
 use Rattle.format.proofs.Turning.{turn-turn, isos-turn, passes-turn}
 use Rattle.model.proofs.Files.{passes as passes-of, accepted-iff, turned-ok, turned-accepted}
+use Rattle.model.proofs.Outcomes.{fails≢gives}
 
 -- ---- the isos of an accepted file
 
@@ -110,7 +110,7 @@ module _ (os : List Iso) (g : Good os) (i budget : ℕ) (bs : List ℕ) where
 
   -- the answer where iso and value are there
   reached : (o : Iso) (v w : Val) (k : ℕ) → getElem? os i ≡ some o → bs ≡ letters v → Of v (o .from) → reduce os i v ≡ some (w, k)
-      → answered ≡ cond (leb k budget) (gives k (letters w)) (failed spent)
+      → answered ≡ cond (leb k budget) (gives (k, letters w)) (fails spent)
   reached o v w k e x h r =
       ap (onIso os i budget bs) e ∙ ap (from os i budget) (some-argument o bs v x h) ∙ ap (within budget) r
 
@@ -118,7 +118,7 @@ module _ (os : List Iso) (g : Good os) (i budget : ℕ) (bs : List ℕ) where
   says = on (getElem? os i) refl
     where
       within-says : (o : Iso) → getElem? os i ≡ some o → (v : Val) → bs ≡ letters v → Of v (o .from) → (w : Val) (k : ℕ) → reduce os i v ≡ some (w, k)
-          → (b : Bool) → leb k budget ≡ b → RunIs os i budget bs (cond b (gives k (letters w)) (failed spent))
+          → (b : Bool) → leb k budget ≡ b → RunIs os i budget bs (cond b (gives (k, letters w)) (fails spent))
       within-says o e v x h w k r true l = done o v w k e x h (reduces-iff os g i o e v h w k .1 r) (leb-le k budget l)
       within-says o e v x h w k r false l = passed o v w k e x h (reduces-iff os g i o e v h w k .1 r) (leb-false k budget l)
 
@@ -139,9 +139,9 @@ module _ (os : List Iso) (g : Good os) (i budget : ℕ) (bs : List ℕ) where
   said (strange o e h) = ap (onIso os i budget bs) e ∙ ap (from os i budget) (no-argument o bs h)
   said (passed o v w k e x h s l) =
       reached o v w k e x h (reduces-iff os g i o e v h w k .0 s)
-      ∙ ap (λ b. cond b (gives k (letters w)) (failed spent)) (not-leb l)
+      ∙ ap (λ b. cond b (gives (k, letters w)) (fails spent)) (not-leb l)
   said (done o v w k e x h s l) =
-      reached o v w k e x h (reduces-iff os g i o e v h w k .0 s) ∙ ap (λ b. cond b (gives k (letters w)) (failed spent)) (le-leb l)
+      reached o v w k e x h (reduces-iff os g i o e v h w k .0 s) ∙ ap (λ b. cond b (gives (k, letters w)) (fails spent)) (le-leb l)
 
   -- the answer is what the judgement says, and no other
   pub says-iff : (r : Ran) → (answered ≡ r) ↔ RunIs os i budget bs r
@@ -167,30 +167,30 @@ sides : (os : List Iso) → FileOk os → (o : Iso) → List·Memᴰ o os → Ap
 sides os ok o m = (ok o m .leftsApart, ok o m .rightsApart)
 
 there : (os : List Iso) → Good os → Good (map invert os) → (i budget k : ℕ) (x y : List ℕ)
-    → RunIs os i budget x (gives k y) → RunIs (map invert os) i budget y (gives k x)
+    → RunIs os i budget x (gives (k, y)) → RunIs (map invert os) i budget y (gives (k, x))
 there os g b i budget k x y (done o v w j e p h s l) =
     let r = reduces-iff os g i o e v h w j .0 s in
     let f = index-map invert os i e in
     let t = preserves os g i o e v w j h r in
     let q = reduce-inverse os (sides os (g .ok)) i v w j .0 r in
-    subst (λ z. RunIs (map invert os) i budget (letters w) (gives j z)) (sym p)
+    subst (λ z. RunIs (map invert os) i budget (letters w) (gives (j, z))) (sym p)
     (done (invert o) w v j f refl t (reduces-iff (map invert os) b i (invert o) f w t v j .1 q) l)
 
 pub good-invert : (rs : List Row) → GoodRows rs → Good (map invert (isosOf rs))
 good-invert rs g = subst Good (isos-turn rs (g .passes)) (good (turnRows rs) (good-turn rs g))
 
 there-rows : (rs : List Row) → GoodRows rs → (i budget k : ℕ) (x y : List ℕ)
-    → runRows rs i budget x ≡ gives k y → runRows (turnRows rs) i budget y ≡ gives k x
+    → runRows rs i budget x ≡ gives (k, y) → runRows (turnRows rs) i budget y ≡ gives (k, x)
 there-rows rs g i budget k x y e =
-    run-rows-iff (turnRows rs) (good-turn rs g) i budget y (gives k x) .1
-    (subst (λ os. RunIs os i budget y (gives k x)) (sym (isos-turn rs (g .passes)))
-    (there (isosOf rs) (good rs g) (good-invert rs g) i budget k x y (run-rows-iff rs g i budget x (gives k y) .0 e)))
+    run-rows-iff (turnRows rs) (good-turn rs g) i budget y (gives (k, x)) .1
+    (subst (λ os. RunIs os i budget y (gives (k, x))) (sym (isos-turn rs (g .passes)))
+    (there (isosOf rs) (good rs g) (good-invert rs g) i budget k x y (run-rows-iff rs g i budget x (gives (k, y)) .0 e)))
 
 there-and-back-rows : (rs : List Row) → GoodRows rs → (i budget k : ℕ) (x y : List ℕ)
-    → (runRows rs i budget x ≡ gives k y) ↔ (runRows (turnRows rs) i budget y ≡ gives k x)
+    → (runRows rs i budget x ≡ gives (k, y)) ↔ (runRows (turnRows rs) i budget y ≡ gives (k, x))
 there-and-back-rows rs g i budget k x y = (
   there-rows rs g i budget k x y,
-  (λ e. subst (λ q. runRows q i budget x ≡ gives k y) (turn-turn rs) (there-rows (turnRows rs) (good-turn rs g) i budget k y x e)),
+  (λ e. subst (λ q. runRows q i budget x ≡ gives (k, y)) (turn-turn rs) (there-rows (turnRows rs) (good-turn rs g) i budget k y x e)),
 )
 
 toward-turn : (back : Bool) (rs : List Row) → toward back (turnRows rs) ≡ turnRows (toward back rs)
@@ -205,7 +205,7 @@ run-accepted file rs e i back budget bs = ap (λ v. runOf v i back budget bs) e
 -- For every iso, direction, budget, count and any two byte strings: the file's run gives y for x with that count exactly when the run of
 -- the turned file, with the same direction and budget, gives x for y with that count.
 pub there-and-back : (file : List ℕ) (rs : List Row) → verdict file ≡ accepted rs → (i : ℕ) (back : Bool) (budget k : ℕ) (x y : List ℕ)
-    → (run file i back budget x ≡ gives k y) ↔ (run (turned file) i back budget y ≡ gives k x)
+    → (run file i back budget x ≡ gives (k, y)) ↔ (run (turned file) i back budget y ≡ gives (k, x))
 there-and-back file rs e i back budget k x y =
     let h = there-and-back-rows (toward back rs) (good-toward back rs (accepted-good file rs e)) i budget k x y in
     let p = run-accepted file rs e i back budget x in
@@ -252,17 +252,13 @@ one-clause file rs e back i o f v h j w m =
 
 -- ---- the budget
 
--- a run that gives something did not fail
-gives≢failed : {k : ℕ} {y : List ℕ} {f : Refusal} → gives k y ≡ failed f → ⊥
-gives≢failed e = false≢true cc
-
 -- Refusal 17 exactly when the full count of the reduction is above the budget.
 pub spent-iff : (file : List ℕ) (rs : List Row) → verdict file ≡ accepted rs → (i : ℕ) (back : Bool) (budget : ℕ) (o : Iso)
     → getElem? (isosOf (toward back rs)) i ≡ some o → (v w : Val) (k : ℕ) → Of v (o .from)
-    → Steps (isosOf (toward back rs)) (eapp i (valTerm v)) (valTerm w) k → (run file i back budget (letters v) ≡ failed spent) ↔ (budget < k)
+    → Steps (isosOf (toward back rs)) (eapp i (valTerm v)) (valTerm w) k → (run file i back budget (letters v) ≡ fails spent) ↔ (budget < k)
 spent-iff file rs e i back budget o f v w k h s =
     let says = run-iff file rs e i back budget (letters v) in (
-      (λ r. ⊎-elim (λ t. absurd (gives≢failed (sym (says (gives k (letters w)) .1 (done o v w k f refl h s (leb-le k budget t))) ∙ r))) (leb-false k budget)
+      (λ r. ⊎-elim (λ t. absurd (fails≢gives (sym r ∙ says (gives (k, letters w)) .1 (done o v w k f refl h s (leb-le k budget t))))) (leb-false k budget)
           (bool-cases (leb k budget))),
-      (λ l. says (failed spent) .1 (passed o v w k f refl h s l)),
+      (λ l. says (fails spent) .1 (passed o v w k f refl h s l)),
     )

@@ -14,8 +14,7 @@ use Rattle.limits.specs.Limits.{tableLength, workLength, resultLength, maxQueri
 use Rattle.calculus.specs.Tools.{concat}
 use Rattle.calculus.specs.Refusals.{Refusal, shortArea, tooLong, badLine}
 use Rattle.format.specs.Lines.{Row, lines}
-use Rattle.model.specs.Services.{Verdict, accepted, refused, verdict, answerOf, check, Ran, gives, failed, RunAnswer, answerOfRun, RunResult, runOf, runService}
-use Rattle.model.specs.Services.{filled, written, tableAfter, workAfter, short, unless}
+use Rattle.model.specs.Services.{Verdict, accepted, refused, verdict, answerOf, check, Ran, gives, fails, RunAnswer, answerOfRun, RunResult, runOf, runService, filled, written, tableAfter, workAfter, short, unless}
 use Rattle.model.specs.Desk.{Query, queryOf, answerTo, queryLine, queryAnswers}
 use Rattle.model.specs.Sheet.{answersTo, three, numbersAfter, lettersAfter, narrowSheet, sheetVerdict, sheet}
 use Rattle.calculus.proofs.Basic.{neither, none≢some, some-inj, le-leb, lt-ltb, ltb-false, not-ltb, each-nil, each-map, index-map, index-of-map, index-below}
@@ -142,18 +141,18 @@ desk-same (refused f n) ls = refl
 desk-same (accepted rs) ls = ap concat (sym (map-map queryLine (λ l. answerOfRun (answerTo (accepted rs) (queryOf l))) ls))
 
 -- a refused query has no letters, and changes nothing where they would stand
-pub refused-query : (f : Refusal) (o : List ℕ) → written (answerOfRun (failed f) .letters) o ≡ o
+pub refused-query : (f : Refusal) (o : List ℕ) → written (answerOfRun (fails f) .letters) o ≡ o
 refused-query f o = refl
 
 -- "A refused query leaves its 127 bytes unchanged"
 pub refused-block : (rs : List RunAnswer) → ShortLetters rs → (area : List ℕ) → length rs * resultLength ≤ length area
-    → (k : ℕ) (f : Refusal) → getElem? rs k ≡ some (answerOfRun (failed f)) → block k (lettersAfter rs area) ≡ block k area
+    → (k : ℕ) (f : Refusal) → getElem? rs k ≡ some (answerOfRun (fails f)) → block k (lettersAfter rs area) ≡ block k area
 refused-block rs s area room k f e = own-letters rs s area room k e ∙ refused-query f (block k area)
 
 -- a run whose number is not 0 gives no letters
 failed-run : (r : Ran) → (answerOfRun r .number ≡ 0 → ⊥) → answerOfRun r .letters ≡ []
-failed-run (gives k ls) h = absurd (h refl)
-failed-run (failed f) h = refl
+failed-run (gives r) h = absurd (h refl)
+failed-run (fails f) h = refl
 
 -- the letters of every answer fit their block
 pub short-letters-answers : (file : List ℕ) (ls : List (List ℕ)) → ShortLetters (answersTo (verdict file) ls)
@@ -367,7 +366,7 @@ module _ (file t w queries numbers letters : List ℕ) (yes : sheet file t w que
 
   -- a line that is no query is refused 3
   pub bad-query : (k : ℕ) (l : List ℕ) → getElem? (lines queries) k ≡ some l → queryOf l ≡ none
-      → getElem? (answersTo (verdict file) (lines queries)) k ≡ some (answerOfRun (failed badLine))
+      → getElem? (answersTo (verdict file) (lines queries)) k ≡ some (answerOfRun (fails badLine))
   bad-query k l e f =
       answer-at (lines queries) (accepts .fileAccepted) k e ∙ ap (λ x. some (answerOfRun (answerTo (verdict file) x))) f
 

@@ -11,7 +11,7 @@ use Rattle.format.specs.Lines.{Row, lines}
 use Rattle.format.specs.Judge.{start, Passes, rows, readFrom}
 use Rattle.format.specs.Unfold.{isosOf}
 use Rattle.calculus.specs.Letters.{letters}
-use Rattle.model.specs.Services.{over, Ran, gives, failed}
+use Rattle.model.specs.Services.{over, Ran, gives, fails}
 use Rattle.calculus.specs.Terms.{Steps, eapp, valTerm}
 use Rattle.calculus.specs.Paper.{Of, FileOk}
 
@@ -28,9 +28,9 @@ pub record GoodRows (rs : List Row) : Type 0 where
 -- A run of iso i with a budget on some bytes. "For a run, 15, 16, 17 follow": the iso is there or not; the bytes are exactly one closed
 -- value of the starting type or not; the full count of the reduction passes the budget or not.
 pub data RunIs (os : List Iso) (i budget : ℕ) (bs : List ℕ) : Ran → Type 0 where
-  absent : getElem? os i ≡ none → RunIs os i budget bs (failed noIso)
-  strange : (o : Iso) → getElem? os i ≡ some o → ((v : Val) → bs ≡ letters v → Of v (o .from) → ⊥) → RunIs os i budget bs (failed noValue)
+  absent : getElem? os i ≡ none → RunIs os i budget bs (fails noIso)
+  strange : (o : Iso) → getElem? os i ≡ some o → ((v : Val) → bs ≡ letters v → Of v (o .from) → ⊥) → RunIs os i budget bs (fails noValue)
   passed : (o : Iso) (v w : Val) (k : ℕ) → getElem? os i ≡ some o → bs ≡ letters v → Of v (o .from)
-      → Steps os (eapp i (valTerm v)) (valTerm w) k → budget < k → RunIs os i budget bs (failed spent)
+      → Steps os (eapp i (valTerm v)) (valTerm w) k → budget < k → RunIs os i budget bs (fails spent)
   done : (o : Iso) (v w : Val) (k : ℕ) → getElem? os i ≡ some o → bs ≡ letters v → Of v (o .from)
-      → Steps os (eapp i (valTerm v)) (valTerm w) k → k ≤ budget → RunIs os i budget bs (gives k (letters w))
+      → Steps os (eapp i (valTerm v)) (valTerm w) k → k ≤ budget → RunIs os i budget bs (gives (k, letters w))

@@ -8,12 +8,10 @@ use mathlib.Core.Bool.{true, false}
 use lib.Dec.{ltb}
 use borrow.Author.Tests.{ltb-true, ltb-false}
 use Rattle.limits.specs.Limits.{maxValues}
-use Rattle.calculus.specs.Trees.{Ty}
-use Rattle.format.specs.Judge.{typeNode}
+use Rattle.calculus.specs.Trees.{Ty, tsum, tprod}
 use Rattle.law_ranking.specs.Numbering.{count}
 use Rattle.calculus.proofs.Basic.{bool-cases}
 use Rattle.law_ranking.proofs.Numbering.{count-positive}
-use Rattle.table_trees.proofs.Unfolding.{node-sum, node-prod}
 use Rattle.number_values.specs.Numbers.{Counts}
 
 -- below the cap a count is told
@@ -26,10 +24,6 @@ counted-some a e = omega (arith, count-positive a)
 
 pub counted-most : (a : Ty) {n : ℕ} → Counts a n → n ≤ 4294967296
 counted-most a e = omega arith
-
--- a sum
-capped-sum : (a b x y : ℕ) {r : ℕ} → a ≡ min x 4294967296 → b ≡ min y 4294967296 → r ≡ min (a + b) 4294967296 → r ≡ min (x + y) 4294967296
-capped-sum a b x y e f g = omega arith
 
 -- a product that fits 64 bits
 pub times-fits : (a b : ℕ) → a ≤ 4294967295 → b ≤ 4294967296 → a * b < 18446744073709551616
@@ -63,15 +57,16 @@ pairs-below a b x y h p e f g = g ∙ ap (λ z. min (z * b) 4294967296) first �
 
 -- ---- by the type's node
 
--- a sum
-pub node-counts-sum : (kind : ℕ) (x y : Ty) {a b r : ℕ} → kind ≡ 1 → Counts x a → Counts y b → r ≡ min (a + b) 4294967296 → Counts (typeNode kind x y) r
-node-counts-sum kind x y {a} {b} {r} z e f g = subst (λ c. Counts c r) (sym (node-sum x y z)) (capped-sum a b (count x) (count y) e f g)
+pub counts-sum : (x y : Ty) {a b r : ℕ} → Counts x a → Counts y b → ((m n : ℕ) → a ≡ min m 4294967296 → b ≡ min n 4294967296 → r ≡ min (m + n) 4294967296) → Counts (tsum x y) r
+counts-sum x y e f g = g (count x) (count y) e f
 
--- a product
-pub node-counts-product : (kind : ℕ) (x y : Ty) {a b r : ℕ} → (kind ≡ 0 → ⊥) → (kind ≡ 1 → ⊥) → Counts x a → Counts y b
-    → ((m n : ℕ) → 1 ≤ m → 1 ≤ n → a ≡ min m 4294967296 → b ≡ min n 4294967296 → r ≡ min (m * n) 4294967296) → Counts (typeNode kind x y) r
-node-counts-product kind x y {a} {b} {r} n m e f g =
-    subst (λ c. Counts c r) (sym (node-prod {k = kind} x y (omega arith))) (g (count x) (count y) (count-positive x) (count-positive y) e f)
+pub counts-product : (x y : Ty) {a b r : ℕ} → Counts x a → Counts y b
+    → ((m n : ℕ) → 1 ≤ m → 1 ≤ n → a ≡ min m 4294967296 → b ≡ min n 4294967296 → r ≡ min (m * n) 4294967296) → Counts (tprod x y) r
+counts-product x y e f g = g (count x) (count y) (count-positive x) (count-positive y) e f
+
+-- the tree being told
+pub counts-as : {x y : Ty} (n : ℕ) → x ≡ y → Counts y n → Counts x n
+counts-as n e c = subst (λ z. Counts z n) (sym e) c
 
 -- ---- numbers of at most 32 bits
 

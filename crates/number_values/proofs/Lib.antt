@@ -1,7 +1,5 @@
 -- How many values a type has, told up to a cap.
 pub mod Counting
--- The lines that a T line names.
-pub mod Lines
 -- The number of a value that stands at a place.
 pub mod Ranking
 -- The letters of the value with a number.

@@ -13,7 +13,7 @@ use Rattle.calculus.specs.Letters.{letters}
 use Rattle.law_ranking.specs.Numbering.{count, unrank}
 use Rattle.area_cells.specs.Areas.{Writes}
 use Rattle.area_cells.proofs.Writing.{place-in, writes-one, writes-both, writes-as}
-use Rattle.run_values.proofs.Agreeing.{letters-some}
+use Rattle.calculus.proofs.Letters.{letters-some}
 use Rattle.number_values.specs.Numbers.{Counts, Unranks}
 use Rattle.law_ranking.proofs.Numbering.{count-positive, count-left, count-right, count-first, count-second}
 use Rattle.number_values.proofs.Counting.{counted}

@@ -11,8 +11,8 @@ use Rattle.format.specs.Lines.{Row}
 use Rattle.law_ranking.specs.Numbering.{typesOf}
 use Rattle.model.proofs.Sizes.{types-small}
 use Rattle.table_trees.specs.Unfolding.{typeOf}
-use Rattle.table_trees.specs.Walk.{FileIn}
-use Rattle.table_trees.proofs.Rows.{get-row, past-row}
+use Rattle.table_walks.specs.Walk.{FileIn}
+use Rattle.table_walks.proofs.Rows.{get-row, past-row}
 
 module _ {t : List ℕ} {types patterns lines : ℕ} {rs : List Row} (f : FileIn t types patterns lines rs) (i : ℕ) where
   pub absent : types ≤ i → getElem? (typesOf rs) i ≡ none

@@ -1,5 +1,5 @@
 -- What counting, numbering and spelling the values of a type come to.
-use Prim.Native.Nat.{ℕ, _+_, _≤_, _<_, min}
+use Prim.Native.Nat.{ℕ, suc, _+_, _*_, _≤_, _<_, min}
 use mathlib.Core.Path.{_≡_}
 use mathlib.Core.Bool.{true}
 use mathlib.Core.List.{List}
@@ -11,9 +11,18 @@ use Rattle.calculus.specs.Letters.{letters, inhabits}
 use Rattle.law_ranking.specs.Numbering.{count, rank, unrank}
 use Rattle.run_values.specs.Texts.{At}
 
+-- the sum of two numbers, each told up to one above the most that are numbered, and told so itself
+abbrev pub SumCapped : ℕ → ℕ → ℕ → Type 0
+SumCapped a b r = (x y : ℕ) → a ≡ min x (suc maxValues) → b ≡ min y (suc maxValues) → r ≡ min (x + y) (suc maxValues)
+
+-- and the product, where neither is 0
+abbrev pub ProductCapped : ℕ → ℕ → ℕ → Type 0
+ProductCapped a b r =
+    (x y : ℕ) → 1 ≤ x → 1 ≤ y → a ≡ min x (suc maxValues) → b ≡ min y (suc maxValues) → r ≡ min (x * y) (suc maxValues)
+
 -- how many values a type has, one above the most that are numbered for all above
 abbrev pub Counts : Ty → ℕ → Type 0
-Counts a n = n ≡ min (count a) 4294967296
+Counts a n = n ≡ min (count a) (suc maxValues)
 
 -- the number of the value of a type that begins at a place, and the place behind it
 abbrev pub Ranks : Ty → List ℕ → ℕ → ℕ → ℕ → Type 0

@@ -8,24 +8,19 @@ use codes::LETTER_LEFT;
 use codes::LETTER_PAIR;
 use codes::LETTER_RIGHT;
 use codes::LETTER_UNIT;
+use codes::PRODUCT;
 use codes::SECOND;
 use codes::SUM;
-use codes::TYPE_UNIT;
+use limits::MAX_VALUES;
 use table_trees::cell;
 use table_trees::smaller;
 ghost use mathlib.Core.Path.{_≡_};
-ghost use mathlib.Core.Bool.{true};
-ghost use Prim.Native.Nat.{ℕ, _+_, _*_, _≤_, _<_, min};
+ghost use Prim.Native.Nat.{suc, _+_, _*_, _≤_, _<_, min};
 ghost use lib.ListN.{length};
-ghost use lib.Seq.{sets};
 ghost use Rattle.limits.specs.Limits.{maxValues};
-ghost use Rattle.calculus.specs.Trees.{Ty, Val, tsum, tprod};
-ghost use Rattle.format.specs.Judge.{typeNode};
-ghost use Rattle.calculus.specs.Letters.{letters, inhabits};
-ghost use Rattle.law_ranking.specs.Numbering.{count, rank, unrank};
+ghost use Rattle.calculus.specs.Trees.{tsum, tprod};
 ghost use Rattle.table_trees.specs.Unfolding.{typeOf};
-ghost use Rattle.run_values.specs.Texts.{At};
-ghost use Rattle.number_values.specs.Numbers.{Counts, Ranks, Unranks};
+ghost use Rattle.number_values.specs.Numbers.{SumCapped, ProductCapped, Counts, Ranks, Unranks};
 
 // A value's number, and the place behind its letters.
 pub struct Ranked {
@@ -33,24 +28,27 @@ pub struct Ranked {
     pub end: usize,
 }
 
+// Stands for all numbers above the most values that are numbered.
+const MANY: usize = MAX_VALUES + 1;
+
 // A number, or 4,294,967,296 for all above.
 fn capped(n: usize) -> usize
-    ensures { λ r. ⌜ r ≡ min n 4294967296 ⌝ }
+    ensures { λ r. ⌜ r ≡ min n (suc maxValues) ⌝ }
 {
-    if n < 4294967296 {
+    if n < MANY {
         return n;
     }
-    4294967296
+    MANY
 }
 
 // A number, or 4,294,967,295 for all above.
 fn low(n: usize) -> usize
     ensures { λ r. ⌜ r ≡ min n maxValues ⌝ }
 {
-    if n < 4294967295 {
+    if n < MAX_VALUES {
         return n;
     }
-    4294967295
+    MAX_VALUES
 }
 
 // a times b plus c, where each is below 2^32.
@@ -60,39 +58,41 @@ fn times_plus(a: usize, b: usize, c: usize) -> usize
     low(a) * low(b) + low(c)
 }
 
+// How many values there are of one type or the other, capped like these.
+fn both(a: usize, b: usize) -> usize
+    requires { ⌜ (a ≤ suc maxValues) × (b ≤ suc maxValues) ⌝ }
+    ensures { λ r. ⌜ SumCapped a b r ⌝ }
+{
+    capped(a + b)
+}
+
 // How many pairs there are of as many values, capped like these.
 fn pairs(a: usize, b: usize) -> usize
-    requires { ⌜ b ≤ 4294967296 ⌝ }
-    ensures { λ r. ⌜ ((x y : ℕ) → 1 ≤ x → 1 ≤ y → a ≡ min x 4294967296 → b ≡ min y 4294967296 → r ≡ min (x * y) 4294967296) ⌝ }
+    requires { ⌜ b ≤ suc maxValues ⌝ }
+    ensures { λ r. ⌜ ProductCapped a b r ⌝ }
 {
-    if 4294967295 < a {
-        return 4294967296;
+    if MAX_VALUES < a {
+        return MANY;
     }
     capped(a * b)
 }
 
-// How many values a sum or a product has, by its kind and by those of its parts.
-fn count_node(kind: usize, a: usize, b: usize) -> usize
-    requires { ⌜ (a ≤ 4294967296) × (b ≤ 4294967296) ⌝ }
-    ensures { λ r. ⌜ ((x y : Ty) → (kind ≡ 0 → ⊥) → Counts x a → Counts y b → Counts (typeNode kind x y) r) ⌝ }
-{
-    if kind == SUM {
-        return capped(a + b);
-    }
-    pairs(a, b)
-}
-
 // How many closed values T line i has; 4,294,967,296 stands for all above.
 pub fn count_values(t: &[u16], i: usize) -> usize
-    ensures { λ r. ⌜ r ≡ min (count (typeOf (now (t .entry)) i)) 4294967296 ⌝ }
+    ensures { λ r. ⌜ Counts (typeOf (now (t .entry)) i) r ⌝ }
 {
     let kind = cell(t, i, KIND);
-    if kind == TYPE_UNIT {
-        return 1;
+    if kind == SUM {
+        let a = count_values(t, smaller(cell(t, i, FIRST), i));
+        let b = count_values(t, smaller(cell(t, i, SECOND), i));
+        return both(a, b);
     }
-    let a = count_values(t, smaller(cell(t, i, FIRST), i));
-    let b = count_values(t, smaller(cell(t, i, SECOND), i));
-    count_node(kind, a, b)
+    if kind == PRODUCT {
+        let a = count_values(t, smaller(cell(t, i, FIRST), i));
+        let b = count_values(t, smaller(cell(t, i, SECOND), i));
+        return pairs(a, b);
+    }
+    1
 }
 
 // The place behind a letter.
@@ -108,21 +108,17 @@ fn behind(s: &[u8], at: usize) -> usize
 // The number of the closed value of T line i that begins at a place, and where it ends. The type has at
 // most 4,294,967,295 values.
 pub fn rank_at(t: &[u16], i: usize, s: &[u8], at: usize) -> Ranked
-    ensures { λ r. ⌜
-        ((v : Val) → At (now (s .entry)) at v → inhabits v (typeOf (now (t .entry)) i) ≡ true
-        → count (typeOf (now (t .entry)) i) ≤ maxValues
-        → (r .number ≡ rank v (typeOf (now (t .entry)) i)) × (r .end ≡ at + length (letters v)))
-        ⌝ }
+    ensures { λ r. ⌜ Ranks (typeOf (now (t .entry)) i) (now (s .entry)) at (r .number) (r .end) ⌝ }
 {
     let left = smaller(cell(t, i, FIRST), i);
     let right = smaller(cell(t, i, SECOND), i);
     match cell(t, i, KIND) {
-        0 => Ranked {
+        SUM => rank_tag(t, left, right, s, at),
+        PRODUCT => rank_pair(t, left, right, s, at),
+        _ => Ranked {
             number: 0,
             end: behind(s, at),
         },
-        1 => rank_tag(t, left, right, s, at),
-        _ => rank_pair(t, left, right, s, at),
     }
 }
 
@@ -162,12 +158,7 @@ fn rank_pair(t: &[u16], left: usize, right: usize, s: &[u8], at: usize) -> Ranke
 // Writes the letters of the value of T line i with number n from a place on, and gives the place behind
 // them. The type has at most 4,294,967,295 values, n is below their count, and there is room.
 pub fn unrank_at(t: &[u16], i: usize, n: usize, out: &mut [u8], at: usize) -> usize
-    ensures { λ r. ⌜
-        (count (typeOf (now (t .entry)) i) ≤ maxValues → n < count (typeOf (now (t .entry)) i)
-        → at + length (letters (unrank (typeOf (now (t .entry)) i) n)) ≤ length (now (out .entry))
-        → (now (out .exit) ≡ sets (now (out .entry)) at (letters (unrank (typeOf (now (t .entry)) i) n)))
-        × (r ≡ at + length (letters (unrank (typeOf (now (t .entry)) i) n))))
-        ⌝ }
+    ensures { λ r. ⌜ Unranks (typeOf (now (t .entry)) i) n (now (out .entry)) (now (out .exit)) at r ⌝ }
 {
     if out.len() <= at {
         return at;
@@ -175,12 +166,12 @@ pub fn unrank_at(t: &[u16], i: usize, n: usize, out: &mut [u8], at: usize) -> us
     let left = smaller(cell(t, i, FIRST), i);
     let right = smaller(cell(t, i, SECOND), i);
     match cell(t, i, KIND) {
-        0 => {
+        SUM => unrank_tag(t, left, right, n, out, at),
+        PRODUCT => unrank_pair(t, left, right, n, out, at),
+        _ => {
             out[at] = LETTER_UNIT;
             at + 1
         }
-        1 => unrank_tag(t, left, right, n, out, at),
-        _ => unrank_pair(t, left, right, n, out, at),
     }
 }
 

@@ -11,13 +11,13 @@ use Rattle.limits.specs.Limits.{maxNodes}
 use Rattle.calculus.specs.Trees.{Pat, punit, nodes}
 use Rattle.calculus.specs.Refusals.{noIso}
 use Rattle.format.specs.Lines.{Row}
-use Rattle.model.specs.Services.{accepted}
-use Rattle.format.specs.Code.{refusalView, numbered}
+use Rattle.model.specs.Services.{accepted, gives, fails, refusalOf}
+use Rattle.format.specs.Code.{refusalView}
 use Rattle.table_trees.specs.Unfolding.{patternOf}
-use Rattle.table_trees.specs.Walk.{FileIn}
-use Rattle.table_trees.proofs.Rows.{get-row, past-row}
+use Rattle.table_walks.specs.Walk.{FileIn}
+use Rattle.table_walks.proofs.Rows.{get-row, past-row}
 use Rattle.check_overlap.specs.Comparison.{compare}
-use Rattle.check_overlap.specs.Overlap.{gives, fails, patternsOf, onPatterns, overlapOn, refusalOf, lineOf, clashOf, pairsOf}
+use Rattle.check_overlap.specs.Overlap.{patternsOf, onPatterns, overlapOn, clashOf, pairsOf}
 use Rattle.check_overlap.proofs.Comparing.{compare-most}
 use Rattle.check_overlap.proofs.Overlapping.{patterns-small}
 use Rattle.overlaps.specs.OverlapSays.{OverlapAs}
@@ -43,12 +43,12 @@ module _ (t : List ℕ) (types patterns i j : ℕ) (r : O.Overlapped) where
     small : (k : ℕ) → k < patterns → nodes (patternOf t types k) ≤ maxNodes
     small k h = subst (λ p. nodes p ≤ maxNodes) (sym (f .patternTrees k h)) (patterns-small (f .passes) k)
 
-    as-fault : overlapOn (accepted rs) i j ≡ fails noIso 0 → refusalView (r .answer .refusal) ≡ some noIso → r .answer .place ≡ 0 → r .clash ≡ false → r .pairs ≡ 0
+    as-fault : overlapOn (accepted rs) i j ≡ fails noIso → refusalView (r .answer .refusal) ≡ some noIso → r .answer .place ≡ 0 → r .clash ≡ false → r .pairs ≡ 0
         → OverlapAs (overlapOn (accepted rs) i j) r
     as-fault o e n c p =
-        record { number = ap numbered e ∙ sym (ap refusalOf o); line = n ∙ sym (ap lineOf o); clash = c ∙ sym (ap clashOf o); pairs = p ∙ sym (ap pairsOf o) }
+        record { refusal = e ∙ sym (ap refusalOf o); line = n; clash = c ∙ sym (ap clashOf o); pairs = p ∙ sym (ap pairsOf o) }
 
-  no-right : (p : Option Pat) → onPatterns p none ≡ fails noIso 0
+  no-right : (p : Option Pat) → onPatterns p none ≡ fails noIso
   no-right none = refl
   no-right (some p) = refl
 
@@ -73,8 +73,8 @@ module _ (t : List ℕ) (types patterns i j : ℕ) (r : O.Overlapped) where
       let few : compare (patternOf t types i) (patternOf t types j) .pairs ≤ maxNodes =
       omega (arith, compare-most (patternOf t types i) (patternOf t types j) .0, small lines rs f i h) in
       record {
-        number = ap numbered e ∙ sym (ap refusalOf o);
-        line = n ∙ sym (ap lineOf o);
+        refusal = e ∙ sym (ap refusalOf o);
+        line = n;
         clash = c ∙ told .0 ∙ sym (ap clashOf o);
         pairs = p ∙ ap (λ k. k % 4294967296) (told .1) ∙ within (compare (patternOf t types i) (patternOf t types j) .pairs) few ∙ sym (ap pairsOf o);
       }

@@ -14,7 +14,7 @@ ghost use lib.ListN.{length};
 ghost use Rattle.limits.specs.Limits.{tableLength};
 ghost use Rattle.format.specs.Lines.{Row as RowOf};
 ghost use Rattle.model.specs.Services.{accepted};
-ghost use Rattle.table_trees.specs.Walk.{FileIn};
+ghost use Rattle.table_walks.specs.Walk.{FileIn};
 ghost use Rattle.check_overlap.specs.Overlap.{overlapOn};
 ghost use Rattle.overlaps.specs.OverlapSays.{OverlapAs, OverlapSays};
 

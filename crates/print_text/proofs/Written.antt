@@ -6,8 +6,8 @@ use mathlib.Core.Bool.{cond}
 use mathlib.Core.List.{List, [], _∷_, _++_, append-assoc, append-nil}
 use lib.Dec.{ltb}
 use lib.ListN.{length, set, take}
-use Rattle.area_cells.specs.Areas.{Writes}
-use Rattle.area_cells.proofs.Writing.{writes-one, writes-both, writes-as}
+use Rattle.area_cells.specs.Areas.{Prints}
+use Rattle.area_cells.proofs.Writing.{prints-one, prints-both, prints-as}
 use Rattle.limits.specs.Limits.{comma, digitZero, lineFeed}
 use Rattle.calculus.specs.Refusals.{Kind, typeLine, patternLine, isoLine, clauseLine, letLine}
 use Rattle.format.specs.Lines.{Row, letter, fieldCount, decimal, printField, print}
@@ -24,24 +24,24 @@ decimal-large n h f =
 
 -- one digit
 pub number-small : {l l′ : List ℕ} {at end d : ℕ} (n : ℕ) → n < 10 → d ≡ digitZero + n % 10
-    → l′ ≡ set l at d → end ≡ cond (ltb at (length l)) (suc at) at → Writes l l′ at end (decimal n)
+    → l′ ≡ set l at d → end ≡ cond (ltb at (length l)) (suc at) at → Prints l l′ at end (decimal n)
 number-small {d = d} n h e s p =
     let byte : d ≡ digitZero + n = omega arith in
-    writes-as (ap (λ b. b ∷ []) byte ∙ sym (decimal-small n h)) (writes-one s p)
+    prints-as (ap (λ b. b ∷ []) byte ∙ sym (decimal-small n h)) (prints-one s p)
 
 -- the digits of the quotient, and the last digit
 pub number-large : {l l₁ l₂ : List ℕ} {at next end d : ℕ} (n : ℕ) → 10 ≤ n → n < 10000000000
-    → (n / 10 < 10000000000 → Writes l l₁ at next (decimal (n / 10))) → d ≡ digitZero + n % 10
-    → l₂ ≡ set l₁ next d → end ≡ cond (ltb next (length l₁)) (suc next) next → Writes l l₂ at end (decimal n)
+    → (n / 10 < 10000000000 → Prints l l₁ at next (decimal (n / 10))) → d ≡ digitZero + n % 10
+    → l₂ ≡ set l₁ next d → end ≡ cond (ltb next (length l₁)) (suc next) next → Prints l l₂ at end (decimal n)
 number-large n h f w e s p =
-    writes-as (ap (λ b. decimal (n / 10) ++ (b ∷ [])) e ∙ sym (decimal-large n h f)) (writes-both (w (omega arith)) (writes-one s p))
+    prints-as (ap (λ b. decimal (n / 10) ++ (b ∷ [])) e ∙ sym (decimal-large n h f)) (prints-both (w (omega arith)) (prints-one s p))
 
 -- ---- fields
 
 -- a comma, and a number
 pub field-bytes : {l l₁ l₂ : List ℕ} {at next end : ℕ} (n : ℕ) → l₁ ≡ set l at comma → next ≡ cond (ltb at (length l)) (suc at) at
-    → Writes l₁ l₂ next end (decimal n) → Writes l l₂ at end (printField n)
-field-bytes n s p w = writes-both (writes-one s p) w
+    → Prints l₁ l₂ next end (decimal n) → Prints l l₂ at end (printField n)
+field-bytes n s p w = prints-both (prints-one s p) w
 
 -- ---- rows
 
@@ -80,16 +80,16 @@ three-fields letLine h = refl
 -- the letter and the first two fields
 pub start-bytes : {l l₁ l₂ l₃ : List ℕ} {at x y z b : ℕ} (r : Row) → b ≡ letter (r .kind)
     → l₁ ≡ set l at b → x ≡ cond (ltb at (length l)) (suc at) at
-    → Writes l₁ l₂ x y (printField (r .x)) → Writes l₂ l₃ y z (printField (r .y)) → Writes l l₃ at z (firstTwo r)
-start-bytes r e s p u v = writes-both (writes-both (writes-as (ap (λ c. c ∷ []) e) (writes-one s p)) u) v
+    → Prints l₁ l₂ x y (printField (r .x)) → Prints l₂ l₃ y z (printField (r .y)) → Prints l l₃ at z (firstTwo r)
+start-bytes r e s p u v = prints-both (prints-both (prints-as (ap (λ c. c ∷ []) e) (prints-one s p)) u) v
 
 -- a row of two fields
-pub row-two : {l l₁ l₂ : List ℕ} {at z end n : ℕ} (r : Row) → n ≡ fieldCount (r .kind) → n ≡ 2 → Writes l l₁ at z (firstTwo r)
-    → l₂ ≡ set l₁ z lineFeed → end ≡ cond (ltb z (length l₁)) (suc z) z → Writes l l₂ at end (print r)
-row-two r e t w s p = writes-as (print-two r (sym e ∙ t)) (writes-both w (writes-one s p))
+pub row-two : {l l₁ l₂ : List ℕ} {at z end n : ℕ} (r : Row) → n ≡ fieldCount (r .kind) → n ≡ 2 → Prints l l₁ at z (firstTwo r)
+    → l₂ ≡ set l₁ z lineFeed → end ≡ cond (ltb z (length l₁)) (suc z) z → Prints l l₂ at end (print r)
+row-two r e t w s p = prints-as (print-two r (sym e ∙ t)) (prints-both w (prints-one s p))
 
 -- a row of three fields
-pub row-three : {l l₁ l₂ l₃ : List ℕ} {at z y end n : ℕ} (r : Row) → n ≡ fieldCount (r .kind) → (n ≡ 2 → ⊥) → Writes l l₁ at z (firstTwo r)
-    → Writes l₁ l₂ z y (printField (r .z))
-    → l₃ ≡ set l₂ y lineFeed → end ≡ cond (ltb y (length l₂)) (suc y) y → Writes l l₃ at end (print r)
-row-three r e t w u s p = writes-as (print-three r (three-fields (r .kind) (λ h. t (e ∙ h)))) (writes-both (writes-both w u) (writes-one s p))
+pub row-three : {l l₁ l₂ l₃ : List ℕ} {at z y end n : ℕ} (r : Row) → n ≡ fieldCount (r .kind) → (n ≡ 2 → ⊥) → Prints l l₁ at z (firstTwo r)
+    → Prints l₁ l₂ z y (printField (r .z))
+    → l₃ ≡ set l₂ y lineFeed → end ≡ cond (ltb y (length l₂)) (suc y) y → Prints l l₃ at end (print r)
+row-three r e t w u s p = prints-as (print-three r (three-fields (r .kind) (λ h. t (e ∙ h)))) (prints-both (prints-both w u) (prints-one s p))

@@ -10,7 +10,7 @@ ghost use mathlib.Core.Path.{_≡_};
 ghost use Prim.Native.Nat.{_+_, _%_, _<_};
 ghost use Rattle.format.specs.Lines.{decimal, printField, print};
 ghost use Rattle.format.specs.Code.{rowView};
-ghost use Rattle.area_cells.specs.Areas.{Writes};
+ghost use Rattle.area_cells.specs.Areas.{Prints};
 
 // The code of a number's last digit.
 fn digit(n: usize) -> u8
@@ -21,7 +21,7 @@ fn digit(n: usize) -> u8
 
 // The digits of a number.
 pub fn put_number(out: &mut [u8], at: usize, n: usize) -> usize
-    ensures { λ r. ⌜ (n < 10000000000 → Writes (now (out .entry)) (now (out .exit)) at r (decimal n)) ⌝ }
+    ensures { λ r. ⌜ (n < 10000000000 → Prints (now (out .entry)) (now (out .exit)) at r (decimal n)) ⌝ }
 {
     if n < 10 {
         return put_byte(out, at, digit(n));
@@ -32,7 +32,7 @@ pub fn put_number(out: &mut [u8], at: usize, n: usize) -> usize
 
 // A comma and a number.
 pub fn put_field(out: &mut [u8], at: usize, n: usize) -> usize
-    ensures { λ r. ⌜ (n < 10000000000 → Writes (now (out .entry)) (now (out .exit)) at r (printField n)) ⌝ }
+    ensures { λ r. ⌜ (n < 10000000000 → Prints (now (out .entry)) (now (out .exit)) at r (printField n)) ⌝ }
 {
     let next = put_byte(out, at, COMMA);
     put_number(out, next, n)
@@ -42,7 +42,7 @@ pub fn put_field(out: &mut [u8], at: usize, n: usize) -> usize
 pub fn put_row(out: &mut [u8], at: usize, r: Row) -> usize
     ensures { λ n. ⌜
         (r .x < 10000000000 → r .y < 10000000000 → r .z < 10000000000
-        → Writes (now (out .entry)) (now (out .exit)) at n (print (rowView r)))
+        → Prints (now (out .entry)) (now (out .exit)) at n (print (rowView r)))
         ⌝ }
 {
     let k = r.kind;

@@ -8,14 +8,10 @@ use query_lines::Query;
 use query_lines::query_of;
 use runner::run::Ran;
 use runner::run::run_checked;
-ghost use mathlib.Core.List.{List};
-ghost use Prim.Native.Nat.{_≤_};
-ghost use lib.ListN.{length};
 ghost use lib.Seq.{slice};
-ghost use Rattle.format.specs.Lines.{Row as RowOf};
 ghost use Rattle.model.specs.Services.{accepted, answerOfRun};
 ghost use Rattle.model.specs.Desk.{queryOf, answerTo};
-ghost use Rattle.runner.specs.RunSays.{Prepared, answerFor, RanAs};
+ghost use Rattle.runner.specs.RunSays.{OnChecked, answerFor, RanWithin};
 
 // Runs a query whose letters stand in its line.
 fn run_query(
@@ -29,11 +25,9 @@ fn run_query(
     result: &mut [u8],
 ) -> Ran
     ensures { λ r. ⌜
-        ((rs : List RowOf) → Prepared (now (t .entry)) base (now (index .entry)) isos rs
-        → 40960 ≤ length (now (work .entry)) → length (now (work .entry)) ≤ 65536
-        → 127 ≤ length (now (result .entry)) → RanAs
+        OnChecked (now (t .entry)) base (now (index .entry)) isos (now (work .entry)) (λ rs. RanWithin
         (answerFor rs (q .iso) (q .back) (q .budget) (slice (q .from) (q .to) (now (line .entry))))
-        (now (result .entry)) (now (result .exit)) r)
+        (now (work .entry)) (now (work .exit)) (now (result .entry)) (now (result .exit)) r)
         ⌝ }
 {
     let value = tail(front(line, q.to), q.from);
@@ -52,7 +46,8 @@ fn run_query(
 }
 
 // Answers a query's line on a table that holds a checked file, whose isos the index finds. The work area
-// needs 40,960 bytes and the result area 127; what the work area then holds is left open.
+// needs 40,960 bytes and the result area 127; what these bytes of the work area then hold is left open, all
+// behind them is as it was.
 pub fn answer_line(
     t: &[u16],
     base: usize,
@@ -63,11 +58,9 @@ pub fn answer_line(
     result: &mut [u8],
 ) -> Ran
     ensures { λ r. ⌜
-        ((rs : List RowOf) → Prepared (now (t .entry)) base (now (index .entry)) isos rs
-        → 40960 ≤ length (now (work .entry)) → length (now (work .entry)) ≤ 65536
-        → 127 ≤ length (now (result .entry))
-        → RanAs (answerOfRun (answerTo (accepted rs) (queryOf (now (line .entry)))))
-        (now (result .entry)) (now (result .exit)) r)
+        OnChecked (now (t .entry)) base (now (index .entry)) isos (now (work .entry))
+        (λ rs. RanWithin (answerOfRun (answerTo (accepted rs) (queryOf (now (line .entry)))))
+        (now (work .entry)) (now (work .exit)) (now (result .entry)) (now (result .exit)) r)
         ⌝ }
 {
     match query_of(line) {

@@ -6,6 +6,7 @@ use area_parts::front;
 use codes::COMMA;
 use codes::LETTER_Q;
 use codes::LINE_FEED;
+use limits::MAX_BUDGET;
 use limits::QUERY_LENGTH;
 use print_text::put_field;
 use print_text::put_number;
@@ -13,10 +14,12 @@ use read_fields::Cursor;
 use read_fields::Number;
 use read_fields::Skipped;
 ghost use mathlib.Core.Path.{_≡_};
+ghost use mathlib.Core.Option.{none};
 ghost use Prim.Native.Nat.{_%_, _<_};
 ghost use lib.ListN.{drop};
+ghost use Rattle.limits.specs.Limits.{budgetBound};
 ghost use Rattle.model.specs.Desk.{queryIn, queryOf, queryLine, fileLine};
-ghost use Rattle.area_cells.specs.Areas.{Writes};
+ghost use Rattle.area_cells.specs.Areas.{Prints};
 ghost use Rattle.query_lines.specs.Views.{asQuery, Within, withLetters, behindLetter};
 
 // A query; its letters stand in its line from place `from` up to place `to`.
@@ -36,7 +39,7 @@ pub enum Asked {
 
 // The 32 low bits of a number.
 fn narrow(n: usize) -> u32
-    ensures { λ r. ⌜ r ≡ n % 4294967296 ⌝ }
+    ensures { λ r. ⌜ r ≡ n % budgetBound ⌝ }
 {
     (n % 4294967296) as u32
 }
@@ -44,7 +47,7 @@ fn narrow(n: usize) -> u32
 // The query of these numbers in a text, where its letters begin at a cursor.
 fn with_letters(iso: usize, direction: usize, budget: usize, c: Cursor, s: &[u8]) -> Asked
     ensures { λ r. ⌜
-        (budget < 4294967296
+        (budget < budgetBound
         → asQuery (now (s .entry)) r ≡ withLetters iso direction budget (drop (c .at) (now (s .entry))))
         × Within (now (s .entry)) r
         ⌝ }
@@ -68,7 +71,7 @@ fn after_letter(c: Cursor, s: &[u8]) -> Asked
     let Number::Value(direction, e) = d.field(s, 1) else {
         return Asked::Bad;
     };
-    let Number::Value(budget, f) = e.field(s, 4294967295) else {
+    let Number::Value(budget, f) = e.field(s, MAX_BUDGET) else {
         return Asked::Bad;
     };
     match f.skip(s, COMMA) {
@@ -103,7 +106,7 @@ pub fn query_of(s: &[u8]) -> Asked
 
 // Appends bytes to an output area.
 fn put_bytes(out: &mut [u8], at: usize, s: &[u8]) -> usize
-    ensures { λ r. ⌜ Writes (now (out .entry)) (now (out .exit)) at r (now (s .entry)) ⌝ }
+    ensures { λ r. ⌜ Prints (now (out .entry)) (now (out .exit)) at r (now (s .entry)) ⌝ }
 {
     let mut i: usize = 0;
     let mut end = at;
@@ -125,7 +128,7 @@ fn wide(n: u8) -> usize
 // A number of 32 bits as a number to print.
 fn widen(n: u32) -> usize
     ensures { λ r. ⌜ r ≡ n ⌝ }
-    ensures { λ r. ⌜ r < 4294967296 ⌝ }
+    ensures { λ r. ⌜ r < budgetBound ⌝ }
 {
     n as usize
 }
@@ -133,7 +136,7 @@ fn widen(n: u32) -> usize
 // The line that answers a file: its number and line.
 pub fn put_verdict(out: &mut [u8], at: usize, number: u8, line: usize) -> usize
     ensures { λ r. ⌜
-        (line < 10000000000 → Writes (now (out .entry)) (now (out .exit)) at r
+        (line < 10000000000 → Prints (now (out .entry)) (now (out .exit)) at r
         (fileLine (record { number = number; line = line })))
         ⌝ }
 {
@@ -146,8 +149,8 @@ pub fn put_verdict(out: &mut [u8], at: usize, number: u8, line: usize) -> usize
 // The line that answers a query: its number, count and letters.
 pub fn put_answer(out: &mut [u8], at: usize, number: u8, count: u32, letters: &[u8]) -> usize
     ensures { λ r. ⌜
-        Writes (now (out .entry)) (now (out .exit)) at r
-        (queryLine (record { number = number; count = count; letters = now (letters .entry) }))
+        Prints (now (out .entry)) (now (out .exit)) at r
+        (queryLine (record { refusal = none; number = number; count = count; letters = now (letters .entry) }))
         ⌝ }
 {
     let n = wide(number);

@@ -1,5 +1,5 @@
 -- The ceilings of a row whose names stand: the nodes of the tree of a T or P line that stands next, over the trees that the table holds.
-use Prim.Native.Nat.{ℕ, zero, suc, _+_, _<_, _≤_, min}
+use Prim.Native.Nat.{ℕ, suc, _+_, _<_, _≤_, min}
 use native.Mathlib.Omega.{arith}
 use mathlib.Core.Path.{_≡_, refl, sym, ap, ap₂, _∙_, subst}
 use mathlib.Core.Bool.{Bool, true, false, _&&_}
@@ -8,8 +8,8 @@ use mathlib.Core.List.{List}
 use lib.Dec.{leb, ltb}
 use lib.ListN.{length, getD}
 use borrow.Author.Tests.{lt-ltb, le-ltb, le-leb, lt-leb, leb-true, leb-false, ltb-true}
-use Rattle.limits.specs.Limits.{maxTypes, maxPatterns, maxIsos, maxClauses, maxLets, maxNodes, maxTags}
-use Rattle.calculus.specs.Trees.{Ty, tunit, typeNodes, Pat, punit, nodes, tags}
+use Rattle.limits.specs.Limits.{maxTypes, maxPatterns, maxIsos, maxClauses, maxLets, maxNodes, maxTags, manyTags, manyNodes}
+use Rattle.calculus.specs.Trees.{tunit, typeNodes, Pat, punit, nodes, tags}
 use Rattle.calculus.specs.Refusals.{typeLine, patternLine}
 use Rattle.format.specs.Judge.{Seen, typeNames, patternNames, named, withinCeilings}
 use Rattle.format.specs.declared.Kind.the-variants as kinds
@@ -17,29 +17,27 @@ use Rattle.format.specs.declared.Row as R
 use Rattle.format.specs.Code.{kindView, rowView}
 use Rattle.calculus.proofs.Basic.{bool-cases, and-true}
 use Rattle.table_trees.specs.Unfolding.{typeOf, patternOf}
-use Rattle.table_trees.proofs.Counts.{type-count, leaf-count, inj-count, pair-count, leaf-tags, inj-tags, pair-tags, above-two, above-one, both, one-more}
+use Rattle.table_trees.proofs.Cases.{Parted, sums, products, Whole, Injects, lefts, rights, Leaf}
+use Rattle.table_sizes.proofs.Counts.{whole-count, type-count, leaf-count, inj-count, pair-count, leaf-tags, inj-tags, pair-tags, above-two, above-one, both, one-more}
 use Rattle.read_seen.specs.declared.Seen as C
-use Rattle.read_seen.specs.Told.{TypesAt, PatternsAt, nextType, nextPattern, Told}
+use Rattle.read_ceilings.specs.Reckoned.{TypeReckoned, PatternReckoned, CeilingsTold}
+use Rattle.read_seen.specs.Told.{PatternsAt, nextType, nextPattern, Told}
 
 -- ---- what names that stand tell
 
-pub type-named : (n k a b : ℕ) → (k ≡ 0 → ⊥) → typeNames n k a b ≡ true → (a < n) × (b < n)
-type-named n zero a b h e = absurd (h refl)
-type-named n (suc k) a b h e = let d = and-true (ltb a n) (ltb b n) e in (ltb-true a n (d .0), ltb-true b n (d .1))
+two-named : (n a b : ℕ) → (ltb a n && ltb b n) ≡ true → (a < n) × (b < n)
+two-named n a b e = let d = and-true (ltb a n) (ltb b n) e in (ltb-true a n (d .0), ltb-true b n (d .1))
 
-pub inj-named : (n k a b : ℕ) → 2 ≤ k → k < 4 → patternNames n k a b ≡ true → a < n
-inj-named n zero a b h l e = absurd (omega arith)
-inj-named n (suc zero) a b h l e = absurd (omega arith)
-inj-named n (suc (suc zero)) a b h l e = ltb-true a n e
-inj-named n (suc (suc (suc zero))) a b h l e = ltb-true a n e
-inj-named n (suc (suc (suc (suc k)))) a b h l e = absurd (omega arith)
+type-named : {k : ℕ} (n a b : ℕ) → Parted k → typeNames n k a b ≡ true → (a < n) × (b < n)
+type-named n a b sums e = two-named n a b e
+type-named n a b products e = two-named n a b e
 
-pub pair-named : (n k a b : ℕ) → 4 ≤ k → patternNames n k a b ≡ true → (a < n) × (b < n)
-pair-named n zero a b h e = absurd (omega arith)
-pair-named n (suc zero) a b h e = absurd (omega arith)
-pair-named n (suc (suc zero)) a b h e = absurd (omega arith)
-pair-named n (suc (suc (suc zero))) a b h e = absurd (omega arith)
-pair-named n (suc (suc (suc (suc k)))) a b h e = let d = and-true (ltb a n) (ltb b n) e in (ltb-true a n (d .0), ltb-true b n (d .1))
+inj-named : {k : ℕ} (n a b : ℕ) → Injects k → patternNames n k a b ≡ true → a < n
+inj-named n a b lefts e = ltb-true a n e
+inj-named n a b rights e = ltb-true a n e
+
+pair-named : {k : ℕ} (n a b : ℕ) → k ≡ 4 → patternNames n k a b ≡ true → (a < n) × (b < n)
+pair-named n a b h e = two-named n a b (sym (ap (λ k. patternNames n k a b) h) ∙ e)
 
 -- ---- counts that stop at a ceiling
 
@@ -54,101 +52,84 @@ stops top {r} x e = go (bool-cases (leb x top))
 -- ---- the nodes of a line that stands next
 
 module _ (t : List ℕ) (k a b : ℕ) where
-  pub next-type-unit : k ≡ 0 → (ts : List Ty) → TypesAt t ts → typeNames (length ts) k a b ≡ true → 1 ≡ min 128 (typeNodes (nextType ts k a b))
-  next-type-unit e ts at names = sym (ap (λ x. min 128 (typeNodes (nextType ts x a b))) e)
+  pub next-type-whole : Whole k → TypeReckoned typeNodes manyNodes t k a b 1
+  next-type-whole h ts at names = sym (ap (min manyNodes) (whole-count (getD ts a tunit) (getD ts b tunit) h))
 
   pub next-type-node :
       {m n r : ℕ} →
-      (k ≡ 0 → ⊥) →
-      m ≡ min 128 (typeNodes (typeOf t a)) →
-      n ≡ min 128 (typeNodes (typeOf t b)) →
-      r ≡ min 128 (1 + m + n) →
-      (ts : List Ty) →
-      TypesAt t ts →
-      typeNames (length ts) k a b ≡ true →
-      r ≡ min 128 (typeNodes (nextType ts k a b))
+      Parted k →
+      m ≡ min manyNodes (typeNodes (typeOf t a)) →
+      n ≡ min manyNodes (typeNodes (typeOf t b)) →
+      r ≡ min manyNodes (1 + m + n) →
+      TypeReckoned typeNodes manyNodes t k a b r
   next-type-node h p q e ts at names =
-      let d = type-named (length ts) k a b h names in
+      let d = type-named (length ts) a b h names in
       above-two _ _ _
-      (p ∙ ap (λ x. min 128 (typeNodes x)) (at a (d .0)))
-      (q ∙ ap (λ x. min 128 (typeNodes x)) (at b (d .1)))
+      (p ∙ ap (λ x. min manyNodes (typeNodes x)) (at a (d .0)))
+      (q ∙ ap (λ x. min manyNodes (typeNodes x)) (at b (d .1)))
       e
-      (type-count k (getD ts a tunit) (getD ts b tunit) h)
+      (type-count (getD ts a tunit) (getD ts b tunit) h)
 
 module _ (t : List ℕ) (base k a b : ℕ) where
-  pub next-leaf : k < 2 → (ps : List Pat) → PatternsAt t base ps → patternNames (length ps) k a b ≡ true → 1 ≡ min 128 (nodes (nextPattern ps k a b))
-  next-leaf h ps at names = sym (ap (min 128) (leaf-count k a (getD ps a punit) (getD ps b punit) h))
+  pub next-leaf : Leaf k → PatternReckoned nodes manyNodes t base k a b 1
+  next-leaf h ps at names = sym (ap (min manyNodes) (leaf-count a (getD ps a punit) (getD ps b punit) h))
 
   pub next-inj :
       {m r : ℕ} →
-      2 ≤ k →
-      k < 4 →
-      m ≡ min 128 (nodes (patternOf t base a)) →
-      r ≡ min 128 (1 + m + 0) →
-      (ps : List Pat) →
-      PatternsAt t base ps →
-      patternNames (length ps) k a b ≡ true →
-      r ≡ min 128 (nodes (nextPattern ps k a b))
-  next-inj h l p e ps at names =
+      Injects k →
+      m ≡ min manyNodes (nodes (patternOf t base a)) →
+      r ≡ min manyNodes (1 + m + 0) →
+      PatternReckoned nodes manyNodes t base k a b r
+  next-inj h p e ps at names =
       above-one _ _
-      (p ∙ ap (λ x. min 128 (nodes x)) (at a (inj-named (length ps) k a b h l names)))
+      (p ∙ ap (λ x. min manyNodes (nodes x)) (at a (inj-named (length ps) a b h names)))
       e
-      (inj-count k a (getD ps a punit) (getD ps b punit) h l)
+      (inj-count a (getD ps a punit) (getD ps b punit) h)
 
   pub next-pair :
       {m n r : ℕ} →
-      4 ≤ k →
-      m ≡ min 128 (nodes (patternOf t base a)) →
-      n ≡ min 128 (nodes (patternOf t base b)) →
-      r ≡ min 128 (1 + m + n) →
-      (ps : List Pat) →
-      PatternsAt t base ps →
-      patternNames (length ps) k a b ≡ true →
-      r ≡ min 128 (nodes (nextPattern ps k a b))
+      k ≡ 4 →
+      m ≡ min manyNodes (nodes (patternOf t base a)) →
+      n ≡ min manyNodes (nodes (patternOf t base b)) →
+      r ≡ min manyNodes (1 + m + n) →
+      PatternReckoned nodes manyNodes t base k a b r
   next-pair h p q e ps at names =
-      let d = pair-named (length ps) k a b h names in
+      let d = pair-named (length ps) a b h names in
       above-two _ _ _
-      (p ∙ ap (λ x. min 128 (nodes x)) (at a (d .0)))
-      (q ∙ ap (λ x. min 128 (nodes x)) (at b (d .1)))
+      (p ∙ ap (λ x. min manyNodes (nodes x)) (at a (d .0)))
+      (q ∙ ap (λ x. min manyNodes (nodes x)) (at b (d .1)))
       e
-      (pair-count k a (getD ps a punit) (getD ps b punit) h)
+      (pair-count a (getD ps a punit) (getD ps b punit) h)
 
-  pub next-leaf-tags : k < 2 → (ps : List Pat) → PatternsAt t base ps → patternNames (length ps) k a b ≡ true → 0 ≡ min 41 (tags (nextPattern ps k a b))
-  next-leaf-tags h ps at names = sym (ap (min 41) (leaf-tags k a (getD ps a punit) (getD ps b punit) h))
+  pub next-leaf-tags : Leaf k → PatternReckoned tags manyTags t base k a b 0
+  next-leaf-tags h ps at names = sym (ap (min manyTags) (leaf-tags a (getD ps a punit) (getD ps b punit) h))
 
   pub next-inj-tags :
       {m r : ℕ} →
-      2 ≤ k →
-      k < 4 →
-      m ≡ min 41 (tags (patternOf t base a)) →
-      r ≡ min 41 (1 + m) →
-      (ps : List Pat) →
-      PatternsAt t base ps →
-      patternNames (length ps) k a b ≡ true →
-      r ≡ min 41 (tags (nextPattern ps k a b))
-  next-inj-tags h l p e ps at names =
+      Injects k →
+      m ≡ min manyTags (tags (patternOf t base a)) →
+      r ≡ min manyTags (1 + m) →
+      PatternReckoned tags manyTags t base k a b r
+  next-inj-tags h p e ps at names =
       one-more _ _
-      (p ∙ ap (λ x. min 41 (tags x)) (at a (inj-named (length ps) k a b h l names)))
+      (p ∙ ap (λ x. min manyTags (tags x)) (at a (inj-named (length ps) a b h names)))
       e
-      (inj-tags k a (getD ps a punit) (getD ps b punit) h l)
+      (inj-tags a (getD ps a punit) (getD ps b punit) h)
 
   pub next-pair-tags :
       {m n r : ℕ} →
-      4 ≤ k →
-      m ≡ min 41 (tags (patternOf t base a)) →
-      n ≡ min 41 (tags (patternOf t base b)) →
-      r ≡ min 41 (m + n) →
-      (ps : List Pat) →
-      PatternsAt t base ps →
-      patternNames (length ps) k a b ≡ true →
-      r ≡ min 41 (tags (nextPattern ps k a b))
+      k ≡ 4 →
+      m ≡ min manyTags (tags (patternOf t base a)) →
+      n ≡ min manyTags (tags (patternOf t base b)) →
+      r ≡ min manyTags (m + n) →
+      PatternReckoned tags manyTags t base k a b r
   next-pair-tags h p q e ps at names =
-      let d = pair-named (length ps) k a b h names in
+      let d = pair-named (length ps) a b h names in
       both _ _ _
-      (p ∙ ap (λ x. min 41 (tags x)) (at a (d .0)))
-      (q ∙ ap (λ x. min 41 (tags x)) (at b (d .1)))
+      (p ∙ ap (λ x. min manyTags (tags x)) (at a (d .0)))
+      (q ∙ ap (λ x. min manyTags (tags x)) (at b (d .1)))
       e
-      (pair-tags k a (getD ps a punit) (getD ps b punit) h)
+      (pair-tags a (getD ps a punit) (getD ps b punit) h)
 
 -- ---- T lines
 
@@ -156,29 +137,19 @@ module _ (t : List ℕ) (c : C.Seen) (r : R.Row) where
   pub type-kept :
       {m : ℕ} →
       c .types < maxTypes →
-      ((ts : List Ty) → TypesAt t ts → typeNames (length ts) (r .x) (r .y) (r .z) ≡ true → m ≡ min 128 (typeNodes (nextType ts (r .x) (r .y) (r .z)))) →
-      (s : Seen) →
-      Told t c s →
-      named s typeLine (rowView r) ≡ true →
-      leb m maxNodes ≡ withinCeilings s typeLine (rowView r)
+      TypeReckoned typeNodes manyNodes t (r .x) (r .y) (r .z) m →
+      CeilingsTold typeLine t c r (leb m maxNodes)
   type-kept l e s told names =
       let few : ltb (length (s .types)) maxTypes ≡ true = ap (λ n. ltb n maxTypes) (sym (told .counts .types)) ∙ lt-ltb (c .types) maxTypes l in
       let x : ℕ = typeNodes (nextType (s .types) (r .x) (r .y) (r .z)) in
       stops maxNodes x (e (s .types) (told .types) names) ∙ sym (ap (λ b. b && leb x maxNodes) few)
 
-  pub type-many : maxTypes ≤ c .types → (s : Seen) → Told t c s → named s typeLine (rowView r) ≡ true → false ≡ withinCeilings s typeLine (rowView r)
+  pub type-many : maxTypes ≤ c .types → CeilingsTold typeLine t c r false
   type-many l s told names =
       let many : ltb (length (s .types)) maxTypes ≡ false = ap (λ n. ltb n maxTypes) (sym (told .counts .types)) ∙ le-ltb (c .types) maxTypes l in
       sym (ap (λ b. b && leb (typeNodes (nextType (s .types) (r .x) (r .y) (r .z))) maxNodes) many)
 
 -- ---- P lines
-
--- m nodes, and g left and right nodes, are what a P line that stands next has, at most as many as are told apart
-abbrev NodesOf : List ℕ → ℕ → R.Row → ℕ → Type 0
-NodesOf t base r m = (ps : List Pat) → PatternsAt t base ps → patternNames (length ps) (r .x) (r .y) (r .z) ≡ true → m ≡ min 128 (nodes (nextPattern ps (r .x) (r .y) (r .z)))
-
-abbrev TagsOf : List ℕ → ℕ → R.Row → ℕ → Type 0
-TagsOf t base r g = (ps : List Pat) → PatternsAt t base ps → patternNames (length ps) (r .x) (r .y) (r .z) ≡ true → g ≡ min 41 (tags (nextPattern ps (r .x) (r .y) (r .z)))
 
 -- its three tests
 three : {a b c : Bool} (x y z : Bool) → x ≡ a → y ≡ b → z ≡ c → (x && y && z) ≡ (a && b && c)
@@ -195,13 +166,10 @@ module _ (t : List ℕ) (c : C.Seen) (r : R.Row) where
   pub pattern-kept :
       {m g : ℕ} →
       c .patterns < maxPatterns →
-      NodesOf t (c .types) r m →
+      PatternReckoned nodes manyNodes t (c .types) (r .x) (r .y) (r .z) m →
       m ≤ maxNodes →
-      TagsOf t (c .types) r g →
-      (s : Seen) →
-      Told t c s →
-      named s patternLine (rowView r) ≡ true →
-      leb g maxTags ≡ withinCeilings s patternLine (rowView r)
+      PatternReckoned tags manyTags t (c .types) (r .x) (r .y) (r .z) g →
+      CeilingsTold patternLine t c r (leb g maxTags)
   pattern-kept {m} {g} l e h f s told names =
       let p : Pat = nextPattern (s .patterns) (r .x) (r .y) (r .z) in
       let at : PatternsAt t (c .types) (s .patterns) = behind-types s told in
@@ -212,12 +180,9 @@ module _ (t : List ℕ) (c : C.Seen) (r : R.Row) where
   pub pattern-heavy :
       {m : ℕ} →
       c .patterns < maxPatterns →
-      NodesOf t (c .types) r m →
+      PatternReckoned nodes manyNodes t (c .types) (r .x) (r .y) (r .z) m →
       maxNodes < m →
-      (s : Seen) →
-      Told t c s →
-      named s patternLine (rowView r) ≡ true →
-      false ≡ withinCeilings s patternLine (rowView r)
+      CeilingsTold patternLine t c r false
   pattern-heavy {m} l e h s told names =
       let p : Pat = nextPattern (s .patterns) (r .x) (r .y) (r .z) in
       let at : PatternsAt t (c .types) (s .patterns) = behind-types s told in
@@ -225,7 +190,7 @@ module _ (t : List ℕ) (c : C.Seen) (r : R.Row) where
       (sym (lt-leb m maxNodes h) ∙ stops maxNodes (nodes p) (e (s .patterns) at names))
       refl
 
-  pub pattern-many : maxPatterns ≤ c .patterns → (s : Seen) → Told t c s → named s patternLine (rowView r) ≡ true → false ≡ withinCeilings s patternLine (rowView r)
+  pub pattern-many : maxPatterns ≤ c .patterns → CeilingsTold patternLine t c r false
   pattern-many l s told names =
       let p : Pat = nextPattern (s .patterns) (r .x) (r .y) (r .z) in
       let many : ltb (length (s .patterns)) maxPatterns ≡ false = ap (λ n. ltb n maxPatterns) (sym (told .counts .patterns)) ∙ le-ltb (c .patterns) maxPatterns l in
@@ -233,30 +198,27 @@ module _ (t : List ℕ) (c : C.Seen) (r : R.Row) where
 
   -- ---- each kind
 
-  abbrev pub Within : Bool → Type 0
-  Within b = (s : Seen) → Told t c s → named s (kindView (r .kind)) (rowView r) ≡ true → b ≡ withinCeilings s (kindView (r .kind)) (rowView r)
-
   pub within-type :
       {b : Bool} →
       r .kind ≡ kinds.Type →
-      ((s : Seen) → Told t c s → named s typeLine (rowView r) ≡ true → b ≡ withinCeilings s typeLine (rowView r)) →
-      Within b
+      CeilingsTold typeLine t c r b →
+      CeilingsTold (kindView (r .kind)) t c r b
   within-type q e s told names =
       e s told (ap (λ k. named s (kindView k) (rowView r)) (sym q) ∙ names) ∙ ap (λ k. withinCeilings s (kindView k) (rowView r)) (sym q)
 
   pub within-pattern :
       {b : Bool} →
       r .kind ≡ kinds.Pattern →
-      ((s : Seen) → Told t c s → named s patternLine (rowView r) ≡ true → b ≡ withinCeilings s patternLine (rowView r)) →
-      Within b
+      CeilingsTold patternLine t c r b →
+      CeilingsTold (kindView (r .kind)) t c r b
   within-pattern q e s told names =
       e s told (ap (λ k. named s (kindView k) (rowView r)) (sym q) ∙ names) ∙ ap (λ k. withinCeilings s (kindView k) (rowView r)) (sym q)
 
-  pub within-iso : r .kind ≡ kinds.Iso → Within (ltb (c .isos) maxIsos)
+  pub within-iso : r .kind ≡ kinds.Iso → CeilingsTold (kindView (r .kind)) t c r (ltb (c .isos) maxIsos)
   within-iso q s told names = ap (λ n. ltb n maxIsos) (told .counts .isos) ∙ ap (λ k. withinCeilings s (kindView k) (rowView r)) (sym q)
 
-  pub within-clause : r .kind ≡ kinds.Clause → Within (ltb (c .clauses) maxClauses)
+  pub within-clause : r .kind ≡ kinds.Clause → CeilingsTold (kindView (r .kind)) t c r (ltb (c .clauses) maxClauses)
   within-clause q s told names = ap (λ n. ltb n maxClauses) (told .counts .clauses) ∙ ap (λ k. withinCeilings s (kindView k) (rowView r)) (sym q)
 
-  pub within-let : r .kind ≡ kinds.Let → Within (ltb (c .lets) maxLets)
+  pub within-let : r .kind ≡ kinds.Let → CeilingsTold (kindView (r .kind)) t c r (ltb (c .lets) maxLets)
   within-let q s told names = ap (λ n. ltb n maxLets) (told .counts .lets) ∙ ap (λ k. withinCeilings s (kindView k) (rowView r)) (sym q)

@@ -2,6 +2,9 @@
 
 use codes::LEFT;
 use codes::PAIR;
+use codes::PRODUCT;
+use codes::RIGHT;
+use codes::SUM;
 use format::Kind;
 use format::Row;
 use limits::MAX_CLAUSES;
@@ -12,73 +15,52 @@ use limits::MAX_PATTERNS;
 use limits::MAX_TAGS;
 use limits::MAX_TYPES;
 use read_seen::Seen;
-use table_trees::above;
-use table_trees::pattern_size;
-use table_trees::pattern_tags;
-use table_trees::together;
-use table_trees::type_size;
-ghost use mathlib.Core.Path.{_≡_};
-ghost use mathlib.Core.Bool.{true};
-ghost use mathlib.Core.List.{List};
-ghost use Prim.Native.Nat.{min};
-ghost use lib.ListN.{length};
-ghost use Rattle.calculus.specs.Trees.{Ty, typeNodes, Pat, nodes, tags};
+use table_sizes::above;
+use table_sizes::pattern_size;
+use table_sizes::pattern_tags;
+use table_sizes::together;
+use table_sizes::type_size;
+ghost use Rattle.limits.specs.Limits.{manyTags, manyNodes};
+ghost use Rattle.calculus.specs.Trees.{typeNodes, nodes, tags};
 ghost use Rattle.calculus.specs.Refusals.{typeLine, patternLine};
-ghost use Rattle.format.specs.Judge.{Seen as SeenOf, typeNames, patternNames, named, withinCeilings};
-ghost use Rattle.format.specs.Code.{kindView, rowView};
-ghost use Rattle.read_seen.specs.Told.{TypesAt, PatternsAt, nextType, nextPattern, Told};
+ghost use Rattle.format.specs.Code.{kindView};
+ghost use Rattle.read_ceilings.specs.Reckoned.{TypeReckoned, PatternReckoned, CeilingsTold};
 
 // The nodes of a T line that stands next, over the lines that it names.
 fn type_nodes(t: &[u16], kind: usize, a: usize, b: usize) -> usize
-    ensures { λ r. ⌜
-        ((ts : List Ty) → TypesAt (now (t .entry)) ts → typeNames (length ts) kind a b ≡ true
-        → r ≡ min 128 (typeNodes (nextType ts kind a b)))
-        ⌝ }
+    ensures { λ r. ⌜ TypeReckoned typeNodes manyNodes (now (t .entry)) kind a b r ⌝ }
 {
-    if kind == 0 {
-        return 1;
+    match kind {
+        SUM | PRODUCT => above(type_size(t, a), type_size(t, b)),
+        _ => 1,
     }
-    above(type_size(t, a), type_size(t, b))
 }
 
 // The nodes of a P line that stands next.
 fn pattern_nodes(t: &[u16], base: usize, kind: usize, a: usize, b: usize) -> usize
-    ensures { λ r. ⌜
-        ((ps : List Pat) → PatternsAt (now (t .entry)) base ps → patternNames (length ps) kind a b ≡ true
-        → r ≡ min 128 (nodes (nextPattern ps kind a b)))
-        ⌝ }
+    ensures { λ r. ⌜ PatternReckoned nodes manyNodes (now (t .entry)) base kind a b r ⌝ }
 {
-    if kind < LEFT {
-        return 1;
+    match kind {
+        LEFT | RIGHT => above(pattern_size(t, base, a), 0),
+        PAIR => above(pattern_size(t, base, a), pattern_size(t, base, b)),
+        _ => 1,
     }
-    if kind < PAIR {
-        return above(pattern_size(t, base, a), 0);
-    }
-    above(pattern_size(t, base, a), pattern_size(t, base, b))
 }
 
 // The left and right nodes of a P line that stands next.
 fn next_tags(t: &[u16], base: usize, kind: usize, a: usize, b: usize) -> usize
-    ensures { λ r. ⌜
-        ((ps : List Pat) → PatternsAt (now (t .entry)) base ps → patternNames (length ps) kind a b ≡ true
-        → r ≡ min 41 (tags (nextPattern ps kind a b)))
-        ⌝ }
+    ensures { λ r. ⌜ PatternReckoned tags manyTags (now (t .entry)) base kind a b r ⌝ }
 {
-    if kind < LEFT {
-        return 0;
+    match kind {
+        LEFT | RIGHT => together(1, pattern_tags(t, base, a)),
+        PAIR => together(pattern_tags(t, base, a), pattern_tags(t, base, b)),
+        _ => 0,
     }
-    if kind < PAIR {
-        return together(1, pattern_tags(t, base, a));
-    }
-    together(pattern_tags(t, base, a), pattern_tags(t, base, b))
 }
 
 // A T line whose names stand: how many there are, and its nodes.
 fn type_within(c: Seen, t: &[u16], r: Row) -> bool
-    ensures { λ b. ⌜
-        ((s : SeenOf) → Told (now (t .entry)) c s → named s typeLine (rowView r) ≡ true
-        → b ≡ withinCeilings s typeLine (rowView r))
-        ⌝ }
+    ensures { λ b. ⌜ CeilingsTold typeLine (now (t .entry)) c r b ⌝ }
 {
     if c.types < MAX_TYPES {
         return type_nodes(t, r.x, r.y, r.z) <= MAX_NODES;
@@ -88,10 +70,7 @@ fn type_within(c: Seen, t: &[u16], r: Row) -> bool
 
 // A P line whose names stand: how many there are, its nodes, its left and right nodes.
 fn pattern_within(c: Seen, t: &[u16], r: Row) -> bool
-    ensures { λ b. ⌜
-        ((s : SeenOf) → Told (now (t .entry)) c s → named s patternLine (rowView r) ≡ true
-        → b ≡ withinCeilings s patternLine (rowView r))
-        ⌝ }
+    ensures { λ b. ⌜ CeilingsTold patternLine (now (t .entry)) c r b ⌝ }
 {
     if c.patterns < MAX_PATTERNS {
         let base = c.types;
@@ -105,10 +84,7 @@ fn pattern_within(c: Seen, t: &[u16], r: Row) -> bool
 
 // Whether a row whose names stand keeps the ceilings.
 pub fn within_ceilings(c: Seen, t: &[u16], r: Row) -> bool
-    ensures { λ b. ⌜
-        ((s : SeenOf) → Told (now (t .entry)) c s → named s (kindView (r .kind)) (rowView r) ≡ true
-        → b ≡ withinCeilings s (kindView (r .kind)) (rowView r))
-        ⌝ }
+    ensures { λ b. ⌜ CeilingsTold (kindView (r .kind)) (now (t .entry)) c r b ⌝ }
 {
     let k = r.kind;
     match k {

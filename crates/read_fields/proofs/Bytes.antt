@@ -2,23 +2,21 @@
 use Prim.Native.Nat.{ℕ, suc, _+_, _-_, _<_, _≤_}
 use native.Mathlib.Omega.{arith}
 use mathlib.Core.Path.{_≡_, refl, sym, ap, _∙_}
-use mathlib.Core.Logic.{_⊎_, inl, inr}
-use mathlib.Core.Bool.{true, false, cond}
+use mathlib.Core.Bool.{cond}
 use mathlib.Core.Option.{Option, none, some}
 use mathlib.Core.List.{List, [], _∷_, _++_}
-use lib.Dec.{leb, eqb}
+use lib.Dec.{eqb}
 use lib.ListN.{length, getD, take, drop, drop-of-length-le, take-append-drop}
 use lib.Seq.{take-suc}
-use borrow.Author.Tests.{eq-eqb, ne-eqb, leb-true, leb-false}
+use borrow.Author.Tests.{eq-eqb, ne-eqb}
 use Rattle.limits.specs.Limits.{lineFeed, carriageReturn}
-use Rattle.calculus.specs.Tools.{guard}
 use Rattle.format.specs.Lines.{text, skip, ended}
-use Rattle.calculus.proofs.Basic.{bool-cases, from-byte}
+use Rattle.calculus.proofs.Basic.{none≢some, from-byte}
 use Rattle.format.proofs.Endings.{text-none, text-last}
 use Rattle.read_fields.specs.declared.Cursor as C
 use Rattle.read_fields.specs.declared.Skipped as S
 use Rattle.read_fields.specs.declared.Skipped.the-variants as skips
-use Rattle.read_fields.specs.Views.{asSkipped, asText}
+use Rattle.read_fields.specs.Views.{asSkipped, asText, asEnd}
 
 pub skip-past : (c : ℕ) (s : List ℕ) (at : ℕ) → at < length s → getD s at 0 ≡ c → some (drop (at + 1) s) ≡ skip c (drop at s)
 skip-past c s at h e = rw (from-byte s at h, eq-eqb (getD s at 0) c e)
@@ -38,12 +36,26 @@ other s r p e = sym (ap (asSkipped s) p) ∙ e
 
 -- ---- the end of the bytes
 
-pub ended-there : (s : List ℕ) (at : ℕ) → guard (leb (length s) at) ≡ ended (drop at s)
-ended-there s at = go (bool-cases (leb (length s) at))
-  where
-    go : (leb (length s) at ≡ true) ⊎ (leb (length s) at ≡ false) → guard (leb (length s) at) ≡ ended (drop at s)
-    go (inl t) = rw (t, drop-of-length-le s (leb-true (length s) at t))
-    go (inr t) = rw (t, from-byte s at (leb-false (length s) at t))
+pub at-end : (s : List ℕ) (at : ℕ) → length s ≤ at → some (drop at s) ≡ asEnd (drop at s)
+at-end s at h = rw (drop-of-length-le s h)
+
+pub before-end : (s : List ℕ) (at : ℕ) → at < length s → none ≡ asEnd (drop at s)
+before-end s at h = rw (from-byte s at h)
+
+-- what an end that is there, or is not, says of the definition
+end-some : {cs : List ℕ} (bs : List ℕ) → some cs ≡ asEnd bs → ended bs ≡ some tt
+end-some [] e = refl
+end-some (b ∷ bs) e = absurd (none≢some (sym e))
+
+end-none : (bs : List ℕ) → none ≡ asEnd bs → ended bs ≡ none
+end-none [] e = absurd (none≢some e)
+end-none (b ∷ bs) e = refl
+
+pub is-end : (s bs : List ℕ) {r : S.Skipped} {c : C.Cursor} → r ≡ skips.Past c → asSkipped s r ≡ asEnd bs → ended bs ≡ some tt
+is-end s bs {r} {c} p e = end-some bs (past s r c p e)
+
+pub not-end : (s bs : List ℕ) {r : S.Skipped} → r ≡ skips.Other → asSkipped s r ≡ asEnd bs → ended bs ≡ none
+not-end s bs {r} p e = end-none bs (other s r p e)
 
 -- ---- a line's ending
 

@@ -1,12 +1,14 @@
--- What the answers of the cursor's methods mean, as the definitions of the model have it: a number and the bytes behind it, or nothing.
-use Prim.Native.Nat.{ℕ, _-_}
-use mathlib.Core.Bool.{Bool, cond}
+-- What the answers of the cursor's methods mean, as the definitions of the model have it: a number and the bytes behind it, or nothing;
+-- and where a line ends.
+use Prim.Native.Nat.{ℕ, _-_, _≤_, _<_}
+use mathlib.Core.Path.{_≡_}
+use mathlib.Core.Bool.{cond}
 use mathlib.Core.Option.{Option, none, some}
-use mathlib.Core.List.{List}
-use lib.ListN.{take, drop}
+use mathlib.Core.List.{List, _∷_}
+use lib.ListN.{length, take, drop}
 use Rattle.limits.specs.Limits.{comma, digitZero}
-use Rattle.calculus.specs.Tools.{_>>=_, guard}
-use Rattle.format.specs.Lines.{isDigit, skip, numeral}
+use Rattle.calculus.specs.Tools.{_>>=_}
+use Rattle.format.specs.Lines.{lines, isDigit, skip, numeral, ended}
 use Rattle.read_fields.specs.declared.Skipped as S
 use Rattle.read_fields.specs.declared.Skipped.the-variants as skips
 use Rattle.read_fields.specs.declared.Number as N
@@ -33,5 +35,14 @@ digitOf b = cond (isDigit b) (b - digitZero) 10
 abbrev pub asField : ℕ → List ℕ → Option (ℕ × List ℕ)
 asField bound bs = skip comma bs >>= λ cs. numeral bound cs
 
-abbrev pub asEnd : Bool → Option (Unit {0})
-asEnd b = guard b
+-- nothing is left, and the cursor stays
+abbrev pub asEnd : List ℕ → Option (List ℕ)
+asEnd bs = ended bs >>= λ _. some bs
+
+-- `end` is where the line that begins at `from` ends: the lines from `from` on are the bytes up to `end` and the lines from `end` on;
+-- where no line begins, it is `from`
+pub record LineEnd (s : List ℕ) (from end : ℕ) : Type 0 where
+  pub further : from < length s → from < end
+  pub within : from < length s → end ≤ length s
+  pub splits : from < length s → lines (drop from s) ≡ take (end - from) (drop from s) ∷ lines (drop end s)
+  pub stays : length s ≤ from → end ≡ from

@@ -1,4 +1,4 @@
-// The text of a line: a cursor whose methods take a field or the line's end and hand the cursor back.
+// The text of a line, and where lines end: a cursor whose methods take a field or an end and hand the cursor back.
 
 use area_cells::byte_at;
 use codes::CARRIAGE_RETURN;
@@ -7,8 +7,8 @@ use codes::LINE_FEED;
 ghost use mathlib.Core.Path.{_≡_};
 ghost use Prim.Native.Nat.{_+_};
 ghost use lib.ListN.{getD, drop};
-ghost use Rattle.format.specs.Lines.{text, skip, digits, numeral, ended};
-ghost use Rattle.read_fields.specs.Views.{asText, asSkipped, asNumber, digitOf, asField, asEnd};
+ghost use Rattle.format.specs.Lines.{text, skip, digits, numeral};
+ghost use Rattle.read_fields.specs.Views.{asText, asSkipped, asNumber, digitOf, asField, asEnd, LineEnd};
 
 pub struct Cursor {
     pub at: usize,
@@ -91,12 +91,29 @@ impl Cursor {
         }
     }
 
-    // Nothing is left.
-    pub fn ends(self, s: &[u8]) -> bool
-        ensures { λ r. ⌜ asEnd r ≡ ended (drop (self .at) (now (s .entry))) ⌝ }
+    // The end of the bytes: the cursor stays there, and nothing is left.
+    pub fn end(self, s: &[u8]) -> Skipped
+        ensures { λ r. ⌜ asSkipped (now (s .entry)) r ≡ asEnd (drop (self .at) (now (s .entry))) ⌝ }
     {
         let at = self.at;
-        s.len() <= at
+        if s.len() <= at {
+            return Skipped::Past(Cursor { at: at });
+        }
+        Skipped::Other
+    }
+
+    // The end of the line that begins here: behind its line feed, or where the bytes end.
+    pub fn line_end(self, s: &[u8]) -> Cursor
+        ensures { λ r. ⌜ LineEnd (now (s .entry)) (self .at) (r .at) ⌝ }
+    {
+        let mut at = self.at;
+        while at < s.len() {
+            if s[at] == LINE_FEED {
+                return Cursor { at: at + 1 };
+            }
+            at += 1;
+        }
+        Cursor { at: at }
     }
 
     // A line's ending, a line feed or a carriage return and a line feed: the cursor stands before it, where the text ends.

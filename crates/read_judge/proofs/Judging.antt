@@ -11,7 +11,7 @@ use Rattle.format.specs.declared.Row as R
 use Rattle.format.specs.Code.{kindView, rowView}
 use Rattle.read_seen.specs.declared.Seen as C
 use Rattle.read_seen.specs.Told.{Counts, Told}
-use Rattle.read_ceilings.proofs.Ceilings.{Within}
+use Rattle.read_ceilings.specs.Reckoned.{CeilingsTold}
 
 -- ---- a row
 
@@ -38,7 +38,7 @@ module _ (t : List ℕ) (c : C.Seen) (r : R.Row) {o : Bool}
       bad-name e s told =
           rw (judge-open s (rowView r), ← order (s .above) (told .counts .stage), a, ← fields, b, ← names s (told .counts), e)
 
-      module _ (d : n ≡ true) {w : Bool} (within : Within t c r w) where
+      module _ (d : n ≡ true) {w : Bool} (within : CeilingsTold (kindView (r .kind)) t c r w) where
         stands : (s : Seen) → Told t c s → named s (kindView (r .kind)) (rowView r) ≡ true
         stands s told = sym (names s (told .counts)) ∙ d
 

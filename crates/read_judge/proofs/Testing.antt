@@ -14,6 +14,7 @@ use Rattle.format.specs.declared.Kind as K
 use Rattle.format.specs.declared.Kind.the-variants as kinds
 use Rattle.format.specs.declared.Row as R
 use Rattle.format.specs.Code.{kindView, rowView}
+use Rattle.table_trees.proofs.Cases.{Parted, sums, products, Whole, units, others, Injects, lefts, rights, Leaf, unit, var, other}
 use Rattle.read_seen.specs.declared.Seen as C
 use Rattle.read_seen.specs.Told.{Counts}
 
@@ -41,45 +42,38 @@ module _ {n : ℕ} {k : K.Kind} where
 
 -- ---- fields
 
-module _ {k a : ℕ} (b : ℕ) where
-  pub type-unit : k ≡ 0 → a ≡ 0 → eqb b 0 ≡ typeFields k a b
-  type-unit p q = sym (ap₂ (λ x y. typeFields x y b) p q)
+pub idle-first : {a : ℕ} (b : ℕ) → a ≡ 0 → eqb b 0 ≡ (eqb a 0 && eqb b 0)
+idle-first b e = sym (ap (λ x. eqb x 0 && eqb b 0) e)
 
-  pub type-idle : k ≡ 0 → (a ≡ 0 → ⊥) → false ≡ typeFields k a b
-  type-idle p h = sym (ap (λ x. typeFields x a b) p ∙ ap (λ t. t && eqb b 0) (ne-eqb a 0 h))
+pub busy-first : {a : ℕ} (b : ℕ) → (a ≡ 0 → ⊥) → false ≡ (eqb a 0 && eqb b 0)
+busy-first {a} b h = sym (ap (λ t. t && eqb b 0) (ne-eqb a 0 h))
 
-  pub pattern-unit : k ≡ 0 → a ≡ 0 → eqb b 0 ≡ patternFields k a b
-  pattern-unit p q = sym (ap₂ (λ x y. patternFields x y b) p q)
+pub variable-number : {a : ℕ} (b : ℕ) → a < variables → eqb b 0 ≡ (ltb a variables && eqb b 0)
+variable-number {a} b h = sym (ap (λ t. t && eqb b 0) (lt-ltb a variables h))
 
-  pub pattern-idle : k ≡ 0 → (a ≡ 0 → ⊥) → false ≡ patternFields k a b
-  pattern-idle p h = sym (ap (λ x. patternFields x a b) p ∙ ap (λ t. t && eqb b 0) (ne-eqb a 0 h))
+pub no-variable-number : {a : ℕ} (b : ℕ) → variables ≤ a → false ≡ (ltb a variables && eqb b 0)
+no-variable-number {a} b h = sym (ap (λ t. t && eqb b 0) (le-ltb a variables h))
 
-  pub pattern-variable : k ≡ 1 → a < variables → eqb b 0 ≡ patternFields k a b
-  pattern-variable p h = sym (ap (λ x. patternFields x a b) p ∙ ap (λ t. t && eqb b 0) (lt-ltb a variables h))
+-- the test of a listed kind m, and of a number that is none
+pub type-listed : {k : ℕ} {r : Bool} (m a b : ℕ) → k ≡ m → r ≡ typeFields m a b → r ≡ typeFields k a b
+type-listed m a b e h = h ∙ sym (ap (λ k. typeFields k a b) e)
 
-  pub pattern-no-variable : k ≡ 1 → variables ≤ a → false ≡ patternFields k a b
-  pattern-no-variable p h = sym (ap (λ x. patternFields x a b) p ∙ ap (λ t. t && eqb b 0) (le-ltb a variables h))
+pub type-unlisted : (k a b : ℕ) → (k ≡ 0 → ⊥) → (k ≡ 1 → ⊥) → (k ≡ 2 → ⊥) → false ≡ typeFields k a b
+type-unlisted zero a b u s p = absurd (u refl)
+type-unlisted (suc zero) a b u s p = absurd (s refl)
+type-unlisted (suc (suc zero)) a b u s p = absurd (p refl)
+type-unlisted (suc (suc (suc k))) a b u s p = refl
 
-pub type-node : (k a b : ℕ) → (k ≡ 0 → ⊥) → leb k 2 ≡ typeFields k a b
-type-node zero a b h = absurd (h refl)
-type-node (suc zero) a b h = refl
-type-node (suc (suc zero)) a b h = refl
-type-node (suc (suc (suc k))) a b h = lt-leb (suc (suc (suc k))) 2 (omega arith)
+pub pattern-listed : {k : ℕ} {r : Bool} (m a b : ℕ) → k ≡ m → r ≡ patternFields m a b → r ≡ patternFields k a b
+pattern-listed m a b e h = h ∙ sym (ap (λ k. patternFields k a b) e)
 
-pub pattern-injection : (k a b : ℕ) → (k ≡ 0 → ⊥) → (k ≡ 1 → ⊥) → k < 4 → eqb b 0 ≡ patternFields k a b
-pattern-injection zero a b h g l = absurd (h refl)
-pattern-injection (suc zero) a b h g l = absurd (g refl)
-pattern-injection (suc (suc zero)) a b h g l = refl
-pattern-injection (suc (suc (suc zero))) a b h g l = refl
-pattern-injection (suc (suc (suc (suc k)))) a b h g l = absurd (omega arith)
-
-pub pattern-pair : (k a b : ℕ) → 4 ≤ k → eqb k 4 ≡ patternFields k a b
-pattern-pair zero a b h = absurd (omega arith)
-pattern-pair (suc zero) a b h = absurd (omega arith)
-pattern-pair (suc (suc zero)) a b h = absurd (omega arith)
-pattern-pair (suc (suc (suc zero))) a b h = absurd (omega arith)
-pattern-pair (suc (suc (suc (suc zero)))) a b h = refl
-pattern-pair (suc (suc (suc (suc (suc k))))) a b h = ne-eqb (suc (suc (suc (suc (suc k))))) 4 (λ e. omega arith)
+pub pattern-unlisted : (k a b : ℕ) → (k ≡ 0 → ⊥) → (k ≡ 1 → ⊥) → (k ≡ 2 → ⊥) → (k ≡ 3 → ⊥) → (k ≡ 4 → ⊥) → false ≡ patternFields k a b
+pattern-unlisted zero a b u v l r p = absurd (u refl)
+pattern-unlisted (suc zero) a b u v l r p = absurd (v refl)
+pattern-unlisted (suc (suc zero)) a b u v l r p = absurd (l refl)
+pattern-unlisted (suc (suc (suc zero))) a b u v l r p = absurd (r refl)
+pattern-unlisted (suc (suc (suc (suc zero)))) a b u v l r p = absurd (p refl)
+pattern-unlisted (suc (suc (suc (suc (suc k))))) a b u v l r p = refl
 
 module _ (r : R.Row) {b : Bool} where
   pub type-fits : r .kind ≡ kinds.Type → b ≡ typeFields (r .x) (r .y) (r .z) → b ≡ fieldsFit (kindView (r .kind)) (rowView r)
@@ -96,31 +90,25 @@ first-below {a} {n} b h = sym (ap (λ t. t && ltb b n) (lt-ltb a n h))
 pub first-not-below : {a n : ℕ} (b : ℕ) → n ≤ a → false ≡ (ltb a n && ltb b n)
 first-not-below {a} {n} b h = sym (ap (λ t. t && ltb b n) (le-ltb a n h))
 
-pub type-leaf-names : {k : ℕ} (n a b : ℕ) → k ≡ 0 → true ≡ typeNames n k a b
-type-leaf-names n a b e = sym (ap (λ k. typeNames n k a b) e)
+pub whole-names : {k : ℕ} (n a b : ℕ) → Whole k → true ≡ typeNames n k a b
+whole-names n a b units = refl
+whole-names n a b (others k) = refl
 
-pub type-node-names : (n k a b : ℕ) {r : Bool} → (k ≡ 0 → ⊥) → r ≡ (ltb a n && ltb b n) → r ≡ typeNames n k a b
-type-node-names n zero a b h e = absurd (h refl)
-type-node-names n (suc k) a b h e = e
+pub type-node-names : {k : ℕ} (n a b : ℕ) {r : Bool} → Parted k → r ≡ (ltb a n && ltb b n) → r ≡ typeNames n k a b
+type-node-names n a b sums e = e
+type-node-names n a b products e = e
 
-pub leaf-names : (n k a b : ℕ) → k < 2 → true ≡ patternNames n k a b
-leaf-names n zero a b h = refl
-leaf-names n (suc zero) a b h = refl
-leaf-names n (suc (suc k)) a b h = absurd (omega arith)
+pub leaf-names : {k : ℕ} (n a b : ℕ) → Leaf k → true ≡ patternNames n k a b
+leaf-names n a b unit = refl
+leaf-names n a b var = refl
+leaf-names n a b (other k) = refl
 
-pub injection-names : (n k a b : ℕ) → 2 ≤ k → k < 4 → ltb a n ≡ patternNames n k a b
-injection-names n zero a b h l = absurd (omega arith)
-injection-names n (suc zero) a b h l = absurd (omega arith)
-injection-names n (suc (suc zero)) a b h l = refl
-injection-names n (suc (suc (suc zero))) a b h l = refl
-injection-names n (suc (suc (suc (suc k)))) a b h l = absurd (omega arith)
+pub injection-names : {k : ℕ} (n a b : ℕ) → Injects k → ltb a n ≡ patternNames n k a b
+injection-names n a b lefts = refl
+injection-names n a b rights = refl
 
-pub pair-names : (n k a b : ℕ) {r : Bool} → 4 ≤ k → r ≡ (ltb a n && ltb b n) → r ≡ patternNames n k a b
-pair-names n zero a b h e = absurd (omega arith)
-pair-names n (suc zero) a b h e = absurd (omega arith)
-pair-names n (suc (suc zero)) a b h e = absurd (omega arith)
-pair-names n (suc (suc (suc zero))) a b h e = absurd (omega arith)
-pair-names n (suc (suc (suc (suc k)))) a b h e = e
+pub pair-names : {k : ℕ} (n a b : ℕ) {r : Bool} → k ≡ 4 → r ≡ (ltb a n && ltb b n) → r ≡ patternNames n k a b
+pair-names n a b h e = e ∙ sym (ap (λ k. patternNames n k a b) h)
 
 -- an L line: t says whether its patterns stand
 module _ {t p : Bool} (e : t ≡ p) (i isos : ℕ) where

@@ -1,7 +1,13 @@
 // Refusals 4 to 7 of a row, by the rows above it.
 
+use codes::LEFT;
 use codes::PAIR;
 use codes::PRODUCT;
+use codes::RIGHT;
+use codes::SUM;
+use codes::TYPE_UNIT;
+use codes::UNIT;
+use codes::VARIABLE;
 use format::Kind;
 use format::Refusal;
 use format::Row;
@@ -12,7 +18,8 @@ ghost use mathlib.Core.Path.{_≡_};
 ghost use mathlib.Core.Bool.{_&&_};
 ghost use mathlib.Core.Option.{Option};
 ghost use Prim.Native.Nat.{suc};
-ghost use lib.Dec.{ltb};
+ghost use lib.Dec.{ltb, eqb};
+ghost use Rattle.limits.specs.Limits.{variables};
 ghost use Rattle.calculus.specs.Refusals.{Kind as KindOf};
 ghost use Rattle.format.specs.Judge.{Seen as SeenOf, stage as stageOf, inOrder, typeFields, patternFields, fieldsFit, typeNames, patternNames, named, judge as judgeOf};
 ghost use Rattle.format.specs.Code.{kindView, rowView, refusalView};
@@ -31,37 +38,48 @@ fn in_order(stage: usize, k: Kind) -> bool
     }
 }
 
+// Whether two fields are idle.
+fn idle(a: usize, b: usize) -> bool
+    ensures { λ r. ⌜ r ≡ (eqb a 0 && eqb b 0) ⌝ }
+{
+    if a == 0 {
+        return b == 0;
+    }
+    false
+}
+
+// Whether the fields of a variable are a number below 32 and an idle one.
+fn variable_fields(a: usize, b: usize) -> bool
+    ensures { λ r. ⌜ r ≡ (ltb a variables && eqb b 0) ⌝ }
+{
+    if a < VARIABLES {
+        return b == 0;
+    }
+    false
+}
+
 fn type_fields(kind: usize, a: usize, b: usize) -> bool
     ensures { λ r. ⌜ r ≡ typeFields kind a b ⌝ }
 {
-    if kind == 0 {
-        if a == 0 {
-            return b == 0;
-        }
-        return false;
+    match kind {
+        TYPE_UNIT => idle(a, b),
+        SUM => true,
+        PRODUCT => true,
+        _ => false,
     }
-    kind <= PRODUCT
 }
 
 fn pattern_fields(kind: usize, a: usize, b: usize) -> bool
     ensures { λ r. ⌜ r ≡ patternFields kind a b ⌝ }
 {
-    if kind == 0 {
-        if a == 0 {
-            return b == 0;
-        }
-        return false;
+    match kind {
+        UNIT => idle(a, b),
+        VARIABLE => variable_fields(a, b),
+        LEFT => b == 0,
+        RIGHT => b == 0,
+        PAIR => true,
+        _ => false,
     }
-    if kind == 1 {
-        if a < VARIABLES {
-            return b == 0;
-        }
-        return false;
-    }
-    if kind < PAIR {
-        return b == 0;
-    }
-    kind == PAIR
 }
 
 // A listed kind, idle fields 0, a variable below 32.
@@ -91,22 +109,20 @@ fn both_below(a: usize, b: usize, n: usize) -> bool
 fn type_names(n: usize, kind: usize, a: usize, b: usize) -> bool
     ensures { λ r. ⌜ r ≡ typeNames n kind a b ⌝ }
 {
-    if kind == 0 {
-        return true;
+    match kind {
+        SUM | PRODUCT => both_below(a, b, n),
+        _ => true,
     }
-    both_below(a, b, n)
 }
 
 fn pattern_names(n: usize, kind: usize, a: usize, b: usize) -> bool
     ensures { λ r. ⌜ r ≡ patternNames n kind a b ⌝ }
 {
-    if kind < 2 {
-        return true;
+    match kind {
+        LEFT | RIGHT => a < n,
+        PAIR => both_below(a, b, n),
+        _ => true,
     }
-    if kind < PAIR {
-        return a < n;
-    }
-    both_below(a, b, n)
 }
 
 // An L line names patterns above, and an iso before its own, which is the last of `isos`.

@@ -1,5 +1,5 @@
 -- What the rows tell, with a row more that passes and is stored behind them: where rows stand, the counts, and the trees of the table's lines.
-use Prim.Native.Nat.{ℕ, zero, suc, _+_, _*_, _<_, _≤_}
+use Prim.Native.Nat.{ℕ, suc, _+_, _*_, _<_, _≤_}
 use native.Mathlib.Numerals.{add-one}
 use native.Mathlib.Omega.{arith}
 use native.Mathlib.Decide.{decLt}
@@ -11,16 +11,17 @@ use lib.ListN.{length, getD, length-append, List·getD-append}
 use lib.Seq.{sets, getD-at}
 use borrow.Author.Tests.{leb-true}
 use Rattle.limits.specs.Limits.{maxLines, rowWidth}
-use Rattle.calculus.specs.Trees.{Ty, tunit, tsum, tprod, Pat, punit, pinj, ppair, left, right}
+use Rattle.calculus.specs.Trees.{Ty, tunit, Pat, punit}
 use Rattle.calculus.specs.Refusals.{Kind, typeLine, patternLine, isoLine, clauseLine, letLine}
 use Rattle.format.specs.Lines.{Row, numbers}
 use Rattle.format.specs.Judge.{Seen, start, stage, inOrder, typeNode, typeTree, typeNames, patternNode, patternTree, patternNames, judge, afterKind, after}
+use Rattle.format.specs.Kinds.{typeKind, patternKind}
+use Rattle.format.proofs.Naming.{type-by-names, pattern-by-names}
 use Rattle.format.proofs.Passing.{Fit, judge-fit}
 use Rattle.table_trees.specs.Unfolding.{cellOf, smallerOf, typeOf, patternOf}
 use Rattle.table_trees.proofs.Unfolding.{smaller-less, type-node, type-same, pattern-node, pattern-same}
 use Rattle.read_seen.specs.declared.Seen as C
 use Rattle.read_seen.specs.Told.{startSeen, seenAfter, SmallCounts, Counts, TypesAt, PatternsAt, Told}
-use Rattle.read_ceilings.proofs.Ceilings.{type-named, inj-named, pair-named}
 use Rattle.read_lines.proofs.Storing.{rows-before, row-stored}
 
 -- ---- where rows stand
@@ -151,27 +152,6 @@ counts-small l d h =
       lets = omega (arith, d .lets, h .lets);
     }
 
--- ---- nodes above the same trees
-
-same-type : (k : ℕ) {a b a′ b′ : Ty} → ((k ≡ 0 → ⊥) → (a ≡ a′) × (b ≡ b′)) → typeNode k a b ≡ typeNode k a′ b′
-same-type zero h = refl
-same-type (suc zero) h = let d = h (λ e. omega arith) in ap₂ tsum (d .0) (d .1)
-same-type (suc (suc k)) h = let d = h (λ e. omega arith) in ap₂ tprod (d .0) (d .1)
-
-same-pattern : (k n : ℕ) {p q p′ q′ : Pat} → (2 ≤ k → p ≡ p′) → (4 ≤ k → q ≡ q′) → patternNode k n p q ≡ patternNode k n p′ q′
-same-pattern zero n f g = refl
-same-pattern (suc zero) n f g = refl
-same-pattern (suc (suc zero)) n f g = ap (pinj left) (f (omega arith))
-same-pattern (suc (suc (suc zero))) n f g = ap (pinj right) (f (omega arith))
-same-pattern (suc (suc (suc (suc k)))) n f g = ap₂ ppair (f (omega arith)) (g (omega arith))
-
-first-named : (n k a b : ℕ) → 2 ≤ k → patternNames n k a b ≡ true → a < n
-first-named n k a b h e = go (decLt k 4)
-  where
-    go : Dec (k < 4) → a < n
-    go (yes l) = inj-named n k a b h l e
-    go (no l) = pair-named n k a b (omega arith) e .0
-
 -- ---- the trees of the table's lines
 
 module _ (t t′ : List ℕ) (n : ℕ) (r : Row) (e : t′ ≡ sets t (n * rowWidth) (numbers r)) (h : n < maxLines) (w : n * rowWidth + rowWidth ≤ length t) where
@@ -196,7 +176,7 @@ module _ (t t′ : List ℕ) (n : ℕ) (r : Row) (e : t′ ≡ sets t (n * rowWi
         type-node t′ n
         ∙ ap (λ k. typeNode k (typeOf t′ (smallerOf (cellOf t′ n 2) n)) (typeOf t′ (smallerOf (cellOf t′ n 3) n))) (stored-at 1 (omega arith))
         ∙ ap₂ (λ a b. typeNode (r .x) (typeOf t′ (smallerOf a n)) (typeOf t′ (smallerOf b n))) (stored-at 2 (omega arith)) (stored-at 3 (omega arith))
-        ∙ same-type (r .x) (λ z. let d = type-named (length ts) (r .x) (r .y) (r .z) z names in (named-type (r .y) (d .0), named-type (r .z) (d .1)))
+        ∙ type-by-names (length ts) (typeKind (r .x)) (r .y) (r .z) names (named-type (r .y)) (named-type (r .z))
 
     types-more : TypesAt t′ (ts ++ (typeTree ts r ∷ []))
     types-more i b = go (decLt i (length ts))
@@ -225,9 +205,7 @@ module _ (t t′ : List ℕ) (n : ℕ) (r : Row) (e : t′ ≡ sets t (n * rowWi
         (λ a b. patternNode (r .x) a (patternOf t′ base (smallerOf a j)) (patternOf t′ base (smallerOf b j)))
         (stored-here 2 (omega arith))
         (stored-here 3 (omega arith))
-        ∙ same-pattern (r .x) (r .y)
-        (λ k. named-pattern (r .y) (first-named j (r .x) (r .y) (r .z) k names))
-        (λ k. named-pattern (r .z) (pair-named j (r .x) (r .y) (r .z) k names .1))
+        ∙ pattern-by-names j (patternKind (r .x)) (r .y) (r .z) names (named-pattern (r .y)) (named-pattern (r .z))
 
     patterns-more : PatternsAt t′ base (ps ++ (patternTree ps r ∷ []))
     patterns-more j b = go (decLt j (length ps))

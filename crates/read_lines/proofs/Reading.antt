@@ -4,7 +4,7 @@ use native.Mathlib.Numerals.{add-one}
 use native.Mathlib.Omega.{arith}
 use mathlib.Core.Path.{_≡_, refl, sym, ap, ap₂, _∙_, subst}
 use mathlib.Core.Option.{Option, none, some}
-use mathlib.Core.List.{List, [], _∷_, _++_}
+use mathlib.Core.List.{List, [], _∷_, _++_, append-nil, append-assoc}
 use lib.ListN.{length, take, drop, length-append, drop-of-length-le}
 use lib.Seq.{sets, sets-eq, length-sets, take-at, drop-append-add, drop-drop}
 use Rattle.limits.specs.Limits.{tableLength, maxLines, rowWidth}
@@ -15,15 +15,14 @@ use Rattle.format.specs.declared.Row as R
 use Rattle.format.specs.declared.Refusal as F
 use Rattle.format.specs.declared.Refusal.the-variants as refusals
 use Rattle.format.specs.Code.{kindView, rowView, refusalView}
-use Rattle.calculus.proofs.Basic.{none≢some, some-inj}
 use Rattle.format.proofs.Printing.{WellFormed, read-print}
 use Rattle.format.proofs.Tables.{length-table, table-snoc}
 use Rattle.read_seen.specs.declared.Seen as C
 use Rattle.read_lines.specs.declared.read.Judged as J
 use Rattle.read_lines.specs.declared.read.Judged.the-variants as judged
-use Rattle.read_split.specs.Split.{LineEnd}
+use Rattle.read_fields.specs.Views.{LineEnd}
 use Rattle.read_seen.specs.Told.{startSeen, seenAfter, SmallCounts, Told}
-use Rattle.read_lines.specs.Reads.{passes, refused, asJudged, judgedRow, judgedForm, judgedLine, ReadSays}
+use Rattle.read_lines.specs.Reads.{passes, refused, asJudged, judgedRow, judgedForm, judgedLine, ahead, passing, refusalIn, lineIn, rowsOver, ReadSays}
 use Rattle.read_lines.proofs.Keeping.{Stands, stands-start, stands-kept, counts-small, told-start, told-kept}
 
 -- ---- one row more at the end
@@ -68,18 +67,6 @@ module _ (a t₀ : List ℕ) (n : ℕ) (e : length a ≡ n * rowWidth) where
       ∙ ap₂ (λ u v. (u ++ numbers r) ++ v) (take-at a rest (n * rowWidth) e)
       (ap (λ k. drop (k + rowWidth) (a ++ rest)) (sym e) ∙ drop-append-add a rest rowWidth ∙ drop-drop rowWidth (n * rowWidth) t₀ ∙ ap (λ k. drop k t₀) place)
 
-  -- far behind them nothing changed
-  table-behind : {t : List ℕ} → t ≡ a ++ drop (n * rowWidth) t₀ → n ≤ maxLines → drop tableLength t ≡ drop tableLength t₀
-  table-behind {t} p l =
-      let rest : List ℕ = drop (n * rowWidth) t₀ in
-      let far : n * rowWidth + (tableLength - n * rowWidth) ≡ tableLength = omega arith in
-      let further : length a + (tableLength - n * rowWidth) ≡ tableLength = omega arith in
-      ap (drop tableLength) p
-      ∙ ap (λ k. drop k (a ++ rest)) (sym further)
-      ∙ drop-append-add a rest (tableLength - n * rowWidth)
-      ∙ drop-drop (tableLength - n * rowWidth) (n * rowWidth) t₀
-      ∙ ap (λ k. drop k t₀) far
-
 -- ---- one line
 
 good-row : (q r : Row) (x : Option Refusal) → passes r ≡ judgedRow q x → (q ≡ r) × (x ≡ none)
@@ -107,6 +94,13 @@ read-bad m n x l ls e = go (rowOf l) refl e
 read-good : (m : Seen) (n : ℕ) (r : Row) (l : List ℕ) (ls : List (List ℕ)) → rowOf l ≡ some r → judge m r ≡ none → readFrom m n (l ∷ ls) ≡ withRow r (readFrom (after m r) (suc n) ls)
 read-good m n r l ls p q = rw (p, q)
 
+-- the rows that pass, with a line more
+passing-good : (m : Seen) (r : Row) (l : List ℕ) (ls : List (List ℕ)) → passes r ≡ judgedLine m l → passing m (l ∷ ls) ≡ r ∷ passing (after m r) ls
+passing-good m r l ls e = ap (λ v. ahead v (λ q. passing (after m q) ls)) (sym e)
+
+passing-bad : (m : Seen) (x : Option Refusal) (l : List ℕ) (ls : List (List ℕ)) → refused x ≡ judgedLine m l → passing m (l ∷ ls) ≡ []
+passing-bad m x l ls e = ap (λ v. ahead v (λ q. passing (after m q) ls)) (sym e)
+
 -- ---- the rows so far
 
 -- t₀ is the table at first, t the table now; n rows are read, the next line begins at `at`
@@ -115,6 +109,7 @@ pub record SoFar (s t₀ t : List ℕ) (at n : ℕ) (c : C.Seen) : Type 0 where
   pub count : n ≡ length file
   pub within : at ≤ length s
   pub reads : readFrom start 1 (lines s) ≡ inFront file (readFrom (afterAll start file) (suc n) (lines (drop at s)))
+  pub front : passing start (lines s) ≡ file ++ passing (afterAll start file) (lines (drop at s))
   pub left : n + length (lines (drop at s)) ≤ maxLines
   pub table : t ≡ tableOf file ++ drop (n * rowWidth) t₀
   pub wide : length t ≡ length t₀
@@ -128,6 +123,7 @@ so-far-start s t₀ {c} e h =
       count = refl;
       within = omega arith;
       reads = refl;
+      front = refl;
       left = omega arith;
       table = refl;
       wide = refl;
@@ -139,23 +135,26 @@ module _ {s t₀ t : List ℕ} {at n : ℕ} {c : C.Seen} (d : SoFar s t₀ t at 
   filled : length (tableOf (d .file)) ≡ n * rowWidth
   filled = length-table (d .file) ∙ ap (λ k. k * rowWidth) (sym (d .count))
 
+  -- where the rows so far are all that pass
+  ends-here : passing (afterAll start (d .file)) (lines (drop at s)) ≡ [] → (x : F.Refusal) (p : ℕ) → refusalView x ≡ refusalIn (readFrom start 1 (lines s))
+      → p ≡ lineIn (readFrom start 1 (lines s)) → ReadSays s t₀ t (record { refusal = x; place = p; seen = c; lines = n })
+  ends-here e x p ex ep =
+      let all : passing start (lines s) ≡ d .file = d .front ∙ ap (λ rs. d .file ++ rs) e ∙ append-nil (d .file) in
+      record {
+        refusal = ex;
+        place = ep;
+        table = d .table ∙ ap (λ k. tableOf (d .file) ++ drop (k * rowWidth) t₀) (d .count) ∙ ap (λ rs. rowsOver rs t₀) (sym all);
+        told = subst (λ rs. Told t c (afterAll start rs)) (sym all) (d .told);
+        count = d .count ∙ ap length (sym all);
+      }
+
   -- at the end of the file
   pub so-far-end : length s ≤ at → ReadSays s t₀ t (record { refusal = refusals.Nothing; place = 0; seen = c; lines = n })
   so-far-end h =
-      record {
-        accepted =
-            λ _. record {
-              file = d .file;
-              reads =
-                  d .reads
-                  ∙ ap (λ bs. inFront (d .file) (readFrom (afterAll start (d .file)) (suc n) (lines bs))) (drop-of-length-le s h)
-                  ∙ front-rows (d .file);
-              table = d .table ∙ ap (λ k. tableOf (d .file) ++ drop (k * rowWidth) t₀) (d .count);
-              told = d .told;
-              count = d .count;
-            };
-        refused = λ f e. absurd (none≢some e);
-      }
+      let none-left = drop-of-length-le s h in
+      let r : readFrom start 1 (lines s) ≡ rows (d .file) =
+      d .reads ∙ ap (λ bs. inFront (d .file) (readFrom (afterAll start (d .file)) (suc n) (lines bs))) none-left ∙ front-rows (d .file) in
+      ends-here (ap (λ bs. passing (afterAll start (d .file)) (lines bs)) none-left) refusals.Nothing 0 (ap refusalIn (sym r)) (ap lineIn (sym r))
 
   -- a line more, from `at` to `end`, with the verdict j
   module _ (inside : at < length s) {end : ℕ} (ends : LineEnd s at end) (j : J.Judged)
@@ -191,7 +190,7 @@ module _ {s t₀ t : List ℕ} {at n : ℕ} {c : C.Seen} (d : SoFar s t₀ t at 
           t′ ≡ sets t (n * rowWidth) (numbers (rowView r)) →
           c′ ≡ seenAfter (kindView (r .kind)) c →
           SoFar s t₀ t′ end (n + 1) c′
-      unfolding now-told
+      unfolding line now-told
       so-far-more enough {t′} {c′} p q =
           let row : Row = rowView r in
           let m : Seen = afterAll start (d .file) in
@@ -206,6 +205,12 @@ module _ {s t₀ t : List ℕ} {at n : ℕ} {c : C.Seen} (d : SoFar s t₀ t at 
                 ∙ ap (inFront (d .file)) (read-good m (suc n) row line (lines (drop end s)) (good-line .0) (good-line .1))
                 ∙ front-snoc (d .file) row (readFrom (after m row) (suc (suc n)) (lines (drop end s)))
                 ∙ ap₂ (λ u k. inFront (d .file ++ (row ∷ [])) (readFrom u (suc k) (lines (drop end s)))) (sym (after-snoc start (d .file) row)) (sym (add-one n));
+            front =
+                d .front
+                ∙ ap (λ ls. d .file ++ passing m ls) (ends .splits inside)
+                ∙ ap (λ rs. d .file ++ rs) (passing-good m row line (lines (drop end s)) (sym (ap asJudged good) ∙ says m (d .told)))
+                ∙ sym (append-assoc (d .file) (row ∷ []) (passing (after m row) (lines (drop end s))))
+                ∙ ap (λ u. (d .file ++ (row ∷ [])) ++ passing u (lines (drop end s))) (sym (after-snoc start (d .file) row));
             left = omega (arith, d .left);
             table =
                 table-more (tableOf (d .file)) t₀ n filled row (d .table) w p
@@ -224,17 +229,8 @@ module _ {s t₀ t : List ℕ} {at n : ℕ} {c : C.Seen} (d : SoFar s t₀ t at 
     unfolding line now-told
     so-far-refused f bad =
         let m : Seen = afterAll start (d .file) in
-        let (g, p, q) = read-bad m (suc n) (refusalView f) line (lines (drop end s)) (sym (ap asJudged bad) ∙ says m (d .told)) in
-        record {
-          accepted = λ e. absurd (none≢some (sym e ∙ p));
-          refused =
-              λ h e. record {
-                reads =
-                    next-reads
-                    ∙ ap (inFront (d .file)) q
-                    ∙ front-faulty (d .file) g (suc n)
-                    ∙ ap₂ faulty (some-inj (sym p ∙ e)) (sym (add-one n));
-                wide = d .wide;
-                behind = table-behind (tableOf (d .file)) t₀ n filled (d .table) (omega (arith, d .left));
-              };
-        }
+        let v = sym (ap asJudged bad) ∙ says m (d .told) in
+        let (g, p, q) = read-bad m (suc n) (refusalView f) line (lines (drop end s)) v in
+        let r : readFrom start 1 (lines s) ≡ faulty g (suc n) = next-reads ∙ ap (inFront (d .file)) q ∙ front-faulty (d .file) g (suc n) in
+        ends-here (ap (passing m) (ends .splits inside) ∙ passing-bad m (refusalView f) line (lines (drop end s)) v) f (n + 1)
+        (p ∙ ap refusalIn (sym r)) (add-one n ∙ ap lineIn (sym r))

@@ -2,12 +2,12 @@
 use Prim.Native.Nat.{ℕ, _*_}
 use mathlib.Core.Path.{_≡_}
 use mathlib.Core.Option.{Option, none, some}
-use mathlib.Core.List.{List, _++_}
+use mathlib.Core.List.{List, [], _∷_, _++_}
 use lib.ListN.{length, drop}
-use Rattle.limits.specs.Limits.{tableLength, rowWidth}
+use Rattle.limits.specs.Limits.{rowWidth}
 use Rattle.calculus.specs.Refusals.{Refusal, badLine}
 use Rattle.format.specs.Lines.{Row, rowOf, lines, tableOf}
-use Rattle.format.specs.Judge.{Seen, start, judge, afterAll, readFrom, rows, faulty}
+use Rattle.format.specs.Judge.{Seen, start, judge, after, afterAll, Reading, rows, faulty, readFrom}
 use Rattle.format.specs.Code.{rowView, refusalView}
 use Rattle.read_seen.specs.Told.{Told}
 use Rattle.read_lines.specs.declared.read.Judged as J
@@ -35,20 +35,33 @@ judgedForm s (some r) = judgedRow r (judge s r)
 abbrev pub judgedLine : Seen → List ℕ → Verdict
 judgedLine s l = judgedForm s (rowOf l)
 
--- an accepted reading: the table holds the rows, four numbers a line, and is as it was behind them
-pub record Holds (s t₀ t : List ℕ) (r : R.Read) : Type 0 where
-  pub file : List Row
-  pub reads : readFrom start 1 (lines s) ≡ rows file
-  pub table : t ≡ tableOf file ++ drop (length file * rowWidth) t₀
-  pub told : Told t (r .seen) (afterAll start file)
-  pub count : r .lines ≡ length file
+-- the rows of the lines before the first that is refused; of all lines where none is
+abbrev pub ahead : Verdict → (Row → List Row) → List Row
+ahead (passes r) k = r ∷ k r
+ahead (refused f) k = []
 
--- a refused one: at most the table's first 16,384 numbers changed
-pub record Refuses (s t₀ t : List ℕ) (r : R.Read) (f : Refusal) : Type 0 where
-  pub reads : readFrom start 1 (lines s) ≡ faulty f (r .place)
-  pub wide : length t ≡ length t₀
-  pub behind : drop tableLength t ≡ drop tableLength t₀
+abbrev pub passing : Seen → List (List ℕ) → List Row
+passing s [] = []
+passing s (l ∷ ls) = ahead (judgedLine s l) (λ r. passing (after s r) ls)
 
+-- a reading's refusal, and its line, 0 where there is none
+abbrev pub refusalIn : Reading → Option Refusal
+refusalIn (rows rs) = none
+refusalIn (faulty f n) = some f
+
+abbrev pub lineIn : Reading → ℕ
+lineIn (rows rs) = 0
+lineIn (faulty f n) = n
+
+-- rows in the table's front, four numbers a line; it is as it was behind them
+abbrev pub rowsOver : List Row → List ℕ → List ℕ
+rowsOver rs t₀ = tableOf rs ++ drop (length rs * rowWidth) t₀
+
+-- a file read into a table, t₀ before and t after: refusal and line are those of the model, and the table holds the lines before the first
+-- that is refused, which are counted
 pub record ReadSays (s t₀ t : List ℕ) (r : R.Read) : Type 0 where
-  pub accepted : refusalView (r .refusal) ≡ none → Holds s t₀ t r
-  pub refused : (f : Refusal) → refusalView (r .refusal) ≡ some f → Refuses s t₀ t r f
+  pub refusal : refusalView (r .refusal) ≡ refusalIn (readFrom start 1 (lines s))
+  pub place : r .place ≡ lineIn (readFrom start 1 (lines s))
+  pub table : t ≡ rowsOver (passing start (lines s)) t₀
+  pub told : Told t (r .seen) (afterAll start (passing start (lines s)))
+  pub count : r .lines ≡ length (passing start (lines s))

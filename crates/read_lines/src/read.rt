@@ -5,6 +5,7 @@ use format::Refusal;
 use format::Row;
 use format::is_refused;
 use limits::ROW_WIDTH;
+use read_fields::Cursor;
 use read_forms::letter_of;
 use read_judge::judge;
 use read_rows::Line;
@@ -12,7 +13,6 @@ use read_rows::row_of;
 use read_seen::Seen;
 use read_seen::nothing_seen;
 use read_seen::seen_after;
-use read_split::line_end;
 ghost use mathlib.Core.Path.{_≡_};
 ghost use Prim.Native.Nat.{_*_, _≤_, _<_};
 ghost use lib.ListN.{length};
@@ -85,7 +85,8 @@ fn put_row(t: &mut [u16], n: usize, r: Row)
     store_word(t, b + 3, narrow(r.z));
 }
 
-// Reads a file of at most 4,096 lines into a table of at least 16,384 numbers.
+// Reads a file of at most 4,096 lines into a table of at least 16,384 numbers. The rows of the lines before the
+// first that is refused are then in the table.
 pub fn read_file(s: &[u8], t: &mut [u16]) -> Read
     requires { ⌜ (tableLength ≤ length (now t)) × (length (lines (now s)) ≤ maxLines) ⌝ }
     ensures { λ r. ⌜ ReadSays (now (s .entry)) (now (t .entry)) (now (t .exit)) r ⌝ }
@@ -94,7 +95,7 @@ pub fn read_file(s: &[u8], t: &mut [u16]) -> Read
     let mut n: usize = 0;
     let mut seen = nothing_seen();
     while at < s.len() {
-        let end = line_end(s, at);
+        let end = Cursor { at: at }.line_end(s).at;
         match judge_line(&s[at..end], seen, t) {
             Judged::Good(r) => {
                 let k = r.kind;

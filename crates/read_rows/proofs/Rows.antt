@@ -2,7 +2,6 @@
 use Prim.Native.Nat.{ℕ}
 use native.Mathlib.Omega.{arith}
 use mathlib.Core.Path.{_≡_, refl, sym, ap, _∙_}
-use mathlib.Core.Bool.{Bool, true, false}
 use mathlib.Core.Option.{Option, none, some}
 use mathlib.Core.List.{List, [], _∷_}
 use lib.ListN.{getD, drop}
@@ -16,18 +15,18 @@ use Rattle.calculus.proofs.Basic.{none≢some, some-bind}
 use Rattle.read_forms.specs.declared.Letter as L
 use Rattle.read_forms.specs.declared.Letter.the-variants as letters
 use Rattle.read_forms.specs.Views.{asLetter}
-use Rattle.read_fields.specs.Views.{asField, asEnd}
+use Rattle.read_fields.specs.Views.{asField}
 use Rattle.read_fields.proofs.Fields.{onto, fields-some, fields-none}
 use Rattle.read_rows.specs.Views.{closed, behindLetter}
 
 -- ---- the end of a line
 
-module _ (k : Kind) (x y z : ℕ) {b : Bool} (bs : List ℕ) (e : asEnd b ≡ ended bs) where
-  pub closed-here : b ≡ true → some (record { kind = k; x = x; y = y; z = z }) ≡ closed k x y z bs
-  closed-here t = rw (← e, t)
+module _ (k : Kind) (x y z : ℕ) (bs : List ℕ) where
+  pub closed-here : ended bs ≡ some tt → some (record { kind = k; x = x; y = y; z = z }) ≡ closed k x y z bs
+  closed-here e = sym (ap (λ o. o >>= λ _. some (record { kind = k; x = x; y = y; z = z })) e)
 
-  pub not-closed : b ≡ false → none ≡ closed k x y z bs
-  not-closed t = rw (← e, t)
+  pub not-closed : ended bs ≡ none → none ≡ closed k x y z bs
+  not-closed e = sym (ap (λ o. o >>= λ _. some (record { kind = k; x = x; y = y; z = z })) e)
 
 -- ---- the fields
 

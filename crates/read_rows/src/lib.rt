@@ -28,15 +28,15 @@ pub enum Line {
 fn finished(k: Kind, x: usize, y: usize, z: usize, c: Cursor, s: &[u8]) -> Line
     ensures { λ r. ⌜ asLine r ≡ closed (kindView k) x y z (drop (c .at) (now (s .entry))) ⌝ }
 {
-    if c.ends(s) {
-        return Line::Form(Row {
+    match c.end(s) {
+        Skipped::Past(_) => Line::Form(Row {
             kind: k,
             x: x,
             y: y,
             z: z,
-        });
+        }),
+        Skipped::Other => Line::Bad,
     }
-    Line::Bad
 }
 
 // The fields of a text whose letter is read, and its end.

@@ -1,173 +1,50 @@
--- The lines of some bytes: the first line byte by byte up to its end, and their number from the last byte back.
-use Prim.Native.Nat.{ℕ, suc, _+_, _-_, _<_, _≤_, max}
-use native.Mathlib.Nat.{le-antisymm, sub-self}
-use native.Mathlib.Numerals.{add-one}
+-- How many lines some bytes have, line by line.
+use Prim.Native.Nat.{ℕ, _+_, _<_, _≤_}
 use native.Mathlib.Omega.{arith}
-use mathlib.Core.Path.{_≡_, refl, sym, ap, _∙_, subst}
+use mathlib.Core.Path.{_≡_, ap, _∙_}
 use mathlib.Core.Bool.{true, false}
 use mathlib.Core.Logic.{_⊎_, inl, inr}
-use mathlib.Core.List.{List, [], _∷_, _++_}
+use mathlib.Core.List.{List, [], _∷_}
 use lib.Dec.{eqb}
-use lib.ListN.{length, getD, take, drop, length-drop, drop-of-length-le}
-use lib.Seq.{take-suc, getD-drop, take-all}
-use borrow.Author.Tests.{eq-eqb, ne-eqb}
+use lib.ListN.{length, drop, drop-of-length-le}
 use Rattle.limits.specs.Limits.{lineFeed}
 use Rattle.format.specs.Lines.{lines, ontoFirst}
-use Rattle.calculus.proofs.Basic.{bool-cases, from-byte}
-use Rattle.read_split.specs.Split.{LineEnd, oneMore}
-
--- ---- one byte and the lines behind it
-
-lines-at-feed : (s : List ℕ) (at : ℕ) → at < length s → getD s at 0 ≡ lineFeed → lines (drop at s) ≡ (getD s at 0 ∷ []) ∷ lines (drop (at + 1) s)
-lines-at-feed s at h e = rw (from-byte s at h, eq-eqb (getD s at 0) lineFeed e)
-
-lines-at-other : (s : List ℕ) (at : ℕ) → at < length s → (getD s at 0 ≡ lineFeed → ⊥) → lines (drop at s) ≡ ontoFirst (getD s at 0) (lines (drop (at + 1) s))
-lines-at-other s at h e = rw (from-byte s at h, ne-eqb (getD s at 0) lineFeed e)
-
--- ---- the first line
-
--- bytes in front of the first line
-abbrev pub ontoAll : List ℕ → List (List ℕ) → List (List ℕ)
-ontoAll [] ls = ls
-ontoAll (b ∷ bs) ls = ontoFirst b (ontoAll bs ls)
-
-onto-snoc : (bs : List ℕ) (b : ℕ) (ls : List (List ℕ)) → ontoAll bs (ontoFirst b ls) ≡ ontoAll (bs ++ (b ∷ [])) ls
-onto-snoc [] b ls = refl
-onto-snoc (c ∷ bs) b ls = ap (ontoFirst c) (onto-snoc bs b ls)
-
-onto-line : (bs l : List ℕ) (ls : List (List ℕ)) → ontoAll bs (l ∷ ls) ≡ (bs ++ l) ∷ ls
-onto-line [] l ls = refl
-onto-line (b ∷ bs) l ls = ap (ontoFirst b) (onto-line bs l ls)
-
-onto-none : (bs : List ℕ) → 0 < length bs → ontoAll bs [] ≡ bs ∷ []
-onto-none [] h = absurd (omega arith)
-onto-none (b ∷ []) h = refl
-onto-none (b ∷ c ∷ bs) h = ap (ontoFirst b) (onto-none (c ∷ bs) (omega arith))
-
--- the bytes from a place up to another
-abbrev part : List ℕ → ℕ → ℕ → List ℕ
-part s from at = take (at - from) (drop from s)
-
-part-snoc : (s : List ℕ) (from at : ℕ) → from ≤ at → at < length s → part s from (at + 1) ≡ part s from at ++ (getD s at 0 ∷ [])
-part-snoc s from at h l =
-    let below : at - from < length (drop from s) = subst (λ n. at - from < n) (sym (length-drop from s)) (omega arith) in
-    let one : at + 1 - from ≡ suc (at - from) = omega arith in
-    let place : from + (at - from) ≡ at = omega arith in
-    ap (λ n. take n (drop from s)) one
-    ∙ take-suc (drop from s) (at - from) 0 below
-    ∙ ap (λ b. part s from at ++ (b ∷ [])) (getD-drop from s (at - from) 0 ∙ ap (λ n. getD s n 0) place)
-
--- what a search for the end of the line at `from` knows at a place
-pub record Ahead (s : List ℕ) (from at : ℕ) : Type 0 where
-  pub begun : from ≤ at
-  pub within : from < length s → at ≤ length s
-  pub onto : from < length s → lines (drop from s) ≡ ontoAll (part s from at) (lines (drop at s))
-
-pub ahead-start : (s : List ℕ) (from : ℕ) → Ahead s from from
-ahead-start s from =
-    record {
-      begun = omega arith;
-      within = λ h. omega arith;
-      onto = λ h. ap (λ n. ontoAll (take n (drop from s)) (lines (drop from s))) (sym (sub-self from));
-    }
-
-pub ahead-step : {s : List ℕ} {from at : ℕ} → Ahead s from at → at < length s → (getD s at 0 ≡ lineFeed → ⊥) → Ahead s from (at + 1)
-ahead-step {s} {from} {at} a h e =
-    record {
-      begun = omega (arith, a .begun);
-      within = λ l. omega arith;
-      onto =
-          λ l. a .onto l
-          ∙ ap (ontoAll (part s from at)) (lines-at-other s at h e)
-          ∙ onto-snoc (part s from at) (getD s at 0) (lines (drop (at + 1) s))
-          ∙ ap (λ bs. ontoAll bs (lines (drop (at + 1) s))) (sym (part-snoc s from at (a .begun) h));
-    }
-
-pub ahead-feed : {s : List ℕ} {from at : ℕ} → Ahead s from at → at < length s → getD s at 0 ≡ lineFeed → LineEnd s from (at + 1)
-ahead-feed {s} {from} {at} a h e =
-    record {
-      further = λ l. omega (arith, a .begun);
-      within = λ l. omega arith;
-      splits =
-          λ l. a .onto l
-          ∙ ap (ontoAll (part s from at)) (lines-at-feed s at h e)
-          ∙ onto-line (part s from at) (getD s at 0 ∷ []) (lines (drop (at + 1) s))
-          ∙ ap (λ bs. bs ∷ lines (drop (at + 1) s)) (sym (part-snoc s from at (a .begun) h));
-    }
-
-pub ahead-end : {s : List ℕ} {from at : ℕ} → Ahead s from at → length s ≤ at → LineEnd s from at
-ahead-end {s} {from} {at} a h =
-    record {
-      further = λ l. omega arith;
-      within = a .within;
-      splits =
-          λ l. let whole : length (drop from s) ≤ at - from = subst (λ n. n ≤ at - from) (sym (length-drop from s)) (omega (arith, a .begun)) in
-          let all : part s from at ≡ drop from s = take-all (at - from) (drop from s) whole in
-          let some-left : 0 < length (part s from at) = subst (λ n. 0 < n) (sym (ap length all ∙ length-drop from s)) (omega arith) in
-          a .onto l
-          ∙ ap (λ bs. ontoAll (part s from at) (lines bs)) (drop-of-length-le s h)
-          ∙ onto-none (part s from at) some-left
-          ∙ ap (λ bs. part s from at ∷ lines bs) (sym (drop-of-length-le s h));
-    }
-
--- ---- the number of lines
-
-length-onto : (b : ℕ) (ls : List (List ℕ)) → length (ontoFirst b ls) ≡ max 1 (length ls)
-length-onto b [] = refl
-length-onto b (l ∷ ls) = omega arith
-
-length-lines : (b : ℕ) (bs : List ℕ) → length (lines (b ∷ bs)) ≡ oneMore b (length (lines bs))
-length-lines b bs = go (bool-cases (eqb b lineFeed))
-  where
-    go : (eqb b lineFeed ≡ true) ⊎ (eqb b lineFeed ≡ false) → length (lines (b ∷ bs)) ≡ oneMore b (length (lines bs))
-    go (inl t) = rw t
-    go (inr t) = rw t (length-onto b (lines bs))
-
-one-more-grows : (b n : ℕ) → oneMore b n ≤ suc n
-one-more-grows b n = go (bool-cases (eqb b lineFeed))
-  where
-    go : (eqb b lineFeed ≡ true) ⊎ (eqb b lineFeed ≡ false) → oneMore b n ≤ suc n
-    go (inl t) = rw t (omega arith)
-    go (inr t) = rw t (omega arith)
+use Rattle.calculus.proofs.Basic.{bool-cases}
+use Rattle.read_fields.specs.Views.{LineEnd}
 
 -- there are no more lines than bytes
+onto-few : (b : ℕ) (ls : List (List ℕ)) → length (ontoFirst b ls) ≤ length ls + 1
+onto-few b [] = omega arith
+onto-few b (l ∷ ls) = omega arith
+
+one-more-few : (b : ℕ) (bs : List ℕ) → length (lines bs) ≤ length bs → (eqb b lineFeed ≡ true) ⊎ (eqb b lineFeed ≡ false)
+    → length (lines (b ∷ bs)) ≤ length (b ∷ bs)
+one-more-few b bs h (inl t) = rw t (omega arith)
+one-more-few b bs h (inr t) = rw t (omega (arith, onto-few b (lines bs)))
+
 pub lines-few : (bs : List ℕ) → length (lines bs) ≤ length bs
 lines-few [] = omega arith
-lines-few (b ∷ bs) = omega (arith, length-lines b bs, one-more-grows b (length (lines bs)), lines-few bs)
+lines-few (b ∷ bs) = one-more-few b bs (lines-few bs) (bool-cases (eqb b lineFeed))
 
--- by a byte and the lines behind it
-pub one-feed : {b : ℕ} (n : ℕ) → b ≡ lineFeed → n + 1 ≡ oneMore b n
-one-feed {b} n e = rw (eq-eqb b lineFeed e) (add-one n)
+-- what a count of the lines in front of a place knows
+pub record Counted (s : List ℕ) (at n : ℕ) : Type 0 where
+  pub all : n + length (lines (drop at s)) ≡ length (lines s)
 
-pub one-first : {b n : ℕ} → (b ≡ lineFeed → ⊥) → n ≡ 0 → 1 ≡ oneMore b n
-one-first {b} {n} h e = rw (ne-eqb b lineFeed h) (omega arith)
+pub counted-start : (s : List ℕ) → Counted s 0 0
+counted-start s = record { all = omega arith }
 
-pub one-other : {b n : ℕ} → (b ≡ lineFeed → ⊥) → (n ≡ 0 → ⊥) → n ≡ oneMore b n
-one-other {b} {n} h e = rw (ne-eqb b lineFeed h) (omega arith)
+-- one line more, and it is within the number of bytes
+module _ {s : List ℕ} {at n end : ℕ} (c : Counted s at n) (inside : at < length s) (e : LineEnd s at end) where
+  one-less : length (lines (drop at s)) ≡ length (lines (drop end s)) + 1
+  one-less = ap length (e .splits inside) ∙ omega arith
 
--- what a count from the last byte back knows at a place
-pub record Counted (s : List ℕ) (i n : ℕ) : Type 0 where
-  pub within : i ≤ length s
-  pub lines-behind : n ≡ length (lines (drop i s))
+  pub counted-few : n + 1 ≤ length s
+  counted-few = omega (arith, c .all, one-less, lines-few s)
 
-pub counted-start : (s : List ℕ) → Counted s (length s) 0
-counted-start s = record { within = omega arith; lines-behind = ap (λ bs. length (lines bs)) (sym (drop-of-length-le s {i = length s} (omega arith))) }
+  pub counted-step : Counted s end (n + 1)
+  counted-step = record { all = omega (arith, c .all, one-less) }
 
-pub counted-few : {s : List ℕ} {i n : ℕ} → Counted s i n → n ≤ length s - i
-counted-few {s} {i} c = omega (arith, c .lines-behind, lines-few (drop i s), length-drop i s)
-
-pub counted-step : {s : List ℕ} {i n m : ℕ} → Counted s i n → 0 < i → m ≡ oneMore (getD s (i - 1) 0) n → Counted s (i - 1) m
-counted-step {s} {i} {n} {m} c h e =
-    let below : i - 1 < length s = omega (arith, c .within) in
-    let one : i - 1 + 1 ≡ i = omega arith in
-    record {
-      within = omega (arith, c .within);
-      lines-behind =
-          e
-          ∙ ap (oneMore (getD s (i - 1) 0)) (c .lines-behind ∙ ap (λ k. length (lines (drop k s))) (sym one))
-          ∙ sym (length-lines (getD s (i - 1) 0) (drop (i - 1 + 1) s))
-          ∙ ap (λ bs. length (lines bs)) (sym (from-byte s (i - 1) below));
-    }
-
-pub counted-end : {s : List ℕ} {i n : ℕ} → Counted s i n → i ≤ 0 → n ≡ length (lines s)
-counted-end {s} {i} c h = c .lines-behind ∙ ap (λ k. length (lines (drop k s))) (le-antisymm h (omega arith))
+pub counted-end : {s : List ℕ} {at n : ℕ} → Counted s at n → length s ≤ at → n ≡ length (lines s)
+counted-end {s} {at} {n} c h =
+    let none-left : length (lines (drop at s)) ≡ 0 = ap (λ bs. length (lines bs)) (drop-of-length-le s h) in
+    omega (arith, c .all, none-left)

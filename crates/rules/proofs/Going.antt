@@ -1,19 +1,17 @@
 -- The lengths of the areas that the loops lend, and the state behind what was read.
 use Prim.Native.Nat.{ℕ, _+_, _-_, _≤_, _<_}
-use native.Mathlib.Nat.{pos-of-ne-zero}
 use native.Mathlib.Omega.{arith}
 use mathlib.Core.Path.{_≡_, refl, sym, ap, _∙_, subst}
-use mathlib.Core.Logic.{_⊎_, inl, inr}
 use mathlib.Core.Bool.{Bool, true, false}
 use mathlib.Core.List.{List, [], _++_}
 use lib.ListN.{length, take, drop, length-drop}
 use lib.Seq.{take-add, take-all}
 use Rattle.query_lines.specs.Stream.{State, collecting, steps, settled}
 use Rattle.query_lines.proofs.Streaming.{next-append}
-use Rattle.desk.specs.DeskSays.{answerRoom, Roomy, DeskAt, FedAs}
+use Rattle.desk.specs.DeskSays.{DeskAt, Took, FeedSays}
 use Rattle.desk.specs.declared.Desk as D
 use Rattle.desk.specs.declared.Fed as F
-use Rattle.rules.specs.Running.{Lent, Ready, TookAll, Reached}
+use Rattle.rules.specs.Running.{Lent, Ready, TookAll, ChunkSays, Reached}
 use Rattle.rules.specs.declared.Progress as P
 use Rattle.rules.specs.declared.Progress.the-variants as progress
 
@@ -68,20 +66,9 @@ pub record Feeds (chunk f₀ l₀ t₀ w₀ i₀ o₀ : List ℕ) (d₀ : D.Desk
 pub feeds-start : (chunk f l t w i o : List ℕ) (d : D.Desk) → Feeds chunk f l t w i o d f l t w i o d 0
 feeds-start chunk f l t w i o d = record { lengths = lengths-start f l t w i o; within = omega arith; fed = λ s h. h }
 
--- where an answer has room, some of a chunk is taken, and no more than there is
-took-some : {s : State} {part f l t i o o′ : List ℕ} {r : F.Fed} → FedAs s part f l t i o o′ r → 0 < length part → answerRoom ≤ length o → (0 < r .taken) × (r .taken ≤ length part)
-took-some {s} {part} {o = o} {r = r} k some′ room = (go (k .whole), k .within)
-  where
-    go : (r .taken ≡ length part) ⊎ (length o < r .written + answerRoom) → 0 < r .taken
-    go (inl e) = omega (arith, e, some′)
-    go (inr h) = pos-of-ne-zero none
-      where
-        none : r .taken ≡ 0 → ⊥
-        none z = let w : r .written ≡ 0 = k .printed .place ∙ ap (λ n. 0 + length (steps s (take n part) .prints)) z in omega (arith, w, h, room)
-
 module _ {chunk f₀ l₀ t₀ w₀ i₀ o₀ : List ℕ} {d₀ : D.Desk} {f l t w i o : List ℕ} {d : D.Desk} {at : ℕ} (k : Feeds chunk f₀ l₀ t₀ w₀ i₀ o₀ d₀ f l t w i o d at)
-    (ready : Ready d₀ f₀ l₀ t₀ w₀ i₀ o₀) {part f′ l′ t′ i′ o′ : List ℕ} (r : F.Fed) (e : part ≡ drop at chunk) (left : at < length chunk)
-    (fed : (s : State) → DeskAt d f l t i s → Roomy f l t w i → FedAs s part f′ l′ t′ i′ o o′ r) where
+    (ready : Ready d₀ f₀ l₀ t₀ w₀ i₀ o₀) {part f′ l′ t′ w′ i′ o′ : List ℕ} (r : F.Fed) (e : part ≡ drop at chunk) (left : at < length chunk)
+    (fed : Took d part f l t w i o f′ l′ t′ w′ i′ o′ r × FeedSays d part f l t w i o f′ l′ t′ i′ o′ r) where
   lent : Lent f l t w i o
   lent = lent-kept (k .lengths) (ready .lent)
 
@@ -89,16 +76,17 @@ module _ {chunk f₀ l₀ t₀ w₀ i₀ o₀ : List ℕ} {d₀ : D.Desk} {f l t
   rest : length part ≡ length chunk - at
   rest = ap length e ∙ length-drop at chunk
 
-  took : (0 < r .taken) × (r .taken ≤ length part)
-  took = took-some (fed _ (k .fed _ (ready .desk)) (lent .roomy)) (omega (arith, rest)) (lent .room)
+  -- at least a byte of it is taken
+  some-taken : 0 < r .taken
+  some-taken = fed .0 .progress (omega (arith, rest)) (lent .room)
 
   pub fed-within : at + r .taken ≤ length chunk
-  fed-within = omega (arith, took .1, rest)
+  fed-within = let within = fed .0 .within in omega (arith, within, rest)
 
   pub fed-less : length chunk - (at + r .taken) < length chunk - at
-  fed-less = omega (arith, took .0, took .1, rest)
+  fed-less = let within = fed .0 .within in omega (arith, some-taken, within, rest)
 
-  pub fed-next : {w′ : List ℕ} → Lengths f l t w i o f′ l′ t′ w′ i′ o′ → Feeds chunk f₀ l₀ t₀ w₀ i₀ o₀ d₀ f′ l′ t′ w′ i′ o′ (r .desk) (at + r .taken)
+  pub fed-next : Lengths f l t w i o f′ l′ t′ w′ i′ o′ → Feeds chunk f₀ l₀ t₀ w₀ i₀ o₀ d₀ f′ l′ t′ w′ i′ o′ (r .desk) (at + r .taken)
   fed-next same =
       record {
         lengths = lengths-next (k .lengths) same;
@@ -107,7 +95,7 @@ module _ {chunk f₀ l₀ t₀ w₀ i₀ o₀ : List ℕ} {d₀ : D.Desk} {f l t
             let both : take (at + r .taken) chunk ≡ take at chunk ++ take (r .taken) part = take-add at (r .taken) chunk ∙ ap (λ x. take at chunk ++ take (r .taken) x) (sym e) in
             subst (DeskAt (r .desk) f′ l′ t′ i′)
             (sym (ap (λ bs. steps s bs .next) both ∙ next-append s (take at chunk) (take (r .taken) part)))
-            (fed _ (k .fed s h) (lent .roomy) .desk);
+            (fed .1 _ (k .fed s h) (lent .roomy) .desk);
       }
 
 -- ---- more or not
@@ -123,7 +111,7 @@ module _ (d : D.Desk) {b : Bool} (same : (file line table index : List ℕ) (s :
 pub fed-all : {chunk f₀ l₀ t₀ w₀ i₀ o₀ : List ℕ} {d₀ : D.Desk} {f l t w i o : List ℕ} {d : D.Desk} {at : ℕ} (p : P.Progress)
     → Feeds chunk f₀ l₀ t₀ w₀ i₀ o₀ d₀ f l t w i o d at → length chunk ≤ at
     → ((file line table index : List ℕ) (s : State) → DeskAt d file line table index s → TookAll s file line table index p)
-    → (s : State) → DeskAt d₀ f₀ l₀ t₀ i₀ s → TookAll (steps s chunk .next) f l t i p
+    → ChunkSays d₀ chunk f₀ l₀ t₀ i₀ f l t i p
 fed-all {chunk} {f = f} {l} {t} {w} {i} {at = at} p k done take′ s h =
     subst (λ bs. TookAll (steps s bs .next) f l t i p) (take-all at chunk done) (take′ f l t i _ (k .fed s h))
 
@@ -139,8 +127,7 @@ reached-some {f} {l} {t} {w} {i} {o} bs chunk (progress.Done d) r h =
 reached-some bs chunk progress.Failed r h = tt
 
 pub reached-chunk : {f₀ l₀ t₀ w₀ i₀ o₀ f l t w i o : List ℕ} {d₀ : D.Desk} (chunk : List ℕ) (p : P.Progress) → Ready d₀ f₀ l₀ t₀ w₀ i₀ o₀
-    → Lengths f₀ l₀ t₀ w₀ i₀ o₀ f l t w i o
-    → ((s : State) → DeskAt d₀ f₀ l₀ t₀ i₀ s → TookAll (steps s chunk .next) f l t i p) → Reached f l t w i o p
+    → Lengths f₀ l₀ t₀ w₀ i₀ o₀ f l t w i o → ChunkSays d₀ chunk f₀ l₀ t₀ i₀ f l t i p → Reached f l t w i o p
 reached-chunk chunk p ready same took = reached-some (ready .bytes) chunk p (lent-kept same (ready .lent)) (took _ (ready .desk))
 
 -- before the first read

@@ -27,6 +27,11 @@ TookAll s file line table index (progress.More d) = DeskAt d file line table ind
 TookAll s file line table index (progress.Done d) = DeskAt d file line table index s × (settled s ≡ true)
 TookAll s file line table index progress.Failed = Unit {0}
 
+-- a chunk in whatever state the machine is: it is taken to its end, as the machine's steps
+abbrev pub ChunkSays : (d : D.Desk) (chunk file line table index file′ line′ table′ index′ : List ℕ) (r : P.Progress) → Type 0
+ChunkSays d chunk file line table index file′ line′ table′ index′ r =
+    (s : State) → DeskAt d file line table index s → TookAll (steps s chunk .next) file′ line′ table′ index′ r
+
 -- the state behind a read, if none failed and no write did
 abbrev pub Reached : List ℕ → List ℕ → List ℕ → List ℕ → List ℕ → List ℕ → P.Progress → Type 0
 Reached file line table work index out (progress.More d) = Ready d file line table work index out

@@ -18,9 +18,9 @@ use stdio::say_endless;
 use stdio::write_front;
 ghost use mathlib.Core.List.{List};
 ghost use Prim.Native.Nat.{ℕ};
-ghost use Rattle.query_lines.specs.Stream.{State, steps};
+ghost use Rattle.query_lines.specs.Stream.{State};
 ghost use Rattle.desk.specs.DeskSays.{DeskAt};
-ghost use Rattle.rules.specs.Running.{Lent, Ready, TookAll, Reached};
+ghost use Rattle.rules.specs.Running.{Lent, Ready, TookAll, ChunkSays, Reached};
 
 // How far a run has come: the input goes on; or all was read that its answers depend on, and only what
 // the end of the input gives is still to be printed; or a read or a write failed.
@@ -56,10 +56,8 @@ fn answer_chunk(
 ) -> Progress
     requires { ⌜ Ready d (now file) (now line) (now table) (now work) (now index) (now out) ⌝ }
     ensures { λ r. ⌜
-        ((s : State)
-        → DeskAt d (now (file .entry)) (now (line .entry)) (now (table .entry)) (now (index .entry)) s
-        → TookAll (steps s (now (chunk .entry)) .next) (now (file .exit)) (now (line .exit))
-        (now (table .exit)) (now (index .exit)) r)
+        ChunkSays d (now (chunk .entry)) (now (file .entry)) (now (line .entry)) (now (table .entry))
+        (now (index .entry)) (now (file .exit)) (now (line .exit)) (now (table .exit)) (now (index .exit)) r
         ⌝ }
 {
     let mut desk = d;

@@ -1,7 +1,7 @@
 -- What each row adds to the rows below it, told from the table.
-use Prim.Native.Nat.{ℕ, zero, suc, _+_, _-_, _≤_}
+use Prim.Native.Nat.{ℕ, suc, _+_, _-_}
 use native.Mathlib.Omega.{arith}
-use mathlib.Core.Path.{_≡_, refl, sym, ap, _∙_}
+use mathlib.Core.Path.{_≡_, sym, ap, _∙_}
 use mathlib.Core.Option.{some}
 use mathlib.Core.List.{List, [], _∷_}
 use lib.ListN.{length, getElem?, length-map}
@@ -11,10 +11,9 @@ use Rattle.format.specs.Lines.{Row}
 use Rattle.format.specs.Judge.{start, afterAll}
 use Rattle.format.specs.Unfold.{Tail, isosOf}
 use Rattle.table_trees.specs.Unfolding.{cellOf, typeOf, patternOf}
-use Rattle.table_trees.specs.InTable.{letAt}
-use Rattle.table_trees.specs.Walk.{FileIn, isoRows, tailAt}
-use Rattle.table_trees.proofs.Tails.{tail-row, place-early}
-use Rattle.table_trees.proofs.Walking.{row-of, file-parted, head-few, iso-types, clause-left, clause-right, let-here, tail-kind, sigs-rows}
+use Rattle.table_walks.specs.InTable.{letAt}
+use Rattle.table_walks.specs.Walk.{FileIn, isoRows, tailAt}
+use Rattle.table_walks.proofs.Walking.{iso-types, clause-left, clause-right, let-here, tail-kind, sigs-rows, tail-early}
 
 module _ {t : List ℕ} {types patterns lines : ℕ} {rs : List Row} (f : FileIn t types patterns lines rs) where
   abbrev typeList : List Ty
@@ -69,19 +68,10 @@ module _ {t : List ℕ} {types patterns lines : ℕ} {rs : List Row} (f : FileIn
           isos = record { line = suc n; from = a .0 i; to = a .1 i; clauses = tailAt rs (suc n) .clauses } ∷ tailAt rs (suc n) .isos;
         })
 
-  -- T and P lines leave the tail as it is
-  tail-early : (n : ℕ) → n ≤ types + patterns → tailAt rs n ≡ tailAt rs 0
-  tail-early zero h = refl
-  tail-early (suc n) h =
-      let r = row-of f n (omega (arith, head-few f)) in
-      sym (place-early typeList patternList (r .0 .kind) (suc n) (r .0) (tailAt rs (suc n)) (file-parted f .early n (r .0) h (r .1)))
-      ∙ sym (tail-row rs n (r .1))
-      ∙ tail-early n (omega arith)
-
   -- the isos below the T and P lines are all
   pub tail-whole : tailAt rs (types + patterns) .isos ≡ isosOf rs
   unfolding isosOf
-  tail-whole = ap (λ (o : Tail). o .isos) (tail-early (types + patterns) (omega arith))
+  tail-whole = ap (λ (o : Tail). o .isos) (tail-early f (types + patterns) (omega arith))
 
   -- as many isos as I lines
   pub iso-count : length (isosOf rs) ≡ length (isoRows 0 rs)

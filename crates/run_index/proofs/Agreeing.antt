@@ -7,7 +7,7 @@ use lib.ListN.{length, set}
 use lib.Seq.{getD-set-same, getD-set-other}
 use Rattle.calculus.specs.Trees.{Clause, Iso}
 use Rattle.table_trees.specs.Unfolding.{cellOf, typeOf}
-use Rattle.table_trees.specs.InTable.{clauseIn}
+use Rattle.table_walks.specs.InTable.{clauseIn}
 use Rattle.run_index.specs.Index.{placeAt, clausesAt, isoBetween, isosAt}
 
 -- the same numbers from place `low` on

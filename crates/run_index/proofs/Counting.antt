@@ -1,4 +1,4 @@
--- A file has at most 1,056 I and C lines: 32 isos of at most 32 clauses.
+-- How many I and C lines a file has at most: an I line and its C lines for each iso.
 use Prim.Native.Nat.{ℕ, zero, suc, _+_, _*_, _-_, _≤_, _<_}
 use native.Mathlib.Omega.{arith}
 use mathlib.Core.Path.{_≡_, ap}
@@ -13,13 +13,13 @@ use Rattle.calculus.proofs.Basic.{none≢some, some-inj, leb-le}
 use Rattle.format.proofs.Passing.{Passes, done, next, Fit, judge-fit, iso-fit, clause-fit}
 use Rattle.run_index.specs.Indexed.{placesOf, places}
 
--- m places of the rows that `s` tells of: 33 for each iso above the last, one for the last and one for each of its clauses
+-- m places of the rows that `s` tells of: one for each iso, and one for each of its clauses, which are most of all above the last iso
 record Counted (s : Seen) (m : ℕ) : Type 0 where
   owned : 2 ≤ stage (s .above) → 0 < s .isos
   isos : s .isos ≤ maxIsos
   clauses : s .clauses ≤ maxClauses
-  whole : m ≤ 33 * s .isos
-  last : m ≤ (33 * s .isos - 32) + s .clauses
+  whole : m ≤ suc maxClauses * s .isos
+  last : m ≤ (suc maxClauses * s .isos - maxClauses) + s .clauses
 
 -- with one row more
 counted-row : (s : Seen) (k : Kind) (r : Row) → Fit s k r → {m : ℕ} → Counted s m → Counted (afterKind k s r) (m + placesOf k)
@@ -35,7 +35,7 @@ counted-row s letLine r f h =
     record { owned = λ l. h .owned (omega arith); isos = h .isos; clauses = h .clauses; whole = omega arith; last = omega arith }
 
 -- the rows below those that `s` tells of
-places-few-from : {s : Seen} {rs : List Row} → Passes s rs → {m : ℕ} → Counted s m → m + places rs ≤ 1056
+places-few-from : {s : Seen} {rs : List Row} → Passes s rs → {m : ℕ} → Counted s m → m + places rs ≤ suc maxClauses * maxIsos
 places-few-from done h = omega (arith, h .whole, h .isos)
 places-few-from (next {s = s} {r = r} j d) h = omega (arith, places-few-from d (counted-row s (r .kind) r (judge-fit s r j) h))
 
@@ -45,7 +45,7 @@ unfolding start
 counted-start = record { owned = λ l. absurd (omega arith); isos = omega arith; clauses = omega arith; whole = omega arith; last = omega arith }
 
 -- the whole file
-pub places-few : {rs : List Row} → Passes start rs → places rs ≤ 1056
+pub places-few : {rs : List Row} → Passes start rs → places rs ≤ suc maxClauses * maxIsos
 places-few d = omega (arith, places-few-from d counted-start)
 
 -- one row more

@@ -9,15 +9,15 @@ use mathlib.Core.List.{List, [], _∷_}
 use lib.ListN.{length, getElem?, take, set, length-set}
 use Rattle.calculus.specs.Trees.{Clause, Iso}
 use Rattle.calculus.specs.Refusals.{isoLine, clauseLine, letLine}
-use Rattle.format.specs.Lines.{Row}
+use Rattle.format.specs.Lines.{Row, letter}
 use Rattle.format.specs.Unfold.{Tail, isosOf}
 use Rattle.table_trees.specs.Unfolding.{cellOf, typeOf, patternOf}
-use Rattle.table_trees.specs.InTable.{letAt, letsIn, clauseIn}
-use Rattle.table_trees.specs.Walk.{FileIn, isoRows, tailAt}
-use Rattle.table_trees.proofs.Rows.{clause≢iso, let≢iso}
+use Rattle.table_walks.specs.InTable.{letAt, letsIn, clauseIn}
+use Rattle.table_walks.specs.Walk.{FileIn, isoRows, tailAt}
+use Rattle.table_walks.proofs.Rows.{clause≢iso, let≢iso}
 use Rattle.area_words.proofs.Bits.{narrow-same}
-use Rattle.table_trees.proofs.Walking.{no-lets, one-let-more, tail-end, row-of, lines-few, whole-file, head-few, letter-iso, letter-clause, other-let, iso-rows-few, iso-rows-other, iso-rows-longer, iso-rows-early}
-use Rattle.run_index.specs.Index.{indexLength, placeAt, clausesAt, isoBetween, isosAt}
+use Rattle.table_walks.proofs.Walking.{no-lets, one-let-more, tail-end, row-of, lines-few, whole-file, head-few, letter-iso, letter-clause, other-let, iso-rows-few, iso-rows-other, iso-rows-longer, iso-rows-early}
+use Rattle.run_index.specs.Index.{indexLength, placeAt, clausesAt, isoBetween, isosAt, indexEnd}
 use Rattle.run_index.specs.Indexed.{placesOf, places, Indexed}
 use Rattle.run_index.proofs.Counting.{places-few, places-step}
 use Rattle.run_index.proofs.Agreeing.{SameFrom, SameIsos, clauses-agree, isos-agree, stored-here, stored-other}
@@ -28,7 +28,7 @@ module _ {t : List ℕ} {types patterns lines : ℕ} {rs : List Row} (f : FileIn
 
   -- the two stores before the walk
   pub indexed-start : (index : List ℕ) → indexLength ≤ length index → {isos : ℕ} → isos ≡ length (isosOf rs)
-      → Indexed t types rs lines (set (set index 1089 lines) isos 1089) 1089 isos
+      → Indexed t types rs lines (set (set index indexEnd lines) isos indexEnd) indexEnd isos
   indexed-start index h {isos} e =
       record {
         long = omega (arith, wide);
@@ -39,15 +39,15 @@ module _ {t : List ℕ} {types patterns lines : ℕ} {rs : List Row} (f : FileIn
         further = omega (arith, last);
         lets = ap (λ (o : Tail). o .lets) (tail-end f) ∙ sym (no-lets t types lines) ∙ ap (λ m. letsIn t types lines (m - lines)) (sym last);
         begins = λ i l u. let here : i ≡ isos = omega (arith, none) in omega (arith, ap (placeAt full) here, behind);
-        clauses = ap (λ (o : Tail). o .clauses) (tail-end f) ∙ ap (λ m. clausesAt t types full 1089 (m - 1089)) (sym behind);
+        clauses = ap (λ (o : Tail). o .clauses) (tail-end f) ∙ ap (λ m. clausesAt t types full indexEnd (m - indexEnd)) (sym behind);
         isos = ap (λ (o : Tail). o .isos) (tail-end f) ∙ ap (isosAt t types full isos) (sym none);
       }
     where
       full : List ℕ
-      full = set (set index 1089 lines) isos 1089
+      full = set (set index indexEnd lines) isos indexEnd
 
       wide : length full ≡ length index
-      wide = length-set (set index 1089 lines) isos 1089 ∙ length-set index 1089 lines
+      wide = length-set (set index indexEnd lines) isos indexEnd ∙ length-set index indexEnd lines
 
       same : isos ≡ length (isoRows 0 rs)
       same = e ∙ iso-count f
@@ -55,13 +55,13 @@ module _ {t : List ℕ} {types patterns lines : ℕ} {rs : List Row} (f : FileIn
       none : length (tailAt rs lines .isos) ≡ 0
       none = ap (λ (o : Tail). length (o .isos)) (tail-end f)
 
-      last : placeAt full 1089 ≡ lines
+      last : placeAt full indexEnd ≡ lines
       last =
-          stored-other (set index 1089 lines) isos 1089 1089 (λ q. omega (arith, same, iso-rows-few f))
-          ∙ stored-here index 1089 lines (omega arith)
+          stored-other (set index indexEnd lines) isos indexEnd indexEnd (λ q. omega (arith, same, iso-rows-few f))
+          ∙ stored-here index indexEnd lines (omega arith)
 
-      behind : placeAt full isos ≡ 1089
-      behind = stored-here (set index 1089 lines) isos 1089 (omega (arith, length-set index 1089 lines, same, iso-rows-few f))
+      behind : placeAt full isos ≡ indexEnd
+      behind = stored-here (set index indexEnd lines) isos indexEnd (omega (arith, length-set index indexEnd lines, same, iso-rows-few f))
 
   module _ (n : ℕ) {r : Row} (e : getElem? rs n ≡ some r) {index : List ℕ} where
     -- ---- an L row
@@ -239,18 +239,18 @@ module _ {t : List ℕ} {types patterns lines : ℕ} {rs : List Row} (f : FileIn
 
   module _ {n : ℕ} (h : n < lines) {index : List ℕ} {first left : ℕ} (s : Indexed t types rs (suc n) index first left) where
     -- an L row
-    pub other-row : types + patterns ≤ n → {l : ℕ} → l ≡ cellOf t n 0 → (l ≡ 67 → ⊥) → (l ≡ 73 → ⊥) → Indexed t types rs n index first left
+    pub other-row : types + patterns ≤ n → {l : ℕ} → l ≡ cellOf t n 0 → (l ≡ letter clauseLine → ⊥) → (l ≡ letter isoLine → ⊥) → Indexed t types rs n index first left
     other-row late e c i = let r = row-of f n h in indexed-let n (r .1) (other-let f n (r .1) late (λ q. c (e ∙ q)) (λ q. i (e ∙ q))) s
 
     -- there is room
     pub clause-room : 0 < first
     clause-room = omega (arith, s .room)
 
-    pub iso-room : cellOf t n 0 ≡ 73 → 0 < left
+    pub iso-room : cellOf t n 0 ≡ letter isoLine → 0 < left
     iso-room c = let r = row-of f n h in omega (arith, s .number, iso-rows-longer f n (r .1) (letter-iso f n (r .1) c))
 
     -- a C row
-    pub clause-row : cellOf t n 0 ≡ 67 → {v : ℕ} → v ≡ n % 65536 → {last : List ℕ} → last ≡ set index (first - 1) v
+    pub clause-row : cellOf t n 0 ≡ letter clauseLine → {v : ℕ} → v ≡ n % 65536 → {last : List ℕ} → last ≡ set index (first - 1) v
         → Indexed t types rs n last (first - 1) left
     clause-row c {v} ev {last} el =
         let r = row-of f n h in
@@ -260,7 +260,7 @@ module _ {t : List ℕ} {types patterns lines : ℕ} {rs : List Row} (f : FileIn
         (indexed-clause n (r .1) (letter-clause f n (r .1) c) (subst (λ m. Indexed t types rs (suc n) index m left) front s))
 
     -- an I row
-    pub iso-row : cellOf t n 0 ≡ 73 → {v : ℕ} → v ≡ n % 65536 → {mid : List ℕ} → mid ≡ set index (first - 1) v
+    pub iso-row : cellOf t n 0 ≡ letter isoLine → {v : ℕ} → v ≡ n % 65536 → {mid : List ℕ} → mid ≡ set index (first - 1) v
         → {u : ℕ} → u ≡ (first - 1) % 65536 → {last : List ℕ} → last ≡ set mid (left - 1) u
         → Indexed t types rs n last (first - 1) (left - 1)
     iso-row c {v} ev {mid} em {u} eu {last} el =
@@ -284,18 +284,18 @@ pub record Indexing (t : List ℕ) (above lines isos : ℕ) (index₀ : List ℕ
 
 -- the loop begins behind the last row
 pub indexing-start : (t : List ℕ) (above : ℕ) {lines isos : ℕ} (index : List ℕ) {v : ℕ} → v ≡ lines % 65536
-    → {mid : List ℕ} → mid ≡ set index 1089 v → {last : List ℕ} → last ≡ set mid isos 1089
-    → Indexing t above lines isos last lines last 1089 isos
+    → {mid : List ℕ} → mid ≡ set index indexEnd v → {last : List ℕ} → last ≡ set mid isos indexEnd
+    → Indexing t above lines isos last lines last indexEnd isos
 indexing-start t above {lines} {isos} index {v} ev {mid} em {last} el =
     record {
       kept = refl;
       holds = λ rs types patterns f ea ei long.
           let whole : v ≡ lines = narrow-same ev (omega (arith, lines-few f)) in
-          let same : last ≡ set (set index 1089 lines) isos 1089 =
-          el ∙ ap (λ l. set l isos 1089) (em ∙ ap (set index 1089) whole) in (
+          let same : last ≡ set (set index indexEnd lines) isos indexEnd =
+          el ∙ ap (λ l. set l isos indexEnd) (em ∙ ap (set index indexEnd) whole) in (
             omega (arith, head-few f),
             omega arith,
-            subst (λ l. Indexed t types rs lines l 1089 isos) (sym same) (indexed-start f index (omega (arith, ap length el, length-set mid isos 1089, ap length em, length-set index 1089 v)) ei),
+            subst (λ l. Indexed t types rs lines l indexEnd isos) (sym same) (indexed-start f index (omega (arith, ap length el, length-set mid isos indexEnd, ap length em, length-set index indexEnd v)) ei),
           );
     }
 

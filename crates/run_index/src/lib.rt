@@ -1,24 +1,17 @@
 // Where each iso and each clause begins, found once. The rows of the I and C lines stand from place
-// `first` of the index on, the number of rows behind them at place 1,089; number i is the place of
-// iso i's row, and behind the last iso's stands 1,089. So an index has 1,090 numbers: 33 places of
-// isos, 1,056 rows, and the number of rows.
+// `first` of the index on, the number of rows behind them at its end; number i is the place of iso i's
+// row, and behind the last iso's stands that end.
 
 use area_words::narrow;
 use area_words::store_word;
 use codes::CLAUSE_LINE;
 use codes::ISO_LINE;
 use codes::ROW_LETTER;
+use limits::INDEX_END;
 use table_trees::cell;
-ghost use mathlib.Core.Path.{_≡_};
-ghost use mathlib.Core.List.{List};
-ghost use Prim.Native.Nat.{ℕ, suc, _+_, _≤_, _<_};
-ghost use lib.ListN.{length};
-ghost use Rattle.format.specs.Lines.{Row as RowOf};
-ghost use Rattle.format.specs.Unfold.{isosOf};
-ghost use Rattle.table_trees.specs.Unfolding.{cellOf};
-ghost use Rattle.table_trees.specs.Walk.{FileIn};
-ghost use Rattle.run_index.specs.Index.{isosAt, indexLength};
-ghost use Rattle.run_index.specs.Indexed.{Indexed};
+ghost use Prim.Native.Nat.{_<_};
+ghost use Rattle.run_index.specs.Indexed.{KindIndexed, RowIndexed, IsosIndexed};
+ghost use Rattle.calculus.specs.Refusals.{isoLine, clauseLine};
 
 // Where the next row up goes, and how many isos are still to come.
 pub struct Left {
@@ -28,12 +21,7 @@ pub struct Left {
 
 // The index with the C row n.
 fn with_clause(index: &mut [u16], l: Left, n: usize) -> Left
-    ensures { λ r. ⌜
-        ((t : List ℕ) (rs : List RowOf) (types patterns lines : ℕ) → FileIn t types patterns lines rs
-        → n < lines → cellOf t n 0 ≡ 67
-        → Indexed t types rs (suc n) (now (index .entry)) (l .first) (l .isos)
-        → Indexed t types rs n (now (index .exit)) (r .first) (r .isos))
-        ⌝ }
+    ensures { λ r. ⌜ KindIndexed clauseLine n (now (index .entry)) l (now (index .exit)) r ⌝ }
 {
     let first = l.first;
     let isos = l.isos;
@@ -50,12 +38,7 @@ fn with_clause(index: &mut [u16], l: Left, n: usize) -> Left
 
 // The index with the I row n.
 fn with_iso(index: &mut [u16], l: Left, n: usize) -> Left
-    ensures { λ r. ⌜
-        ((t : List ℕ) (rs : List RowOf) (types patterns lines : ℕ) → FileIn t types patterns lines rs
-        → n < lines → cellOf t n 0 ≡ 73
-        → Indexed t types rs (suc n) (now (index .entry)) (l .first) (l .isos)
-        → Indexed t types rs n (now (index .exit)) (r .first) (r .isos))
-        ⌝ }
+    ensures { λ r. ⌜ KindIndexed isoLine n (now (index .entry)) l (now (index .exit)) r ⌝ }
 {
     let first = l.first;
     let isos = l.isos;
@@ -77,12 +60,7 @@ fn with_iso(index: &mut [u16], l: Left, n: usize) -> Left
 
 // The index with row n. An L row leaves it as it is.
 fn with_row(t: &[u16], index: &mut [u16], l: Left, n: usize) -> Left
-    ensures { λ r. ⌜
-        ((rs : List RowOf) (types patterns lines : ℕ) → FileIn (now (t .entry)) types patterns lines rs
-        → n < lines → types + patterns ≤ n
-        → Indexed (now (t .entry)) types rs (suc n) (now (index .entry)) (l .first) (l .isos)
-        → Indexed (now (t .entry)) types rs n (now (index .exit)) (r .first) (r .isos))
-        ⌝ }
+    ensures { λ r. ⌜ RowIndexed (now (t .entry)) n (now (index .entry)) l (now (index .exit)) r ⌝ }
 {
     let letter = cell(t, n, ROW_LETTER);
     if letter == CLAUSE_LINE {
@@ -96,18 +74,13 @@ fn with_row(t: &[u16], index: &mut [u16], l: Left, n: usize) -> Left
 
 // Indexes the isos of a table of `lines` rows, of which the first `above` are T and P lines.
 pub fn index_isos(t: &[u16], above: usize, lines: usize, isos: usize, index: &mut [u16])
-    ensures { λ r. ⌜
-        ((rs : List RowOf) (types patterns : ℕ) → FileIn (now (t .entry)) types patterns lines rs
-        → above ≡ types + patterns → isos ≡ length (isosOf rs)
-        → indexLength ≤ length (now (index .entry))
-        → isosOf rs ≡ isosAt (now (t .entry)) types (now (index .exit)) 0 isos)
-        ⌝ }
+    ensures { λ r. ⌜ IsosIndexed (now (t .entry)) above lines isos (now (index .entry)) (now (index .exit)) ⌝ }
 {
-    store_word(index, 1089, narrow(lines));
-    store_word(index, isos, 1089);
+    store_word(index, INDEX_END, narrow(lines));
+    store_word(index, isos, INDEX_END as u16);
     let mut n = lines;
     let mut l = Left {
-        first: 1089,
+        first: INDEX_END,
         isos: isos,
     };
     while above < n {

@@ -3,7 +3,6 @@ use Prim.Native.Nat.{ℕ, suc, _+_, _≤_, _<_}
 use native.Mathlib.Omega.{arith}
 use mathlib.Core.Path.{_≡_, sym, ap, ap₂, _∙_, subst}
 use mathlib.Core.Bool.{cond}
-use mathlib.Core.Logic.{_⊎_, inl, inr}
 use mathlib.Core.List.{List, _∷_, _++_}
 use lib.Dec.{ltb}
 use lib.ListN.{length, getD, set, take, drop, length-append}
@@ -13,9 +12,9 @@ use Rattle.calculus.specs.Letters.{letterOf}
 use Rattle.area_cells.specs.Areas.{Writes}
 use Rattle.area_cells.proofs.Writing.{writes-one, writes-both, writes-as}
 use Rattle.table_trees.specs.Unfolding.{cellOf, smallerOf, patternOf}
-use Rattle.table_trees.proofs.Unfolding.{pattern-unit, pattern-var, pattern-left, pattern-right, pattern-pair}
+use Rattle.table_trees.proofs.Unfolding.{pattern-var, pattern-left, pattern-right, pattern-pair, pattern-other}
 use Rattle.run_values.specs.Texts.{letterFor, Below, rangeOf, built}
-use Rattle.run_patterns.proofs.Lines.{kinds, letter-pair}
+use Rattle.run_patterns.proofs.Lines.{letter-other, Node, lefts, rights, pairs, units, nodes-of}
 use Rattle.run_values.proofs.Copying.{put-place}
 use Rattle.run_values.proofs.Agreeing.{take-sets}
 
@@ -86,27 +85,43 @@ module _ (t : List ℕ) (base j : ℕ) {vars l : List ℕ} {at k : ℕ} (e : k �
   build-variable z f w = as-line (pattern-var t base j (sym e ∙ z) ∙ sym (ap pvar f)) w
 
   module _ {b m : ℕ} {l₁ : List ℕ} (f : b ≡ letterFor k) (w : Puts l l₁ at m b) where
-    -- unit
-    pub build-unit : k ≡ 0 → Builds vars l l₁ at m (patternOf t base j)
-    build-unit z = as-line (pattern-unit t base j (sym e ∙ z)) (builds-unit (subst (Puts l l₁ at m) (f ∙ ap letterFor z) w))
+    -- a unit, or a number that is no kind
+    pub build-unit : (k ≡ 1 → ⊥) → (k ≡ 4 → ⊥) → (k ≡ 2 → ⊥) → (k ≡ 3 → ⊥) → Builds vars l l₁ at m (patternOf t base j)
+    build-unit n x y z =
+        as-line (pattern-other t base j (λ h. n (e ∙ h)) (λ h. y (e ∙ h)) (λ h. z (e ∙ h)) (λ h. x (e ∙ h)))
+        (builds-unit (subst (Puts l l₁ at m) (f ∙ letter-other k x y z) w))
+
+    pub build-low : (k ≡ 1 → ⊥) → k < 2 → Builds vars l l₁ at m (patternOf t base j)
+    build-low n h = build-unit n (λ z. absurd (omega arith)) (λ z. absurd (omega arith)) (λ z. absurd (omega arith))
+
+    pub build-high : (k ≡ 1 → ⊥) → 4 ≤ k → (k ≡ 4 → ⊥) → Builds vars l l₁ at m (patternOf t base j)
+    build-high n h x = build-unit n x (λ z. absurd (omega arith)) (λ z. absurd (omega arith))
 
     module _ {a : ℕ} (n : a ≡ smallerOf (cellOf t (base + j) 2) j) {l₂ : List ℕ} {i : ℕ} (g : Builds vars l₁ l₂ m i (patternOf t base a)) where
       -- left and right
-      pub build-tag : (k ≡ 1 → ⊥) → (k ≡ 0 → ⊥) → k < 4 → Builds vars l l₂ at i (patternOf t base j)
-      build-tag one zero′ h = go (kinds k one)
+      pub build-left : k ≡ 2 → Builds vars l l₂ at i (patternOf t base j)
+      build-left z =
+          as-line (pattern-left t base j (sym e ∙ z) ∙ ap (λ x. pinj left (patternOf t base x)) (sym n))
+          (builds-inj left (patternOf t base a) (subst (Puts l l₁ at m) (f ∙ ap letterFor z) w) g)
+
+      pub build-right : k ≡ 3 → Builds vars l l₂ at i (patternOf t base j)
+      build-right z =
+          as-line (pattern-right t base j (sym e ∙ z) ∙ ap (λ x. pinj right (patternOf t base x)) (sym n))
+          (builds-inj right (patternOf t base a) (subst (Puts l l₁ at m) (f ∙ ap letterFor z) w) g)
+
+      pub build-tag : 2 ≤ k → k < 4 → Builds vars l l₂ at i (patternOf t base j)
+      build-tag h g′ = go (nodes-of k)
         where
-          go : (k ≡ 0) ⊎ ((k ≡ 2) ⊎ ((k ≡ 3) ⊎ (4 ≤ k))) → Builds vars l l₂ at i (patternOf t base j)
-          go (inl z) = absurd (zero′ z)
-          go (inr (inl z)) =
-              as-line (pattern-left t base j (sym e ∙ z) ∙ ap (λ x. pinj left (patternOf t base x)) (sym n)) (builds-inj left (patternOf t base a) (subst (Puts l l₁ at m) (f ∙ ap letterFor z) w) g)
-          go (inr (inr (inl z))) =
-              as-line (pattern-right t base j (sym e ∙ z) ∙ ap (λ x. pinj right (patternOf t base x)) (sym n)) (builds-inj right (patternOf t base a) (subst (Puts l l₁ at m) (f ∙ ap letterFor z) w) g)
-          go (inr (inr (inr q))) = absurd (omega arith)
+          go : Node k → Builds vars l l₂ at i (patternOf t base j)
+          go (lefts z) = build-left z
+          go (rights z) = build-right z
+          go (pairs z) = absurd (omega arith)
+          go (units x y z) = absurd (omega arith)
 
       -- a pair
-      pub build-pair : {c r : ℕ} {l₃ : List ℕ} → 4 ≤ k → c ≡ smallerOf (cellOf t (base + j) 3) j → length l₃ ≡ length l₂
+      pub build-pair : {c r : ℕ} {l₃ : List ℕ} → k ≡ 4 → c ≡ smallerOf (cellOf t (base + j) 3) j → length l₃ ≡ length l₂
           → Builds vars l₂ l₃ i r (patternOf t base c) → Builds vars l l₃ at r (patternOf t base j)
       build-pair {c} h o same v =
           as-line
-          (pattern-pair t base j (subst (λ z. 4 ≤ z) e h) ∙ ap₂ (λ x y. ppair (patternOf t base x) (patternOf t base y)) (sym n) (sym o))
-          (builds-pair (patternOf t base a) (patternOf t base c) (subst (Puts l l₁ at m) (f ∙ letter-pair h) w) g same v)
+          (pattern-pair t base j (sym e ∙ h) ∙ ap₂ (λ x y. ppair (patternOf t base x) (patternOf t base y)) (sym n) (sym o))
+          (builds-pair (patternOf t base a) (patternOf t base c) (subst (Puts l l₁ at m) (f ∙ ap letterFor h) w) g same v)

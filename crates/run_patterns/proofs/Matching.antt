@@ -5,7 +5,6 @@ use native.Mathlib.Numerals.{add-one}
 use native.Mathlib.Omega.{arith}
 use mathlib.Core.Path.{_≡_, refl, sym, ap, ap₂, _∙_, subst}
 use mathlib.Core.Bool.{Bool, true, false, cond, _&&_}
-use mathlib.Core.Logic.{_⊎_, inl, inr}
 use mathlib.Core.List.{List}
 use lib.Dec.{eqb, ltb}
 use lib.ListN.{length, getD, set, length-append}
@@ -14,12 +13,12 @@ use Rattle.calculus.specs.Trees.{Tag, left, right, Pat, punit, pvar, pinj, ppai
 use Rattle.calculus.specs.Letters.{letters}
 use Rattle.calculus.proofs.Basic.{and-true, eqb-eq}
 use Rattle.table_trees.specs.Unfolding.{cellOf, smallerOf, patternOf}
-use Rattle.table_trees.proofs.Unfolding.{pattern-unit, pattern-var, pattern-left, pattern-right, pattern-pair}
+use Rattle.table_trees.proofs.Unfolding.{pattern-var, pattern-left, pattern-right, pattern-pair, pattern-other}
 use Rattle.run_values.specs.declared.Upto as U
 use Rattle.run_values.specs.declared.Upto.the-variants as upto
 use Rattle.run_values.specs.Texts.{At, Ends, letterFor, alike, matched, putRange, ranges}
 use Rattle.run_patterns.proofs.Spelling.{at-within, at-first, at-inj, at-left, at-right}
-use Rattle.run_patterns.proofs.Lines.{kinds, letter-pair}
+use Rattle.run_patterns.proofs.Lines.{letter-other, Node, lefts, rights, pairs, units, nodes-of}
 
 -- ---- the range of a variable
 
@@ -248,8 +247,8 @@ pub letter-here : (s : List ℕ) (at b : ℕ) → at < length s → getD s at 0 
 letter-here s at b h e = sym (ap₂ (λ x y. matched (x && y) (at + 1)) (lt-ltb at (length s) h) (eq-eqb (getD s at 0) b e))
 
 -- another is there
-pub letter-other : (s : List ℕ) (at b : ℕ) → at < length s → (getD s at 0 ≡ b → ⊥) → upto.Nothing ≡ Found s at b
-letter-other s at b h n = sym (ap₂ (λ x y. matched (x && y) (at + 1)) (lt-ltb at (length s) h) (ne-eqb (getD s at 0) b n))
+pub letter-differs : (s : List ℕ) (at b : ℕ) → at < length s → (getD s at 0 ≡ b → ⊥) → upto.Nothing ≡ Found s at b
+letter-differs s at b h n = sym (ap₂ (λ x y. matched (x && y) (at + 1)) (lt-ltb at (length s) h) (ne-eqb (getD s at 0) b n))
 
 -- none is there
 pub letter-none : (s : List ℕ) (at b : ℕ) → length s ≤ at → upto.Nothing ≡ Found s at b
@@ -281,19 +280,23 @@ module _ (t : List ℕ) (base j : ℕ) (s : List ℕ) (at end : ℕ) (vars : Lis
         → Told s at end (patternOf t base j) vars vars′ r
     match-variable {x} {vars′} {r} z f h = subst (λ p. Told s at end p vars vars′ r) (sym (pattern-var t base j (sym e ∙ z) ∙ sym (ap pvar f))) h
 
+    -- a unit, or a number that is no kind
+    unit-line : (k ≡ 1 → ⊥) → (k ≡ 4 → ⊥) → (k ≡ 2 → ⊥) → (k ≡ 3 → ⊥) → patternOf t base j ≡ punit
+    unit-line n x y z = pattern-other t base j (λ h. n (e ∙ h)) (λ h. y (e ∙ h)) (λ h. z (e ∙ h)) (λ h. x (e ∙ h))
+
     module _ {b : ℕ} {o : U.Upto} (l : b ≡ letterFor k) (u : o ≡ Found s at b) where
       -- another letter
       pub match-miss : (k ≡ 1 → ⊥) → o ≡ upto.Nothing → Told s at end (patternOf t base j) vars vars upto.Nothing
-      match-miss n q = go (kinds k n)
+      match-miss n q = go (nodes-of k)
         where
           not : {y : ℕ} → letterFor k ≡ y → at < length s → getD s at 0 ≡ y → ⊥
           not m = subst (λ x. at < length s → getD s at 0 ≡ x → ⊥) (l ∙ m) (missed s at b (sym q ∙ u))
 
-          go : (k ≡ 0) ⊎ ((k ≡ 2) ⊎ ((k ≡ 3) ⊎ (4 ≤ k))) → Told s at end (patternOf t base j) vars vars upto.Nothing
-          go (inl z) = as-line _ (pattern-unit t base j (sym e ∙ z)) (misses-unit (not (ap letterFor z)))
-          go (inr (inl z)) = as-line _ (pattern-left t base j (sym e ∙ z)) (misses-left (not (ap letterFor z)))
-          go (inr (inr (inl z))) = as-line _ (pattern-right t base j (sym e ∙ z)) (misses-right (not (ap letterFor z)))
-          go (inr (inr (inr h))) = as-line _ (pattern-pair t base j (subst (λ z. 4 ≤ z) e h)) (misses-pair (not (letter-pair h)))
+          go : Node k → Told s at end (patternOf t base j) vars vars upto.Nothing
+          go (lefts z) = as-line _ (pattern-left t base j (sym e ∙ z)) (misses-left (not (ap letterFor z)))
+          go (rights z) = as-line _ (pattern-right t base j (sym e ∙ z)) (misses-right (not (ap letterFor z)))
+          go (pairs z) = as-line _ (pattern-pair t base j (sym e ∙ z)) (misses-pair (not (ap letterFor z)))
+          go (units x y z) = as-line _ (unit-line n x y z) (misses-unit (not (letter-other k x y z)))
 
       module _ {next : ℕ} (q : o ≡ upto.Place next) where
         -- the letter is there
@@ -304,43 +307,54 @@ module _ (t : List ℕ) (base j : ℕ) (s : List ℕ) (at end : ℕ) (vars : Lis
         then : next ≡ at + 1
         then = found s at b (sym q ∙ u) .1
 
-        -- unit
-        pub match-unit : k ≡ 0 → Told s at end (patternOf t base j) vars vars (upto.Place next)
-        match-unit z =
-            as-line _ (pattern-unit t base j (sym e ∙ z))
-            (subst (λ n. Matches s at end punit vars vars (upto.Place n)) (sym then) (matches-unit (here (ap letterFor z))))
+        -- a unit, or a number that is no kind
+        pub match-unit : (k ≡ 1 → ⊥) → (k ≡ 4 → ⊥) → (k ≡ 2 → ⊥) → (k ≡ 3 → ⊥) → Told s at end (patternOf t base j) vars vars (upto.Place next)
+        match-unit n x y z =
+            as-line _ (unit-line n x y z)
+            (subst (λ n. Matches s at end punit vars vars (upto.Place n)) (sym then) (matches-unit (here (letter-other k x y z))))
+
+        pub match-low : (k ≡ 1 → ⊥) → k < 2 → Told s at end (patternOf t base j) vars vars (upto.Place next)
+        match-low n h = match-unit n (λ z. absurd (omega arith)) (λ z. absurd (omega arith)) (λ z. absurd (omega arith))
+
+        pub match-high : (k ≡ 1 → ⊥) → 4 ≤ k → (k ≡ 4 → ⊥) → Told s at end (patternOf t base j) vars vars (upto.Place next)
+        match-high n h x = match-unit n x (λ z. absurd (omega arith)) (λ z. absurd (omega arith))
 
         module _ {a : ℕ} (n : a ≡ smallerOf (cellOf t (base + j) 2) j) where
           -- left and right
-          pub match-tag : {vars′ : List ℕ} {r : U.Upto} → (k ≡ 1 → ⊥) → (k ≡ 0 → ⊥) → k < 4 → Told s next end (patternOf t base a) vars vars′ r
-              → Told s at end (patternOf t base j) vars vars′ r
-          match-tag {vars′} {r} one zero′ h m = go (kinds k one)
-            where
-              go : (k ≡ 0) ⊎ ((k ≡ 2) ⊎ ((k ≡ 3) ⊎ (4 ≤ k))) → Told s at end (patternOf t base j) vars vars′ r
-              go (inl z) = absurd (zero′ z)
-              go (inr (inl z)) =
-                  as-line _ (pattern-left t base j (sym e ∙ z) ∙ ap (λ x. pinj left (patternOf t base x)) (sym n))
-                  (matches-left (here (ap letterFor z)) (record-of then m))
-              go (inr (inr (inl z))) =
-                  as-line _ (pattern-right t base j (sym e ∙ z) ∙ ap (λ x. pinj right (patternOf t base x)) (sym n))
-                  (matches-right (here (ap letterFor z)) (record-of then m))
-              go (inr (inr (inr f))) = absurd (omega arith)
+          pub match-left : {vars′ : List ℕ} {r : U.Upto} → k ≡ 2 → Told s next end (patternOf t base a) vars vars′ r → Told s at end (patternOf t base j) vars vars′ r
+          match-left z m =
+              as-line _ (pattern-left t base j (sym e ∙ z) ∙ ap (λ x. pinj left (patternOf t base x)) (sym n))
+              (matches-left (here (ap letterFor z)) (record-of then m))
 
-          module _ (h : 4 ≤ k) where
+          pub match-right : {vars′ : List ℕ} {r : U.Upto} → k ≡ 3 → Told s next end (patternOf t base a) vars vars′ r → Told s at end (patternOf t base j) vars vars′ r
+          match-right z m =
+              as-line _ (pattern-right t base j (sym e ∙ z) ∙ ap (λ x. pinj right (patternOf t base x)) (sym n))
+              (matches-right (here (ap letterFor z)) (record-of then m))
+
+          pub match-tag : {vars′ : List ℕ} {r : U.Upto} → 2 ≤ k → k < 4 → Told s next end (patternOf t base a) vars vars′ r → Told s at end (patternOf t base j) vars vars′ r
+          match-tag {vars′} {r} h g m = go (nodes-of k)
+            where
+              go : Node k → Told s at end (patternOf t base j) vars vars′ r
+              go (lefts z) = match-left z m
+              go (rights z) = match-right z m
+              go (pairs z) = absurd (omega arith)
+              go (units x y z) = absurd (omega arith)
+
+          module _ (h : k ≡ 4) where
             -- the tree of a pair line
             pair-line : {c : ℕ} → c ≡ smallerOf (cellOf t (base + j) 3) j → patternOf t base j ≡ ppair (patternOf t base a) (patternOf t base c)
-            pair-line f = pattern-pair t base j (subst (λ z. 4 ≤ z) e h) ∙ ap₂ (λ x y. ppair (patternOf t base x) (patternOf t base y)) (sym n) (sym f)
+            pair-line f = pattern-pair t base j (sym e ∙ h) ∙ ap₂ (λ x y. ppair (patternOf t base x) (patternOf t base y)) (sym n) (sym f)
 
             -- a pair whose first part matches
             pub match-pair : {c m : ℕ} {vars₁ vars₂ : List ℕ} {w r : U.Upto} → w ≡ upto.Place m → Told s next 0 (patternOf t base a) vars vars₁ w
                 → c ≡ smallerOf (cellOf t (base + j) 3) j → Told s m end (patternOf t base c) vars₁ vars₂ r → Told s at end (patternOf t base j) vars vars₂ r
             match-pair {vars₁} p f o v =
                 as-line _ (pair-line o)
-                (matches-pair (here (letter-pair h)) (subst (Matches s (at + 1) 0 (patternOf t base a) vars vars₁) p (record-of then f)) (record-of refl v))
+                (matches-pair (here (ap letterFor h)) (subst (Matches s (at + 1) 0 (patternOf t base a) vars vars₁) p (record-of then f)) (record-of refl v))
 
             -- a pair whose first part does not
             pub miss-first : {vars₁ : List ℕ} {w : U.Upto} → w ≡ upto.Nothing → Told s next 0 (patternOf t base a) vars vars₁ w
                 → Told s at end (patternOf t base j) vars vars₁ upto.Nothing
             miss-first {vars₁} p f =
                 as-line _ (pair-line refl)
-                (misses-first (here (letter-pair h)) (subst (Matches s (at + 1) 0 (patternOf t base a) vars vars₁) p (record-of then f)))
+                (misses-first (here (ap letterFor h)) (subst (Matches s (at + 1) 0 (patternOf t base a) vars vars₁) p (record-of then f)))

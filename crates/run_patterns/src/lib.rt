@@ -16,7 +16,7 @@ use codes::LETTER_RIGHT;
 use codes::LETTER_UNIT;
 use codes::PAIR;
 use codes::RIGHT;
-use codes::UNIT;
+use codes::SECOND;
 use codes::VARIABLE;
 use limits::VARIABLES;
 use run_values::Upto;
@@ -28,8 +28,9 @@ ghost use mathlib.Core.Bool.{cond, _&&_};
 ghost use Prim.Native.Nat.{ℕ, _+_, _-_, _≤_, _<_};
 ghost use lib.Dec.{eqb, ltb};
 ghost use lib.ListN.{length, getD, take};
+ghost use Rattle.limits.specs.Limits.{fieldBound};
 ghost use Rattle.calculus.specs.Trees.{pvar, Val};
-ghost use Rattle.calculus.specs.Letters.{letters};
+ghost use Rattle.calculus.specs.Letters.{letters, letterU, letterP};
 ghost use Rattle.area_cells.specs.Areas.{Writes};
 ghost use Rattle.table_trees.specs.Unfolding.{cellOf, smallerOf, patternOf};
 ghost use Rattle.run_values.specs.Texts.{At, Ends, letterFor, alike, matched, putRange, ranges, rangeOf, built, Below};
@@ -37,7 +38,7 @@ ghost use Rattle.run_values.specs.Texts.{At, Ends, letterFor, alike, matched, p
 // How many values come behind the one that is begun, once a letter is read, where `more` came before.
 fn more_after(b: u8, more: usize) -> usize
     requires { ⌜ more < 18446744073709551615 ⌝ }
-    ensures { λ r. ⌜ r ≡ cond (eqb b 85) (more - 1) (cond (eqb b 80) (more + 1) more) ⌝ }
+    ensures { λ r. ⌜ r ≡ cond (eqb b letterU) (more - 1) (cond (eqb b letterP) (more + 1) more) ⌝ }
 {
     if b == LETTER_UNIT {
         if 0 < more {
@@ -103,12 +104,12 @@ fn match_var(s: &[u8], at: usize, end: usize, n: usize, vars: &mut [u16]) -> Upt
     Upto::Place(stop)
 }
 
-// The letter of a P line's kind.
+// The letter of a P line's kind; a number that is no kind has a unit's.
 fn letter(kind: usize) -> u8
     ensures { λ r. ⌜ r ≡ letterFor kind ⌝ }
 {
-    if kind == UNIT {
-        return LETTER_UNIT;
+    if kind == PAIR {
+        return LETTER_PAIR;
     }
     if kind == LEFT {
         return LETTER_LEFT;
@@ -116,7 +117,7 @@ fn letter(kind: usize) -> u8
     if kind == RIGHT {
         return LETTER_RIGHT;
     }
-    LETTER_PAIR
+    LETTER_UNIT
 }
 
 // The place behind a letter, if it stands at a place.
@@ -165,22 +166,19 @@ pub fn match_at(
     let Upto::Place(next) = letter_end(s, at, letter(kind)) else {
         return Upto::Nothing;
     };
-    if kind == UNIT {
-        return Upto::Place(next);
-    }
-    let first = part(t, base, j, 2);
-    if kind < PAIR {
-        return match_at(t, base, first, s, next, end, vars);
-    }
-    match match_at(t, base, first, s, next, 0, vars) {
-        Upto::Place(m) => match_at(t, base, part(t, base, j, 3), s, m, end, vars),
-        Upto::Nothing => Upto::Nothing,
+    match kind {
+        PAIR => match match_at(t, base, part(t, base, j, FIRST), s, next, 0, vars) {
+            Upto::Place(m) => match_at(t, base, part(t, base, j, SECOND), s, m, end, vars),
+            Upto::Nothing => Upto::Nothing,
+        },
+        LEFT | RIGHT => match_at(t, base, part(t, base, j, FIRST), s, next, end, vars),
+        _ => Upto::Place(next),
     }
 }
 
 // Writes the letters that variable n stands for; gives where they end.
 fn build_var(n: usize, vars: &[u16], work: &mut [u8], at: usize) -> usize
-    requires { ⌜ n < 65536 ⌝ }
+    requires { ⌜ n < fieldBound ⌝ }
     ensures { λ r. ⌜
         ((top : ℕ) → Below (now (vars .entry)) top → top ≤ at
         → Writes (now (work .entry)) (now (work .exit)) at r
@@ -204,12 +202,12 @@ pub fn build_at(t: &[u16], base: usize, j: usize, vars: &[u16], work: &mut [u8],
         return build_var(pattern_cell(t, base, j, FIRST), vars, work, at);
     }
     let next = put_byte(work, at, letter(kind));
-    if kind == UNIT {
-        return next;
+    if kind == PAIR {
+        let middle = build_at(t, base, part(t, base, j, FIRST), vars, work, next);
+        return build_at(t, base, part(t, base, j, SECOND), vars, work, middle);
     }
-    let middle = build_at(t, base, part(t, base, j, 2), vars, work, next);
-    if kind < PAIR {
-        return middle;
+    match kind {
+        LEFT | RIGHT => build_at(t, base, part(t, base, j, FIRST), vars, work, next),
+        _ => next,
     }
-    build_at(t, base, part(t, base, j, 3), vars, work, middle)
 }

@@ -8,8 +8,8 @@ use mathlib.Core.Option.{some}
 use mathlib.Core.Logic.{_⊎_, inl, inr}
 use mathlib.Core.List.{List, [], _∷_, _++_, append-assoc}
 use lib.ListN.{length, getD, getElem?, take, drop, replicate, length-append, drop-of-length-le, take-append-drop}
-use lib.Seq.{sets, slice, sets-eq, length-take-le, take-at, drop-at, take-take}
-use Rattle.limits.specs.Limits.{variables, maxLets}
+use lib.Seq.{sets, slice, sets-eq, length-take-le, take-at, drop-at, take-take, drop-drop}
+use Rattle.limits.specs.Limits.{variables, maxLets, resultLength, workLength, frame}
 use Rattle.calculus.specs.Trees.{Pat, Val, Let, Clause, Iso}
 use Rattle.calculus.specs.Slots.{Slots, empty}
 use Rattle.calculus.specs.Letters.{letters}
@@ -18,7 +18,7 @@ use Rattle.calculus.proofs.Basic.{not-both, index-below, le-or-lt}
 use Rattle.calculus.proofs.Binding.{bind-length, build-length}
 use Rattle.area_cells.specs.Areas.{Writes}
 use Rattle.table_trees.specs.Unfolding.{cellOf, patternOf}
-use Rattle.table_trees.specs.InTable.{letAt, clauseIn}
+use Rattle.table_walks.specs.InTable.{letAt, clauseIn}
 use Rattle.run_index.specs.Index.{placeAt, isoAt}
 use Rattle.run_values.specs.declared.Upto as U
 use Rattle.run_values.specs.declared.Upto.the-variants as upto
@@ -30,7 +30,7 @@ use Rattle.run_values.proofs.Agreeing.{at-within, at-take, at-sets, take-sets, 
 use Rattle.run_reduction.specs.declared.Reduced as R
 use Rattle.run_reduction.specs.declared.Reduced.the-variants as reduced
 use Rattle.run_values.proofs.Tracing.{runs-least}
-use Rattle.run_reduction.specs.Frames.{frame, EnvAt, Moved, sided, sidedClause, sidedLet, sidedLets, sideAt, Laid, Chosen, Applied, Stepped, LetsRan}
+use Rattle.run_reduction.specs.Frames.{EnvAt, Moved, sided, sidedClause, sidedLet, sidedLets, sideAt, Laid, Chosen, Spares, Applied, Stepped, LetsRan, ChoiceSays, StepSays, LetsSay, ApplySays}
 use Rattle.run_reduction.proofs.Laying.{inside, clause-at, lhs-at, rhs-at, lets-at, length-sided, let-at, let-q, let-p, let-iso}
 
 -- ---- answers
@@ -55,6 +55,32 @@ done≢spent e = true≢false (ap isDone e)
     isDone : R.Reduced → Bool
     isDone (reduced.Done x y) = true
     isDone reduced.Spent = false
+
+-- ---- what is left alone
+
+pub spares-none : (w : List ℕ) (from to : ℕ) → Spares w w from to
+spares-none w from to = record { before = refl; behind = refl }
+
+pub spares-both : {w w₁ w₂ : List ℕ} {from to : ℕ} → Spares w w₁ from to → Spares w₁ w₂ from to → Spares w w₂ from to
+spares-both a b = record { before = b .before ∙ a .before; behind = b .behind ∙ a .behind }
+
+pub spares-more : {w w′ : List ℕ} (a b from to : ℕ) → Spares w w′ a b → from ≤ a → b ≤ to → Spares w w′ from to
+spares-more {w} {w′} a b from to k h g =
+    let place : b + (to - b) ≡ to = omega arith in
+    record {
+      before = sym (take-take from a w′ h) ∙ ap (take from) (k .before) ∙ take-take from a w h;
+      behind = ap (λ n. drop n w′) (sym place) ∙ sym (drop-drop (to - b) b w′) ∙ ap (drop (to - b)) (k .behind) ∙ drop-drop (to - b) b w ∙ ap (λ n. drop n w) place;
+    }
+
+-- letters written
+spares-sets : (w bs : List ℕ) (at : ℕ) → at + length bs ≤ length w → Spares w (sets w at bs) at (at + length bs)
+spares-sets w bs at h =
+    let long = length-take-le at w (omega arith) in
+    let front = length-append (take at w) bs in
+    record {
+      before = take-sets w bs at at (omega arith);
+      behind = ap (drop (at + length bs)) (sets-eq bs w at h) ∙ drop-at (take at w ++ bs) (drop (at + length bs) w) (at + length bs) (omega (arith, long, front));
+    }
 
 -- ---- the choice of a clause
 
@@ -132,7 +158,7 @@ choosing-end c past v n a z b h hit miss = let r = c .notYet v n a z b h hit mis
 pub record Ready (w₀ w₁ vars : List ℕ) (top end : ℕ) (u : Val) (f : Slots Val) : Type 0 where
   pub spelled : At w₁ top u
   pub ends : end ≡ top + length (letters u)
-  pub kept : take top w₁ ≡ take top w₀
+  pub spares : Spares w₀ w₁ top (top + length (letters u))
   pub wide : length w₁ ≡ length w₀
   pub rest : EnvAt w₀ top vars f
 
@@ -147,7 +173,7 @@ ready {w₀} {w₁} {vars} {top} {end} q {e} {f} {u} env b room writes =
     record {
       spelled = subst (λ l. At l top u) (sym is) (at-sets w₀ (letters u) top u refl room);
       ends = w .place fits ∙ ap (λ bs. top + length bs) (same .0);
-      kept = ap (take top) is ∙ take-sets w₀ (letters u) top top (omega arith);
+      spares = subst (λ l. Spares w₀ l top (top + length (letters u))) (sym is) (spares-sets w₀ (letters u) top room);
       wide = w .kept;
       rest = record { agrees = same .1; below = env .below; wide = env .wide; slots = build-length q e b ∙ env .slots };
     }
@@ -171,16 +197,24 @@ at-result w w′ at v h k e =
           ∙ drop-at (take at w) (letters v ++ drop (at + length (letters v)) w′) at n;
     }
 
+-- q's letters and an earlier iso's frames are within the frames of the isos below i
+step-spares : {w₀ w₁ w₂ : List ℕ} (top i j : ℕ) (u : Val) → Small u → j < i → Spares w₀ w₁ top (top + length (letters u)) → Spares w₁ w₂ top (top + suc j * frame)
+    → Spares w₀ w₂ top (top + i * frame)
+step-spares top i j u small less a b =
+    spares-both
+    (spares-more top (top + length (letters u)) top (top + i * frame) a (omega arith) (omega (arith, small, less)))
+    (spares-more top (top + suc j * frame) top (top + i * frame) b (omega arith) (omega (arith, less)))
+
 -- the letters up to the result's end, and the environment with the result matched
-pub stepped-done : {w₀ w₁ w₂ vars vars′ : List ℕ} {top end left : ℕ} {u w : Val} {f g : Slots Val} {m x y : ℕ} {r : R.Reduced} (p : Pat) → Ready w₀ w₁ vars top end u f
-    → Applied w₁ w₂ top left w m r → r ≡ reduced.Done x y → length w₂ ≡ length w₁ → bind p w f ≡ some g → top + length (letters w) ≤ length w₀ → top + length (letters w) < 65536
-    → ((v : Val) → At w₂ top v → Ends x top v → vars′ ≡ ranges p v top vars) → Stepped w₀ w₂ vars′ top left w g m (reduced.Done x y)
-stepped-done {w₀} {w₁} {w₂} {vars} {vars′} {top} {end} {left} {u} {w} {f} {g} {m} {x} {y} {r} p rd ap′ is wide b room small range =
+pub stepped-done : {w₀ w₁ w₂ vars vars′ : List ℕ} {top end left i j : ℕ} {u w : Val} {f g : Slots Val} {m x y : ℕ} {r : R.Reduced} (p : Pat) → Ready w₀ w₁ vars top end u f
+    → Small u → j < i → Applied w₁ w₂ top j left w m r → r ≡ reduced.Done x y → length w₂ ≡ length w₁ → bind p w f ≡ some g → top + length (letters w) ≤ length w₀ → top + length (letters w) < 65536
+    → ((v : Val) → At w₂ top v → Ends x top v → vars′ ≡ ranges p v top vars) → Stepped w₀ w₂ vars′ top i left w g m (reduced.Done x y)
+stepped-done {w₀} {w₁} {w₂} {vars} {vars′} {top} {end} {left} {i} {j} {u} {w} {f} {g} {m} {x} {y} {r} p rd little less ap′ is wide b room small range =
     record {
       done = λ h. sym is ∙ ap′ .done h;
-      kept = λ h. below-result w₁ w₂ top (letters w) top≤ (ap′ .result h) ∙ rd .kept;
       env = env;
       spent = λ h. absurd (done≢spent (sym is ∙ ap′ .spent h));
+      spares = step-spares top i j u little less (rd .spares) (ap′ .spares);
     }
   where
     top≤ : top ≤ length w₁
@@ -191,7 +225,7 @@ stepped-done {w₀} {w₁} {w₂} {vars} {vars′} {top} {end} {left} {u} {w} {f
         let k = rd .wide in
         let a : At w₂ top w = at-result w₁ w₂ top w top≤ (omega (arith, k, wide)) (ap′ .result h) in
         let e = range w a (λ _. done-place (sym is ∙ ap′ .done h)) in
-        let same : take top w₀ ≡ take top w₂ = sym (below-result w₁ w₂ top (letters w) top≤ (ap′ .result h) ∙ rd .kept) in
+        let same : take top w₀ ≡ take top w₂ = sym (ap′ .spares .before ∙ rd .spares .before) in
         let next : ℕ = top + length (letters w) in
         let older : Agrees (take next w₂) vars f =
         agrees-more w₂ vars f top next (subst (λ l. Agrees l vars f) same (rd .rest .agrees)) (rd .rest .below) (omega arith) in
@@ -204,33 +238,20 @@ stepped-done {w₀} {w₁} {w₂} {vars} {vars′} {top} {end} {left} {u} {w} {f
           slots = bind-length p w f b ∙ rd .rest .slots;
         }
 
-pub stepped-spent : {w₀ w₁ w₂ vars′ : List ℕ} {top left : ℕ} {w : Val} {g : Slots Val} {m : ℕ} {r : R.Reduced} → Applied w₁ w₂ top left w m r → r ≡ reduced.Spent
-    → Stepped w₀ w₂ vars′ top left w g m reduced.Spent
-stepped-spent a is =
+pub stepped-spent : {w₀ w₁ w₂ vars vars′ : List ℕ} {top end left i j : ℕ} {u w : Val} {f g : Slots Val} {m : ℕ} {r : R.Reduced} → Ready w₀ w₁ vars top end u f → Small u → j < i
+    → Applied w₁ w₂ top j left w m r → r ≡ reduced.Spent → Stepped w₀ w₂ vars′ top i left w g m reduced.Spent
+stepped-spent {top = top} {i = i} {j = j} {u = u} rd little less a is =
     record {
       done = λ h. absurd (done≢spent (sym (a .done h) ∙ is));
-      kept = λ h. absurd (done≢spent (sym (a .done h) ∙ is));
       env = λ h. absurd (done≢spent (sym (a .done h) ∙ is));
       spent = λ h. refl;
+      spares = step-spares top i j u little less (rd .spares) (a .spares);
     }
-
--- what a let step ensures, for whatever trace there is
-abbrev pub StepSays : List ℕ → ℕ → List ℕ → Bool → ℕ → ℕ → List ℕ → List ℕ → ℕ → List ℕ → List ℕ → ℕ → R.Reduced → Type 0
-StepSays t base index back i row work work′ top vars vars′ left r =
-    (os : List Iso) (d : ℕ) (l : Let) (e f g : Slots Val) (u w : Val) (m : ℕ) → Laid t base index back os → l ≡ sidedLet back (letAt t base row)
-    → l .iso < i → build (l .q) e ≡ some (u, f) → Small u → Runs d os (l .iso) u w m → Small w → bind (l .p) w f ≡ some g → EnvAt work top vars e
-    → top + i * frame ≤ length work → length work ≤ 65536 → Stepped work work′ vars′ top left w g m r
 
 -- a let step that names no earlier iso is in no trace
 pub stepped-late : {P : Type 0} (t : List ℕ) (base : ℕ) (back : Bool) (i j row : ℕ) (l : Let) → l ≡ sidedLet back (letAt t base row) → l .iso < i → j ≡ cellOf t row 2 → i ≤ j → P
 stepped-late t base back i j row l is less e late =
     let same : l .iso ≡ j = ap (λ x. x .iso) is ∙ let-iso t base back row ∙ sym e in absurd (omega (arith, same))
-
--- what an application ensures, for whatever trace there is
-abbrev pub ApplySays : List ℕ → ℕ → List ℕ → Bool → ℕ → List ℕ → List ℕ → ℕ → ℕ → ℕ → R.Reduced → Type 0
-ApplySays t base index back i work work′ at end left r =
-    (os : List Iso) (d : ℕ) (v w : Val) (m : ℕ) → Laid t base index back os → Runs d os i v w m → At work at v → Small v → end ≡ at + length (letters v)
-    → at + suc i * frame ≤ length work → length work ≤ 65536 → Applied work work′ at left w m r
 
 -- q is built, and the iso applied to it
 step-ready : (t : List ℕ) (base : ℕ) (back : Bool) (row i : ℕ) {jq : ℕ} {w₀ w₁ vars : List ℕ} {top end : ℕ} (l : Let) (e : Slots Val) {f : Slots Val} {u : Val}
@@ -242,12 +263,16 @@ step-ready t base back row i {jq} {w₀} {w₁} {vars} {top} {end} l e {f} {u} i
     ready (patternOf t base jq) env (subst (λ p. build p e ≡ some (u, f)) same b) (omega (arith, small, room, less)) writes
 
 step-applied : (t : List ℕ) (base : ℕ) (index : List ℕ) (back : Bool) (row i j : ℕ) {w₀ w₁ w₂ vars : List ℕ} {top end left : ℕ} {r : R.Reduced} (os : List Iso) (d : ℕ) (l : Let) {f : Slots Val} {u : Val} (w : Val) (m : ℕ)
-    → Laid t base index back os → l ≡ sidedLet back (letAt t base row) → l .iso < i → Small u → Runs d os (l .iso) u w m → top + i * frame ≤ length w₀ → length w₀ ≤ 65536
-    → j ≡ cellOf t row 2 → Ready w₀ w₁ vars top end u f → ApplySays t base index back j w₁ w₂ top end left r → Applied w₁ w₂ top left w m r
+    → Laid t base index back os → l ≡ sidedLet back (letAt t base row) → l .iso < i → Small u → Runs d os (l .iso) u w m → top + i * frame ≤ length w₀ → length w₀ ≤ workLength
+    → j ≡ cellOf t row 2 → Ready w₀ w₁ vars top end u f → ApplySays t base index back j w₁ w₂ top end left r → Applied w₁ w₂ top j left w m r
 step-applied t base index back row i j os d l {f} {u} w m laid is less small run room most cell rd says =
     let same : l .iso ≡ j = ap (λ x. x .iso) is ∙ let-iso t base back row ∙ sym cell in
     let wide = rd .wide in
     says os d u w m laid (subst (λ k. Runs d os k u w m) same run) (rd .spelled) small (rd .ends) (omega (arith, room, wide, same, less)) (omega (arith, wide, most))
+
+-- the iso that it names is an earlier one
+step-below : (t : List ℕ) (base : ℕ) (back : Bool) (row i j : ℕ) (l : Let) → l ≡ sidedLet back (letAt t base row) → l .iso < i → j ≡ cellOf t row 2 → j < i
+step-below t base back row i j l is less cell = let same : l .iso ≡ j = ap (λ x. x .iso) is ∙ let-iso t base back row ∙ sym cell in omega (arith, same)
 
 pub step-done : (t : List ℕ) (base : ℕ) (index : List ℕ) (back : Bool) (row i j : ℕ) {jq jp : ℕ} {w₀ w₁ w₂ vars vars′ : List ℕ} {top end left x y : ℕ} {r : R.Reduced} → j ≡ cellOf t row 2
     → jq ≡ cellOf t row (cond back 1 3)
@@ -257,7 +282,7 @@ pub step-done : (t : List ℕ) (base : ℕ) (index : List ℕ) (back : Bool) (ro
 step-done t base index back row i j {jq} {jp} cell cellq writes says wide told cellp range os d l e f g u w m laid is less b small run little bound env room most =
     let rd = step-ready t base back row i l e is less b small env room cellq writes in
     let same : l .p ≡ patternOf t base jp = ap (λ x. x .p) is ∙ let-p t base back row ∙ ap (patternOf t base) (sym cellp) in
-    stepped-done (patternOf t base jp) rd (step-applied t base index back row i j os d l w m laid is less small run room most cell rd says) told wide
+    stepped-done (patternOf t base jp) rd small (step-below t base back row i j l is less cell) (step-applied t base index back row i j os d l w m laid is less small run room most cell rd says) told wide
     (subst (λ p. bind p w f ≡ some g) same bound) (omega (arith, little, room, less)) (omega (arith, little, room, most, less)) range
 
 pub step-spent : (t : List ℕ) (base : ℕ) (index : List ℕ) (back : Bool) (row i j : ℕ) {jq : ℕ} {w₀ w₁ w₂ vars vars′ : List ℕ} {top end left : ℕ} {r : R.Reduced} → j ≡ cellOf t row 2
@@ -266,7 +291,7 @@ pub step-spent : (t : List ℕ) (base : ℕ) (index : List ℕ) (back : Bool) (r
     → ApplySays t base index back j w₁ w₂ top end left r → r ≡ reduced.Spent → StepSays t base index back i row w₀ w₂ top vars vars′ left reduced.Spent
 step-spent t base index back row i j cell cellq writes says told os d l e f g u w m laid is less b small run little bound env room most =
     let rd = step-ready t base back row i l e is less b small env room cellq writes in
-    stepped-spent (step-applied t base index back row i j os d l w m laid is less small run room most cell rd says) told
+    stepped-spent rd small (step-below t base back row i j l is less cell) (step-applied t base index back row i j os d l w m laid is less small run room most cell rd says) told
 
 -- ---- the let steps of a clause
 
@@ -319,16 +344,16 @@ pub record LetsAt (call : ℕ → Val → Val → ℕ → Type 0) (i : ℕ) (ls 
   pub paid : past + left ≡ budget
   pub trace : LetsTrace call i (drop k ls) now g rest
   pub env : EnvAt work top vars now
-  pub kept : take end work ≡ take end w₀
+  pub spares : Spares w₀ work end (end + length ls * resultLength + i * frame)
   pub further : end ≤ top
-  pub near : top ≤ end + k * 127
+  pub near : top ≤ end + k * resultLength
 
 -- the same for whatever trace there is
 pub record Letting (t : List ℕ) (base : ℕ) (index : List ℕ) (back : Bool) (i from n end budget : ℕ) (w₀ vars₀ : List ℕ) (k top left : ℕ) (work vars : List ℕ) : Type 0 where
   pub within : k ≤ n
   pub wide : length work ≡ length w₀
   pub holds : (os : List Iso) (d : ℕ) (ls : List Let) (e g : Slots Val) (m : ℕ) → Laid t base index back os → ls ≡ sidedLets back t base from n
-      → LetsTrace (Runs d os) i ls e g m → EnvAt w₀ end vars₀ e → end + length ls * 127 + i * frame ≤ length w₀ → length w₀ ≤ 65536
+      → LetsTrace (Runs d os) i ls e g m → EnvAt w₀ end vars₀ e → end + length ls * resultLength + i * frame ≤ length w₀ → length w₀ ≤ workLength
       → LetsAt (Runs d os) i ls g m budget end w₀ k top left work vars
 
 pub letting-start : (t : List ℕ) (base : ℕ) (index : List ℕ) (back : Bool) (i from n end budget : ℕ) (w₀ vars₀ : List ℕ)
@@ -346,7 +371,7 @@ letting-start t base index back i from n end budget w₀ vars₀ =
             paid = zero-add budget;
             trace = trace;
             env = env;
-            kept = refl;
+            spares = spares-none w₀ end (end + length ls * resultLength + i * frame);
             further = omega arith;
             near = omega arith;
           };
@@ -357,13 +382,14 @@ record OneStep (call : ℕ → Val → Val → ℕ → Type 0) (i : ℕ) (ls : L
   pub before : LetsAt call i ls g m budget end w₀ k top left work vars
   pub l : Let
   pub first : FirstLet call i l (drop (suc k) ls) (before .now) g (before .rest)
-  pub says : Stepped work work′ vars′ top left (first .gives) (first .next) (first .count) r
+  pub says : Stepped work work′ vars′ top i left (first .gives) (first .next) (first .count) r
+  pub spares : Spares w₀ work′ end (end + length ls * resultLength + i * frame)
 
 one-step : {t : List ℕ} {base : ℕ} {index : List ℕ} {back : Bool} {i from n end budget : ℕ} {w₀ vars₀ : List ℕ} {k top left row : ℕ} {work work′ vars vars′ : List ℕ} {r : R.Reduced}
     → Letting t base index back i from n end budget w₀ vars₀ k top left work vars → k < n → row ≡ from + cond back (n - suc k) k
     → StepSays t base index back i row work work′ top vars vars′ left r
     → (os : List Iso) (d : ℕ) (ls : List Let) (e g : Slots Val) (m : ℕ) → Laid t base index back os → ls ≡ sidedLets back t base from n
-    → LetsTrace (Runs d os) i ls e g m → EnvAt w₀ end vars₀ e → end + length ls * 127 + i * frame ≤ length w₀ → length w₀ ≤ 65536
+    → LetsTrace (Runs d os) i ls e g m → EnvAt w₀ end vars₀ e → end + length ls * resultLength + i * frame ≤ length w₀ → length w₀ ≤ workLength
     → OneStep (Runs d os) i ls g m budget end w₀ k top left work work′ vars vars′ r
 one-step {t} {base} {index} {back} {i} {from} {n} {end} {budget} {w₀} {vars₀} {k} {top} {left} {row} {work} {work′} {vars} {vars′} {r} inv below where′ says os d ls e g m laid is trace env room most =
     let b = inv .holds os d ls e g m laid is trace env room most in
@@ -373,12 +399,15 @@ one-step {t} {base} {index} {back} {i} {from} {n} {end} {budget} {w₀} {vars₀
     let many : length ls ≡ n = ap length is ∙ length-sided back t base from n in
     let near = b .near in
     let wide = inv .wide in
+    let further = b .further in
+    let stepped = says os d l (b .now) (f .rest) (f .next) (f .given) (f .gives) (f .count) laid (ap (λ x. sidedLet back (letAt t base x)) (sym where′)) (f .earlier) (f .built)
+    (f .small) (f .called) (f .less) (f .bound) (b .env) (omega (arith, near, wide, many)) (omega (arith, wide)) in
     record {
       before = b;
       l = l;
       first = f;
-      says = says os d l (b .now) (f .rest) (f .next) (f .given) (f .gives) (f .count) laid (ap (λ x. sidedLet back (letAt t base x)) (sym where′)) (f .earlier) (f .built)
-          (f .small) (f .called) (f .less) (f .bound) (b .env) (omega (arith, near, wide, many)) (omega (arith, wide));
+      says = stepped;
+      spares = spares-both (b .spares) (spares-more top (top + i * frame) end (end + length ls * resultLength + i * frame) (stepped .spares) further (omega (arith, near, many)));
     }
 
 pub letting-next : {t : List ℕ} {base : ℕ} {index : List ℕ} {back : Bool} {i from n end budget : ℕ} {w₀ vars₀ : List ℕ} {k top left row x y : ℕ} {work work′ vars vars′ : List ℕ} {r : R.Reduced} → r ≡ reduced.Done x y
@@ -411,8 +440,6 @@ letting-next {t} {base} {index} {back} {i} {from} {n} {end} {budget} {w₀} {var
             let further = b .further in
             let less = o .first .less in
             let up : suc k ≡ k + 1 = omega arith in
-            let lower : take end work′ ≡ take end work =
-            sym (take-take end top work′ further) ∙ ap (take end) (o .says .kept h) ∙ take-take end top work further in
             record {
               now = o .first .next;
               past = b .past + o .first .count;
@@ -421,7 +448,7 @@ letting-next {t} {base} {index} {back} {i} {from} {n} {end} {budget} {w₀} {var
               paid = omega (arith, paid, rest);
               trace = subst (λ q. LetsTrace (Runs d os) i (drop q ls) (o .first .next) g (o .first .after)) up (o .first .follows);
               env = subst (λ q. EnvAt work′ q vars′ (o .first .next)) (sym place) (o .says .env h);
-              kept = lower ∙ b .kept;
+              spares = o .spares;
               further = omega (arith, further, place);
               near = omega (arith, near, place, less);
             }
@@ -430,8 +457,8 @@ pub lets-spent : {t : List ℕ} {base : ℕ} {index : List ℕ} {back : Bool} {i
     → Letting t base index back i from n end budget w₀ vars₀ k top left work vars → k < n → row ≡ from + cond back (n - suc k) k
     → StepSays t base index back i row work work′ top vars vars′ left r
     → (os : List Iso) (d : ℕ) (ls : List Let) (e g : Slots Val) (m : ℕ) → Laid t base index back os → ls ≡ sidedLets back t base from n
-    → LetsTrace (Runs d os) i ls e g m → EnvAt w₀ end vars₀ e → end + length ls * 127 + i * frame ≤ length w₀ → length w₀ ≤ 65536
-    → LetsRan w₀ work′ vars′ end budget (length ls) g m reduced.Spent
+    → LetsTrace (Runs d os) i ls e g m → EnvAt w₀ end vars₀ e → end + length ls * resultLength + i * frame ≤ length w₀ → length w₀ ≤ workLength
+    → LetsRan w₀ work′ vars′ end i budget (length ls) g m reduced.Spent
 lets-spent {t} {base} {index} {back} {i} {from} {n} {end} {budget} {w₀} {vars₀} {k} {top} {left} {row} {work} {work′} {vars} {vars′} {r} told inv below where′ says′ os d ls e g m laid is trace env room most =
     let says = subst (StepSays t base index back i row work work′ top vars vars′ left) told says′ in
     let o = one-step inv below where′ says os d ls e g m laid is trace env room most in
@@ -445,16 +472,16 @@ lets-spent {t} {base} {index} {back} {i} {from} {n} {end} {budget} {w₀} {vars�
       further = omega arith;
       near = omega arith;
       done = λ h. absurd (not h);
-      kept = λ h. absurd (not h);
       env = λ h. absurd (not h);
       spent = λ h. refl;
+      spares = o .spares;
     }
 
 pub lets-end : {t : List ℕ} {base : ℕ} {index : List ℕ} {back : Bool} {i from n end budget : ℕ} {w₀ vars₀ : List ℕ} {k top left : ℕ} {work vars : List ℕ}
     → Letting t base index back i from n end budget w₀ vars₀ k top left work vars → n ≤ k
     → (os : List Iso) (d : ℕ) (ls : List Let) (e g : Slots Val) (m : ℕ) → Laid t base index back os → ls ≡ sidedLets back t base from n
-    → LetsTrace (Runs d os) i ls e g m → EnvAt w₀ end vars₀ e → end + length ls * 127 + i * frame ≤ length w₀ → length w₀ ≤ 65536
-    → LetsRan w₀ work vars end budget (length ls) g m (reduced.Done top left)
+    → LetsTrace (Runs d os) i ls e g m → EnvAt w₀ end vars₀ e → end + length ls * resultLength + i * frame ≤ length w₀ → length w₀ ≤ workLength
+    → LetsRan w₀ work vars end i budget (length ls) g m (reduced.Done top left)
 lets-end {t} {base} {index} {back} {i} {from} {n} {end} {budget} {w₀} {vars₀} {k} {top} {left} {work} {vars} inv past os d ls e g m laid is trace env room most =
     let b = inv .holds os d ls e g m laid is trace env room most in
     let many : length ls ≡ n = ap length is ∙ length-sided back t base from n in
@@ -472,9 +499,9 @@ lets-end {t} {base} {index} {back} {i} {from} {n} {end} {budget} {w₀} {vars₀
       further = b .further;
       near = omega (arith, near, many, within);
       done = λ h. ap (reduced.Done top) left′;
-      kept = λ h. b .kept;
       env = λ h. subst (EnvAt work top vars) (z .0) (b .env);
       spent = λ h. absurd (omega (arith, counts, paid, zero′));
+      spares = b .spares;
     }
 
 -- ---- an application
@@ -495,13 +522,6 @@ pub record Picked (t : List ℕ) (base : ℕ) (back : Bool) (os : List Iso) (i r
   pub built : build (patternOf t base (cellOf t row (cond back 1 2))) last ≡ some (w, rest)
   pub small : Small w
   pub counts : suc count ≡ m
-
--- what the choice of a clause ensures
-abbrev pub ChoiceSays : List ℕ → ℕ → List ℕ → Bool → ℕ → ℕ → List ℕ → ℕ → ℕ → List ℕ → List ℕ → ℕ → Type 0
-ChoiceSays t base index back from stop work at end vars vars′ r =
-    (v : Val) (n : ℕ) → At work at v → end ≡ at + length (letters v) → Below vars (at + length (letters v)) → from + n < stop → alike (sideAt t base index back (from + n)) v ≡ true
-    → ((k : ℕ) → k < n → alike (sideAt t base index back (from + k)) v ≡ false)
-    → Chosen (sideAt t base index back (from + n)) v at vars vars′ (from + n) r
 
 getD-zeros : (k n : ℕ) → _≡_ {A = ℕ} (getD (replicate {A = ℕ} k 0) n 0) 0
 getD-zeros zero n = refl
@@ -595,22 +615,15 @@ picked {t} {base} {index} {back} {i} {first} {stop} {r} {row} {below} {at} {end}
     )
 
 -- no budget
-pub applied-none : {work : List ℕ} {at left : ℕ} {w : Val} → left ≡ 0 → (os : List Iso) (d i : ℕ) (v : Val) (m : ℕ) → Runs d os i v w m → Applied work work at left w m reduced.Spent
-applied-none z os d i v m run =
+pub applied-none : {work : List ℕ} {at left : ℕ} {w : Val} → left ≡ 0 → (os : List Iso) (d i : ℕ) (v : Val) (m : ℕ) → Runs d os i v w m → Applied work work at i left w m reduced.Spent
+applied-none {work} {at} z os d i v m run =
     let least = runs-least d os i v _ m run in
-    record { done = λ h. absurd (omega (arith, z, least)); result = λ h. absurd (omega (arith, z, least)); spent = λ h. refl }
-
--- what the let steps ensure
-abbrev pub LetsSay : List ℕ → ℕ → List ℕ → Bool → ℕ → ℕ → ℕ → List ℕ → List ℕ → ℕ → List ℕ → List ℕ → ℕ → R.Reduced → Type 0
-LetsSay t base index back i from to work work′ end vars vars′ budget r =
-    (os : List Iso) (d : ℕ) (ls : List Let) (e g : Slots Val) (m : ℕ) → Laid t base index back os → ls ≡ sidedLets back t base from (to - from)
-    → LetsTrace (Runs d os) i ls e g m → EnvAt work end vars e → end + length ls * 127 + i * frame ≤ length work → length work ≤ 65536
-    → LetsRan work work′ vars′ end budget (length ls) g m r
+    record { done = λ h. absurd (omega (arith, z, least)); result = λ h. absurd (omega (arith, z, least)); spent = λ h. refl; spares = spares-none work at (at + suc i * frame) }
 
 -- the let steps of the picked clause
 ran : {t : List ℕ} {base : ℕ} {index : List ℕ} {back : Bool} {os : List Iso} {i row below end left : ℕ} {w₀ w₁ vars vars′ : List ℕ} {w : Val} {m : ℕ} {r : R.Reduced} (at : ℕ) (v : Val)
     → Laid t base index back os → LetsSay t base index back i (row + 1) below w₀ w₁ end vars vars′ left r → (p : Picked t base back os i row below w₀ end vars w m) → Small v
-    → end ≡ at + length (letters v) → at + suc i * frame ≤ length w₀ → length w₀ ≤ 65536 → LetsRan w₀ w₁ vars′ end left (length (p .lets)) (p .last) (p .count) r
+    → end ≡ at + length (letters v) → at + suc i * frame ≤ length w₀ → length w₀ ≤ workLength → LetsRan w₀ w₁ vars′ end i left (length (p .lets)) (p .last) (p .count) r
 ran {i = i} at v laid says p small e room most =
     let few = p .few in
     let more : suc i * frame ≡ frame + i * frame = suc-mul-frame i in
@@ -619,24 +632,30 @@ ran {i = i} at v laid says p small e room most =
     suc-mul-frame : (n : ℕ) → suc n * frame ≡ frame + n * frame
     suc-mul-frame n = omega arith
 
-applied-spent : {t : List ℕ} {base : ℕ} {back : Bool} {os : List Iso} {i row below at end left rest : ℕ} {w₀ w₁ vars vars′ : List ℕ} {w : Val} {m n : ℕ} {r : R.Reduced}
-    → (p : Picked t base back os i row below w₀ end vars w m) → LetsRan w₀ w₁ vars′ end rest n (p .last) (p .count) r → r ≡ reduced.Spent → rest + 1 ≡ left
-    → Applied w₀ w₁ at left w m reduced.Spent
-applied-spent {left = left} {m = m} p l is e =
+-- argument, let results and the frames below are within the frames of an application
+within-frames : {w₀ w₁ : List ℕ} (at end i n : ℕ) (v : Val) → n ≤ maxLets → Small v → end ≡ at + length (letters v)
+    → Spares w₀ w₁ end (end + n * resultLength + i * frame) → Spares w₀ w₁ at (at + suc i * frame)
+within-frames at end i n v few small e k =
+    spares-more end (end + n * resultLength + i * frame) at (at + suc i * frame) k (omega (arith, e)) (omega (arith, few, small, e))
+
+applied-spent : {t : List ℕ} {base : ℕ} {back : Bool} {os : List Iso} {i row below at end left rest : ℕ} {w₀ w₁ vars vars′ : List ℕ} {w : Val} {m n : ℕ} {r : R.Reduced} (v : Val)
+    → (p : Picked t base back os i row below w₀ end vars w m) → LetsRan w₀ w₁ vars′ end i rest n (p .last) (p .count) r → r ≡ reduced.Spent → rest + 1 ≡ left
+    → n ≤ maxLets → Small v → end ≡ at + length (letters v) → Applied w₀ w₁ at i left w m reduced.Spent
+applied-spent {i = i} {at = at} {end = end} {left = left} {m = m} {n = n} v p l is e few small ends =
     let counts = p .counts in
     let not : m ≤ left → ⊥ = λ h. done≢spent (sym (l .done (omega (arith, counts, e))) ∙ is) in
-    record { done = λ h. absurd (not h); result = λ h. absurd (not h); spent = λ h. refl }
+    record { done = λ h. absurd (not h); result = λ h. absurd (not h); spent = λ h. refl; spares = within-frames at end i n v few small ends (l .spares) }
 
 applied-done : {t : List ℕ} {base : ℕ} {back : Bool} {os : List Iso} {i row below end left rest top after last x : ℕ} {w₀ w₁ w₂ w₃ vars vars′ : List ℕ} {w : Val} {m n : ℕ} {r : R.Reduced} (at : ℕ) (v : Val) (q : Pat)
-    → (p : Picked t base back os i row below w₀ end vars w m) → LetsRan w₀ w₁ vars′ end rest n (p .last) (p .count) r → r ≡ reduced.Done top x → rest + 1 ≡ left
+    → (p : Picked t base back os i row below w₀ end vars w m) → LetsRan w₀ w₁ vars′ end i rest n (p .last) (p .count) r → r ≡ reduced.Done top x → rest + 1 ≡ left
     → n ≤ maxLets → Small v → end ≡ at + length (letters v) → at + suc i * frame ≤ length w₀ → length w₁ ≡ length w₀
     → q ≡ patternOf t base (cellOf t row (cond back 1 2))
     → ((k : ℕ) → Below vars′ k → k ≤ top → Writes w₁ w₂ top last (built q (take k w₁) vars′))
     → (at ≤ top → last ≤ length w₂ → Writes w₂ w₃ at after (slice top last w₂))
-    → Applied w₀ w₃ at left w m (reduced.Done after x)
+    → Applied w₀ w₃ at i left w m (reduced.Done after x)
 applied-done {i = i} {end = end} {left = left} {rest = rest} {top = top} {after = after} {last = last} {x = x} {w₀ = w₀} {w₁ = w₁} {w₂ = w₂} {w₃ = w₃} {vars′ = vars′} {w = w} {m = m} {n = n} at v q p l is e few small ends room wide same build′ copy = go (le-or-lt (p .count) rest)
   where
-    go : (p .count ≤ rest) ⊎ (rest < p .count) → Applied w₀ w₃ at left w m (reduced.Done after x)
+    go : (p .count ≤ rest) ⊎ (rest < p .count) → Applied w₀ w₃ at i left w m (reduced.Done after x)
     go (inr h) = absurd (done≢spent (sym is ∙ l .spent h))
     go (inl h) =
         let place = done-place (sym is ∙ l .done h) in
@@ -656,14 +675,17 @@ applied-done {i = i} {end = end} {left = left} {rest = rest} {top = top} {after 
         let final : w₃ ≡ sets w₂ at (letters w) = c .area room′ ∙ ap (sets w₂ at) bytes in
         let stands : after ≡ at + length (letters w) = c .place room′ ∙ ap (λ bs. at + length bs) bytes in
         let up : at ≤ top = omega (arith, place, further, ends) in
-        let low : take at w₂ ≡ take at w₀ =
-        sym (take-take at top w₂ up) ∙ ap (take at) (r .kept) ∙ take-take at top w₁ up
-        ∙ sym (take-take at end w₁ (omega (arith, ends))) ∙ ap (take at) (l .kept h) ∙ take-take at end w₀ (omega (arith, ends)) in
+        let first = within-frames at end i n v few small ends (l .spares) in
+        let second = spares-more top (top + length (letters w)) at (at + suc i * frame) (r .spares) up (omega (arith, near, place, few, little, small, ends)) in
+        let low : take at w₂ ≡ take at w₀ = second .before ∙ first .before in
         let fit : at + length (letters w) ≤ length w₂ = subst (λ bs. at + length bs ≤ length w₂) bytes room′ in
         record {
           done = λ k. ap₂ reduced.Done stands (omega (arith, paid, counts, e));
           result = λ k. ap (take (at + length (letters w))) final ∙ taken w₂ at (letters w) fit ∙ ap (λ z. z ++ letters w) low;
           spent = λ k. absurd (omega (arith, counts, e));
+          spares = spares-both (spares-both first second)
+              (subst (λ z. Spares w₂ z at (at + suc i * frame)) (sym final)
+              (spares-more at (at + length (letters w)) at (at + suc i * frame) (spares-sets w₂ (letters w) at fit) (omega arith) (omega (arith, little))));
         }
       where
         taken : (l : List ℕ) (a : ℕ) (bs : List ℕ) → a + length bs ≤ length l → take (a + length bs) (sets l a bs) ≡ take a l ++ bs
@@ -689,7 +711,7 @@ pub choice : (t : List ℕ) (base : ℕ) (index : List ℕ) (back : Bool) (i r r
     → ChoiceSays t base index back (h + 1) stop w₀ at end (replicate 64 0) vars′ r → h ≡ placeAt index i → stop ≡ placeAt index (i + 1)
     → row ≡ placeAt index r → below ≡ placeAt index (r + 1)
     → (os : List Iso) (d : ℕ) (v w : Val) (m : ℕ) → Laid t base index back os → Runs d os i v w m → At w₀ at v → Small v → end ≡ at + length (letters v)
-    → at + suc i * frame ≤ length w₀ → length w₀ ≤ 65536 → (r < stop) × Picked t base back os i row below w₀ end vars′ w m
+    → at + suc i * frame ≤ length w₀ → length w₀ ≤ workLength → (r < stop) × Picked t base back os i row below w₀ end vars′ w m
 choice t base index back i r row below at end says h s row′ below′ os d v w m laid run a small e room most =
     picked says (ap (λ x. x + 1) h) s row′ below′ os d v w m laid run a e (omega (arith, small, e, room, most))
 
@@ -705,7 +727,7 @@ pub apply-spent : (t : List ℕ) (base : ℕ) (index : List ℕ) (back : Bool) (
     → LetsSay t base index back i (row + 1) below w₀ w₁ end vars vars′ (left - 1) z → z ≡ reduced.Spent → ApplySays t base index back i w₀ w₁ at end left reduced.Spent
 apply-spent t base index back i r row below at end left says h s row′ below′ some′ lets told os d v w m laid run a small e room most =
     let p = choice t base index back i r row below at end says h s row′ below′ os d v w m laid run a small e room most .1 in
-    applied-spent p (ran at v laid lets p small e room most) told (one-left left some′)
+    applied-spent v p (ran at v laid lets p small e room most) told (one-left left some′) (p .few) small e
 
 pub apply-done : (t : List ℕ) (base : ℕ) (index : List ℕ) (back : Bool) (i r row below at end left : ℕ) {h stop top x after : ℕ} {w₀ w₁ w₃ vars vars′ : List ℕ} {z : R.Reduced}
     → ChoiceSays t base index back (h + 1) stop w₀ at end (replicate 64 0) vars r → h ≡ placeAt index i → stop ≡ placeAt index (i + 1)

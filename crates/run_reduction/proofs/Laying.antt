@@ -4,7 +4,7 @@ use native.Mathlib.Nat.{zero-add, add-zero, add-suc, suc-add, le-of-suc-le-suc, 
 use native.Mathlib.Omega.{arith}
 use mathlib.Core.Path.{_≡_, refl, sym, ap, ap₂, _∙_, subst}
 use mathlib.Core.Bool.{Bool, true, false, cond}
-use mathlib.Core.Option.{none, some}
+use mathlib.Core.Option.{some}
 use mathlib.Core.Logic.{_⊎_, inl, inr}
 use mathlib.Core.List.{List, [], _∷_, _++_, map, reverse, reverse-cons}
 use lib.Dec.{ltb}
@@ -19,7 +19,7 @@ use Rattle.calculus.proofs.Basic.{none≢some, some-inj, index-of-map, bool-cas
 use Rattle.format.proofs.Passing.{Passes}
 use Rattle.format.proofs.Turning.{isos-turn}
 use Rattle.table_trees.specs.Unfolding.{cellOf, typeOf, patternOf}
-use Rattle.table_trees.specs.InTable.{letAt, letsIn, clauseIn}
+use Rattle.table_walks.specs.InTable.{letAt, letsIn, clauseIn}
 use Rattle.run_index.specs.Index.{placeAt, clausesAt, isoAt, isosAt}
 use Rattle.run_reduction.specs.Frames.{sided, sidedClause, sidedLet, sidedLets, Laid}
 

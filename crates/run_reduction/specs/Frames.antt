@@ -1,27 +1,25 @@
 -- The reduction in the work area: what its functions assume of table, index and area, and what they leave there.
-use Prim.Native.Nat.{ℕ, _+_, _-_, _*_, _≤_, _<_}
+use Prim.Native.Nat.{ℕ, suc, _+_, _-_, _*_, _≤_, _<_}
 use mathlib.Core.Path.{_≡_}
-use mathlib.Core.Bool.{Bool, cond}
+use mathlib.Core.Bool.{Bool, true, false, cond}
 use mathlib.Core.Option.{some}
 use mathlib.Core.List.{List, _++_, map, reverse}
-use lib.ListN.{length, getElem?, take}
+use lib.ListN.{length, getElem?, take, drop}
 use lib.Seq.{slice}
-use Rattle.limits.specs.Limits.{variables}
+use Rattle.limits.specs.Limits.{variables, resultLength, workLength, frame}
 use Rattle.calculus.specs.Trees.{Pat, Val, Let, Clause, Iso, invertLet, invertClause, invert}
 use Rattle.calculus.specs.Slots.{Slots}
 use Rattle.calculus.specs.Letters.{letters}
+use Rattle.calculus.specs.Reduction.{bind, build}
 use Rattle.area_cells.specs.Areas.{Writes}
 use Rattle.table_trees.specs.Unfolding.{cellOf, patternOf}
-use Rattle.table_trees.specs.InTable.{letsIn}
+use Rattle.table_walks.specs.InTable.{letsIn, letAt}
 use Rattle.run_index.specs.Index.{placeAt, isoAt}
-use Rattle.run_values.specs.Texts.{Below, ranges, built}
+use Rattle.run_values.specs.Texts.{At, alike, Below, ranges, built}
 use Rattle.run_values.specs.Agrees.{Agrees}
+use Rattle.run_values.specs.Traces.{Small, LetsTrace, Runs}
 use Rattle.run_reduction.specs.declared.Reduced as R
 use Rattle.run_reduction.specs.declared.Reduced.the-variants as reduced
-
--- the letters that one application keeps: its argument, the results of eight let steps and its own result, at most 127 each
-abbrev pub frame : ℕ
-frame = 1280
 
 -- an iso, a clause, a let step and let steps in a direction
 abbrev pub sided : Bool → Iso → Iso
@@ -67,26 +65,72 @@ pub record Moved (p : Pat) (vars work work′ : List ℕ) (top at end : ℕ) : T
   pub writes : (k : ℕ) → Below vars k → k ≤ top → Writes work area top last (built p (take k work) vars)
   pub copies : at ≤ top → last ≤ length area → Writes area work′ at end (slice top last area)
 
--- an application that gives w with m applications: within the budget, w's letters take the argument's place and what stands before them is
--- as it was; else it is spent
-pub record Applied (work work′ : List ℕ) (at left : ℕ) (w : Val) (m : ℕ) (r : R.Reduced) : Type 0 where
+-- what is left alone of an area: all before place `from`, and all from place `to` on
+pub record Spares (work work′ : List ℕ) (from to : ℕ) : Type 0 where
+  pub before : take from work′ ≡ take from work
+  pub behind : drop to work′ ≡ drop to work
+
+-- An application of iso i that gives w with m applications: within the budget, w's letters take the argument's place; else it is spent.
+-- Either way it touches no more than the frames of its own and of the isos below it; what these hold behind the result, and all that they
+-- hold where it is spent, is left open.
+pub record Applied (work work′ : List ℕ) (at i left : ℕ) (w : Val) (m : ℕ) (r : R.Reduced) : Type 0 where
   pub done : m ≤ left → r ≡ reduced.Done (at + length (letters w)) (left - m)
   pub result : m ≤ left → take (at + length (letters w)) work′ ≡ take at work ++ letters w
   pub spent : left < m → r ≡ reduced.Spent
+  pub spares : Spares work work′ at (at + suc i * frame)
 
--- a let step that binds w to the slots g
-pub record Stepped (work work′ vars′ : List ℕ) (top left : ℕ) (w : Val) (g : Slots Val) (m : ℕ) (r : R.Reduced) : Type 0 where
+-- a let step of a clause of iso i that binds w to the slots g; of the variables nothing is said where it is spent
+pub record Stepped (work work′ vars′ : List ℕ) (top i left : ℕ) (w : Val) (g : Slots Val) (m : ℕ) (r : R.Reduced) : Type 0 where
   pub done : m ≤ left → r ≡ reduced.Done (top + length (letters w)) (left - m)
-  pub kept : m ≤ left → take top work′ ≡ take top work
   pub env : m ≤ left → EnvAt work′ (top + length (letters w)) vars′ g
   pub spent : left < m → r ≡ reduced.Spent
+  pub spares : Spares work work′ top (top + i * frame)
 
--- n let steps that end in the slots g
-pub record LetsRan (work work′ vars′ : List ℕ) (end left n : ℕ) (g : Slots Val) (m : ℕ) (r : R.Reduced) : Type 0 where
+-- n let steps of a clause of iso i that end in the slots g
+pub record LetsRan (work work′ vars′ : List ℕ) (end i left n : ℕ) (g : Slots Val) (m : ℕ) (r : R.Reduced) : Type 0 where
   pub top : ℕ
   pub further : end ≤ top
-  pub near : top ≤ end + n * 127
+  pub near : top ≤ end + n * resultLength
   pub done : m ≤ left → r ≡ reduced.Done top (left - m)
-  pub kept : m ≤ left → take end work′ ≡ take end work
   pub env : m ≤ left → EnvAt work′ top vars′ g
   pub spent : left < m → r ≡ reduced.Spent
+  pub spares : Spares work work′ end (end + n * resultLength + i * frame)
+
+-- ---- what the functions promise, for whatever trace there is
+
+-- The choice among the clauses from place `from` up to place `stop` of the index: where v's letters stand from `at` up to `end` and the
+-- clause at from + n is the first that matches v, it is chosen.
+abbrev pub ChoiceSays : List ℕ → ℕ → List ℕ → Bool → ℕ → ℕ → List ℕ → ℕ → ℕ → List ℕ → List ℕ → ℕ → Type 0
+ChoiceSays t base index back from stop work at end vars vars′ r =
+    (v : Val) (n : ℕ) → At work at v → end ≡ at + length (letters v) → Below vars (at + length (letters v)) → from + n < stop
+    → alike (sideAt t base index back (from + n)) v ≡ true
+    → ((k : ℕ) → k < n → alike (sideAt t base index back (from + k)) v ≡ false)
+    → Chosen (sideAt t base index back (from + n)) v at vars vars′ (from + n) r
+
+-- A let step of a clause of iso i: where its q builds u of the slots e, its iso, an earlier one, gives w of u with m applications, and its
+-- p binds w, it does so in the area, which has a frame for each iso below i.
+abbrev pub StepSays : List ℕ → ℕ → List ℕ → Bool → ℕ → ℕ → List ℕ → List ℕ → ℕ → List ℕ → List ℕ → ℕ → R.Reduced → Type 0
+StepSays t base index back i row work work′ top vars vars′ left r =
+    (os : List Iso) (d : ℕ) (l : Let) (e f g : Slots Val) (u w : Val) (m : ℕ)
+    → Laid t base index back os → l ≡ sidedLet back (letAt t base row) → l .iso < i
+    → build (l .q) e ≡ some (u, f) → Small u → Runs d os (l .iso) u w m → Small w → bind (l .p) w f ≡ some g
+    → EnvAt work top vars e → top + i * frame ≤ length work → length work ≤ workLength
+    → Stepped work work′ vars′ top i left w g m r
+
+-- The let steps in the rows from `from` up to `to`: where they lead from the slots e to the slots g with m applications, they do so in the
+-- area, which has room for their results and a frame for each iso below i.
+abbrev pub LetsSay : List ℕ → ℕ → List ℕ → Bool → ℕ → ℕ → ℕ → List ℕ → List ℕ → ℕ → List ℕ → List ℕ → ℕ → R.Reduced → Type 0
+LetsSay t base index back i from to work work′ end vars vars′ budget r =
+    (os : List Iso) (d : ℕ) (ls : List Let) (e g : Slots Val) (m : ℕ)
+    → Laid t base index back os → ls ≡ sidedLets back t base from (to - from) → LetsTrace (Runs d os) i ls e g m
+    → EnvAt work end vars e → end + length ls * resultLength + i * frame ≤ length work → length work ≤ workLength
+    → LetsRan work work′ vars′ end i budget (length ls) g m r
+
+-- An application of iso i to the value v from `at` up to `end`: where it gives w with m applications, it does so in the area, which has a
+-- frame for each iso up to i.
+abbrev pub ApplySays : List ℕ → ℕ → List ℕ → Bool → ℕ → List ℕ → List ℕ → ℕ → ℕ → ℕ → R.Reduced → Type 0
+ApplySays t base index back i work work′ at end left r =
+    (os : List Iso) (d : ℕ) (v w : Val) (m : ℕ)
+    → Laid t base index back os → Runs d os i v w m → At work at v → Small v → end ≡ at + length (letters v)
+    → at + suc i * frame ≤ length work → length work ≤ workLength
+    → Applied work work′ at i left w m r

@@ -14,21 +14,11 @@ use run_values::Upto;
 use run_values::copy_range;
 use table_trees::cell;
 ghost use mathlib.Core.Path.{_≡_};
-ghost use mathlib.Core.Bool.{true, false, cond};
-ghost use mathlib.Core.List.{List};
-ghost use mathlib.Core.Option.{some};
-ghost use Prim.Native.Nat.{ℕ, suc, _+_, _-_, _*_, _≤_, _<_};
-ghost use lib.ListN.{length};
-ghost use Rattle.calculus.specs.Trees.{Val, Let, Iso};
-ghost use Rattle.calculus.specs.Slots.{Slots};
-ghost use Rattle.calculus.specs.Letters.{letters};
-ghost use Rattle.calculus.specs.Reduction.{bind, build};
-ghost use Rattle.table_trees.specs.InTable.{letAt};
+ghost use mathlib.Core.Bool.{cond};
+ghost use Prim.Native.Nat.{suc, _+_, _-_, _<_};
 ghost use Rattle.table_trees.specs.Unfolding.{cellOf, patternOf};
 ghost use Rattle.run_index.specs.Index.{placeAt};
-ghost use Rattle.run_values.specs.Texts.{At, alike, Below};
-ghost use Rattle.run_values.specs.Traces.{Small, LetsTrace, Runs};
-ghost use Rattle.run_reduction.specs.Frames.{frame, EnvAt, Moved, sidedLet, sidedLets, Laid, sideAt, Chosen, Applied, Stepped, LetsRan};
+ghost use Rattle.run_reduction.specs.Frames.{Moved, ChoiceSays, StepSays, LetsSay, ApplySays};
 
 // Where a result ends and what is left of the budget.
 pub enum Reduced {
@@ -89,13 +79,8 @@ fn choose(
     vars: &mut [u16],
 ) -> usize
     ensures { λ r. ⌜
-        ((v : Val) (n : ℕ) → At (now (work .entry)) at v → end ≡ at + length (letters v)
-        → Below (now (vars .entry)) (at + length (letters v)) → from + n < stop
-        → alike (sideAt (now (t .entry)) base (now (index .entry)) back (from + n)) v ≡ true
-        → ((k : ℕ) → k < n
-        → alike (sideAt (now (t .entry)) base (now (index .entry)) back (from + k)) v ≡ false)
-        → Chosen (sideAt (now (t .entry)) base (now (index .entry)) back (from + n)) v at
-        (now (vars .entry)) (now (vars .exit)) (from + n) r)
+        ChoiceSays (now (t .entry)) base (now (index .entry)) back from stop (now (work .entry)) at end
+        (now (vars .entry)) (now (vars .exit)) r
         ⌝ }
 {
     let field = side(back, 1, 2);
@@ -162,13 +147,8 @@ fn let_step(
     left: u32,
 ) -> Reduced
     ensures { λ r. ⌜
-        ((os : List Iso) (d : ℕ) (l : Let) (e f g : Slots Val) (u w : Val) (m : ℕ)
-        → Laid (now (t .entry)) base (now (index .entry)) back os
-        → l ≡ sidedLet back (letAt (now (t .entry)) base row) → l .iso < i → build (l .q) e ≡ some (u, f)
-        → Small u → Runs d os (l .iso) u w m → Small w → bind (l .p) w f ≡ some g
-        → EnvAt (now (work .entry)) top (now (vars .entry)) e
-        → top + i * frame ≤ length (now (work .entry)) → length (now (work .entry)) ≤ 65536
-        → Stepped (now (work .entry)) (now (work .exit)) (now (vars .exit)) top left w g m r)
+        StepSays (now (t .entry)) base (now (index .entry)) back i row (now (work .entry))
+        (now (work .exit)) top (now (vars .entry)) (now (vars .exit)) left r
         ⌝ }
 {
     let j = cell(t, row, LET_ISO);
@@ -209,13 +189,8 @@ fn run_lets(
 ) -> Reduced
     requires { ⌜ (from < 65537) × (to < 65536) ⌝ }
     ensures { λ r. ⌜
-        ((os : List Iso) (d : ℕ) (ls : List Let) (e g : Slots Val) (m : ℕ)
-        → Laid (now (t .entry)) base (now (index .entry)) back os
-        → ls ≡ sidedLets back (now (t .entry)) base from (to - from) → LetsTrace (Runs d os) i ls e g m
-        → EnvAt (now (work .entry)) end (now (vars .entry)) e
-        → end + length ls * 127 + i * frame ≤ length (now (work .entry))
-        → length (now (work .entry)) ≤ 65536
-        → LetsRan (now (work .entry)) (now (work .exit)) (now (vars .exit)) end budget (length ls) g m r)
+        LetsSay (now (t .entry)) base (now (index .entry)) back i from to (now (work .entry))
+        (now (work .exit)) end (now (vars .entry)) (now (vars .exit)) budget r
         ⌝ }
 {
     let n = span(from, to);
@@ -248,7 +223,8 @@ fn run_lets(
     Reduced::Done(top, left)
 }
 
-// Applies iso i to the value from `at` up to `end`; its result then begins at `at`.
+// Applies iso i to the value from `at` up to `end`; its result then begins at `at`. The area before `at`
+// and behind i + 1 frames is left alone; what stands between, but for the result, is left open.
 pub fn apply(
     t: &[u16],
     base: usize,
@@ -261,11 +237,8 @@ pub fn apply(
     left: u32,
 ) -> Reduced
     ensures { λ r. ⌜
-        ((os : List Iso) (d : ℕ) (v w : Val) (m : ℕ)
-        → Laid (now (t .entry)) base (now (index .entry)) back os → Runs d os i v w m
-        → At (now (work .entry)) at v → Small v → end ≡ at + length (letters v)
-        → at + suc i * frame ≤ length (now (work .entry)) → length (now (work .entry)) ≤ 65536
-        → Applied (now (work .entry)) (now (work .exit)) at left w m r)
+        ApplySays (now (t .entry)) base (now (index .entry)) back i (now (work .entry))
+        (now (work .exit)) at end left r
         ⌝ }
 {
     if left == 0 {

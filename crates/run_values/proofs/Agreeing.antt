@@ -14,7 +14,7 @@ use lib.ListN.{length, getD, set, take, drop, length-append, length-drop, length
 use lib.Seq.{take-nil, take-append-seam, take-append-add, drop-append-seam, getD-set-same, getD-set-other, take-set-le, take-take, drop-drop, drop-at, length-take-le, sets, sets-eq, slice}
 use Rattle.calculus.specs.Tools.{_>>=_, guard}
 use Rattle.limits.specs.Limits.{variables}
-use Rattle.calculus.specs.Trees.{Ty, tunit, tsum, tprod, Tag, left, right, Pat, punit, pvar, pinj, ppair, Val, vunit, vinj, vpair, Iso, sameTag}
+use Rattle.calculus.specs.Trees.{Ty, tunit, tsum, tprod, Tag, left, right, Pat, punit, pvar, pinj, ppair, Val, vunit, vinj, vpair, sameTag}
 use Rattle.calculus.specs.Slots.{Slots, put, empty}
 use Rattle.calculus.specs.Letters.{letters, letterU, letterP, letterOf, valueOf, inhabits}
 use Rattle.calculus.specs.Reduction.{bind, build}
@@ -23,17 +23,9 @@ use Rattle.model.specs.Services.{valueIn}
 use Rattle.calculus.proofs.Basic.{bind-some, some-bind, none≢some, some-inj, not-some, guard-true, true-guard, true-and, eqb-eq, ltb-lt, lt-ltb}
 use Rattle.calculus.proofs.Slots.{slot, put-of-get, put-length, Filled, put-filled, filled-keeps, slot-empty}
 use Rattle.calculus.proofs.Binding.{bind-length}
-use Rattle.calculus.proofs.Letters.{value-letters, letters-value, inhabits-of, of-inhabits}
+use Rattle.calculus.proofs.Letters.{value-letters, letters-value, inhabits-of, of-inhabits, letters-some}
 use Rattle.run_values.specs.Texts.{At, behind, alike, putRange, ranges, rangeOf, built, Below}
 use Rattle.run_values.specs.Agrees.{Agrees}
-
--- ---- letters of a value
-
--- a value has a letter
-pub letters-some : (v : Val) → 0 < length (letters v)
-letters-some vunit = omega arith
-letters-some (vinj t v) = omega arith
-letters-some (vpair v w) = omega arith
 
 -- ---- where a value's letters stand
 

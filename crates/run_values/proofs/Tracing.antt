@@ -10,8 +10,7 @@ use mathlib.Core.List.{List, [], _∷_, map, List·Memᴰ, List·Memᴰ·head, L
 use lib.ListN.{length, getElem?}
 use Rattle.limits.specs.Limits.{maxLets, variables}
 use Rattle.calculus.specs.Tools.{select}
-use Rattle.calculus.specs.Trees.{Ty, Pat, punit, pvar, pinj, ppair, Val, vunit, vinj, vpair}
-use Rattle.calculus.specs.Trees.{Let, Clause, Iso, sameTag}
+use Rattle.calculus.specs.Trees.{Ty, Pat, punit, pvar, pinj, ppair, Val, vunit, vinj, vpair, Let, Clause, Iso, sameTag}
 use Rattle.calculus.specs.Slots.{Slots, empty}
 use Rattle.calculus.specs.Refusals.{Kind, typeLine, patternLine, isoLine, clauseLine, letLine}
 use Rattle.format.specs.Lines.{Row}

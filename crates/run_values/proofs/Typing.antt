@@ -1,8 +1,7 @@
 -- The closed value of a type that begins at a place: the bytes behind it, by the type's node and the first letter.
 use Prim.Native.Nat.{ℕ, _+_, _≤_, _<_}
 use native.Mathlib.Numerals.{add-one}
-use native.Mathlib.Omega.{arith}
-use mathlib.Core.Path.{_≡_, refl, sym, ap, ap₂, _∙_, subst}
+use mathlib.Core.Path.{_≡_, refl, sym, ap, ap₂, _∙_}
 use mathlib.Core.Bool.{cond}
 use mathlib.Core.Option.{Option, none, some}
 use mathlib.Core.List.{List, [], _∷_}
@@ -13,10 +12,10 @@ use borrow.Author.Tests.{eq-eqb, ne-eqb}
 use Rattle.calculus.specs.Tools.{_>>=_, guard}
 use Rattle.calculus.specs.Trees.{Ty, tunit, tsum, tprod}
 use Rattle.table_trees.specs.Unfolding.{cellOf, smallerOf, typeOf}
-use Rattle.table_trees.proofs.Unfolding.{rank, type-falls, type-unit, type-sum, type-prod}
 use Rattle.run_values.specs.declared.Upto as U
 use Rattle.run_values.specs.declared.Upto.the-variants as upto
 use Rattle.run_values.specs.Texts.{asUpto, behind}
+use Rattle.table_trees.proofs.Lines.{line-sum, line-product, line-other}
 
 -- ---- by the first letter
 
@@ -56,18 +55,9 @@ module _ (b : ℕ) (bs : List ℕ) where
     prod-miss : (b ≡ 80 → ⊥) → behind (tprod x y) (b ∷ bs) ≡ none
     prod-miss n = ap (λ t. guard t >>= λ _. behind x bs >>= λ cs. behind y cs) (ne-eqb b 80 n)
 
--- ---- T lines: k is the kind, u and v the numbers behind it, l and r the lines that line i names, b the first letter
+-- ---- T lines: k is the kind, l and r are the lines that line i names, b the first letter
 
 module _ (t : List ℕ) (i : ℕ) where
-  -- a line that is named ranks below
-  pub type-call : (u : ℕ) {k l m : ℕ} → rank i ≡ m → k ≡ cellOf t i 1 → (k ≡ 0 → ⊥) → l ≡ smallerOf u i → rank l < m
-  type-call u {m} r e h s =
-      subst (λ x. rank x < m) (sym s) (subst (λ x. rank (smallerOf u i) < x) r (type-falls t i u (λ z. h (e ∙ z))))
-
-  -- the tree of a line that line i names
-  named : (k : ℕ) {u l : ℕ} → u ≡ cellOf t i k → l ≡ smallerOf u i → typeOf t (smallerOf (cellOf t i k) i) ≡ typeOf t l
-  named k f n = sym (ap (typeOf t) (n ∙ ap (λ z. smallerOf z i) f))
-
   module _ (s : List ℕ) (at : ℕ) where
     -- no letter
     pub typed-none : length s ≤ at → asUpto s upto.Nothing ≡ behind (typeOf t i) (drop at s)
@@ -82,50 +72,42 @@ module _ (t : List ℕ) (i : ℕ) where
       line : (x : Ty) {o : Option (List ℕ)} → typeOf t i ≡ x → behind x (b ∷ drop (at + 1) s) ≡ o → o ≡ behind (typeOf t i) (drop at s)
       line x p q = sym (ap₂ behind p here ∙ q)
 
-      -- unit
-      pub typed-unit : k ≡ 0 → b ≡ 85 → asUpto s (upto.Place (at + 1)) ≡ behind (typeOf t i) (drop at s)
-      typed-unit z l = line tunit (type-unit t i (sym e ∙ z)) (unit-hit b _ l)
+      -- a unit, or a number that is no kind
+      pub typed-unit : (k ≡ 1 → ⊥) → (k ≡ 2 → ⊥) → b ≡ 85 → asUpto s (upto.Place (at + 1)) ≡ behind (typeOf t i) (drop at s)
+      typed-unit n m l = line tunit (line-other t i e n m) (unit-hit b _ l)
 
       -- unit, and another letter
-      pub typed-not-unit : k ≡ 0 → (b ≡ 85 → ⊥) → asUpto s upto.Nothing ≡ behind (typeOf t i) (drop at s)
-      typed-not-unit z n = line tunit (type-unit t i (sym e ∙ z)) (unit-miss b _ n)
+      pub typed-not-unit : (k ≡ 1 → ⊥) → (k ≡ 2 → ⊥) → (b ≡ 85 → ⊥) → asUpto s upto.Nothing ≡ behind (typeOf t i) (drop at s)
+      typed-not-unit n m x = line tunit (line-other t i e n m) (unit-miss b _ x)
 
-      module _ {u v l r : ℕ} (fu : u ≡ cellOf t i 2) (nu : l ≡ smallerOf u i) (fv : v ≡ cellOf t i 3) (nv : r ≡ smallerOf v i) where
-        -- the tree of a sum line
-        sum-line : k ≡ 1 → typeOf t i ≡ tsum (typeOf t l) (typeOf t r)
-        sum-line z = type-sum t i (sym e ∙ z) ∙ ap₂ tsum (named 2 fu nu) (named 3 fv nv)
-
-        -- the tree of a product line
-        prod-line : (k ≡ 0 → ⊥) → (k ≡ 1 → ⊥) → typeOf t i ≡ tprod (typeOf t l) (typeOf t r)
-        prod-line n m = type-prod t i (subst (λ x. 2 ≤ x) e (omega arith)) ∙ ap₂ tprod (named 2 fu nu) (named 3 fv nv)
-
+      module _ {l r : ℕ} (nl : l ≡ smallerOf (cellOf t i 2) i) (nr : r ≡ smallerOf (cellOf t i 3) i) where
         -- left
         pub typed-left : (o : U.Upto) → k ≡ 1 → b ≡ 76 → asUpto s o ≡ behind (typeOf t l) (drop (at + 1) s) → asUpto s o ≡ behind (typeOf t i) (drop at s)
-        typed-left o z q w = w ∙ line (tsum (typeOf t l) (typeOf t r)) (sum-line z) (sum-left b (drop (at + 1) s) (typeOf t l) (typeOf t r) q)
+        typed-left o z q w = w ∙ line (tsum (typeOf t l) (typeOf t r)) (line-sum t i e nl nr z) (sum-left b (drop (at + 1) s) (typeOf t l) (typeOf t r) q)
 
         -- right
         pub typed-right : (o : U.Upto) → k ≡ 1 → (b ≡ 76 → ⊥) → b ≡ 82 → asUpto s o ≡ behind (typeOf t r) (drop (at + 1) s) → asUpto s o ≡ behind (typeOf t i) (drop at s)
-        typed-right o z n q w = w ∙ line (tsum (typeOf t l) (typeOf t r)) (sum-line z) (sum-right b (drop (at + 1) s) (typeOf t l) (typeOf t r) n q)
+        typed-right o z n q w = w ∙ line (tsum (typeOf t l) (typeOf t r)) (line-sum t i e nl nr z) (sum-right b (drop (at + 1) s) (typeOf t l) (typeOf t r) n q)
 
         -- a sum, and another letter
         pub typed-not-sum : k ≡ 1 → (b ≡ 76 → ⊥) → (b ≡ 82 → ⊥) → asUpto s upto.Nothing ≡ behind (typeOf t i) (drop at s)
-        typed-not-sum z n m = line (tsum (typeOf t l) (typeOf t r)) (sum-line z) (sum-miss b (drop (at + 1) s) (typeOf t l) (typeOf t r) n m)
+        typed-not-sum z n m = line (tsum (typeOf t l) (typeOf t r)) (line-sum t i e nl nr z) (sum-miss b (drop (at + 1) s) (typeOf t l) (typeOf t r) n m)
 
-        module _ (kn : k ≡ 0 → ⊥) (km : k ≡ 1 → ⊥) where
+        module _ (kp : k ≡ 2) where
           -- a pair with its first part
           pub typed-pair : (o : U.Upto) {q : U.Upto} {m : ℕ} → b ≡ 80 → q ≡ upto.Place m → asUpto s q ≡ behind (typeOf t l) (drop (at + 1) s)
               → asUpto s o ≡ behind (typeOf t r) (drop m s) → asUpto s o ≡ behind (typeOf t i) (drop at s)
           typed-pair o z p w x =
               x
               ∙ ap (λ c. c >>= λ cs. behind (typeOf t r) cs) (sym (ap (asUpto s) p) ∙ w)
-              ∙ line (tprod (typeOf t l) (typeOf t r)) (prod-line kn km) (prod-hit b (drop (at + 1) s) (typeOf t l) (typeOf t r) z)
+              ∙ line (tprod (typeOf t l) (typeOf t r)) (line-product t i e nl nr kp) (prod-hit b (drop (at + 1) s) (typeOf t l) (typeOf t r) z)
 
           -- a pair without its first part
           pub typed-not-first : {q : U.Upto} → b ≡ 80 → q ≡ upto.Nothing → asUpto s q ≡ behind (typeOf t l) (drop (at + 1) s) → asUpto s upto.Nothing ≡ behind (typeOf t i) (drop at s)
           typed-not-first z p w =
               ap (λ c. c >>= λ cs. behind (typeOf t r) cs) (sym (ap (asUpto s) p) ∙ w)
-              ∙ line (tprod (typeOf t l) (typeOf t r)) (prod-line kn km) (prod-hit b (drop (at + 1) s) (typeOf t l) (typeOf t r) z)
+              ∙ line (tprod (typeOf t l) (typeOf t r)) (line-product t i e nl nr kp) (prod-hit b (drop (at + 1) s) (typeOf t l) (typeOf t r) z)
 
           -- a product, and another letter
           pub typed-not-pair : (b ≡ 80 → ⊥) → asUpto s upto.Nothing ≡ behind (typeOf t i) (drop at s)
-          typed-not-pair n = line (tprod (typeOf t l) (typeOf t r)) (prod-line kn km) (prod-miss b (drop (at + 1) s) (typeOf t l) (typeOf t r) n)
+          typed-not-pair n = line (tprod (typeOf t l) (typeOf t r)) (line-product t i e nl nr kp) (prod-miss b (drop (at + 1) s) (typeOf t l) (typeOf t r) n)

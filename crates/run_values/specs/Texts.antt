@@ -7,7 +7,7 @@ use mathlib.Core.List.{List, [], _∷_, _++_}
 use lib.Dec.{eqb, ltb}
 use lib.ListN.{length, getD, set, drop}
 use lib.Seq.{slice}
-use Rattle.limits.specs.Limits.{variables}
+use Rattle.limits.specs.Limits.{variables, fieldBound}
 use Rattle.calculus.specs.Tools.{_>>=_, guard}
 use Rattle.calculus.specs.Trees.{Ty, tunit, tsum, tprod, Pat, punit, pvar, pinj, ppair, left, right, Val, vunit, vinj, vpair, sameTag}
 use Rattle.calculus.specs.Letters.{letters, letterU, letterP, letterOf}
@@ -52,9 +52,9 @@ alone none = false
 alone (some []) = true
 alone (some (b ∷ bs)) = false
 
--- the letter of a P line of kind k that is no variable
+-- the letter of a P line of kind k that is no variable; a number that is no kind has a unit's
 abbrev pub letterFor : ℕ → ℕ
-letterFor k = cond (eqb k 0) letterU (cond (eqb k 2) (letterOf left) (cond (eqb k 3) (letterOf right) letterP))
+letterFor k = cond (eqb k 4) letterP (cond (eqb k 2) (letterOf left) (cond (eqb k 3) (letterOf right) letterU))
 
 -- whether a pattern is of a value's shape, whatever its variables
 abbrev pub alike : Pat → Val → Bool
@@ -71,7 +71,7 @@ alike (ppair p q) (vpair v w) = alike p v && alike q w
 
 -- Where a variable's value begins and ends stands in numbers n and 32 + n of the ranges, as numbers of 16 bits.
 abbrev pub putRange : List ℕ → ℕ → ℕ → ℕ → List ℕ
-putRange vars n from to = cond (ltb n variables) (set (set vars n (from % 65536)) (variables + n) (to % 65536)) vars
+putRange vars n from to = cond (ltb n variables) (set (set vars n (from % fieldBound)) (variables + n) (to % fieldBound)) vars
 
 -- the ranges after a pattern is matched, as far as that goes, with a value whose letters begin at a place
 abbrev pub ranges : Pat → Val → ℕ → List ℕ → List ℕ

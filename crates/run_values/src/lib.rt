@@ -7,9 +7,9 @@ use codes::LETTER_LEFT;
 use codes::LETTER_PAIR;
 use codes::LETTER_RIGHT;
 use codes::LETTER_UNIT;
+use codes::PRODUCT;
 use codes::SECOND;
 use codes::SUM;
-use codes::TYPE_UNIT;
 use table_trees::cell;
 use table_trees::smaller;
 ghost use mathlib.Core.Path.{_≡_};
@@ -35,28 +35,26 @@ pub fn typed_end(t: &[u16], i: usize, s: &[u8], at: usize) -> Upto
     }
     let b = s[at];
     let kind = cell(t, i, KIND);
-    if kind == TYPE_UNIT {
-        if b == LETTER_UNIT {
-            return Upto::Place(at + 1);
-        }
-        return Upto::Nothing;
-    }
-    let left = smaller(cell(t, i, FIRST), i);
-    let right = smaller(cell(t, i, SECOND), i);
     if kind == SUM {
         if b == LETTER_LEFT {
-            return typed_end(t, left, s, at + 1);
+            return typed_end(t, smaller(cell(t, i, FIRST), i), s, at + 1);
         }
         if b == LETTER_RIGHT {
-            return typed_end(t, right, s, at + 1);
+            return typed_end(t, smaller(cell(t, i, SECOND), i), s, at + 1);
         }
         return Upto::Nothing;
     }
-    if b == LETTER_PAIR {
-        return match typed_end(t, left, s, at + 1) {
-            Upto::Place(m) => typed_end(t, right, s, m),
-            Upto::Nothing => Upto::Nothing,
-        };
+    if kind == PRODUCT {
+        if b == LETTER_PAIR {
+            return match typed_end(t, smaller(cell(t, i, FIRST), i), s, at + 1) {
+                Upto::Place(m) => typed_end(t, smaller(cell(t, i, SECOND), i), s, m),
+                Upto::Nothing => Upto::Nothing,
+            };
+        }
+        return Upto::Nothing;
+    }
+    if b == LETTER_UNIT {
+        return Upto::Place(at + 1);
     }
     Upto::Nothing
 }

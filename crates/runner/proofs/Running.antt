@@ -1,5 +1,5 @@
 -- A run on a checked table, case by case, against the model's run of the file's rows.
-use Prim.Native.Nat.{ℕ, _+_, _-_, _≤_, _<_}
+use Prim.Native.Nat.{ℕ, suc, _+_, _-_, _*_, _≤_, _<_}
 use native.Mathlib.Nat.{zero-add}
 use native.Mathlib.Omega.{arith}
 use mathlib.Core.Path.{_≡_, refl, sym, ap, ap₂, _∙_}
@@ -8,23 +8,23 @@ use mathlib.Core.Option.{none, some}
 use mathlib.Core.Logic.{_⊎_, inl, inr}
 use mathlib.Core.List.{List, _++_}
 use lib.ListN.{length, getElem?, take, drop, length-map}
-use lib.Seq.{paste}
-use Rattle.limits.specs.Limits.{maxIsos}
+use lib.Seq.{paste, drop-at, take-length}
+use Rattle.limits.specs.Limits.{maxIsos, runRoom, workLength, resultLength, frame}
 use Rattle.calculus.specs.Trees.{Val, Iso, invert}
 use Rattle.calculus.specs.Refusals.{Refusal, noIso, noValue, spent}
 use Rattle.format.specs.Lines.{Row}
 use Rattle.format.specs.Judge.{start}
 use Rattle.format.specs.Unfold.{isosOf}
 use Rattle.calculus.specs.Letters.{letters}
-use Rattle.model.specs.Services.{Ran, gives, failed, within, argument, from, onIso, runRows, toward, RunAnswer, answerOfRun, written}
+use Rattle.model.specs.Services.{Ran, gives, fails, within, argument, from, onIso, runRows, toward, RunAnswer, answerOfRun, written}
 use Rattle.format.specs.Code.{refusalView, numbered}
 use Rattle.calculus.proofs.Basic.{le-leb, not-leb, le-or-lt}
 use Rattle.format.proofs.Passing.{Passes}
 use Rattle.format.proofs.Turning.{isos-turn}
 use Rattle.model.proofs.Runs.{good-toward, accepted-good}
 use Rattle.table_trees.specs.Unfolding.{cellOf, typeOf}
-use Rattle.table_trees.proofs.Tails.{isos-few}
-use Rattle.table_trees.proofs.Rows.{isos-told, past-row}
+use Rattle.table_walks.proofs.Tails.{isos-few}
+use Rattle.table_walks.proofs.Rows.{isos-told, past-row}
 use Rattle.run_index.specs.Index.{placeAt, isosAt}
 use Rattle.check_isos.proofs.Collecting.{head-small}
 use Rattle.checker.specs.CheckSays.{Accepted}
@@ -37,9 +37,9 @@ use Rattle.run_values.proofs.Agreeing.{value-some, value-none}
 use Rattle.run_values.proofs.Tracing.{traced}
 use Rattle.run_reduction.specs.declared.Reduced as D
 use Rattle.run_reduction.specs.declared.Reduced.the-variants as reduced
-use Rattle.run_reduction.specs.Frames.{Laid, Applied}
+use Rattle.run_reduction.specs.Frames.{Laid, Spares, Applied, ApplySays}
 use Rattle.run_reduction.proofs.Laying.{inside, laid, from-at}
-use Rattle.run_reduction.proofs.Framing.{ApplySays, done-place, done-left, done≢spent}
+use Rattle.run_reduction.proofs.Framing.{done-place, done-left, done≢spent, spares-more}
 use Rattle.runner.specs.declared.run.Ran as R
 use Rattle.runner.specs.RunSays.{Prepared, answerFor, RanAs}
 use Rattle.runner.proofs.Copying.{value-front, paste-front}
@@ -58,7 +58,7 @@ toward-length false rs ps = refl
 toward-length true rs ps = ap length (isos-turn rs ps) ∙ length-map (isosOf rs) invert
 
 -- the model's run, by its cases
-on-none : (rs : List Row) (i budget : ℕ) (value : List ℕ) → getElem? (isosOf rs) i ≡ none → runRows rs i budget value ≡ failed noIso
+on-none : (rs : List Row) (i budget : ℕ) (value : List ℕ) → getElem? (isosOf rs) i ≡ none → runRows rs i budget value ≡ fails noIso
 unfolding runRows
 on-none rs i budget value e = ap (onIso (isosOf rs) i budget value) e
 
@@ -79,9 +79,10 @@ unprepared a (inr h) = let small = head-small (a .table) in absurd (omega (arith
 
 -- ---- refusals
 
-pub ran-refused : (a : RunAnswer) (o : List ℕ) (r : R.Ran) (f : Refusal) → a ≡ answerOfRun (failed f) → refusalView (r .refusal) ≡ some f → r .count ≡ 0 → r .length ≡ 0 → RanAs a o o r
+pub ran-refused : (a : RunAnswer) (o : List ℕ) (r : R.Ran) (f : Refusal) → a ≡ answerOfRun (fails f) → refusalView (r .refusal) ≡ some f → r .count ≡ 0 → r .length ≡ 0 → RanAs a o o r
 ran-refused a o r f e n k l =
     record {
+      refusal = n ∙ sym (ap (λ x. x .refusal) e);
       number = ap numbered n ∙ sym (ap (λ x. x .number) e);
       count = k ∙ sym (ap (λ x. x .count) e);
       bytes = l ∙ sym (ap (λ x. length (x .letters)) e);
@@ -172,9 +173,9 @@ begun t base index isos i back budget value j row h f b less ej er eh ef eb yes�
 
 -- the application in the work area
 applied : {t : List ℕ} {base : ℕ} {index : List ℕ} {i : ℕ} {back : Bool} {budget : ℕ} {value : List ℕ} {rs : List Row} (work : List ℕ) {work₁ work₂ : List ℕ} {r : D.Reduced}
-    → (g : Begun t base index i back budget value rs) → 40960 ≤ length work → length work ≤ 65536 → length work₁ ≡ length work
+    → (g : Begun t base index i back budget value rs) → runRoom ≤ length work → length work ≤ workLength → length work₁ ≡ length work
     → (length value ≤ length value → length value ≤ length work → work₁ ≡ paste work 0 value (length value))
-    → ApplySays t base index back i work₁ work₂ 0 (length value) budget r → Applied work₁ work₂ 0 budget (g .w) (g .m) r
+    → ApplySays t base index back i work₁ work₂ 0 (length value) budget r → Applied work₁ work₂ 0 i budget (g .w) (g .m) r
 applied {i = i} {value = value} work g long most wide copy says =
     let small = g .small in
     let few = g .few in
@@ -183,15 +184,15 @@ applied {i = i} {value = value} work g long most wide copy says =
     says _ (g .depth) (g .v) (g .w) (g .m) (g .lay) (g .runs) (value-front work value (g .v) (g .spelled) front) small (n ∙ sym (zero-add (length (letters (g .v)))))
     (omega (arith, few, long, wide)) (omega (arith, wide, most))
 
-within-gives : (budget m : ℕ) (w : Val) → m ≤ budget → within budget (some (w, m)) ≡ gives m (letters w)
-within-gives budget m w h = ap (λ b. cond b (gives m (letters w)) (failed spent)) (le-leb h)
+within-gives : (budget m : ℕ) (w : Val) → m ≤ budget → within budget (some (w, m)) ≡ gives (m, letters w)
+within-gives budget m w h = ap (λ b. cond b (gives (m, letters w)) (fails spent)) (le-leb h)
 
-within-spent : (budget m : ℕ) (w : Val) → budget < m → within budget (some (w, m)) ≡ failed spent
-within-spent budget m w h = ap (λ b. cond b (gives m (letters w)) (failed spent)) (not-leb h)
+within-spent : (budget m : ℕ) (w : Val) → budget < m → within budget (some (w, m)) ≡ fails spent
+within-spent budget m w h = ap (λ b. cond b (gives (m, letters w)) (fails spent)) (not-leb h)
 
 -- a result within the budget
 ran-done : {t : List ℕ} {base : ℕ} {index : List ℕ} {i : ℕ} {back : Bool} {budget : ℕ} {value : List ℕ} {rs : List Row} (work₁ work₂ o o′ : List ℕ) (n left : ℕ) {z : D.Reduced} (r : R.Ran)
-    → (g : Begun t base index i back budget value rs) → Applied work₁ work₂ 0 budget (g .w) (g .m) z → z ≡ reduced.Done n left → 127 ≤ length o → 40960 ≤ length work₂
+    → (g : Begun t base index i back budget value rs) → Applied work₁ work₂ 0 i budget (g .w) (g .m) z → z ≡ reduced.Done n left → resultLength ≤ length o → runRoom ≤ length work₂
     → (n ≤ length work₂ → n ≤ length o → o′ ≡ paste o 0 work₂ n) → refusalView (r .refusal) ≡ none → r .count ≡ budget - left → r .length ≡ n
     → RanAs (answerFor rs i back budget value) o o′ r
 ran-done {i = i} {back = back} {budget = budget} {value = value} {rs = rs} work₁ work₂ o o′ n left {z} r g a told long room copy e k l = go (le-or-lt (g .m) budget)
@@ -206,6 +207,7 @@ ran-done {i = i} {back = back} {budget = budget} {value = value} {rs = rs} work�
         let answer = g .answer ∙ ap answerOfRun (within-gives budget (g .m) (g .w) h) in
         let front : take n work₂ ≡ bs = ap (λ x. take x work₂) (place ∙ sym (zero-add (length bs))) ∙ a .result h in
         record {
+          refusal = e ∙ sym (ap (λ x. x .refusal) answer);
           number = ap numbered e ∙ sym (ap (λ x. x .number) answer);
           count = k ∙ omega (arith, rest) ∙ sym (ap (λ x. x .count) answer);
           bytes = l ∙ place ∙ sym (ap (λ x. length (x .letters)) answer);
@@ -215,7 +217,7 @@ ran-done {i = i} {back = back} {budget = budget} {value = value} {rs = rs} work�
 
 -- 17
 ran-spent : {t : List ℕ} {base : ℕ} {index : List ℕ} {i : ℕ} {back : Bool} {budget : ℕ} {value : List ℕ} {rs : List Row} (work₁ work₂ o : List ℕ) {z : D.Reduced} (r : R.Ran)
-    → (g : Begun t base index i back budget value rs) → Applied work₁ work₂ 0 budget (g .w) (g .m) z → z ≡ reduced.Spent
+    → (g : Begun t base index i back budget value rs) → Applied work₁ work₂ 0 i budget (g .w) (g .m) z → z ≡ reduced.Spent
     → refusalView (r .refusal) ≡ some spent → r .count ≡ 0 → r .length ≡ 0 → RanAs (answerFor rs i back budget value) o o r
 ran-spent {i = i} {back = back} {budget = budget} {value = value} {rs = rs} work₁ work₂ o {z} r g a told e k l = go (le-or-lt (g .m) budget)
   where
@@ -228,7 +230,7 @@ pub run-done : (t : List ℕ) (base : ℕ) (index : List ℕ) (isos i : ℕ) (ba
     → length work₁ ≡ length work → (length value ≤ length value → length value ≤ length work → work₁ ≡ paste work 0 value (length value))
     → ApplySays t base index back i work₁ work₂ 0 (length value) budget z → length work₂ ≡ length work₁ → z ≡ reduced.Done n left
     → (n ≤ length work₂ → n ≤ length o → o′ ≡ paste o 0 work₂ n) → refusalView (r .refusal) ≡ none → r .count ≡ budget - left → r .length ≡ n
-    → (rs : List Row) → Prepared t base index isos rs → 40960 ≤ length work → length work ≤ 65536 → 127 ≤ length o → RanAs (answerFor rs i back budget value) o o′ r
+    → (rs : List Row) → Prepared t base index isos rs → runRoom ≤ length work → length work ≤ workLength → resultLength ≤ length o → RanAs (answerFor rs i back budget value) o o′ r
 run-done t base index isos i back budget value work work₁ work₂ o o′ n left r j row h f b less ej er eh ef eb yes′ wide copy says kept told copy′ e k l rs p long most room =
     let g = begun t base index isos i back budget value j row h f b less ej er eh ef eb yes′ rs p in
     ran-done work₁ work₂ o o′ n left r g (applied work g long most wide copy says) told room (omega (arith, kept, wide, long)) copy′ e k l
@@ -238,7 +240,33 @@ pub run-spent : (t : List ℕ) (base : ℕ) (index : List ℕ) (isos i : ℕ) (b
     → length work₁ ≡ length work → (length value ≤ length value → length value ≤ length work → work₁ ≡ paste work 0 value (length value))
     → ApplySays t base index back i work₁ work₂ 0 (length value) budget z → z ≡ reduced.Spent
     → refusalView (r .refusal) ≡ some spent → r .count ≡ 0 → r .length ≡ 0
-    → (rs : List Row) → Prepared t base index isos rs → 40960 ≤ length work → length work ≤ 65536 → 127 ≤ length o → RanAs (answerFor rs i back budget value) o o r
+    → (rs : List Row) → Prepared t base index isos rs → runRoom ≤ length work → length work ≤ workLength → resultLength ≤ length o → RanAs (answerFor rs i back budget value) o o r
 run-spent t base index isos i back budget value work work₁ work₂ o r j row h f b less ej er eh ef eb yes′ wide copy says told e k l rs p long most room =
     let g = begun t base index isos i back budget value j row h f b less ej er eh ef eb yes′ rs p in
     ran-spent work₁ work₂ o r g (applied work g long most wide copy says) told e k l
+
+-- ---- the work area
+
+-- a value copied to the front leaves alone what is behind it
+front-spares : (work value : List ℕ) {work₁ : List ℕ} → work₁ ≡ paste work 0 value (length value) → Spares work work₁ 0 (length value)
+front-spares work value e =
+    record {
+      before = refl;
+      behind = ap (drop (length value)) (e ∙ paste-front work value (length value)) ∙ drop-at (take (length value) value) (drop (length value) work) (length value) (ap length (take-length value));
+    }
+
+-- behind the frames of all isos the area is as it was
+pub run-spares : (t : List ℕ) (base : ℕ) (index : List ℕ) (isos i : ℕ) (back : Bool) (budget : ℕ) (value work work₁ work₂ : List ℕ) {z : D.Reduced} (j row h f : ℕ) (b : Bool)
+    → i < isos → j ≡ cellOf t row f → row ≡ placeAt index h → h ≡ placeAt index i → f ≡ cond back 2 1 → b ≡ alone (behind (typeOf t j) value) → b ≡ true
+    → length work₁ ≡ length work → (length value ≤ length value → length value ≤ length work → work₁ ≡ paste work 0 value (length value))
+    → ApplySays t base index back i work₁ work₂ 0 (length value) budget z
+    → (rs : List Row) → Prepared t base index isos rs → runRoom ≤ length work → length work ≤ workLength → drop runRoom work₂ ≡ drop runRoom work
+run-spares t base index isos i back budget value work work₁ work₂ j row h f b less ej er eh ef eb yes′ wide copy says rs p long most =
+    let g = begun t base index isos i back budget value j row h f b less ej er eh ef eb yes′ rs p in
+    let a = applied work g long most wide copy says in
+    let small = g .small in
+    let few = g .few in
+    let n : length value ≡ length (letters (g .v)) = ap length (g .spelled) in
+    let first = front-spares work value (copy (omega arith) (omega (arith, n, small, long))) in
+    spares-more 0 (0 + suc i * frame) 0 runRoom (a .spares) (omega arith) (omega (arith, few)) .behind
+    ∙ spares-more 0 (length value) 0 runRoom first (omega arith) (omega (arith, n, small)) .behind

@@ -21,14 +21,10 @@ use run_reduction::apply;
 use run_values::is_value;
 use table_trees::cell;
 ghost use mathlib.Core.Path.{_≡_};
-ghost use mathlib.Core.List.{List};
-ghost use Prim.Native.Nat.{ℕ, _-_, _≤_};
+ghost use Prim.Native.Nat.{_-_, _≤_};
 ghost use lib.ListN.{length, drop};
 ghost use lib.Seq.{paste};
-ghost use Rattle.format.specs.Lines.{Row as RowOf};
-ghost use Rattle.run_index.specs.Index.{indexLength};
-ghost use Rattle.checker.specs.CheckSays.{Accepted};
-ghost use Rattle.runner.specs.RunSays.{Prepared, answerFor, RanAs, RunSays};
+ghost use Rattle.runner.specs.RunSays.{OnChecked, OnAccepted, Prepares, answerFor, RanInto, RanWithin, RunSays};
 
 // A refusal or none, the number of applications, and the number of letters in the result area.
 pub struct Ran {
@@ -74,8 +70,7 @@ fn used(budget: u32, left: u32) -> u32
 // Indexes an accepted file, whose rows a check has left in the table.
 pub fn prepare(table: &[u16], c: Checked, index: &mut [u16])
     ensures { λ r. ⌜
-        ((s : List ℕ) (a : Accepted s (now (table .entry)) c) → indexLength ≤ length (now (index .entry))
-        → Prepared (now (table .entry)) (c .types) (now (index .exit)) (c .isos) (a .file))
+        Prepares (now (table .entry)) c (now (index .entry)) (now (index .exit))
         ⌝ }
 {
     let types = c.types;
@@ -90,7 +85,7 @@ pub fn prepare(table: &[u16], c: Checked, index: &mut [u16])
 }
 
 // Runs iso i of a table that holds a checked file, whose isos the index finds. The work area needs
-// 40,960 bytes, 1,280 for each of 32 isos; what it then holds is left open.
+// 40,960 bytes, 1,280 for each of 32 isos; what these then hold is left open, all behind them is as it was.
 pub fn run_checked(
     t: &[u16],
     base: usize,
@@ -104,11 +99,9 @@ pub fn run_checked(
     result: &mut [u8],
 ) -> Ran
     ensures { λ r. ⌜
-        ((rs : List RowOf) → Prepared (now (t .entry)) base (now (index .entry)) isos rs
-        → 40960 ≤ length (now (work .entry)) → length (now (work .entry)) ≤ 65536
-        → 127 ≤ length (now (result .entry))
-        → RanAs (answerFor rs i back budget (now (value .entry))) (now (result .entry))
-        (now (result .exit)) r)
+        OnChecked (now (t .entry)) base (now (index .entry)) isos (now (work .entry))
+        (λ rs. RanWithin (answerFor rs i back budget (now (value .entry)))
+        (now (work .entry)) (now (work .exit)) (now (result .entry)) (now (result .exit)) r)
         ⌝ }
 {
     if isos <= i {
@@ -147,10 +140,9 @@ fn run_accepted(
     requires { ⌜ room ≤ length (now work) ⌝ }
     ensures { λ r. ⌜ drop room (now (work .exit)) ≡ drop room (now (work .entry)) ⌝ }
     ensures { λ r. ⌜
-        ((s : List ℕ) (a : Accepted s (now (table .entry)) c) → 40960 ≤ room → room ≤ 65536
-        → 127 ≤ length (now (result .entry))
-        → RanAs (answerFor (a .file) i back budget (now (value .entry))) (now (result .entry))
-        (now (result .exit)) r)
+        OnAccepted (now (table .entry)) c room
+        (λ rs. RanInto (answerFor rs i back budget (now (value .entry)))
+        (now (result .entry)) (now (result .exit)) r)
         ⌝ }
 {
     let mut index = [0u16; INDEX_LENGTH];

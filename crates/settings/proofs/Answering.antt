@@ -2,30 +2,30 @@
 use Prim.Native.Nat.{ℕ, _+_, _≤_, _<_}
 use native.Mathlib.Nat.{zero-add}
 use native.Mathlib.Omega.{arith}
-use mathlib.Core.Path.{_≡_, refl, sym, ap, _∙_}
-use mathlib.Core.Bool.{Bool, true, false, cond}
-use mathlib.Core.Option.{Option, none, some}
+use mathlib.Core.Path.{_≡_, sym, ap, _∙_}
+use mathlib.Core.Bool.{Bool, true, false}
+use mathlib.Core.Option.{none, some}
 use mathlib.Core.List.{List, [], _++_, append-nil}
-use lib.ListN.{length, drop, getElem?}
+use lib.ListN.{length, drop}
 use lib.Seq.{sets-eq}
 use Rattle.limits.specs.Limits.{maxValues}
 use Rattle.calculus.specs.Tools.{isSome}
-use Rattle.calculus.specs.Trees.{Ty, Val}
+use Rattle.calculus.specs.Trees.{Val}
 use Rattle.calculus.specs.Refusals.{Refusal, noValue, tooHigh}
 use Rattle.format.specs.Lines.{Row}
 use Rattle.calculus.specs.Letters.{letters}
-use Rattle.model.specs.Services.{accepted, written}
+use Rattle.model.specs.Services.{accepted, written, Outcome, fails, refusalOf, bytesFrom}
 use Rattle.calculus.specs.Paper.{Of}
-use Rattle.law_ranking.specs.Numbering.{count, rank, unrank, Outcome, fails, numberOn, settingOn, refusalOf, numberFrom, lettersFrom}
+use Rattle.law_ranking.specs.Numbering.{count, rank, unrank, numberOn, settingOn, numberFrom}
 use Rattle.law_ranking.specs.Answers.{NumberIs, SettingIs}
-use Rattle.format.specs.Code.{refusalView, numberOf, numbered}
+use Rattle.format.specs.Code.{refusalView}
 use Rattle.format.specs.declared.Refusal as F
 use Rattle.calculus.proofs.Letters.{of-inhabits, inhabits-of}
 use Rattle.law_ranking.proofs.Numbering.{rank-below, letters-bound, unrank-inhabits, rank-unrank}
 use Rattle.law_ranking.proofs.Outcomes.{number-in, setting-in}
 use Rattle.table_trees.specs.Unfolding.{typeOf}
-use Rattle.table_trees.specs.Walk.{FileIn}
-use Rattle.run_values.specs.Texts.{At, behind, alone}
+use Rattle.table_walks.specs.Walk.{FileIn}
+use Rattle.run_values.specs.Texts.{behind, alone}
 use Rattle.run_values.proofs.Alone.{alone-true, alone-false}
 use Rattle.run_values.proofs.Agreeing.{value-some, value-behind}
 use Rattle.number_values.specs.Numbers.{Counts, Ranks, Unranks}
@@ -39,15 +39,15 @@ use Rattle.settings.proofs.Lines.{fault-passed, line-good, line-faulty}
 -- ---- refusals
 
 numbered-refused : {x : Outcome ℕ} (r : N.Numbered) {z : Refusal} → x ≡ fails z → refusalView (r .refusal) ≡ some z → r .setting ≡ 0 → NumberedAs x r
-numbered-refused r e n k = record { number = ap numbered n ∙ sym (ap refusalOf e); setting = k ∙ sym (ap numberFrom e) }
+numbered-refused r e n k = record { refusal = n ∙ sym (ap refusalOf e); setting = k ∙ sym (ap numberFrom e) }
 
 lettered-refused : {x : Outcome (List ℕ)} (o : List ℕ) (r : L.Lettered) {z : Refusal} → x ≡ fails z → refusalView (r .refusal) ≡ some z → r .length ≡ 0
     → LetteredAs x o o r
 lettered-refused o r e n k =
     record {
-      number = ap numbered n ∙ sym (ap refusalOf e);
-      bytes = k ∙ sym (ap (λ y. length (lettersFrom y)) e);
-      result = sym (ap (λ y. written (lettersFrom y) o) e);
+      refusal = n ∙ sym (ap refusalOf e);
+      bytes = k ∙ sym (ap (λ y. length (bytesFrom y)) e);
+      result = sym (ap (λ y. written (bytesFrom y) o) e);
     }
 
 -- x is the refusal that the tests of T line i give
@@ -96,7 +96,7 @@ module _ (t : List ℕ) (types i : ℕ) (x : F.Refusal) {b : Bool} (e : refusalV
             → (patterns lines : ℕ) (rs : List Row) → FileIn t types patterns lines rs → NumberedAs (numberOn (accepted rs) i value) r
         number-given r n k patterns lines rs f =
             let x = number-in rs i value (NumberIs.number (typeOf t i) (told .0) (line-good f i (passed .0) (passed .1)) (told .1) (told .2)) in
-            record { number = ap numbered n ∙ sym (ap refusalOf x); setting = k ∙ told .3 ∙ sym (ap numberFrom x) }
+            record { refusal = n ∙ sym (ap refusalOf x); setting = k ∙ told .3 ∙ sym (ap numberFrom x) }
 
     -- ---- number to letters
 
@@ -121,7 +121,7 @@ module _ (t : List ℕ) (types i : ℕ) (x : F.Refusal) {b : Bool} (e : refusalV
           let s = says (passed .1) low fits in
           let x = setting-in rs i n (SettingIs.setting (typeOf t i) v (line-good f i (passed .0) (passed .1)) (inhabits-of v (typeOf t i) h) (rank-unrank (typeOf t i) n low)) in
           record {
-            number = ap numbered j ∙ sym (ap refusalOf x);
-            bytes = k ∙ s .1 ∙ z ∙ sym (ap (λ y. length (lettersFrom y)) x);
-            result = s .0 ∙ sets-eq ls o 0 fits ∙ ap (λ q. ls ++ drop q o) z ∙ sym (ap (λ y. written (lettersFrom y) o) x);
+            refusal = j ∙ sym (ap refusalOf x);
+            bytes = k ∙ s .1 ∙ z ∙ sym (ap (λ y. length (bytesFrom y)) x);
+            result = s .0 ∙ sets-eq ls o 0 fits ∙ ap (λ q. ls ++ drop q o) z ∙ sym (ap (λ y. written (bytesFrom y) o) x);
           }

@@ -6,19 +6,17 @@ use mathlib.Core.Bool.{Bool, true, false, cond}
 use mathlib.Core.Option.{Option, none, some}
 use mathlib.Core.List.{List}
 use lib.Dec.{leb, ltb}
-use lib.ListN.{getElem?}
 use Rattle.limits.specs.Limits.{maxValues}
 use Rattle.calculus.specs.Tools.{isSome}
 use Rattle.calculus.specs.Trees.{Ty}
 use Rattle.calculus.specs.Refusals.{Refusal, noIso, tooMany}
 use Rattle.format.specs.Lines.{Row}
-use Rattle.law_ranking.specs.Numbering.{count, typesOf}
+use Rattle.law_ranking.specs.Numbering.{count}
 use Rattle.law_ranking.specs.Answers.{LineFault, LineOf}
-use Rattle.format.specs.Code.{refusalView}
 use Rattle.format.specs.declared.Refusal as F
 use Rattle.calculus.proofs.Basic.{isSome-true, none≢some, some-inj, leb-le, leb-false, le-leb, not-leb, ltb-lt, ltb-false, lt-ltb, not-ltb}
 use Rattle.table_trees.specs.Unfolding.{typeOf}
-use Rattle.table_trees.specs.Walk.{FileIn}
+use Rattle.table_walks.specs.Walk.{FileIn}
 use Rattle.checker.proofs.Checks.{flag-none}
 use Rattle.number_values.specs.Numbers.{Counts}
 use Rattle.number_values.proofs.TypeLines.{absent, there}

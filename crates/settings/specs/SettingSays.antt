@@ -9,9 +9,9 @@ use lib.ListN.{length}
 use Rattle.limits.specs.Limits.{maxValues}
 use Rattle.calculus.specs.Trees.{Ty}
 use Rattle.calculus.specs.Refusals.{Refusal, noIso, tooMany}
-use Rattle.model.specs.Services.{written}
-use Rattle.law_ranking.specs.Numbering.{count, Outcome, refusalOf, numberFrom, lettersFrom, numberService, settingService}
-use Rattle.format.specs.Code.{numberOf}
+use Rattle.model.specs.Services.{written, Outcome, refusalOf, bytesFrom}
+use Rattle.law_ranking.specs.Numbering.{count, numberFrom, numberService, settingService}
+use Rattle.format.specs.Code.{refusalView, numberOf}
 use Rattle.settings.specs.declared.Numbered as N
 use Rattle.settings.specs.declared.Lettered as L
 
@@ -19,25 +19,27 @@ use Rattle.settings.specs.declared.Lettered as L
 abbrev pub typeFault : ℕ → ℕ → Ty → Option Refusal
 typeFault types i a = cond (leb types i) (some noIso) (cond (ltb maxValues (count a)) (some tooMany) none)
 
--- number and setting as an outcome says
+-- refusal and setting as an outcome says
 pub record NumberedAs (x : Outcome ℕ) (r : N.Numbered) : Type 0 where
-  pub number : numberOf (r .refusal) ≡ refusalOf x
+  pub refusal : refusalView (r .refusal) ≡ refusalOf x
   pub setting : r .setting ≡ numberFrom x
 
--- number, length and every byte of the result area as an outcome says; o is the area at entry, o′ at exit
+-- refusal, length and every byte of the result area as an outcome says; o is the area at entry, o′ at exit
 pub record LetteredAs (x : Outcome (List ℕ)) (o o′ : List ℕ) (r : L.Lettered) : Type 0 where
-  pub number : numberOf (r .refusal) ≡ refusalOf x
-  pub bytes : r .length ≡ length (lettersFrom x)
-  pub result : o′ ≡ written (lettersFrom x) o
+  pub refusal : refusalView (r .refusal) ≡ refusalOf x
+  pub bytes : r .length ≡ length (bytesFrom x)
+  pub result : o′ ≡ written (bytesFrom x) o
 
 -- the services; t, w and o are the areas at entry, t′, w′ and o′ at exit
 pub record NumberSays (file t w : List ℕ) (i : ℕ) (value t′ w′ : List ℕ) (r : N.Numbered) : Type 0 where
+  pub refusal : refusalView (r .refusal) ≡ numberService file t w i value .refusal
   pub number : numberOf (r .refusal) ≡ numberService file t w i value .number
   pub setting : r .setting ≡ numberService file t w i value .setting
   pub table : t′ ≡ numberService file t w i value .table
   pub work : w′ ≡ numberService file t w i value .work
 
 pub record SettingSays (file t w : List ℕ) (i n : ℕ) (o t′ w′ o′ : List ℕ) (r : L.Lettered) : Type 0 where
+  pub refusal : refusalView (r .refusal) ≡ settingService file t w i n o .refusal
   pub number : numberOf (r .refusal) ≡ settingService file t w i n o .number
   pub bytes : r .length ≡ settingService file t w i n o .length
   pub table : t′ ≡ settingService file t w i n o .table

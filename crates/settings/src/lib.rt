@@ -4,6 +4,7 @@
 use checker::check_file;
 use format::Refusal;
 use format::is_refused;
+use limits::MAX_VALUES;
 use limits::RESULT_LENGTH;
 use number_values::count_values;
 use number_values::rank_at;
@@ -18,7 +19,7 @@ ghost use Rattle.model.specs.Services.{accepted};
 ghost use Rattle.law_ranking.specs.Numbering.{numberOn, settingOn};
 ghost use Rattle.format.specs.Code.{refusalView};
 ghost use Rattle.table_trees.specs.Unfolding.{typeOf};
-ghost use Rattle.table_trees.specs.Walk.{FileIn};
+ghost use Rattle.table_walks.specs.Walk.{FileIn};
 ghost use Rattle.settings.specs.SettingSays.{typeFault, NumberedAs, LetteredAs, NumberSays, SettingSays};
 
 // A refusal or none, and a setting's number.
@@ -58,7 +59,7 @@ fn type_fault(t: &[u16], types: usize, i: usize) -> Refusal
     if types <= i {
         return Refusal::NoIso;
     }
-    if 4294967295 < count_values(t, i) {
+    if MAX_VALUES < count_values(t, i) {
         return Refusal::TooMany;
     }
     Refusal::Nothing

@@ -6,7 +6,7 @@ use mathlib.Core.List.{List, [], _∷_, _++_, append-assoc, map}
 use lib.ListN.{length, take, drop, length-append, length-drop, take-append-drop, drop-of-length-le}
 use lib.Seq.{sets, sets-eq, take-at, drop-at, drop-drop, length-take-le}
 use borrow.Rule.Slice.PartMut.{midOf, putMid}
-use Rattle.limits.specs.Limits.{resultLength}
+use Rattle.limits.specs.Limits.{resultLength, runRoom, workLength}
 use Rattle.calculus.specs.Tools.{concat}
 use Rattle.format.specs.Lines.{Row, lines}
 use Rattle.model.specs.Services.{accepted, RunAnswer, answerOfRun, written}
@@ -14,7 +14,7 @@ use Rattle.model.specs.Desk.{queryOf, answerTo}
 use Rattle.model.specs.Sheet.{answersTo, three, numbersAfter, lettersAfter}
 use Rattle.format.specs.Code.{numberOf}
 use Rattle.model.proofs.Sheets.{written-length, written-fits}
-use Rattle.read_split.specs.Split.{LineEnd}
+use Rattle.read_fields.specs.Views.{LineEnd}
 use Rattle.runner.specs.RunSays.{Prepared, RanAs}
 use Rattle.runner.specs.declared.run.Ran as R
 use Rattle.sheets.specs.Answering.{withPart, OneAnswered, AllAnswered}
@@ -29,8 +29,8 @@ three-told a r ran h =
     let small : r .length % 4294967296 ≡ length (a .letters) = omega (arith, same, h) in
     ap₂ (λ x y. x ∷ (r .count ∷ (y ∷ []))) (ran .number) small ∙ ap (λ x. a .number ∷ (x ∷ (length (a .letters) ∷ []))) (ran .count)
 
-pub one-answered : (a : RunAnswer) (k : ℕ) {n n′ : List ℕ} (o ys : List ℕ) (r : R.Ran) → k * 127 + 127 ≤ length o
-    → (127 ≤ length (midOf (k * 127) (k * 127 + 127 - k * 127) o) → RanAs a (midOf (k * 127) (k * 127 + 127 - k * 127) o) ys r)
+pub one-answered : (a : RunAnswer) (k : ℕ) {n n′ : List ℕ} (o ys : List ℕ) (r : R.Ran) → k * 127 + resultLength ≤ length o
+    → (resultLength ≤ length (midOf (k * 127) (k * 127 + 127 - k * 127) o) → RanAs a (midOf (k * 127) (k * 127 + 127 - k * 127) o) ys r)
     → length ys ≡ length (midOf (k * 127) (k * 127 + 127 - k * 127) o)
     → n′ ≡ sets n (k * 3) (numberOf (r .refusal) ∷ (r .count ∷ (r .length % 4294967296 ∷ [])))
     → OneAnswered a k n o n′ (putMid (k * 127) (k * 127 + 127 - k * 127) o ys)
@@ -76,7 +76,7 @@ numbers-onward a bs k n n′ h e =
     (e ∙ sets-eq (three a) n (k * 3) h ∙ append-assoc (take (k * 3) n) (three a) (drop (k * 3 + 3) n) ∙ ap (λ l. take (k * 3) n ++ (three a ++ l)) back)
     (omega (arith, front))
 
-letters-onward : (a : RunAnswer) (bs : List RunAnswer) (k : ℕ) (o o′ : List ℕ) → k * 127 + 127 ≤ length o → length (a .letters) ≤ 127
+letters-onward : (a : RunAnswer) (bs : List RunAnswer) (k : ℕ) (o o′ : List ℕ) → k * 127 + resultLength ≤ length o → length (a .letters) ≤ 127
     → o′ ≡ withPart k (written (a .letters) (take 127 (drop (k * 127) o))) o
     → take (k * 127) o ++ lettersAfter (a ∷ bs) (drop (k * 127) o) ≡ take ((k + 1) * 127) o′ ++ lettersAfter bs (drop ((k + 1) * 127) o′)
 letters-onward a bs k o o′ h fits e =
@@ -100,9 +100,9 @@ pub record Through (t : List ℕ) (base : ℕ) (index : List ℕ) (isos : ℕ) (
   pub works : length w ≡ length w₀
   pub wide : length n ≡ length n₀
   pub long : length o ≡ length o₀
-  pub numbers : (rs : List Row) → Prepared t base index isos rs → 40960 ≤ length w₀ → length w₀ ≤ 65536
+  pub numbers : (rs : List Row) → Prepared t base index isos rs → runRoom ≤ length w₀ → length w₀ ≤ 65536
       → numbersAfter (answersOf rs (lines q)) n₀ ≡ take (k * 3) n ++ numbersAfter (answersOf rs (lines (drop at q))) (drop (k * 3) n)
-  pub letters : (rs : List Row) → Prepared t base index isos rs → 40960 ≤ length w₀ → length w₀ ≤ 65536
+  pub letters : (rs : List Row) → Prepared t base index isos rs → runRoom ≤ length w₀ → length w₀ ≤ 65536
       → lettersAfter (answersOf rs (lines q)) o₀ ≡ take (k * 127) o ++ lettersAfter (answersOf rs (lines (drop at q))) (drop (k * 127) o)
 
 pub through-start : (t : List ℕ) (base : ℕ) (index : List ℕ) (isos : ℕ) (q w n o : List ℕ) → Through t base index isos q w n o w n o 0 0
@@ -119,7 +119,7 @@ through-start t base index isos q w n o =
 
 -- a line more is there
 pub through-room : {t : List ℕ} {base : ℕ} {index : List ℕ} {isos : ℕ} {q w₀ n₀ o₀ w n o : List ℕ} {at k end : ℕ} → Through t base index isos q w₀ n₀ o₀ w n o at k → at < length q
-    → LineEnd q at end → length (lines q) * 3 ≤ length n₀ → length (lines q) * 127 ≤ length o₀ → (k * 3 + 3 ≤ length n) × (k * 127 + 127 ≤ length o)
+    → LineEnd q at end → length (lines q) * 3 ≤ length n₀ → length (lines q) * resultLength ≤ length o₀ → (k * 3 + 3 ≤ length n) × (k * 127 + resultLength ≤ length o)
 through-room x h e a b =
     let s = ap length (e .splits h) in
     let l = x .lines-left in
@@ -128,8 +128,8 @@ through-room x h e a b =
     (omega (arith, s, l, c, a), omega (arith, s, l, d, b))
 
 pub through-next : {t : List ℕ} {base : ℕ} {index : List ℕ} {isos : ℕ} {q w₀ n₀ o₀ w n o w′ n′ o′ : List ℕ} {at k end : ℕ} → Through t base index isos q w₀ n₀ o₀ w n o at k → at < length q
-    → LineEnd q at end → (k * 3 + 3 ≤ length n) × (k * 127 + 127 ≤ length o)
-    → ((rs : List Row) → Prepared t base index isos rs → 40960 ≤ length w → length w ≤ 65536 → OneAnswered (answerOfRun (answerTo (accepted rs) (queryOf (midOf at (end - at) q)))) k n o n′ o′)
+    → LineEnd q at end → (k * 3 + 3 ≤ length n) × (k * 127 + resultLength ≤ length o)
+    → ((rs : List Row) → Prepared t base index isos rs → runRoom ≤ length w → length w ≤ workLength → OneAnswered (answerOfRun (answerTo (accepted rs) (queryOf (midOf at (end - at) q)))) k n o n′ o′)
     → length w′ ≡ length w → length n′ ≡ length n → length o′ ≡ length o → Through t base index isos q w₀ n₀ o₀ w′ n′ o′ end (k + 1)
 through-next {q = q} {n = n} {o = o} {n′ = n′} {o′ = o′} {at = at} {k = k} {end = end} x h e room one kw kn ko =
     let s = ap length (e .splits h) in
@@ -153,7 +153,7 @@ through-next {q = q} {n = n} {o = o} {n′ = n′} {o′ = o′} {at = at} {k = 
     }
 
 pub through-end : {t : List ℕ} {base : ℕ} {index : List ℕ} {isos : ℕ} {q w₀ n₀ o₀ w n o : List ℕ} {at k : ℕ} → Through t base index isos q w₀ n₀ o₀ w n o at k → length q ≤ at
-    → (rs : List Row) → Prepared t base index isos rs → 40960 ≤ length w₀ → length w₀ ≤ 65536 → AllAnswered rs q n₀ o₀ n o
+    → (rs : List Row) → Prepared t base index isos rs → runRoom ≤ length w₀ → length w₀ ≤ 65536 → AllAnswered rs q n₀ o₀ n o
 through-end {q = q} {n = n} {o = o} {at = at} {k = k} x h rs p m u =
     let none-left : drop at q ≡ [] = drop-of-length-le q {i = at} h in
     record {

@@ -13,6 +13,10 @@ use Rattle.model.specs.Sheet.{answersTo, three, numbersAfter, lettersAfter}
 abbrev pub withPart : ℕ → List ℕ → List ℕ → List ℕ
 withPart k bs o = take (k * resultLength) o ++ (bs ++ drop resultLength (drop (k * resultLength) o))
 
+-- three numbers and 127 bytes for each of n queries
+abbrev pub SheetRoom : ℕ → List ℕ → List ℕ → Type 0
+SheetRoom n numbers letters = (n * 3 ≤ length numbers) × (n * resultLength ≤ length letters)
+
 -- query k has this answer: its three numbers, and its letters at the front of its 127 bytes; n and o are the areas at entry, n′ and o′ at exit
 pub record OneAnswered (a : RunAnswer) (k : ℕ) (n o n′ o′ : List ℕ) : Type 0 where
   pub fits : length (a .letters) ≤ resultLength

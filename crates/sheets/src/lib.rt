@@ -14,24 +14,24 @@ use limits::RESULT_LENGTH;
 use limits::TABLE_LENGTH;
 use limits::WORK_LENGTH;
 use query_answers::answer_line;
+use read_fields::Cursor;
 use read_split::count_lines;
-use read_split::line_end;
 use runner::run::Ran;
 use runner::run::prepare;
 ghost use mathlib.Core.Path.{_≡_};
 ghost use mathlib.Core.Bool.{_||_};
-ghost use mathlib.Core.List.{List, [], _∷_};
-ghost use Prim.Native.Nat.{ℕ, _+_, _*_, _%_, _≤_};
+ghost use mathlib.Core.List.{[], _∷_};
+ghost use Prim.Native.Nat.{_+_, _*_, _%_, _≤_};
 ghost use lib.ListN.{length, drop};
 ghost use lib.Seq.{sets};
-ghost use Rattle.format.specs.Lines.{Row as RowOf, lines};
+ghost use Rattle.limits.specs.Limits.{resultLength};
+ghost use Rattle.format.specs.Lines.{lines};
 ghost use Rattle.model.specs.Services.{short, accepted, answerOfRun};
 ghost use Rattle.model.specs.Desk.{queryOf, answerTo};
 ghost use Rattle.model.specs.Sheet.{narrowSheet};
 ghost use Rattle.format.specs.Code.{numberOf};
-ghost use Rattle.checker.specs.CheckSays.{Accepted};
-ghost use Rattle.runner.specs.RunSays.{Prepared};
-ghost use Rattle.sheets.specs.Answering.{OneAnswered, AllAnswered};
+ghost use Rattle.runner.specs.RunSays.{OnChecked, OnAccepted};
+ghost use Rattle.sheets.specs.Answering.{SheetRoom, OneAnswered, AllAnswered};
 ghost use Rattle.sheets.specs.SheetSays.{SheetSays};
 
 // The answer to the file, and how many queries were answered.
@@ -110,11 +110,10 @@ fn answer_one(
     numbers: &mut [u32],
     letters: &mut [u8],
 )
-    requires { ⌜ (k * 3 + 3 ≤ length (now numbers)) × (k * 127 + 127 ≤ length (now letters)) ⌝ }
+    requires { ⌜ (k * 3 + 3 ≤ length (now numbers)) × (k * 127 + resultLength ≤ length (now letters)) ⌝ }
     ensures { λ z. ⌜
-        ((rs : List RowOf) → Prepared (now (t .entry)) base (now (index .entry)) isos rs
-        → 40960 ≤ length (now (work .entry)) → length (now (work .entry)) ≤ 65536
-        → OneAnswered (answerOfRun (answerTo (accepted rs) (queryOf (now (line .entry))))) k
+        OnChecked (now (t .entry)) base (now (index .entry)) isos (now (work .entry))
+        (λ rs. OneAnswered (answerOfRun (answerTo (accepted rs) (queryOf (now (line .entry))))) k
         (now (numbers .entry)) (now (letters .entry)) (now (numbers .exit)) (now (letters .exit)))
         ⌝ }
 {
@@ -135,18 +134,17 @@ fn answer_lines(
     numbers: &mut [u32],
     letters: &mut [u8],
 )
-    requires { ⌜ (length (lines (now queries)) * 3 ≤ length (now numbers)) × (length (lines (now queries)) * 127 ≤ length (now letters)) ⌝ }
+    requires { ⌜ SheetRoom (length (lines (now queries))) (now numbers) (now letters) ⌝ }
     ensures { λ z. ⌜
-        ((rs : List RowOf) → Prepared (now (t .entry)) base (now (index .entry)) isos rs
-        → 40960 ≤ length (now (work .entry)) → length (now (work .entry)) ≤ 65536
-        → AllAnswered rs (now (queries .entry)) (now (numbers .entry)) (now (letters .entry))
-        (now (numbers .exit)) (now (letters .exit)))
+        OnChecked (now (t .entry)) base (now (index .entry)) isos (now (work .entry))
+        (λ rs. AllAnswered rs (now (queries .entry))
+        (now (numbers .entry)) (now (letters .entry)) (now (numbers .exit)) (now (letters .exit)))
         ⌝ }
 {
     let mut at: usize = 0;
     let mut k: usize = 0;
     while at < queries.len() {
-        let end = line_end(queries, at);
+        let end = Cursor { at: at }.line_end(queries).at;
         answer_one(
             t,
             base,
@@ -173,15 +171,11 @@ fn answer_all(
     numbers: &mut [u32],
     letters: &mut [u8],
 )
-    requires { ⌜
-        (room ≤ length (now work)) × (length (lines (now queries)) * 3 ≤ length (now numbers))
-        × (length (lines (now queries)) * 127 ≤ length (now letters))
-        ⌝ }
+    requires { ⌜ (room ≤ length (now work)) × SheetRoom (length (lines (now queries))) (now numbers) (now letters) ⌝ }
     ensures { λ z. ⌜ drop room (now (work .exit)) ≡ drop room (now (work .entry)) ⌝ }
     ensures { λ z. ⌜
-        ((s : List ℕ) (a : Accepted s (now (table .entry)) c) → 40960 ≤ room → room ≤ 65536
-        → AllAnswered (a .file) (now (queries .entry)) (now (numbers .entry)) (now (letters .entry))
-        (now (numbers .exit)) (now (letters .exit)))
+        OnAccepted (now (table .entry)) c room (λ rs. AllAnswered rs (now (queries .entry))
+        (now (numbers .entry)) (now (letters .entry)) (now (numbers .exit)) (now (letters .exit)))
         ⌝ }
 {
     let mut index = [0u16; INDEX_LENGTH];

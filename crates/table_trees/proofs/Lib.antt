@@ -1,6 +1,4 @@
--- Laws about the trees that the table's lines unfold to, and about the counts of their nodes.
+-- Laws about the nodes of each kind, and the trees that the table's lines unfold to.
+pub mod Cases
 pub mod Unfolding
-pub mod Counts
-pub mod Rows
-pub mod Tails
-pub mod Walking
+pub mod Lines

@@ -10,10 +10,11 @@ use lib.Dec.{ltb}
 use lib.ListN.{getD}
 use borrow.Author.Tests.{lt-ltb, le-ltb, ltb-true, ltb-false}
 use Rattle.limits.specs.Limits.{maxLines, rowWidth}
-use Rattle.calculus.specs.Trees.{Ty, tunit, tsum, tprod, Pat, punit, pvar, pinj, ppair, left, right}
+use Rattle.calculus.specs.Trees.{tunit, tsum, tprod, punit, pvar, pinj, ppair, left, right}
 use Rattle.format.specs.Judge.{typeNode, patternNode}
 use Rattle.calculus.proofs.Basic.{bool-cases}
 use Rattle.table_trees.specs.Unfolding.{cellOf, smallerOf, typeIn, patternIn, typeOf, patternOf}
+use Rattle.table_trees.proofs.Cases.{node-unit, node-sum, node-prod, node-other, node-punit, node-var, node-left, node-right, node-pair, node-pother}
 
 -- ---- cells and names
 
@@ -90,37 +91,14 @@ line-within t base j h = omega (arith, row-within t (base + j) 1 h)
 pub pattern-falls : (t : List ℕ) (base j a : ℕ) → (cellOf t (base + j) 1 ≡ 0 → ⊥) → rank (smallerOf a j) < rank j
 pattern-falls t base j a h = rank-less a j (line-within t base j h)
 
--- ---- the node of a kind
+-- the same as a recursion asks it: m is the measure of the line at hand, k its kind, a what it names
+pub type-call : (t : List ℕ) (i u : ℕ) {k a m : ℕ} → rank i ≡ m → k ≡ cellOf t i 1 → (k ≡ 0 → ⊥) → a ≡ smallerOf u i → rank a < m
+type-call t i u {m} r e h s =
+    subst (λ x. rank x < m) (sym s) (subst (λ x. rank (smallerOf u i) < x) r (type-falls t i u (λ z. h (e ∙ z))))
 
-pub node-unit : {k : ℕ} (a b : Ty) → k ≡ 0 → typeNode k a b ≡ tunit
-node-unit a b e = ap (λ k. typeNode k a b) e
-
-pub node-sum : {k : ℕ} (a b : Ty) → k ≡ 1 → typeNode k a b ≡ tsum a b
-node-sum a b e = ap (λ k. typeNode k a b) e
-
-pub node-prod : {k : ℕ} (a b : Ty) → 2 ≤ k → typeNode k a b ≡ tprod a b
-node-prod {k = zero} a b h = absurd (omega arith)
-node-prod {k = suc zero} a b h = absurd (omega arith)
-node-prod {k = suc (suc k)} a b h = refl
-
-pub node-punit : {k : ℕ} (n : ℕ) (p q : Pat) → k ≡ 0 → patternNode k n p q ≡ punit
-node-punit n p q e = ap (λ k. patternNode k n p q) e
-
-pub node-var : {k : ℕ} (n : ℕ) (p q : Pat) → k ≡ 1 → patternNode k n p q ≡ pvar n
-node-var n p q e = ap (λ k. patternNode k n p q) e
-
-pub node-left : {k : ℕ} (n : ℕ) (p q : Pat) → k ≡ 2 → patternNode k n p q ≡ pinj left p
-node-left n p q e = ap (λ k. patternNode k n p q) e
-
-pub node-right : {k : ℕ} (n : ℕ) (p q : Pat) → k ≡ 3 → patternNode k n p q ≡ pinj right p
-node-right n p q e = ap (λ k. patternNode k n p q) e
-
-pub node-pair : {k : ℕ} (n : ℕ) (p q : Pat) → 4 ≤ k → patternNode k n p q ≡ ppair p q
-node-pair {k = zero} n p q h = absurd (omega arith)
-node-pair {k = suc zero} n p q h = absurd (omega arith)
-node-pair {k = suc (suc zero)} n p q h = absurd (omega arith)
-node-pair {k = suc (suc (suc zero))} n p q h = absurd (omega arith)
-node-pair {k = suc (suc (suc (suc k)))} n p q h = refl
+pub pattern-call : (t : List ℕ) (base j u : ℕ) {k a m : ℕ} → rank j ≡ m → k ≡ cellOf t (base + j) 1 → (k ≡ 0 → ⊥) → a ≡ smallerOf u j → rank a < m
+pattern-call t base j u {m} r e h s =
+    subst (λ x. rank x < m) (sym s) (subst (λ x. rank (smallerOf u j) < x) r (pattern-falls t base j u (λ z. h (e ∙ z))))
 
 -- ---- T lines
 
@@ -172,8 +150,11 @@ module _ (t : List ℕ) where
   pub type-sum : (i : ℕ) → cellOf t i 1 ≡ 1 → typeOf t i ≡ tsum (typeOf t (smallerOf (cellOf t i 2) i)) (typeOf t (smallerOf (cellOf t i 3) i))
   type-sum i e = type-node i ∙ node-sum _ _ e
 
-  pub type-prod : (i : ℕ) → 2 ≤ cellOf t i 1 → typeOf t i ≡ tprod (typeOf t (smallerOf (cellOf t i 2) i)) (typeOf t (smallerOf (cellOf t i 3) i))
-  type-prod i h = type-node i ∙ node-prod _ _ h
+  pub type-prod : (i : ℕ) → cellOf t i 1 ≡ 2 → typeOf t i ≡ tprod (typeOf t (smallerOf (cellOf t i 2) i)) (typeOf t (smallerOf (cellOf t i 3) i))
+  type-prod i e = type-node i ∙ node-prod _ _ e
+
+  pub type-other : (i : ℕ) → (cellOf t i 1 ≡ 1 → ⊥) → (cellOf t i 1 ≡ 2 → ⊥) → typeOf t i ≡ tunit
+  type-other i s p = type-node i ∙ node-other _ _ s p
 
 -- ---- P lines
 
@@ -216,6 +197,12 @@ module _ (t : List ℕ) (base : ℕ) where
       pattern-open j
       ∙ ap₂ (λ x y. patternNode (cellOf t (base + j) 1) (cellOf t (base + j) 2) x y) (pattern-named j (cellOf t (base + j) 2)) (pattern-named j (cellOf t (base + j) 3))
 
+  -- a line of kind k is the node of that kind
+  pub opened : (j : ℕ) {k : ℕ} → k ≡ cellOf t (base + j) 1 → patternNode k (cellOf t (base + j) 2) (patternOf t base (smallerOf (cellOf t (base + j) 2) j)) (patternOf t base (smallerOf (cellOf t (base + j) 3) j)) ≡ patternOf t base j
+  opened j e =
+      ap (λ x. patternNode x (cellOf t (base + j) 2) (patternOf t base (smallerOf (cellOf t (base + j) 2) j)) (patternOf t base (smallerOf (cellOf t (base + j) 3) j))) e
+      ∙ sym (pattern-node j)
+
   pub pattern-unit : (j : ℕ) → cellOf t (base + j) 1 ≡ 0 → patternOf t base j ≡ punit
   pattern-unit j e = pattern-node j ∙ node-punit _ _ _ e
 
@@ -228,8 +215,11 @@ module _ (t : List ℕ) (base : ℕ) where
   pub pattern-right : (j : ℕ) → cellOf t (base + j) 1 ≡ 3 → patternOf t base j ≡ pinj right (patternOf t base (smallerOf (cellOf t (base + j) 2) j))
   pattern-right j e = pattern-node j ∙ node-right _ _ _ e
 
-  pub pattern-pair : (j : ℕ) → 4 ≤ cellOf t (base + j) 1 → patternOf t base j ≡ ppair (patternOf t base (smallerOf (cellOf t (base + j) 2) j)) (patternOf t base (smallerOf (cellOf t (base + j) 3) j))
-  pattern-pair j h = pattern-node j ∙ node-pair _ _ _ h
+  pub pattern-pair : (j : ℕ) → cellOf t (base + j) 1 ≡ 4 → patternOf t base j ≡ ppair (patternOf t base (smallerOf (cellOf t (base + j) 2) j)) (patternOf t base (smallerOf (cellOf t (base + j) 3) j))
+  pattern-pair j e = pattern-node j ∙ node-pair _ _ _ e
+
+  pub pattern-other : (j : ℕ) → (cellOf t (base + j) 1 ≡ 1 → ⊥) → (cellOf t (base + j) 1 ≡ 2 → ⊥) → (cellOf t (base + j) 1 ≡ 3 → ⊥) → (cellOf t (base + j) 1 ≡ 4 → ⊥) → patternOf t base j ≡ punit
+  pattern-other j v l r b = pattern-node j ∙ node-pother _ _ _ v l r b
 
 -- ---- tables with the same rows below n
 

@@ -1,3 +1,1 @@
 pub mod Unfolding
-pub mod InTable
-pub mod Walk

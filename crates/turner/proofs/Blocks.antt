@@ -9,21 +9,10 @@ use lib.Seq.{slice}
 use Rattle.calculus.specs.Refusals.{Kind, typeLine, patternLine, isoLine, clauseLine, letLine}
 use Rattle.format.specs.Lines.{Row, print, printRows}
 use Rattle.format.specs.Unfold.{exchange, turnRow, turnFrom, turnRows}
-use Rattle.format.proofs.Printing.{printRows-cons, printRows-nil}
+use Rattle.format.proofs.Printing.{printRows-cons, print-append, print-one}
 use Rattle.turner.specs.Written.{turnedRow}
 
 -- ---- printed rows
-
-pub print-append : (rs qs : List Row) → printRows (rs ++ qs) ≡ printRows rs ++ printRows qs
-print-append [] qs = ap (λ bs. bs ++ printRows qs) (sym printRows-nil)
-print-append (r ∷ rs) qs =
-    printRows-cons r (rs ++ qs)
-    ∙ ap (λ bs. print r ++ bs) (print-append rs qs)
-    ∙ sym (append-assoc (print r) (printRows rs) (printRows qs))
-    ∙ ap (λ bs. bs ++ printRows qs) (sym (printRows-cons r rs))
-
-print-one : (r : Row) → printRows (r ∷ []) ≡ print r
-print-one r = printRows-cons r [] ∙ ap (λ bs. print r ++ bs) printRows-nil ∙ append-nil (print r)
 
 -- one row more in front stands behind in the new order
 pub print-more : (r : Row) (ls : List Row) → printRows (reverse (map turnedRow ls)) ++ print (turnedRow r) ≡ printRows (reverse (map turnedRow (r ∷ ls)))

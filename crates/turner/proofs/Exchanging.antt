@@ -2,7 +2,7 @@
 use Prim.Native.Nat.{ℕ, _%_, _<_}
 use native.Mathlib.Omega.{arith}
 use mathlib.Core.Path.{_≡_, refl, sym, ap, ap₂, _∙_, subst}
-use mathlib.Core.Option.{none, some}
+use mathlib.Core.Option.{some}
 use mathlib.Core.List.{List}
 use lib.ListN.{getElem?}
 use Rattle.calculus.specs.Refusals.{Kind, typeLine, patternLine, isoLine, clauseLine, letLine}
@@ -17,7 +17,7 @@ use Rattle.read_forms.specs.declared.Letter as L
 use Rattle.read_forms.specs.declared.Letter.the-variants as letters
 use Rattle.area_cells.specs.Areas.{Writes}
 use Rattle.table_trees.specs.Unfolding.{cellOf}
-use Rattle.table_trees.specs.Walk.{FileIn}
+use Rattle.table_walks.specs.Walk.{FileIn}
 use Rattle.turner.specs.Written.{turnedRow, RowWritten}
 
 abbrev row : Kind → ℕ → ℕ → ℕ → Row

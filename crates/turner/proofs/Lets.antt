@@ -13,8 +13,8 @@ use Rattle.format.proofs.Printing.{printRows-nil}
 use Rattle.area_cells.specs.Areas.{Writes}
 use Rattle.area_cells.proofs.Writing.{writes-none, writes-both, writes-as}
 use Rattle.table_trees.specs.Unfolding.{cellOf}
-use Rattle.table_trees.specs.Walk.{FileIn}
-use Rattle.table_trees.proofs.Rows.{get-row}
+use Rattle.table_walks.specs.Walk.{FileIn}
+use Rattle.table_walks.proofs.Rows.{get-row}
 use Rattle.turner.specs.Written.{turnedRow, RowWritten, LetsWritten, LetsEnd}
 use Rattle.turner.proofs.Blocks.{print-more, AllLets}
 

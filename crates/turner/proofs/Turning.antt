@@ -16,8 +16,8 @@ use Rattle.format.proofs.Passing.{Passes}
 use Rattle.format.proofs.Printing.{printRows-nil}
 use Rattle.area_cells.specs.Areas.{Writes}
 use Rattle.area_cells.proofs.Writing.{writes-none, writes-both, writes-as}
-use Rattle.table_trees.specs.Walk.{FileIn}
-use Rattle.table_trees.proofs.Rows.{drop-row, row-at, row-fit}
+use Rattle.table_walks.specs.Walk.{FileIn}
+use Rattle.table_walks.proofs.Rows.{drop-row, row-at, row-fit}
 use Rattle.turner.specs.Written.{turnedRow, RowWritten, LetsWritten, LetsEnd, FileWritten}
 use Rattle.turner.proofs.Blocks.{no-let, print-block, drop-slice}
 use Rattle.turner.proofs.Lets.{is-let, let-cell, all-lets}

@@ -10,7 +10,7 @@ use Rattle.format.specs.Lines.{Row, letter, print, printRows}
 use Rattle.format.specs.Unfold.{exchange, turnRows}
 use Rattle.area_cells.specs.Areas.{Writes}
 use Rattle.table_trees.specs.Unfolding.{cellOf}
-use Rattle.table_trees.specs.Walk.{FileIn}
+use Rattle.table_walks.specs.Walk.{FileIn}
 
 -- a row as the turned file has it
 abbrev pub turnedRow : Row → Row

@@ -5,18 +5,18 @@ use mathlib.Core.Path.{_≡_, refl, sym, ap, ap₂, _∙_, subst}
 use mathlib.Core.Logic.{_⊎_, inl, inr, ⊎-elim}
 use mathlib.Core.Bool.{Bool, true, false, cond, _&&_, _||_, or-true}
 use mathlib.Core.Option.{Option, none, some}
-use mathlib.Core.List.{List, [], _++_}
+use mathlib.Core.List.{List, []}
 use lib.Dec.{leb, ltb}
-use lib.ListN.{length, drop}
+use lib.ListN.{length}
 use borrow.Author.Tests.{lt-ltb, le-ltb}
 use Rattle.limits.specs.Limits.{maxBytes, maxLines, tableLength, workLength, resultLength}
 use Rattle.calculus.specs.Tools.{isSome}
 use Rattle.calculus.specs.Refusals.{Refusal, number, shortArea}
-use Rattle.format.specs.Lines.{Row, lines}
-use Rattle.format.specs.Judge.{start, rows, readFrom}
+use Rattle.format.specs.Lines.{lines}
+use Rattle.format.specs.Judge.{rows}
 use Rattle.format.specs.Unfold.{isosOf}
 use Rattle.calculus.specs.Clauses.{fault}
-use Rattle.model.specs.Services.{refused, afterReading, check, short, written}
+use Rattle.model.specs.Services.{afterReading, check, short, written}
 use Rattle.format.specs.Code.{refusalView, numberOf, numbered}
 use Rattle.format.specs.declared.Refusal as F
 use Rattle.calculus.proofs.Basic.{bool-cases, not-leb, le-leb, leb-le, leb-false, isSome-true}
@@ -26,7 +26,7 @@ use Rattle.checker.specs.CheckSays.{CheckSays, Entered, Settled, Early}
 use Rattle.checker.specs.declared.Checked as C
 use Rattle.checker.proofs.Checks.{filed-says, early-says}
 use Rattle.law_witnesses.specs.Showing.{sided, showing, showService}
-use Rattle.law_witnesses.proofs.Served.{as-check, short-area, sideAnswer, Given, served-shows, served-silent}
+use Rattle.law_witnesses.proofs.Served.{as-check, as-refused, short-area, served-shows, served-silent}
 use Rattle.fault_values.specs.Faults.{FaultShown}
 use Rattle.witness.specs.WitnessSays.{WitnessSays, Searched}
 use Rattle.witness.specs.declared.Witnessed as W
@@ -38,6 +38,7 @@ pub short-result : (s t w out : List ℕ) (r : W.Witnessed) → length out < res
 short-result s t w out r h f p l =
     let e = short-area s t w out (ap (λ b. short t w || b) (lt-ltb _ _ h) ∙ or-true (short t w)) in
     record {
+      refusal = f ∙ sym (ap (λ x. x .refusal) e);
       number = ap numbered f ∙ sym (ap (λ x. x .answer .number) e);
       line = p ∙ sym (ap (λ x. x .answer .line) e);
       length = l ∙ sym (ap (λ x. x .length) e);
@@ -57,6 +58,7 @@ module _ (s t w out t′ w′ out′ : List ℕ) (r : W.Witnessed) (long : resul
 
   pub with-value : r .length ≡ showService s t w out .length → out′ ≡ showService s t w out .result → WitnessSays s t w out t′ w′ out′ r
   with-value l o = record {
+    refusal = says .refusal ∙ sym (as-refused s t w out (le-ltb _ _ long));
     number = answer-number;
     line = says .line ∙ sym (ap (λ x. x .line) (same-as .0));
     length = l;
@@ -130,10 +132,10 @@ module _ (s t out t₁ t′ out′ : List ℕ) (c d : C.Checked) (n : ℕ) (ht :
     by-refusal : (x : Option Refusal) → refusalView (c .answer .refusal) ≡ x → WitnessSays s t w out t′ w′ out′ r
     by-refusal none e =
         let zero-c : m ≡ 0 = em ∙ ap numbered e in
-        let zero-d : numberOf (d .answer .refusal) ≡ 0 = ap numbered (k .accepts e .1) in
+        let zero-d : numberOf (d .answer .refusal) ≡ 0 = ap (λ x. numberOf (x .answer .refusal)) (k .accepts e .1) ∙ ap numbered e in
         no-value (zero-d ∙ sym zero-c) (low-number m (omega arith)) (inl (omega arith))
     by-refusal (some f) e =
-        let u : numberOf (d .answer .refusal) ≡ m = ap (λ x. numberOf (x .answer .refusal)) (k .refuses f e .1) ∙ sym em in
+        let u : numberOf (d .answer .refusal) ≡ m = ap (λ x. numberOf (x .refusal)) (k .refuses f e .1) ∙ sym em in
         let v : number f ≡ m = sym (em ∙ ap numbered e) in
         sides (bool-cases (sided f)) u v
       where

@@ -1,5 +1,4 @@
 use Prim.Native.Nat.{_-_}
-use native.Mathlib.Omega.{arith}
 use borrow.Author.Needs.{needs}
 use Rattle.law_costs.specs.Costs.{leastOf, greatestOf}
 use Rattle.bound_counts.proofs.Reckoning.{Reckoned, reckoned-start, reckoned-step, reckoned-end}

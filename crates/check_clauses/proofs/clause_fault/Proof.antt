@@ -1,12 +1,12 @@
 -- `check_clauses::clause_fault` meets its contract: the first test that fails names the refusal.
 use native.Mathlib.Omega.{arith}
-use Rattle.check_clauses.proofs.ClauseLaws.{fault-variable, fault-shape, fault-type, fault-none}
+use Rattle.check_clauses.proofs.ClauseLaws.{no-row, fault-variable, fault-shape, fault-type, fault-none}
 use borrow.Author.Needs.{needs}
 use Rattle.check_clauses.proofs.clause_fault.Statement.{statement}
 use Rattle.check_clauses.proofs.clause_fault.Tie as tie
 
 returns : tie.Need-returns
-returns c h slots = absurd (omega arith)
+returns c = let a = c .before .before .before .args in no-row (a .t .now) (a .starts .now) (a .base) (a .a) (a .b) (a .row) (a .end) (c .if1 .taken)
 
 variables-kept-requires : tie.Need-variables-kept-requires
 variables-kept-requires c κs = search needs
@@ -32,6 +32,7 @@ returns-2 c =
     (s .args .b)
     (s .args .row)
     (s .args .end)
+    (omega arith)
     (w .before .variables-kept .ensures)
     (w .if2 .taken)
     (c .before .before .before .shapes-kept .ensures)
@@ -51,6 +52,7 @@ returns-3 c =
     (s .args .b)
     (s .args .row)
     (s .args .end)
+    (omega arith)
     (w .before .variables-kept .ensures)
     (w .if2 .taken)
     (c .before .before .before .shapes-kept .ensures)
@@ -69,6 +71,7 @@ returns-4 c =
     (s .args .b)
     (s .args .row)
     (s .args .end)
+    (omega arith)
     (c .before .before .before .variables-kept .ensures)
     (c .before .before .if2 .taken)
     (c .before .shapes-kept .ensures)
@@ -85,6 +88,7 @@ returns-5 c =
     (s .args .b)
     (s .args .row)
     (s .args .end)
+    (omega arith)
     (c .before .variables-kept .ensures)
     (c .if2 .left)
 

@@ -2,7 +2,6 @@
 use native.Mathlib.Omega.{arith}
 use mathlib.Core.Bool.{true≢false}
 use mathlib.Core.Path.{sym, refl}
-use borrow.Author.Needs.{needs}
 use Rattle.check_isos.proofs.is_inside.Statement.{statement}
 use Rattle.check_isos.proofs.is_inside.Tie as tie
 

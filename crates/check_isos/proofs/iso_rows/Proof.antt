@@ -5,6 +5,7 @@ use lib.ListN.{length-replicate}
 use mathlib.Core.Path.{refl}
 use Rattle.check_isos.proofs.Collecting.{Collected, collected-start, collected-step, collected-all}
 use borrow.Author.Needs.{needs}
+use Rattle.limits.specs.Limits.{maxIsos}
 use Rattle.check_isos.proofs.iso_rows.Statement.{statement}
 use Rattle.check_isos.proofs.iso_rows.Tie as tie
 
@@ -15,7 +16,7 @@ abbrev μ-loop : tie.MeasureT-loop
 μ-loop t from to n₀ s₀ n s = to - n
 
 loop-holds : tie.Need-loop-holds Inv-loop μ-loop
-loop-holds c = collected-start _ _ _ _ (length-replicate {A = ℕ} 32 0) refl
+loop-holds c = collected-start _ _ _ _ (length-replicate {A = ℕ} maxIsos 0) refl
 
 with-line-requires : tie.Need-with-line-requires Inv-loop μ-loop
 with-line-requires c κs = search needs

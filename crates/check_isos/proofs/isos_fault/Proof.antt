@@ -1,6 +1,6 @@
 -- `check_isos::isos_fault` meets its contract: no guard returns for a file, and the walk ends with the first refusal of its isos.
-use Rattle.check_variables.proofs.Marking.{slots}
-use mathlib.Core.Path.{refl}
+use Rattle.calculus.proofs.Basic.{array-length}
+use mathlib.Core.Path.{refl, _∙_}
 use Rattle.check_isos.proofs.Collecting.{head-small, starts-few, front-part}
 use native.Mathlib.Omega.{arith}
 use borrow.Author.Needs.{needs}
@@ -11,13 +11,13 @@ none-requires : tie.Need-none-requires
 none-requires c κs = search needs
 
 returns : tie.Need-returns
-returns c rs f = absurd (omega (arith, head-small f))
+returns c = ((λ rs f. absurd (omega (arith, head-small f))), (λ e. c .none .ensures .1))
 
 none-requires-2 : tie.Need-none-requires-2
 none-requires-2 c κs = search needs
 
 returns-2 : tie.Need-returns-2
-returns-2 c rs f = absurd (omega (arith, head-small f))
+returns-2 c = ((λ rs f. absurd (omega (arith, head-small f))), (λ e. c .none2 .ensures .1))
 
 add-stop : tie.Need-add-stop
 add-stop c = search needs
@@ -29,7 +29,7 @@ none-requires-3 : tie.Need-none-requires-3
 none-requires-3 c κs = search needs
 
 returns-3 : tie.Need-returns-3
-returns-3 c rs f = absurd (omega (arith, starts-few f (c .before .before .before .iso-rows .ensures rs _ _ f refl)))
+returns-3 c = ((λ rs f. absurd (omega (arith, starts-few f (c .before .before .before .iso-rows .ensures rs _ _ f refl)))), (λ e. c .none3 .ensures .1))
 
 sub-walk-up : tie.Need-sub-walk-up
 sub-walk-up c = search needs
@@ -38,13 +38,22 @@ part-walk-up-start : tie.Need-part-walk-up-start
 part-walk-up-start c = search needs
 
 part-walk-up-end : tie.Need-part-walk-up-end
-part-walk-up-end c = let k = c .before .before .before .iso-rows in omega (arith, slots (k .result .rows) (k .ok .1 .1 .0 .1 .0 .1))
+part-walk-up-end c = let k = c .before .before .before .iso-rows in omega (arith, array-length (k .result .rows) (k .ok .1 .1 .0 .1 .0 .1))
 
 walk-up-requires : tie.Need-walk-up-requires
 walk-up-requires c κs = search needs
 
+told-requires : tie.Need-told-requires
+told-requires c κs = search needs
+
 returns-4 : tie.Need-returns-4
-returns-4 c rs f = let s = c .before .before .before .before .before .iso-rows .ensures rs _ _ f refl in c .walk-up .ensures rs _ f (front-part s) (s .number) refl
+returns-4 c =
+    let w = c .before in (
+      (λ rs f.
+          let s = w .before .before .before .before .before .iso-rows .ensures rs _ _ f refl in
+          c .told .ensures .0 ∙ w .walk-up .ensures rs _ f (front-part s) (s .number) refl),
+      c .told .ensures .1,
+    )
 
 pub isos-fault-spec : {M : Type 1} → statement M
 isos-fault-spec =
@@ -62,4 +71,5 @@ isos-fault-spec =
     part-walk-up-start
     part-walk-up-end
     walk-up-requires
+    told-requires
     returns-4)

@@ -22,7 +22,7 @@ clause-fault-requires c κs = search needs
 returns : tie.Need-returns
 returns c =
     own-fault _ _ _ _ _ _ (c .before .before .before .before .word-at .ensures) (c .before .before .before .wide .ensures .0) (c .before .before .cell .ensures .0)
-    (c .before .cell2 .ensures .0) (c .clause-fault .ensures)
+    (c .before .cell2 .ensures .0) (c .clause-fault .ensures .0)
 
 pub own-fault-spec : {M : Type 1} → statement M
 own-fault-spec =

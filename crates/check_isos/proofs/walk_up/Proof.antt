@@ -4,6 +4,7 @@ use native.Mathlib.Omega.{arith}
 use lib.ListN.{length-replicate}
 use Rattle.check_isos.proofs.Stepping.{Walking, walking-start, walking-step, walking-end}
 use borrow.Author.Needs.{needs}
+use Rattle.limits.specs.Limits.{maxClauses}
 use Rattle.check_isos.proofs.walk_up.Statement.{statement}
 use Rattle.check_isos.proofs.walk_up.Tie as tie
 
@@ -17,7 +18,7 @@ none-requires : tie.Need-none-requires Inv-loop μ-loop
 none-requires c κs = search needs
 
 loop-holds : tie.Need-loop-holds Inv-loop μ-loop
-loop-holds c = walking-start _ _ _ _ _ _ _ _ (length-replicate {A = ℕ} 32 0) (c .none .ensures)
+loop-holds c = walking-start _ _ _ _ _ _ _ _ (length-replicate {A = ℕ} maxClauses 0) (c .none .ensures .0)
 
 sub-n : tie.Need-sub-n Inv-loop μ-loop
 sub-n c = search needs

@@ -1,5 +1,5 @@
 -- `check_isos::with_iso` meets its contract: a file's I row is inside, and the walk goes on with the iso's refusal and no clause.
-use Rattle.check_variables.proofs.Marking.{slots}
+use Rattle.calculus.proofs.Basic.{array-length}
 use native.Mathlib.Omega.{arith}
 use mathlib.Core.Bool.{true≢false}
 use mathlib.Core.Path.{sym, _∙_}
@@ -27,7 +27,7 @@ part-iso-found-start : tie.Need-part-iso-found-start
 part-iso-found-start c = let k = c .before .before .before .before .before .before .is-inside .ensures .0 (c .before .before .before .before .before .if1 .taken) in omega (arith, k .0, k .1, k .2)
 
 part-iso-found-end : tie.Need-part-iso-found-end
-part-iso-found-end c = let s = c .before .before .before .before .before .before .before .before in omega (arith, slots (s .args .w .clauses) (s .good .1 .1 .0 .1 .1 .0 .1 .0 .1))
+part-iso-found-end c = let s = c .before .before .before .before .before .before .before .before in omega (arith, array-length (s .args .w .clauses) (s .good .1 .1 .0 .1 .1 .0 .1 .0 .1))
 
 iso-found-requires : tie.Need-iso-found-requires
 iso-found-requires c κs =
@@ -35,7 +35,7 @@ iso-found-requires c κs =
     (search needs, search needs, k .2)
 
 returns : tie.Need-returns
-returns c rs patterns lines f h e s = let w = c .before .before .before in walked-iso f h s e (w .none .result) (c .iso-found .result) (w .none .ensures) (c .iso-found .ensures)
+returns c rs patterns lines f h e s = let w = c .before .before .before in walked-iso f h s e (w .none .result) (c .iso-found .result) (w .none .ensures .0) (c .iso-found .ensures)
 
 returns-2 : tie.Need-returns-2
 returns-2 c rs patterns lines f h e s =

@@ -1,7 +1,7 @@
 -- The recursion of `check_shapes::is_plain` meets its contract. The measure is the line's rank.
-use Rattle.table_trees.proofs.Unfolding.{rank}
-use Rattle.table_trees.proofs.Counts.{pattern-call}
 use Rattle.check_shapes.proofs.Plainness.{plain-end, plain-not, plain-first, plain-second}
+use Rattle.table_trees.proofs.Cases.{injects, pair-no-unit, leaf-below, leaf-beyond}
+use Rattle.table_trees.proofs.Unfolding.{rank, pattern-call}
 use borrow.Author.Needs.{needs}
 use Prim.Native.Nat.{ℕ, _<_}
 use borrow.Fn.Kinds.{In}
@@ -9,8 +9,8 @@ use borrow.Fn.PlainCycle.{Measures, is, falls, and}
 use Rattle.check_shapes.proofs.is_plain.Reads as is-plain
 use Rattle.check_shapes.proofs.is_plain.Kinds as is-plain-kinds
 use Rattle.check_shapes.proofs.+is_plain.Lts-is_plain as is-plain-lts
-use Rattle.table_trees.proofs.pattern_cell.Reads as pattern-cell-reads
 use Rattle.table_parts.proofs.pattern_part.Reads as pattern-part-reads
+use Rattle.table_trees.proofs.pattern_cell.Reads as pattern-cell-reads
 use Rattle.check_shapes.proofs.+is_plain.{statement}
 use Rattle.check_shapes.proofs.+is_plain.Tie.{close}
 
@@ -27,46 +27,52 @@ is-plain-below t =
 abbrev ks-is-plain : ℕ → is-plain-lts.Claims
 ks-is-plain t = (pattern-cell-reads.Asked, pattern-cell-reads.Learnt, pattern-part-reads.Asked, pattern-part-reads.Learnt, is-plain-below t, is-plain.Post)
 
-is-plain-returns : (t : ℕ) → is-plain-lts.Need-returns (ks-is-plain t) (is-plain-at t) is-plain.Post
-is-plain-returns t c =
-    let a = c .before .before .before .args in
-    plain-end (a .t .now) (a .base) (a .p) (c .before .pattern-cell .ensures .0) (c .if1 .taken)
-
-is-plain-returns-2 : (t : ℕ) → is-plain-lts.Need-returns-2 (ks-is-plain t) (is-plain-at t) is-plain.Post
-is-plain-returns-2 t c =
-    let a = c .before .before .before .before .args in
-    plain-not (a .t .now) (a .base) (a .p) (c .before .before .pattern-cell .ensures .0) (c .before .if1 .left) (c .if2 .taken)
-
 is-plain-is-plain-requires : (t : ℕ) → is-plain-lts.Need-is-plain-requires (ks-is-plain t) (is-plain-at t) is-plain.Post
 is-plain-is-plain-requires t c κs =
-    let s = c .before .before .before .before .before in
-    (pattern-call (s .args .t .now) (s .args .base) (s .args .p) _ (s .pre .0) (c .before .before .before .pattern-cell .ensures .0) (c .before .before .if1 .left) (c .pattern-part .ensures), tt)
+    let s = c .before .before .before .before in
+    (pattern-call (s .args .t .now) (s .args .base) (s .args .p) _ (s .pre .0) (c .before .before .pattern-cell .ensures .0) (pair-no-unit (c .before .match .keys1)) (c .pattern-part .ensures), tt)
 
 is-plain-is-plain-requires-2 : (t : ℕ) → is-plain-lts.Need-is-plain-requires-2 (ks-is-plain t) (is-plain-at t) is-plain.Post
 is-plain-is-plain-requires-2 t c κs =
+    let s = c .before .before .before .before .before .before .before in
+    (pattern-call (s .args .t .now) (s .args .base) (s .args .p) _ (s .pre .0) (c .before .before .before .before .before .pattern-cell .ensures .0) (pair-no-unit (c .before .before .before .before .match .keys1)) (c .pattern-part2 .ensures), tt)
+
+is-plain-returns : (t : ℕ) → is-plain-lts.Need-returns (ks-is-plain t) (is-plain-at t) is-plain.Post
+is-plain-returns t c =
     let s = c .before .before .before .before .before .before .before .before in
-    (pattern-call (s .args .t .now) (s .args .base) (s .args .p) _ (s .pre .0) (c .before .before .before .before .before .before .pattern-cell .ensures .0) (c .before .before .before .before .before .if1 .left) (c .pattern-part2 .ensures), tt)
+    plain-second (s .args .t .now) (s .args .base) (s .args .p) (c .before .before .before .before .before .before .pattern-cell .ensures .0) (c .before .before .before .before .before .match .keys1) (c .before .before .before .before .pattern-part .ensures) (c .before .before .before .is-plain .ensures) (c .before .before .if1 .taken) (c .before .pattern-part2 .ensures) (c .is-plain2 .ensures)
+
+is-plain-returns-2 : (t : ℕ) → is-plain-lts.Need-returns-2 (ks-is-plain t) (is-plain-at t) is-plain.Post
+is-plain-returns-2 t c =
+    let s = c .before .before .before .before .before .before in
+    plain-first (s .args .t .now) (s .args .base) (s .args .p) (c .before .before .before .before .pattern-cell .ensures .0) (c .before .before .before .match .keys1) (c .before .before .pattern-part .ensures) (c .before .is-plain .ensures) (c .if1 .left)
 
 is-plain-returns-3 : (t : ℕ) → is-plain-lts.Need-returns-3 (ks-is-plain t) (is-plain-at t) is-plain.Post
 is-plain-returns-3 t c =
-    let a = c .before .before .before .before .before .before .before .before .before .args in
-    plain-second (a .t .now) (a .base) (a .p) (c .before .before .before .before .before .before .before .pattern-cell .ensures .0) (c .before .before .before .before .before .if2 .left) (c .before .before .before .before .pattern-part .ensures) (c .before .before .before .is-plain .ensures) (c .before .before .if3 .taken) (c .before .pattern-part2 .ensures) (c .is-plain2 .ensures)
+    let s = c .before .before .before .before .before in
+    plain-not (s .args .t .now) (s .args .base) (s .args .p) (c .before .before .before .pattern-cell .ensures .0) (injects _ (c .before .if2 .left) (c .if3 .taken))
 
 is-plain-returns-4 : (t : ℕ) → is-plain-lts.Need-returns-4 (ks-is-plain t) (is-plain-at t) is-plain.Post
 is-plain-returns-4 t c =
-    let a = c .before .before .before .before .before .before .before .args in
-    plain-first (a .t .now) (a .base) (a .p) (c .before .before .before .before .before .pattern-cell .ensures .0) (c .before .before .before .if2 .left) (c .before .before .pattern-part .ensures) (c .before .is-plain .ensures) (c .if3 .left)
+    let s = c .before .before .before .before in
+    plain-end (s .args .t .now) (s .args .base) (s .args .p) (c .before .before .pattern-cell .ensures .0) (leaf-below _ (c .if2 .taken))
+
+is-plain-returns-5 : (t : ℕ) → is-plain-lts.Need-returns-5 (ks-is-plain t) (is-plain-at t) is-plain.Post
+is-plain-returns-5 t c =
+    let s = c .before .before .before .before .before in
+    plain-end (s .args .t .now) (s .args .base) (s .args .p) (c .before .before .before .pattern-cell .ensures .0) (leaf-beyond _ (c .if3 .left) (c .before .before .match .rest .1))
 
 pub +is-plain-spec : {M : Type 1} → statement M
 +is-plain-spec = close μ-is-plain λ t. is-plain-lts.spec (ks-is-plain t)
     (is-plain-at t)
     is-plain.Post
     (λ c κs. search needs)
-    (is-plain-returns t)
-    (is-plain-returns-2 t)
     (λ c κs. search needs)
     (is-plain-is-plain-requires t)
     (λ c κs. search needs)
     (is-plain-is-plain-requires-2 t)
+    (is-plain-returns t)
+    (is-plain-returns-2 t)
     (is-plain-returns-3 t)
     (is-plain-returns-4 t)
+    (is-plain-returns-5 t)

@@ -1,8 +1,9 @@
--- `check_variables::mark_one` meets its contract: the array has 32 slots, so a store past them would change nothing.
+-- `check_variables::mark_one` meets its contract: the array has 32 array-length, so a store past them would change nothing.
 use mathlib.Core.Path.{ap}
 use lib.ListN.{set}
 use Rattle.check_variables.specs.Marks.{deedView}
-use Rattle.check_variables.proofs.Marking.{slots, mark-out}
+use Rattle.check_variables.proofs.Marking.{mark-out}
+use Rattle.calculus.proofs.Basic.{array-length}
 use borrow.Author.Needs.{needs}
 use Rattle.check_variables.proofs.mark_one.Statement.{statement}
 use Rattle.check_variables.proofs.mark_one.Tie as tie
@@ -23,7 +24,7 @@ returns c =
 returns-2 : tie.Need-returns-2
 returns-2 c =
     let s = c .before in
-    mark-out (deedView (s .args .binds)) (s .args .n) (s .args .t3 .state) (slots (s .args .t3 .state) (s .good .1 .1 .0 .1 .1 .0 .1 .0 .1)) (c .if1 .left)
+    mark-out (deedView (s .args .binds)) (s .args .n) (s .args .t3 .state) (array-length (s .args .t3 .state) (s .good .1 .1 .0 .1 .1 .0 .1 .0 .1)) (c .if1 .left)
 
 pub mark-one-spec : {M : Type 1} → statement M
 mark-one-spec =

@@ -1,4 +1,4 @@
-use Rattle.checker.proofs.Checks.{outcome-refused, unread, outcome-whole, loaded}
+use Rattle.checker.proofs.Checks.{outcome-refused, unread, counts-unread, outcome-whole, loaded, counts-loaded}
 use mathlib.Core.Path.{refl}
 use borrow.Author.Needs.{needs}
 use Rattle.checker.proofs.judged.Statement.{statement}
@@ -28,7 +28,14 @@ same-length c = search needs
 
 -- src/lib.rt:78:9
 returns : tie.Need-returns
-returns c = (outcome-refused _ _ _ _ _ _ (c .before .before .before .before .before .read-file .ensures) (c .before .before .is-refused .ensures) (c .before .if1 .taken) (c .refused .ensures .1) (c .refused .ensures .0), unread _ _ _ _ _ _ (c .before .before .before .before .before .read-file .ensures) (c .before .before .is-refused .ensures) (c .before .if1 .taken))
+returns c =
+    let r = c .before .before .before .before .before .read-file .ensures in
+    let e = c .before .before .is-refused .ensures in
+    let h = c .before .if1 .taken in (
+      outcome-refused _ _ _ _ _ _ r e h (c .refused .ensures .1) (c .refused .ensures .0),
+      unread _ _ _ _ _ _ r e h,
+      counts-unread _ _ _ _ _ (c .refused .result) r e h (c .refused .ensures .2),
+    )
 
 -- src/lib.rt:81:9
 isos-fault-requires : tie.Need-isos-fault-requires
@@ -40,7 +47,13 @@ same-length-2 c = search needs
 
 -- src/lib.rt:70:1
 returns-2 : tie.Need-returns-2
-returns-2 c = (outcome-whole _ _ _ _ _ _ (c .before .before .before .before .before .before .before .before .before .before .before .pre .0) (c .before .before .before .before .before .before .before .before .before .before .before .pre .1) (c .before .before .before .before .before .before .before .read-file .ensures) (c .before .before .before .before .is-refused .ensures) (c .before .before .before .if1 .left) (c .isos-fault .ensures), λ rs e. loaded _ _ _ _ _ (c .before .before .before .before .before .before .before .before .before .before .before .pre .1) (c .before .before .before .before .before .before .before .read-file .ensures) (c .before .before .before .before .is-refused .ensures) (c .before .before .before .if1 .left) _ refl refl refl refl)
+returns-2 c =
+    let p = c .before .before .before .before .before .before .before .before .before .before .before .pre in
+    let r = c .before .before .before .before .before .before .before .read-file .ensures in
+    let e = c .before .before .before .before .is-refused .ensures in
+    let h = c .before .before .before .if1 .left in
+    let l = loaded _ _ _ _ _ (p .1) r e h _ refl refl refl refl in
+    (outcome-whole _ _ _ _ _ _ (p .1) r e h (c .isos-fault .ensures), λ rs k. l, counts-loaded _ _ _ l)
 
 pub judged-spec : {M : Type 1} → statement M
 judged-spec =

@@ -13,16 +13,16 @@ clear-words-requires c κs = search needs
 same-length : tie.Need-same-length
 same-length c = search needs
 
+refused-requires : tie.Need-refused-requires
+refused-requires c κs = search needs
+
 returns : tie.Need-returns
 returns c =
-    let b = c .before .before .before .before in
-    settled-refused _ _ _ _ (b .before .is-refused .ensures) (b .if1 .taken) (c .before .before .clear-words .ensures)
-
-accepted-requires : tie.Need-accepted-requires
-accepted-requires c κs = search needs
+    let b = c .before .before .before .before .before in
+    settled-refused _ _ _ _ _ (b .before .is-refused .ensures) (b .if1 .taken) (c .before .before .before .clear-words .ensures) (c .refused .ensures)
 
 returns-2 : tie.Need-returns-2
-returns-2 c = settled-accepted _ _ _ _ (c .before .before .is-refused .ensures) (c .before .if1 .left) (c .accepted .ensures)
+returns-2 c = settled-accepted _ _ _ (c .before .is-refused .ensures) (c .if1 .left)
 
 pub settled-spec : {M : Type 1} → statement M
 settled-spec =
@@ -30,7 +30,7 @@ settled-spec =
     (tie.spec
     is-refused-requires
     clear-words-requires
+    refused-requires
     same-length
     returns
-    accepted-requires
     returns-2)

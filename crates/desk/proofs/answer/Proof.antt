@@ -7,7 +7,7 @@ use Rattle.desk.proofs.answer.Statement.{statement}
 use Rattle.desk.proofs.answer.Tie as tie
 
 returns : tie.Need-returns
-returns c = λ rs p h room. absurd (omega (arith, h, c .if1 .taken))
+returns c = λ rs p h. absurd (omega (arith, h, c .if1 .taken))
 
 slice-aggregate-answer-with : tie.Need-slice-aggregate-answer-with
 slice-aggregate-answer-with c = search needs
@@ -31,9 +31,9 @@ returns-2 : tie.Need-returns-2
 returns-2 c =
     let w = c .before .before in
     let k = w .before .before .before .before .before .before in
-    λ rs p room-work room.
+    λ rs p room-work.
     ran-query _ (k .answer-with .result) (k .answer-with .ensures rs p (omega arith) (omega arith) (omega arith))
-    refl (k .answer-with .kept .1 .1 .1 .1 .1 .1 .1 .0) (w .put-ran .ensures) room
+    refl (k .answer-with .kept .1 .1 .1 .1 .1 .1 .1 .0) (w .put-ran .ensures)
 
 pub answer-spec : {M : Type 1} → statement M
 answer-spec =

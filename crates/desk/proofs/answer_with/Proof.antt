@@ -28,7 +28,7 @@ returns c =
     let k = c .before .before .before .before in
     let s = k .before .before .before .before .before .before .before .before in
     let h = room-there (s .args .room) (s .args .work .now) (s .pre) in
-    λ rs p least most letters. k .answer-line .ensures rs p (omega (arith, least, h)) (omega (arith, most, h)) letters
+    λ rs p least most letters. k .answer-line .ensures rs p (omega (arith, least, h)) (omega (arith, most, h)) letters .0
 
 pub answer-with-spec : {M : Type 1} → statement M
 answer-with-spec =

@@ -3,7 +3,7 @@
 use Prim.Native.Nat.{_-_}
 use native.Mathlib.Omega.{arith}
 use lib.ListN.{length}
-use Rattle.desk.proofs.Feeding.{Feeds, feeds-start, feeds-left, feeds-more, feeds-end}
+use Rattle.desk.proofs.Feeding.{Feeds, feeds-start, feeds-left, feeds-more, feeds-took, feeds-end}
 use Rattle.desk.proofs.feed.Statement.{statement}
 use Rattle.desk.proofs.feed.Tie as tie
 
@@ -76,7 +76,7 @@ same-length-6 c = c .before .before .loop .inv .kept .outs
 returns : tie.Need-returns Inv-loop μ-loop
 returns c =
     let g = c .before in
-    feeds-end (g .before .loop .inv) (g .goes-on .ensures) (c .if1 .left)
+    (feeds-took (g .before .loop .inv) (g .goes-on .ensures) (c .if1 .left), feeds-end (g .before .loop .inv))
 
 pub feed-spec : {M : Type 1} → statement M
 feed-spec =

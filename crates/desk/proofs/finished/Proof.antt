@@ -1,6 +1,6 @@
 -- `desk::finished` meets its contract, phase by phase.
 use mathlib.Core.Path.{refl}
-use Rattle.desk.proofs.Answering.{judged-file}
+use Rattle.desk.proofs.Answering.{judged-prints}
 use Rattle.desk.proofs.Feeding.{finish-file, finish-none, finish-line, finish-stopped}
 use borrow.Author.Needs.{needs}
 use Rattle.desk.proofs.finished.Statement.{statement}
@@ -53,9 +53,9 @@ returns-2 c =
     let e = f .before in
     let a = e .before .before .before .before .before .before .before .before .args in
     finish-file (a .d) (e .enum-told .given .1) (f .front .ensures)
-    (λ roomy room.
-    judged-file (f .front .result .now) (a .table .now) (a .work .now) (k .check-file .result) (k .check-file .ensures .0) (k .check-file .ensures .1)
-    (w .put-checked .ensures) (roomy .tables) (roomy .works) room)
+    (λ roomy.
+    judged-prints (f .front .result .now) (a .table .now) (a .work .now) (k .check-file .result) (k .check-file .ensures .0) (w .put-checked .ensures)
+    (roomy .tables) (roomy .works))
 
 same-length-4 : tie.Need-same-length-4
 same-length-4 c = refl
@@ -73,7 +73,7 @@ returns-3 c =
     let i = f .before in
     let e = i .before in
     let a = e .before .before .before .before .before .before .before .before .args in
-    finish-line (a .d) (e .enum-told2 .given .1) (i .if1 .left) (f .front2 .ensures) (k .answer .ensures)
+    finish-line (a .d) (e .enum-told2 .given .1) (i .if1 .left) (f .front2 .ensures) (λ rs p h. k .answer .ensures rs p h .0)
 
 returns-4 : tie.Need-returns-4
 returns-4 c =

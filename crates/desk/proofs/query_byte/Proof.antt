@@ -1,5 +1,6 @@
 -- `desk::query_byte` meets its contract: a line feed ends the line, which is answered; any other byte is the line's.
 use mathlib.Core.Bool.{false}
+use Rattle.desk.proofs.Answering.{printed}
 use Rattle.desk.proofs.Feeding.{reaches-state, query-ends, query-more}
 use Rattle.desk.proofs.query_byte.Statement.{statement}
 use Rattle.desk.proofs.query_byte.Tie as tie
@@ -34,7 +35,7 @@ returns c =
     let a = k .before .before .before .before .before .before .before .args in
     λ file rs l h roomy room.
     reaches-state (c .ready .ensures)
-    (query-ends (a .d) (a .b) false rs l h (i .if1 .taken) (λ x. k .hold .ensures l x (roomy .lines)) (f .front .ensures) (λ p. w .answer .ensures rs p (roomy .works) room))
+    (query-ends (a .d) (a .b) false rs l h (i .if1 .taken) (λ x. k .hold .ensures l x (roomy .lines)) (f .front .ensures) (λ p. let x = w .answer .ensures rs p (roomy .works) in printed (x .0) (x .1) room))
 
 ready-requires-2 : tie.Need-ready-requires-2
 ready-requires-2 c κs = tt

@@ -1,4 +1,5 @@
 -- `exports::put_pair` meets its contract: a number, a field and a line feed. Assumes nothing.
+use Rattle.area_cells.proofs.Writing.{prints-writes}
 use Rattle.exports.proofs.Printing.{pair-bytes}
 use borrow.Author.Needs.{needs}
 use Rattle.exports.proofs.put_pair.Statement.{statement}
@@ -22,7 +23,7 @@ returns c =
     let y = e .before .before .before .before in
     let x = y .before .before .before .before in
     let a = x .before .before .before .args in
-    λ hk ht. pair-bytes (a .k) (a .to) (x .put-number .ensures hk) (y .put-field .ensures ht) (e .put-byte .ensures .0) (e .put-byte .ensures .1)
+    λ hk ht. pair-bytes (a .k) (a .to) (prints-writes (x .put-number .ensures hk)) (prints-writes (y .put-field .ensures ht)) (e .put-byte .ensures .0) (e .put-byte .ensures .1)
 
 pub put-pair-spec : {M : Type 1} → statement M
 put-pair-spec =

@@ -1,6 +1,6 @@
 use mathlib.Core.Path.{refl}
 use Rattle.table_trees.specs.Unfolding.{typeOf}
-use Rattle.table_trees.specs.InTable.{patternsAt}
+use Rattle.table_walks.specs.InTable.{patternsAt}
 use Rattle.fault_gaps.proofs.Writing.{value-some, value-none}
 use Rattle.fault_gaps.proofs.Law.{value-found, value-missing}
 use borrow.Author.Needs.{needs}

@@ -4,7 +4,7 @@ use mathlib.Core.Path.{_≡_, subst}
 use lib.ListN.{length-set, length-take, getD, set, take, replicate, length-replicate}
 use Rattle.table_trees.specs.Unfolding.{typeOf}
 use Rattle.fault_gaps.specs.Gaps.{Picks}
-use Rattle.table_trees.specs.InTable.{patternsAt}
+use Rattle.table_walks.specs.InTable.{patternsAt}
 use Rattle.fault_gaps.proofs.Writing.{Writing, writing-start, writing-next, never-out, written, never-written}
 use borrow.Author.Needs.{needs}
 use Rattle.fault_gaps.proofs.write_gap.Statement.{statement}

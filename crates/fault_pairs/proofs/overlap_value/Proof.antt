@@ -5,7 +5,7 @@ use mathlib.Core.Path.{_≡_, refl, sym, ap, _∙_, subst}
 use mathlib.Core.List.{List, [], _∷_}
 use lib.ListN.{length, take, drop, length-drop}
 use Rattle.table_trees.specs.Unfolding.{typeOf, patternOf}
-use Rattle.table_trees.specs.InTable.{patternsAt}
+use Rattle.table_walks.specs.InTable.{patternsAt}
 use Rattle.fault_pairs.specs.Pairs.{AddsAll}
 use Rattle.fault_pairs.proofs.Gathering.{Outer, outer-start, outer-more, outer-done}
 use borrow.Author.Needs.{needs}

@@ -5,7 +5,7 @@ use Rattle.fault_tallies.proofs.halves.Tie as tie
 use Rattle.fault_tallies.proofs.halves.Reads as reads
 use Rattle.fault_tallies.proofs.halves.Lts as lts
 use Rattle.table_parts.proofs.type_part.Reads as type-part-reads
-use Rattle.table_trees.proofs.type_size.Reads as type-size-reads
+use Rattle.table_sizes.proofs.type_size.Reads as type-size-reads
 
 -- src/lib.rt:73:9
 type-part-requires : tie.Need-type-part-requires

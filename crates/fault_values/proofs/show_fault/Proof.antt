@@ -1,7 +1,7 @@
 -- `fault_values::show_fault` meets its contract: another number, a line that no iso has, or the iso's row and those of its clauses. Assumes nothing.
 use native.Mathlib.Omega.{arith}
 use mathlib.Core.Logic.{inl, inr}
-use Rattle.fault_values.proofs.Collecting.{slots}
+use Rattle.calculus.proofs.Basic.{array-length}
 use Rattle.fault_values.proofs.Faulting.{fault-other, fault-nowhere, fault-many, fault-shown}
 use borrow.Author.Needs.{needs}
 use Rattle.fault_values.proofs.show_fault.Statement.{statement}
@@ -40,7 +40,7 @@ part-show-side-start : tie.Need-part-show-side-start
 part-show-side-start c = search needs
 
 part-show-side-end : tie.Need-part-show-side-end
-part-show-side-end c = let k = c .before .before .before .before .clauses-from in omega (arith, slots (k .result .rows) (k .ok .1 .1 .0 .1 .0 .1))
+part-show-side-end c = let k = c .before .before .before .before .clauses-from in omega (arith, array-length (k .result .rows) (k .ok .1 .1 .0 .1 .0 .1))
 
 show-side-requires : tie.Need-show-side-requires
 show-side-requires c κs = search needs

@@ -1,3 +1,4 @@
+use Rattle.area_cells.proofs.Writing.{prints-writes}
 use Rattle.list_file.proofs.Printing.{entry-printed}
 use Rattle.format.specs.Code.{kindView}
 use borrow.Author.Needs.{needs}
@@ -20,7 +21,7 @@ same-length : tie.Need-same-length
 same-length c = search needs
 
 returns : tie.Need-returns
-returns c = let a = c .before .before .before .before .before .before .before .before .before .args in entry-printed (kindView (a .kind)) (a .s .now) (a .row) (c .before .before .before .before .before .cell .ensures) (c .before .before .before .before .cell2 .ensures) (c .before .before .before .cell3 .ensures) (c .before .before .put-row .ensures)
+returns c = let a = c .before .before .before .before .before .before .before .before .before .args in entry-printed (kindView (a .kind)) (a .s .now) (a .row) (c .before .before .before .before .before .cell .ensures) (c .before .before .before .before .cell2 .ensures) (c .before .before .before .cell3 .ensures) (λ x y z. prints-writes (c .before .before .put-row .ensures x y z))
 
 pub put-entry-spec : {M : Type 1} → statement M
 put-entry-spec =

@@ -1,3 +1,4 @@
+use Rattle.area_cells.proofs.Writing.{prints-writes}
 use Rattle.list_file.proofs.Printing.{file-printed}
 use Rattle.list_entries.specs.Entries.{entriesAt}
 use Rattle.law_pairlists.specs.PairLists.{isoRow}
@@ -23,7 +24,7 @@ same-length : tie.Need-same-length
 same-length c = search needs
 
 returns : tie.Need-returns
-returns c = (λ x y. let a = c .before .before .before .before .before .before .before .before .before .before .before .before .before .before .before .before .before .before .before .before .args in file-printed (entriesAt typeLine (a .ts .now) 0 (a .m .types)) (entriesAt patternLine (a .ps .now) 0 (a .m .patterns)) (entriesAt clauseLine (a .cs .now) 0 (a .m .clauses)) (isoRow (a .m .from) (a .m .to)) (c .before .before .before .before .before .before .before .before .before .before .before .before .before .before .put-entries .ensures) (c .before .before .before .before .before .before .before .before .before .before .put-entries2 .ensures) (c .before .before .before .before .before .before .put-row .ensures x y (omega arith)) (c .before .before .put-entries3 .ensures))
+returns c = (λ x y. let a = c .before .before .before .before .before .before .before .before .before .before .before .before .before .before .before .before .before .before .before .before .args in file-printed (entriesAt typeLine (a .ts .now) 0 (a .m .types)) (entriesAt patternLine (a .ps .now) 0 (a .m .patterns)) (entriesAt clauseLine (a .cs .now) 0 (a .m .clauses)) (isoRow (a .m .from) (a .m .to)) (c .before .before .before .before .before .before .before .before .before .before .before .before .before .before .put-entries .ensures) (c .before .before .before .before .before .before .before .before .before .before .put-entries2 .ensures) (prints-writes (c .before .before .before .before .before .before .put-row .ensures x y (omega arith))) (c .before .before .put-entries3 .ensures))
 
 pub put-file-spec : {M : Type 1} → statement M
 put-file-spec =

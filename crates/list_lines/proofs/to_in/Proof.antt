@@ -31,14 +31,36 @@ enum-told-2 c = search needs
 returns-3 : tie.Need-returns-3
 returns-3 c = let s = c .before .before .before .before .before .before .before .before .before .args .s .now in no-to (c .before .before .before .before .before .before .before .before .before .args .k) s (value s (c .before .before .before .before .before .from .given .1) (c .before .before .before .before .before .before .before .number .ensures)) (c .before .before .before .if1 .left) (wrong s (c .enum-told2 .given .1) (c .before .before .field .ensures))
 
-ends-requires : tie.Need-ends-requires
-ends-requires c κs = search needs
+end-requires : tie.Need-end-requires
+end-requires c κs = search needs
+
+enum-told-3 : tie.Need-enum-told-3
+enum-told-3 c = search needs
+
+enum-told-4 : tie.Need-enum-told-4
+enum-told-4 c = search needs
 
 returns-4 : tie.Need-returns-4
-returns-4 c = let s = c .before .before .before .before .before .before .before .before .before .before .before .before .args .s .now in to-there (c .before .before .before .before .before .before .before .before .before .before .before .before .args .k) s (value s (c .before .before .before .before .before .before .before .before .from .given .1) (c .before .before .before .before .before .before .before .before .before .before .number .ensures)) (c .before .before .before .before .before .before .if1 .left) (value s (c .before .before .before .to .given .1) (c .before .before .before .before .before .field .ensures)) _ (c .before .ends .ensures) (c .if2 .taken)
+returns-4 c =
+    let e = c .before .before in
+    let t = e .before .before in
+    let f = t .before .before in
+    let m = f .before in
+    let n = m .before .before .before .before in
+    let a = n .before .before .args in
+    let s = a .s .now in
+    to-there (a .k) s (value s (m .before .before .from .given .1) (n .number .ensures)) (m .if1 .left) s (t .to .given .1) (f .field .ensures) (c .enum-told3 .given .1) (e .end .ensures)
 
 returns-5 : tie.Need-returns-5
-returns-5 c = let s = c .before .before .before .before .before .before .before .before .before .before .before .before .args .s .now in no-end (c .before .before .before .before .before .before .before .before .before .before .before .before .args .k) s (value s (c .before .before .before .before .before .before .before .before .from .given .1) (c .before .before .before .before .before .before .before .before .before .before .number .ensures)) (c .before .before .before .before .before .before .if1 .left) (value s (c .before .before .before .to .given .1) (c .before .before .before .before .before .field .ensures)) _ (c .before .ends .ensures) (c .if2 .left)
+returns-5 c =
+    let e = c .before .before in
+    let t = e .before .before in
+    let f = t .before .before in
+    let m = f .before in
+    let n = m .before .before .before .before in
+    let a = n .before .before .args in
+    let s = a .s .now in
+    no-end (a .k) s (value s (m .before .before .from .given .1) (n .number .ensures)) (m .if1 .left) s (t .to .given .1) (f .field .ensures) (c .enum-told4 .given .1) (e .end .ensures)
 
 pub to-in-spec : {M : Type 1} → statement M
 to-in-spec =
@@ -53,6 +75,8 @@ to-in-spec =
     enum-known-to
     enum-told-2
     returns-3
-    ends-requires
+    end-requires
+    enum-told-3
+    enum-told-4
     returns-4
     returns-5)

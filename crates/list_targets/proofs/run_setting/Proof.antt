@@ -37,7 +37,7 @@ returns c =
     let j = u .before .before in
     let s = j .before .before .before .before .before in
     λ rs o run low long short room.
-    setting-ran run low (s .args .budget) (j .iso-cell .result) (u .unrank-at .result) _ _ _ (j .iso-cell .ensures) (u .unrank-at .ensures) refl (f .front .ensures) (k .run-checked .ensures rs (run .prepared) long short room)
+    setting-ran run low (s .args .budget) (j .iso-cell .result) (u .unrank-at .result) _ _ _ (j .iso-cell .ensures) (u .unrank-at .ensures) refl (f .front .ensures) (k .run-checked .ensures rs (run .prepared) long short room .0)
 
 pub run-setting-spec : {M : Type 1} → statement M
 run-setting-spec =

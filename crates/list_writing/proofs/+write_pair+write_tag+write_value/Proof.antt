@@ -1,11 +1,11 @@
 -- The recursion of `list_writing::write_value`, `write_tag` and `write_pair` meets its contract. The measure is twice the T line's rank; of two
 -- lines one more than twice the higher rank.
 use borrow.Author.Needs.{needs}
-use mathlib.Core.Path.{sym, _∙_, subst}
+use mathlib.Core.Path.{sym, subst}
 use Rattle.table_trees.specs.Unfolding.{typeOf}
-use Rattle.table_trees.proofs.Unfolding.{rank, type-unit}
+use Rattle.table_trees.proofs.Unfolding.{rank}
 use Rattle.number_values.proofs.Counting.{counted-some}
-use Rattle.number_values.proofs.Lines.{line-sum, line-product, one-not, both, parts-call, left-call, right-call}
+use Rattle.table_trees.proofs.Lines.{no-unit, part-of, line-sum, line-product, line-other, both, parts-call, left-call, right-call}
 use Rattle.list_writing.specs.Writing.{ValueDone}
 use Rattle.list_writing.proofs.Following.{value-unit, value-left, value-right, value-pair}
 use Prim.Native.Nat.{ℕ, _*_, _<_}
@@ -66,7 +66,7 @@ abbrev ks-write-tag : ℕ → write-tag-lts.Claims
 ks-write-tag t = (count-values-reads.Asked, count-values-reads.Learnt, write-value-below t, write-value.Post, enter-entry-reads.Asked, enter-entry-reads.Learnt)
 
 abbrev ks-write-value : ℕ → write-value-lts.Claims
-ks-write-value t = (cell-reads.Asked, cell-reads.Learnt, smaller-reads.Asked, smaller-reads.Learnt, enter-entry-reads.Asked, enter-entry-reads.Learnt, write-tag-below t, write-tag.Post, write-pair-below t, write-pair.Post)
+ks-write-value t = (cell-reads.Asked, cell-reads.Learnt, smaller-reads.Asked, smaller-reads.Learnt, write-tag-below t, write-tag.Post, write-pair-below t, write-pair.Post, enter-entry-reads.Asked, enter-entry-reads.Learnt)
 
 pub +write-pair+write-tag+write-value-spec : {M : Type 1} → statement M
 +write-pair+write-tag+write-value-spec =
@@ -101,12 +101,12 @@ pub +write-pair+write-tag+write-value-spec : {M : Type 1} → statement M
     (λ c κs. search needs)
     (λ c κs. search needs)
     (λ c κs. search needs)
+    (λ c κs. (parts-call (c .before .before .before .before .before .before .before .before .before .args .t .now) (c .before .before .before .before .before .before .before .before .before .args .i) (c .before .before .before .before .before .before .cell .result) (c .before .before .before .before .cell2 .result) (c .before .before .before .before .before .before .before .before .before .pre .0) (c .before .before .cell3 .ensures .0) (no-unit (c .before .match .keys1)) (c .before .before .before .before .before .smaller .ensures) (c .before .before .before .smaller2 .ensures), tt))
+    (λ c κs. (parts-call (c .before .before .before .before .before .before .before .before .before .args .t .now) (c .before .before .before .before .before .before .before .before .before .args .i) (c .before .before .before .before .before .before .cell .result) (c .before .before .before .before .cell2 .result) (c .before .before .before .before .before .before .before .before .before .pre .0) (c .before .before .cell3 .ensures .0) (no-unit (c .before .match .keys2)) (c .before .before .before .before .before .smaller .ensures) (c .before .before .before .smaller2 .ensures), tt))
     (λ c κs. search needs)
-    (λ c κs. (parts-call (c .before .before .before .before .before .before .before .before .before .args .t .now) (c .before .before .before .before .before .before .before .before .before .args .i) (c .before .before .before .before .before .before .cell .result) (c .before .before .before .before .cell2 .result) (c .before .before .before .before .before .before .before .before .before .pre .0) (c .before .before .cell3 .ensures .0) (one-not (c .before .match .keys2)) (c .before .before .before .before .before .smaller .ensures) (c .before .before .before .smaller2 .ensures), tt))
-    (λ c κs. (parts-call (c .before .before .before .before .before .before .before .before .before .args .t .now) (c .before .before .before .before .before .before .before .before .before .args .i) (c .before .before .before .before .before .before .cell .result) (c .before .before .before .before .cell2 .result) (c .before .before .before .before .before .before .before .before .before .pre .0) (c .before .before .cell3 .ensures .0) (c .before .match .rest .0 .1) (c .before .before .before .before .before .smaller .ensures) (c .before .before .before .smaller2 .ensures), tt))
     (λ c. search needs)
-    (λ c. subst (λ x. ValueDone x (c .before .before .before .before .before .before .before .before .before .before .before .before .args .n) (c .before .before .before .before .before .before .before .before .before .before .before .before .args .s .now) (c .before .before .enter-entry .last .0) (c .before .before .before .before .before .before .before .before .before .before .before .before .args .to) (c .before .before .enter-entry .result .number) (c .before .before .enter-entry .result .end)) (sym (type-unit (c .before .before .before .before .before .before .before .before .before .before .before .before .args .t .now) (c .before .before .before .before .before .before .before .before .before .before .before .before .args .i) (sym (c .before .before .before .before .before .cell3 .ensures .0) ∙ c .before .before .before .before .match .keys1))) (value-unit (c .before .before .enter-entry .ensures)))
+    (λ c. subst (λ x. ValueDone x (c .before .before .before .before .before .before .before .before .before .before .before .before .args .n) (c .before .before .before .before .before .before .before .before .before .before .before .before .args .s .now) (c .before .before .write-tag .last .1 .1 .1 .1 .0) (c .before .before .before .before .before .before .before .before .before .before .before .before .args .to) ((c .before .before .write-tag .result) .number) ((c .before .before .write-tag .result) .end)) (sym (line-sum (c .before .before .before .before .before .before .before .before .before .before .before .before .args .t .now) (c .before .before .before .before .before .before .before .before .before .before .before .before .args .i) (c .before .before .before .before .before .cell3 .ensures .0) (part-of (c .before .before .before .before .before .before .before .before .before .before .before .before .args .i) (c .before .before .before .before .before .before .before .before .before .cell .ensures .0) (c .before .before .before .before .before .before .before .before .smaller .ensures)) (part-of (c .before .before .before .before .before .before .before .before .before .before .before .before .args .i) (c .before .before .before .before .before .before .before .cell2 .ensures .0) (c .before .before .before .before .before .before .smaller2 .ensures)) (c .before .before .before .before .match .keys1))) (c .before .before .write-tag .ensures))
     (λ c. search needs)
-    (λ c. subst (λ x. ValueDone x (c .before .before .before .before .before .before .before .before .before .before .before .before .args .n) (c .before .before .before .before .before .before .before .before .before .before .before .before .args .s .now) (c .before .before .write-tag .last .1 .1 .1 .1 .0) (c .before .before .before .before .before .before .before .before .before .before .before .before .args .to) (c .before .before .write-tag .result .number) (c .before .before .write-tag .result .end)) (sym (line-sum (c .before .before .before .before .before .before .before .before .before .before .before .before .args .t .now) (c .before .before .before .before .before .before .before .before .before .before .before .before .args .i) (c .before .before .before .before .before .cell3 .ensures .0) (c .before .before .before .before .before .before .before .before .before .cell .ensures .0) (c .before .before .before .before .before .before .before .before .smaller .ensures) (c .before .before .before .before .before .before .before .cell2 .ensures .0) (c .before .before .before .before .before .before .smaller2 .ensures) (c .before .before .before .before .match .keys2))) (c .before .before .write-tag .ensures))
+    (λ c. subst (λ x. ValueDone x (c .before .before .before .before .before .before .before .before .before .before .before .before .args .n) (c .before .before .before .before .before .before .before .before .before .before .before .before .args .s .now) (c .before .before .write-pair .last .1 .1 .1 .1 .0) (c .before .before .before .before .before .before .before .before .before .before .before .before .args .to) ((c .before .before .write-pair .result) .number) ((c .before .before .write-pair .result) .end)) (sym (line-product (c .before .before .before .before .before .before .before .before .before .before .before .before .args .t .now) (c .before .before .before .before .before .before .before .before .before .before .before .before .args .i) (c .before .before .before .before .before .cell3 .ensures .0) (part-of (c .before .before .before .before .before .before .before .before .before .before .before .before .args .i) (c .before .before .before .before .before .before .before .before .before .cell .ensures .0) (c .before .before .before .before .before .before .before .before .smaller .ensures)) (part-of (c .before .before .before .before .before .before .before .before .before .before .before .before .args .i) (c .before .before .before .before .before .before .before .cell2 .ensures .0) (c .before .before .before .before .before .before .smaller2 .ensures)) (c .before .before .before .before .match .keys2))) (c .before .before .write-pair .ensures))
     (λ c. search needs)
-    (λ c. subst (λ x. ValueDone x (c .before .before .before .before .before .before .before .before .before .before .before .before .args .n) (c .before .before .before .before .before .before .before .before .before .before .before .before .args .s .now) (c .before .before .write-pair .last .1 .1 .1 .1 .0) (c .before .before .before .before .before .before .before .before .before .before .before .before .args .to) (c .before .before .write-pair .result .number) (c .before .before .write-pair .result .end)) (sym (line-product (c .before .before .before .before .before .before .before .before .before .before .before .before .args .t .now) (c .before .before .before .before .before .before .before .before .before .before .before .before .args .i) (c .before .before .before .before .before .cell3 .ensures .0) (c .before .before .before .before .before .before .before .before .before .cell .ensures .0) (c .before .before .before .before .before .before .before .before .smaller .ensures) (c .before .before .before .before .before .before .before .cell2 .ensures .0) (c .before .before .before .before .before .before .smaller2 .ensures) (c .before .before .before .before .match .rest .0 .1) (c .before .before .before .before .match .rest .1))) (c .before .before .write-pair .ensures))
+    (λ c. subst (λ x. ValueDone x (c .before .before .before .before .before .before .before .before .before .before .before .before .args .n) (c .before .before .before .before .before .before .before .before .before .before .before .before .args .s .now) (c .before .before .enter-entry .last .0) (c .before .before .before .before .before .before .before .before .before .before .before .before .args .to) ((c .before .before .enter-entry .result) .number) ((c .before .before .enter-entry .result) .end)) (sym (line-other (c .before .before .before .before .before .before .before .before .before .before .before .before .args .t .now) (c .before .before .before .before .before .before .before .before .before .before .before .before .args .i) (c .before .before .before .before .before .cell3 .ensures .0) (c .before .before .before .before .match .rest .0 .1) (c .before .before .before .before .match .rest .1))) (value-unit (c .before .before .enter-entry .ensures)))

@@ -1,9 +1,9 @@
--- The recursion of `number_values::count_values` meets its contract. The measure is the line's rank.
+use mathlib.Core.Path.{refl}
 use Rattle.table_trees.specs.Unfolding.{typeOf}
-use Rattle.table_trees.proofs.Unfolding.{rank}
-use Rattle.run_values.proofs.Typing.{type-call}
-use Rattle.number_values.proofs.Counting.{counted-most}
-use Rattle.number_values.proofs.Lines.{counts-unit, counts-node}
+use Rattle.table_trees.proofs.Unfolding.{rank, type-call}
+use Rattle.table_trees.proofs.Lines.{no-unit, part-of, line-sum, line-product, line-other}
+use Rattle.number_values.proofs.Counting.{counted-most, counts-sum, counts-product, counts-as}
+use borrow.Author.Needs.{needs}
 use Prim.Native.Nat.{ℕ, _<_}
 use borrow.Fn.Kinds.{In}
 use borrow.Fn.PlainCycle.{Measures, is, falls, and}
@@ -12,7 +12,8 @@ use Rattle.number_values.proofs.count_values.Kinds as count-values-kind
 use Rattle.number_values.proofs.+count_values.Lts-count_values as count-values-lts
 use Rattle.table_trees.proofs.cell.Reads as cell-reads
 use Rattle.table_trees.proofs.smaller.Reads as smaller-reads
-use Rattle.number_values.proofs.count_node.Reads as count-node-reads
+use Rattle.number_values.proofs.both.Reads as both-reads
+use Rattle.number_values.proofs.pairs.Reads as pairs-reads
 use Rattle.number_values.proofs.+count_values.{statement}
 use Rattle.number_values.proofs.+count_values.Tie.{close}
 
@@ -32,47 +33,27 @@ count-values-below t =
     count-values.Pre
 
 abbrev ks-count-values : ℕ → count-values-lts.Claims
-ks-count-values t = (cell-reads.Asked, cell-reads.Learnt, smaller-reads.Asked, smaller-reads.Learnt, count-values-below t, count-values.Post, count-node-reads.Asked, count-node-reads.Learnt)
-
-count-values-returns : (t : ℕ) → count-values-lts.Need-returns (ks-count-values t) (count-values-at t) count-values.Post
-count-values-returns t c =
-    let a = c .before .before .before .args in counts-unit (a .t .now) (a .i) (c .before .cell .ensures .0) (c .if1 .taken)
-
-count-values-count-values-requires : (t : ℕ) → count-values-lts.Need-count-values-requires (ks-count-values t) (count-values-at t) count-values.Post
-count-values-count-values-requires t c κs =
-    let d = c .before .before .before in
-    let s = d .before .before in
-    (type-call (s .args .t .now) (s .args .i) (c .before .cell2 .result) (s .pre .0) (d .cell .ensures .0) (c .before .before .if1 .left) (c .smaller .ensures), tt)
-
-count-values-count-values-requires-2 : (t : ℕ) → count-values-lts.Need-count-values-requires-2 (ks-count-values t) (count-values-at t) count-values.Post
-count-values-count-values-requires-2 t c κs =
-    let d = c .before .before .before .before .before in
-    let s = d .before .before .before in
-    (type-call (s .args .t .now) (s .args .i) (c .before .cell3 .result) (s .pre .0) (d .before .cell .ensures .0) (d .if1 .left) (c .smaller2 .ensures), tt)
-
-count-values-count-node-requires : (t : ℕ) → count-values-lts.Need-count-node-requires (ks-count-values t) (count-values-at t) count-values.Post
-count-values-count-node-requires t c κs =
-    let s = c .before .before .before .before .before .before .before .before .before in
-    (counted-most (typeOf (s .args .t .now) (c .before .before .before .before .smaller .result)) (c .before .before .before .count-values .ensures), counted-most (typeOf (s .args .t .now) (c .before .smaller2 .result)) (c .count-values2 .ensures))
-
-count-values-returns-2 : (t : ℕ) → count-values-lts.Need-returns-2 (ks-count-values t) (count-values-at t) count-values.Post
-count-values-returns-2 t c =
-    let d = c .before .before .before .before in
-    let e = d .before .before .before in
-    let a = e .before .before .before .args in
-    counts-node (a .t .now) (a .i) (e .before .cell .ensures .0) (d .before .before .cell2 .ensures .0) (d .before .smaller .ensures) (c .before .before .before .cell3 .ensures .0) (c .before .before .smaller2 .ensures) (e .if1 .left) (d .count-values .ensures) (c .before .count-values2 .ensures) (c .count-node .ensures)
+ks-count-values t = (cell-reads.Asked, cell-reads.Learnt, smaller-reads.Asked, smaller-reads.Learnt, count-values-below t, count-values.Post, both-reads.Asked, both-reads.Learnt, pairs-reads.Asked, pairs-reads.Learnt)
 
 pub +count-values-spec : {M : Type 1} → statement M
 +count-values-spec = close μ-count-values λ t. count-values-lts.spec (ks-count-values t)
     (count-values-at t)
     count-values.Post
-    (λ c κs. tt)
-    (count-values-returns t)
-    (λ c κs. tt)
-    (λ c κs. tt)
-    (count-values-count-values-requires t)
-    (λ c κs. tt)
-    (λ c κs. tt)
-    (count-values-count-values-requires-2 t)
-    (count-values-count-node-requires t)
-    (count-values-returns-2 t)
+    (λ c κs. search needs)
+    (λ c κs. search needs)
+    (λ c κs. search needs)
+    (λ c κs. (type-call (c .before .before .before .before .before .args .t .now) (c .before .before .before .before .before .args .i) (c .before .cell2 .result) (c .before .before .before .before .before .pre .0) (c .before .before .before .cell .ensures .0) (no-unit (c .before .before .if1 .taken)) (c .smaller .ensures), tt))
+    (λ c κs. search needs)
+    (λ c κs. search needs)
+    (λ c κs. (type-call (c .before .before .before .before .before .before .before .before .args .t .now) (c .before .before .before .before .before .before .before .before .args .i) (c .before .cell3 .result) (c .before .before .before .before .before .before .before .before .pre .0) (c .before .before .before .before .before .before .cell .ensures .0) (no-unit (c .before .before .before .before .before .if1 .taken)) (c .smaller2 .ensures), tt))
+    (λ c κs. (counted-most (typeOf (c .before .before .before .before .before .before .before .before .before .args .t .now) (c .before .before .before .before .smaller .result)) (c .before .before .before .count-values .ensures), counted-most (typeOf (c .before .before .before .before .before .before .before .before .before .args .t .now) (c .before .smaller2 .result)) (c .count-values2 .ensures)))
+    (λ c. counts-as (c .both .result) (line-sum (c .before .before .before .before .before .before .before .before .before .before .args .t .now) (c .before .before .before .before .before .before .before .before .before .before .args .i) (c .before .before .before .before .before .before .before .before .cell .ensures .0) (part-of (c .before .before .before .before .before .before .before .before .before .before .args .i) (c .before .before .before .before .before .before .cell2 .ensures .0) (c .before .before .before .before .before .smaller .ensures)) (part-of (c .before .before .before .before .before .before .before .before .before .before .args .i) (c .before .before .before .cell3 .ensures .0) (c .before .before .smaller2 .ensures)) (c .before .before .before .before .before .before .before .if1 .taken)) (counts-sum (typeOf (c .before .before .before .before .before .before .before .before .before .before .args .t .now) (c .before .before .before .before .before .smaller .result)) (typeOf (c .before .before .before .before .before .before .before .before .before .before .args .t .now) (c .before .before .smaller2 .result)) (c .before .before .before .before .count-values .ensures) (c .before .count-values2 .ensures) (c .both .ensures)))
+    (λ c κs. search needs)
+    (λ c κs. search needs)
+    (λ c κs. (type-call (c .before .before .before .before .before .before .args .t .now) (c .before .before .before .before .before .before .args .i) (c .before .cell4 .result) (c .before .before .before .before .before .before .pre .0) (c .before .before .before .before .cell .ensures .0) (no-unit (c .before .before .if2 .taken)) (c .smaller3 .ensures), tt))
+    (λ c κs. search needs)
+    (λ c κs. search needs)
+    (λ c κs. (type-call (c .before .before .before .before .before .before .before .before .before .args .t .now) (c .before .before .before .before .before .before .before .before .before .args .i) (c .before .cell5 .result) (c .before .before .before .before .before .before .before .before .before .pre .0) (c .before .before .before .before .before .before .before .cell .ensures .0) (no-unit (c .before .before .before .before .before .if2 .taken)) (c .smaller4 .ensures), tt))
+    (λ c κs. counted-most (typeOf (c .before .before .before .before .before .before .before .before .before .before .args .t .now) (c .before .smaller4 .result)) (c .count-values4 .ensures))
+    (λ c. counts-as (c .pairs .result) (line-product (c .before .before .before .before .before .before .before .before .before .before .before .args .t .now) (c .before .before .before .before .before .before .before .before .before .before .before .args .i) (c .before .before .before .before .before .before .before .before .before .cell .ensures .0) (part-of (c .before .before .before .before .before .before .before .before .before .before .before .args .i) (c .before .before .before .before .before .before .cell4 .ensures .0) (c .before .before .before .before .before .smaller3 .ensures)) (part-of (c .before .before .before .before .before .before .before .before .before .before .before .args .i) (c .before .before .before .cell5 .ensures .0) (c .before .before .smaller4 .ensures)) (c .before .before .before .before .before .before .before .if2 .taken)) (counts-product (typeOf (c .before .before .before .before .before .before .before .before .before .before .before .args .t .now) (c .before .before .before .before .before .smaller3 .result)) (typeOf (c .before .before .before .before .before .before .before .before .before .before .before .args .t .now) (c .before .before .smaller4 .result)) (c .before .before .before .before .count-values3 .ensures) (c .before .count-values4 .ensures) (c .pairs .ensures)))
+    (λ c. counts-as 1 (line-other (c .before .before .before .before .args .t .now) (c .before .before .before .before .args .i) (c .before .before .cell .ensures .0) (c .before .if1 .left) (c .if2 .left)) refl)

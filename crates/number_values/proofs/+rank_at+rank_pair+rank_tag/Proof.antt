@@ -1,10 +1,10 @@
 -- The recursion of `number_values::rank_at`, `rank_pair` and `rank_tag` meets its contract. The measure is twice the T line's rank; of two lines one
 -- more than twice the higher rank.
-use mathlib.Core.Path.{sym, _∙_, subst}
+use mathlib.Core.Path.{sym, subst}
 use Rattle.table_trees.specs.Unfolding.{typeOf}
-use Rattle.table_trees.proofs.Unfolding.{rank, type-unit}
+use Rattle.table_trees.proofs.Unfolding.{rank}
 use Rattle.number_values.specs.Numbers.{Ranks}
-use Rattle.number_values.proofs.Lines.{line-sum, line-product, one-not, both, parts-call, left-call, right-call}
+use Rattle.table_trees.proofs.Lines.{no-unit, part-of, line-sum, line-product, line-other, both, parts-call, left-call, right-call}
 use Rattle.number_values.proofs.Ranking.{ranks-unit, ranks-left, ranks-right, ranks-pair}
 use Prim.Native.Nat.{ℕ, _*_, _<_}
 use borrow.Fn.Kinds.{In}
@@ -57,7 +57,7 @@ rank-tag-below t =
     and 2 rank-tag-kinds.ps (falls 2 rank-tag-kinds.ps _<_ μ-rank-tag t) rank-tag.Pre
 
 abbrev ks-rank-at : ℕ → rank-at-lts.Claims
-ks-rank-at t = (cell-reads.Asked, cell-reads.Learnt, smaller-reads.Asked, smaller-reads.Learnt, behind-reads.Asked, behind-reads.Learnt, rank-tag-below t, rank-tag.Post, rank-pair-below t, rank-pair.Post)
+ks-rank-at t = (cell-reads.Asked, cell-reads.Learnt, smaller-reads.Asked, smaller-reads.Learnt, rank-tag-below t, rank-tag.Post, rank-pair-below t, rank-pair.Post, behind-reads.Asked, behind-reads.Learnt)
 
 abbrev ks-rank-pair : ℕ → rank-pair-lts.Claims
 ks-rank-pair t = (behind-reads.Asked, behind-reads.Learnt, rank-at-below t, rank-at.Post, count-values-reads.Asked, count-values-reads.Learnt, times-plus-reads.Asked, times-plus-reads.Learnt)
@@ -69,31 +69,31 @@ rank-at-rank-tag-requires : (t : ℕ) → rank-at-lts.Need-rank-tag-requires (ks
 rank-at-rank-tag-requires t c κs =
     let d = c .before in
     let s = d .before .before .before .before .before .before .before in
-    (parts-call (s .args .t .now) (s .args .i) (d .before .before .before .before .cell .result) (d .before .before .cell2 .result) (s .pre .0) (d .cell3 .ensures .0) (one-not (c .match .keys2)) (d .before .before .before .smaller .ensures) (d .before .smaller2 .ensures), tt)
+    (parts-call (s .args .t .now) (s .args .i) (d .before .before .before .before .cell .result) (d .before .before .cell2 .result) (s .pre .0) (d .cell3 .ensures .0) (no-unit (c .match .keys1)) (d .before .before .before .smaller .ensures) (d .before .smaller2 .ensures), tt)
 
 rank-at-rank-pair-requires : (t : ℕ) → rank-at-lts.Need-rank-pair-requires (ks-rank-at t) (rank-at-at t) rank-at.Post
 rank-at-rank-pair-requires t c κs =
     let d = c .before in
     let s = d .before .before .before .before .before .before .before in
-    (parts-call (s .args .t .now) (s .args .i) (d .before .before .before .before .cell .result) (d .before .before .cell2 .result) (s .pre .0) (d .cell3 .ensures .0) (c .match .rest .0 .1) (d .before .before .before .smaller .ensures) (d .before .smaller2 .ensures), tt)
-
-rank-at-returns : (t : ℕ) → rank-at-lts.Need-returns (ks-rank-at t) (rank-at-at t) rank-at.Post
-rank-at-returns t c =
-    let d = c .before .before in
-    let a = d .before .before .before .before .before .before .before .args in
-    subst (λ x. Ranks x (a .s .now) (a .at) 0 (c .behind .result)) (sym (type-unit (a .t .now) (a .i) (sym (d .cell3 .ensures .0) ∙ c .before .match .keys1))) (ranks-unit (a .s .now) (a .at) (c .behind .ensures))
-
-rank-at-returns-2 : (t : ℕ) → rank-at-lts.Need-returns-2 (ks-rank-at t) (rank-at-at t) rank-at.Post
-rank-at-returns-2 t c =
-    let d = c .before .before in
-    let a = d .before .before .before .before .before .before .before .args in
-    subst (λ x. Ranks x (a .s .now) (a .at) (c .rank-tag .result .number) (c .rank-tag .result .end)) (sym (line-sum (a .t .now) (a .i) (d .cell3 .ensures .0) (d .before .before .before .before .cell .ensures .0) (d .before .before .before .smaller .ensures) (d .before .before .cell2 .ensures .0) (d .before .smaller2 .ensures) (c .before .match .keys2))) (c .rank-tag .ensures)
+    (parts-call (s .args .t .now) (s .args .i) (d .before .before .before .before .cell .result) (d .before .before .cell2 .result) (s .pre .0) (d .cell3 .ensures .0) (no-unit (c .match .keys2)) (d .before .before .before .smaller .ensures) (d .before .smaller2 .ensures), tt)
 
 rank-at-returns-3 : (t : ℕ) → rank-at-lts.Need-returns-3 (ks-rank-at t) (rank-at-at t) rank-at.Post
 rank-at-returns-3 t c =
     let d = c .before .before in
     let a = d .before .before .before .before .before .before .before .args in
-    subst (λ x. Ranks x (a .s .now) (a .at) (c .rank-pair .result .number) (c .rank-pair .result .end)) (sym (line-product (a .t .now) (a .i) (d .cell3 .ensures .0) (d .before .before .before .before .cell .ensures .0) (d .before .before .before .smaller .ensures) (d .before .before .cell2 .ensures .0) (d .before .smaller2 .ensures) (c .before .match .rest .0 .1) (c .before .match .rest .1))) (c .rank-pair .ensures)
+    subst (λ x. Ranks x (a .s .now) (a .at) 0 (c .behind .result)) (sym (line-other (a .t .now) (a .i) (d .cell3 .ensures .0) (c .before .match .rest .0 .1) (c .before .match .rest .1))) (ranks-unit (a .s .now) (a .at) (c .behind .ensures))
+
+rank-at-returns : (t : ℕ) → rank-at-lts.Need-returns (ks-rank-at t) (rank-at-at t) rank-at.Post
+rank-at-returns t c =
+    let d = c .before .before in
+    let a = d .before .before .before .before .before .before .before .args in
+    subst (λ x. Ranks x (a .s .now) (a .at) (c .rank-tag .result .number) (c .rank-tag .result .end)) (sym (line-sum (a .t .now) (a .i) (d .cell3 .ensures .0) (part-of (a .i) (d .before .before .before .before .cell .ensures .0) (d .before .before .before .smaller .ensures)) (part-of (a .i) (d .before .before .cell2 .ensures .0) (d .before .smaller2 .ensures)) (c .before .match .keys1))) (c .rank-tag .ensures)
+
+rank-at-returns-2 : (t : ℕ) → rank-at-lts.Need-returns-2 (ks-rank-at t) (rank-at-at t) rank-at.Post
+rank-at-returns-2 t c =
+    let d = c .before .before in
+    let a = d .before .before .before .before .before .before .before .args in
+    subst (λ x. Ranks x (a .s .now) (a .at) (c .rank-pair .result .number) (c .rank-pair .result .end)) (sym (line-product (a .t .now) (a .i) (d .cell3 .ensures .0) (part-of (a .i) (d .before .before .before .before .cell .ensures .0) (d .before .before .before .smaller .ensures)) (part-of (a .i) (d .before .before .cell2 .ensures .0) (d .before .smaller2 .ensures)) (c .before .match .keys2))) (c .rank-pair .ensures)
 
 rank-pair-rank-at-requires : (t : ℕ) → rank-pair-lts.Need-rank-at-requires (ks-rank-pair t) (rank-pair-at t) rank-pair.Post
 rank-pair-rank-at-requires t c κs = let s = c .before .before .before in (left-call (s .args .left) (s .args .right) (s .pre .0), tt)
@@ -134,9 +134,9 @@ pub +rank-at+rank-pair+rank-tag-spec : {M : Type 1} → statement M
     (λ c κs. tt)
     (λ c κs. tt)
     (λ c κs. tt)
-    (λ c κs. tt)
     (rank-at-rank-tag-requires t)
     (rank-at-rank-pair-requires t)
+    (λ c κs. tt)
     (rank-at-returns t)
     (rank-at-returns-2 t)
     (rank-at-returns-3 t))

@@ -2,10 +2,10 @@
 -- lines one more than twice the higher rank.
 use mathlib.Core.Path.{sym, _∙_, subst}
 use Rattle.table_trees.specs.Unfolding.{typeOf}
-use Rattle.table_trees.proofs.Unfolding.{rank, type-unit}
+use Rattle.table_trees.proofs.Unfolding.{rank}
 use Rattle.number_values.specs.Numbers.{Unranks}
 use Rattle.number_values.proofs.Counting.{counted-some}
-use Rattle.number_values.proofs.Lines.{line-sum, line-product, one-not, both, parts-call, left-call, right-call}
+use Rattle.table_trees.proofs.Lines.{no-unit, part-of, line-sum, line-product, line-other, both, parts-call, left-call, right-call}
 use Rattle.number_values.proofs.Spelling.{unranks-none, unranks-unit, unranks-left, unranks-right, unranks-pair}
 use native.Mathlib.Omega.{arith}
 use lib.ListN.{set, length-set}
@@ -76,33 +76,33 @@ unrank-at-unrank-tag-requires : (t : ℕ) → unrank-at-lts.Need-unrank-tag-requ
 unrank-at-unrank-tag-requires t c κs =
     let d = c .before .before in
     let s = d .before .before .before .before .before .before .before .before in
-    (parts-call (s .args .t .now) (s .args .i) (d .before .before .before .before .cell .result) (d .before .before .cell2 .result) (s .pre .0) (d .cell3 .ensures .0) (one-not (c .before .match .keys2)) (d .before .before .before .smaller .ensures) (d .before .smaller2 .ensures), d .before .before .before .before .before .if1 .left)
+    (parts-call (s .args .t .now) (s .args .i) (d .before .before .before .before .cell .result) (d .before .before .cell2 .result) (s .pre .0) (d .cell3 .ensures .0) (no-unit (c .before .match .keys1)) (d .before .before .before .smaller .ensures) (d .before .smaller2 .ensures), d .before .before .before .before .before .if1 .left)
 
 unrank-at-unrank-pair-requires : (t : ℕ) → unrank-at-lts.Need-unrank-pair-requires (ks-unrank-at t) (unrank-at-at t) unrank-at.Post
 unrank-at-unrank-pair-requires t c κs =
     let d = c .before .before in
     let s = d .before .before .before .before .before .before .before .before in
-    (parts-call (s .args .t .now) (s .args .i) (d .before .before .before .before .cell .result) (d .before .before .cell2 .result) (s .pre .0) (d .cell3 .ensures .0) (c .before .match .rest .0 .1) (d .before .before .before .smaller .ensures) (d .before .smaller2 .ensures), d .before .before .before .before .before .if1 .left)
+    (parts-call (s .args .t .now) (s .args .i) (d .before .before .before .before .cell .result) (d .before .before .cell2 .result) (s .pre .0) (d .cell3 .ensures .0) (no-unit (c .before .match .keys2)) (d .before .before .before .smaller .ensures) (d .before .smaller2 .ensures), d .before .before .before .before .before .if1 .left)
+
+unrank-at-returns-4 : (t : ℕ) → unrank-at-lts.Need-returns-4 (ks-unrank-at t) (unrank-at-at t) unrank-at.Post
+unrank-at-returns-4 t c =
+    let d = c .before in
+    let a = d .before .before .before .before .before .before .before .before .args in
+    subst (λ x. Unranks x (a .n) (a .out .now) (set (a .out .now) (a .at) 85) (a .at) (a .at + 1)) (sym (line-other (a .t .now) (a .i) (d .cell3 .ensures .0) (c .match .rest .0 .1) (c .match .rest .1))) (unranks-unit (a .n) (a .out .now) (a .at) (d .before .before .before .before .before .if1 .left))
 
 unrank-at-returns-2 : (t : ℕ) → unrank-at-lts.Need-returns-2 (ks-unrank-at t) (unrank-at-at t) unrank-at.Post
 unrank-at-returns-2 t c =
-    let d = c .before in
+    let e = c .before .before .before .before in
+    let d = e .before in
     let a = d .before .before .before .before .before .before .before .before .args in
-    subst (λ x. Unranks x (a .n) (a .out .now) (set (a .out .now) (a .at) 85) (a .at) (a .at + 1)) (sym (type-unit (a .t .now) (a .i) (sym (d .cell3 .ensures .0) ∙ c .match .keys1))) (unranks-unit (a .n) (a .out .now) (a .at) (d .before .before .before .before .before .if1 .left))
+    subst (λ x. Unranks x (a .n) (a .out .now) (c .before .before .unrank-tag .last .1 .1 .1 .1 .0) (a .at) (c .before .before .unrank-tag .result)) (sym (line-sum (a .t .now) (a .i) (d .cell3 .ensures .0) (part-of (a .i) (d .before .before .before .before .cell .ensures .0) (d .before .before .before .smaller .ensures)) (part-of (a .i) (d .before .before .cell2 .ensures .0) (d .before .smaller2 .ensures)) (e .match .keys1))) (c .before .before .unrank-tag .ensures)
 
 unrank-at-returns-3 : (t : ℕ) → unrank-at-lts.Need-returns-3 (ks-unrank-at t) (unrank-at-at t) unrank-at.Post
 unrank-at-returns-3 t c =
     let e = c .before .before .before .before in
     let d = e .before in
     let a = d .before .before .before .before .before .before .before .before .args in
-    subst (λ x. Unranks x (a .n) (a .out .now) (c .before .before .unrank-tag .last .1 .1 .1 .1 .0) (a .at) (c .before .before .unrank-tag .result)) (sym (line-sum (a .t .now) (a .i) (d .cell3 .ensures .0) (d .before .before .before .before .cell .ensures .0) (d .before .before .before .smaller .ensures) (d .before .before .cell2 .ensures .0) (d .before .smaller2 .ensures) (e .match .keys2))) (c .before .before .unrank-tag .ensures)
-
-unrank-at-returns-4 : (t : ℕ) → unrank-at-lts.Need-returns-4 (ks-unrank-at t) (unrank-at-at t) unrank-at.Post
-unrank-at-returns-4 t c =
-    let e = c .before .before .before .before in
-    let d = e .before in
-    let a = d .before .before .before .before .before .before .before .before .args in
-    subst (λ x. Unranks x (a .n) (a .out .now) (c .before .before .unrank-pair .last .1 .1 .1 .1 .0) (a .at) (c .before .before .unrank-pair .result)) (sym (line-product (a .t .now) (a .i) (d .cell3 .ensures .0) (d .before .before .before .before .cell .ensures .0) (d .before .before .before .smaller .ensures) (d .before .before .cell2 .ensures .0) (d .before .smaller2 .ensures) (e .match .rest .0 .1) (e .match .rest .1))) (c .before .before .unrank-pair .ensures)
+    subst (λ x. Unranks x (a .n) (a .out .now) (c .before .before .unrank-pair .last .1 .1 .1 .1 .0) (a .at) (c .before .before .unrank-pair .result)) (sym (line-product (a .t .now) (a .i) (d .cell3 .ensures .0) (part-of (a .i) (d .before .before .before .before .cell .ensures .0) (d .before .before .before .smaller .ensures)) (part-of (a .i) (d .before .before .cell2 .ensures .0) (d .before .smaller2 .ensures)) (e .match .keys2))) (c .before .before .unrank-pair .ensures)
 
 unrank-pair-div-unrank-at : (t : ℕ) → unrank-pair-lts.Need-div-unrank-at (ks-unrank-pair t) (unrank-pair-at t) unrank-pair.Post
 unrank-pair-div-unrank-at t c = let a = c .before .before .before .args in counted-some (typeOf (a .t .now) (a .right)) (c .count-values .ensures)
@@ -171,15 +171,15 @@ pub +unrank-at+unrank-pair+unrank-tag-spec : {M : Type 1} → statement M
     (λ c κs. tt)
     (λ c κs. tt)
     (λ c κs. tt)
-    (λ c. c .before .before .before .before .before .before .if1 .left)
-    (λ c. omega arith)
     (unrank-at-unrank-tag-requires t)
     (unrank-at-unrank-pair-requires t)
-    (λ c. simp length-set)
-    (unrank-at-returns-2 t)
+    (λ c. c .before .before .before .before .before .before .if1 .left)
+    (λ c. omega arith)
     (λ c. c .before .before .unrank-tag .kept .1 .1 .1 .1 .0)
-    (unrank-at-returns-3 t)
+    (unrank-at-returns-2 t)
     (λ c. c .before .before .unrank-pair .kept .1 .1 .1 .1 .0)
+    (unrank-at-returns-3 t)
+    (λ c. simp length-set)
     (unrank-at-returns-4 t))
     (λ t. unrank-pair-lts.spec (ks-unrank-pair t)
     (unrank-pair-at t)

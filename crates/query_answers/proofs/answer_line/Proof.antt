@@ -29,13 +29,13 @@ returns c =
     let q = k .before .before .before .before in
     let a = q .before .before in
     let l = a .before .before .before .before .before .before .args .line .now in
-    λ rs p long most room. line-query rs l _ (q .q .given .1) (a .query-of .ensures) (k .run-query .ensures rs p long most room)
+    λ rs p long most room. let x = k .run-query .ensures rs p long most room in (line-query rs l _ (q .q .given .1) (a .query-of .ensures) (x .0), x .1)
 
 returns-2 : tie.Need-returns-2
 returns-2 c =
     let a = c .before .before in
     let x = a .before .before .before .before .before .before .args in
-    λ rs p long most room. line-bad rs (x .line .now) (x .result .now) _ (c .enum-told .given .1) (a .query-of .ensures) refl refl refl
+    λ rs p long most room. (line-bad rs (x .line .now) (x .result .now) _ (c .enum-told .given .1) (a .query-of .ensures) refl refl refl, refl)
 
 pub answer-line-spec : {M : Type 1} → statement M
 answer-line-spec =

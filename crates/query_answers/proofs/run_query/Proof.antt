@@ -26,8 +26,8 @@ returns c =
     let s = b .before in
     let a = s .before .before .before .before .before .before .args in
     λ rs p long most room.
-    ran-on rs (a .q) (a .line .now) (query-letters (a .line .now) (a .q .from) (a .q .to) (s .front .ensures) (b .tail .ensures))
-    (k .run-checked .ensures rs p long most room)
+    let x = k .run-checked .ensures rs p long most room in
+    (ran-on rs (a .q) (a .line .now) (query-letters (a .line .now) (a .q .from) (a .q .to) (s .front .ensures) (b .tail .ensures)) (x .0), x .1)
 
 pub run-query-spec : {M : Type 1} → statement M
 run-query-spec = tie.close (tie.spec front-requires tail-requires run-checked-requires same-length same-length-2 returns)

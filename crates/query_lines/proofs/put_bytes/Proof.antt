@@ -1,5 +1,6 @@
 -- `query_lines::put_bytes` meets its contract. The bytes passed are written. What is left of them falls with each turn.
 use Rattle.query_lines.proofs.Answering.{Copied, copied-start, copied-step, copied-all}
+use Rattle.area_cells.proofs.Writing.{prints-kept}
 use lib.ListN.{length}
 use native.Mathlib.Omega.{arith}
 use Prim.Native.Nat.{_-_}
@@ -35,7 +36,7 @@ loop-again c =
     copied-step (test .before .loop .inv) (test .loop-test .taken) (put .before .byte-at .ensures) (put .put-byte .ensures .0) (put .put-byte .ensures .1)
 
 same-length : tie.Need-same-length Inv-loop μ-loop
-same-length c = search needs
+same-length c = prints-kept (c .before .loop .inv .written)
 
 returns : tie.Need-returns Inv-loop μ-loop
 returns c = copied-all (c .before .loop .inv) (c .loop-test .left)

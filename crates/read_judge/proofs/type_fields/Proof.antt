@@ -1,16 +1,32 @@
 -- `read_judge::type_fields` meets its contract, by the kind of the T line.
-use Rattle.read_judge.proofs.Testing.{type-unit, type-idle, type-node}
+use mathlib.Core.Path.{refl}
+use Rattle.read_judge.proofs.Testing.{type-listed, type-unlisted}
+use borrow.Author.Needs.{needs}
 use Rattle.read_judge.proofs.type_fields.Statement.{statement}
 use Rattle.read_judge.proofs.type_fields.Tie as tie
 
+idle-requires : tie.Need-idle-requires
+idle-requires c κs = search needs
+
 returns : tie.Need-returns
-returns c = type-unit _ (c .before .if1 .taken) (c .if2 .taken)
+returns c =
+    let s = c .before .before in
+    type-listed 0 (s .args .a) (s .args .b) (c .before .match .keys1) (c .idle .ensures)
 
 returns-2 : tie.Need-returns-2
-returns-2 c = let a = c .before .before .args in type-idle (a .b) (c .before .if1 .taken) (c .if2 .left)
+returns-2 c =
+    let s = c .before in
+    type-listed 1 (s .args .a) (s .args .b) (c .match .keys2) refl
 
 returns-3 : tie.Need-returns-3
-returns-3 c = let a = c .before .args in type-node (a .kind) (a .a) (a .b) (c .if1 .left)
+returns-3 c =
+    let s = c .before in
+    type-listed 2 (s .args .a) (s .args .b) (c .match .keys3) refl
+
+returns-4 : tie.Need-returns-4
+returns-4 c =
+    let s = c .before in
+    type-unlisted (s .args .kind) (s .args .a) (s .args .b) (c .match .rest .0 .0 .1) (c .match .rest .0 .1) (c .match .rest .1)
 
 pub type-fields-spec : {M : Type 1} → statement M
-type-fields-spec = tie.close (tie.spec returns returns-2 returns-3)
+type-fields-spec = tie.close (tie.spec idle-requires returns returns-2 returns-3 returns-4)

@@ -1,17 +1,27 @@
--- `read_judge::type_names` meets its contract: a unit names nothing.
+-- `read_judge::type_names` meets its contract, by whether the T line's kind names two lines.
+use Rattle.table_trees.proofs.Cases.{parted, whole-below, whole-beyond}
+use Rattle.read_judge.proofs.Testing.{whole-names, type-node-names}
 use borrow.Author.Needs.{needs}
-use Rattle.read_judge.proofs.Testing.{type-node-names}
 use Rattle.read_judge.proofs.type_names.Statement.{statement}
 use Rattle.read_judge.proofs.type_names.Tie as tie
-
-returns : tie.Need-returns
-returns c = search needs
 
 both-below-requires : tie.Need-both-below-requires
 both-below-requires c κs = search needs
 
+returns : tie.Need-returns
+returns c =
+    let s = c .before .before .before in
+    type-node-names (s .args .n) (s .args .a) (s .args .b) (parted _ (c .before .before .if1 .left) (c .before .if2 .taken)) (c .both-below .ensures)
+
 returns-2 : tie.Need-returns-2
-returns-2 c = let a = c .before .before .args in type-node-names (a .n) (a .kind) (a .a) (a .b) (c .before .if1 .left) (c .both-below .ensures)
+returns-2 c =
+    let s = c .before in
+    whole-names (s .args .n) (s .args .a) (s .args .b) (whole-below _ (c .if1 .taken))
+
+returns-3 : tie.Need-returns-3
+returns-3 c =
+    let s = c .before .before in
+    whole-names (s .args .n) (s .args .a) (s .args .b) (whole-beyond _ (c .if2 .left))
 
 pub type-names-spec : {M : Type 1} → statement M
-type-names-spec = tie.close (tie.spec returns both-below-requires returns-2)
+type-names-spec = tie.close (tie.spec both-below-requires returns returns-2 returns-3)

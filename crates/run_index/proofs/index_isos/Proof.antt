@@ -18,6 +18,9 @@ narrow-requires c κs = search needs
 store-word-requires : tie.Need-store-word-requires Inv-loop μ-loop
 store-word-requires c κs = search needs
 
+cast-store-word : tie.Need-cast-store-word Inv-loop μ-loop
+cast-store-word c = search needs
+
 store-word-requires-2 : tie.Need-store-word-requires-2 Inv-loop μ-loop
 store-word-requires-2 c κs = search needs
 
@@ -60,6 +63,7 @@ index-isos-spec =
     μ-loop
     narrow-requires
     store-word-requires
+    cast-store-word
     store-word-requires-2
     loop-holds
     sub-n

@@ -1,9 +1,10 @@
--- The recursion of `run_patterns::build_at` meets its contract. The measure is the P line's rank.
-use Rattle.run_patterns.proofs.Building.{build-variable, build-unit, build-tag, build-pair}
-use Rattle.run_patterns.proofs.Lines.{pattern-call}
-use Rattle.table_trees.proofs.Unfolding.{rank}
+use Rattle.table_trees.specs.Unfolding.{cellOf}
+use Rattle.table_trees.proofs.Unfolding.{rank, pattern-call}
+use Rattle.table_trees.proofs.Lines.{no-unit}
+use Rattle.table_trees.proofs.Cases.{injects, injects-no-unit}
+use Rattle.run_patterns.proofs.Building.{build-variable, build-low, build-high, build-tag, build-pair}
 use borrow.Author.Needs.{needs}
-use Prim.Native.Nat.{ℕ, _<_}
+use Prim.Native.Nat.{ℕ, _+_, _<_}
 use borrow.Fn.Kinds.{In}
 use borrow.Fn.PlainCycle.{Measures, is, falls, and}
 use Rattle.run_patterns.proofs.build_at.Reads as build-at
@@ -30,54 +31,6 @@ build-at-below t =
 abbrev ks-build-at : ℕ → build-at-lts.Claims
 ks-build-at t = (pattern-cell-reads.Asked, pattern-cell-reads.Learnt, build-var-reads.Asked, build-var-reads.Learnt, letter-reads.Asked, letter-reads.Learnt, put-byte-reads.Asked, put-byte-reads.Learnt, part-reads.Asked, part-reads.Learnt, build-at-below t, build-at.Post)
 
-build-at-returns : (t : ℕ) → build-at-lts.Need-returns (ks-build-at t) (build-at-at t) build-at.Post
-build-at-returns t c =
-    let d = c .before .before .before .before in
-    let e = d .before .before .before .before .before .before in
-    let a = e .args in
-    build-variable (a .t .now) (a .base) (a .j) (d .before .before .pattern-cell .ensures .0) (d .before .if1 .taken) (d .pattern-cell2 .ensures .0) (c .before .before .build-var .ensures)
-
-build-at-returns-2 : (t : ℕ) → build-at-lts.Need-returns-2 (ks-build-at t) (build-at-at t) build-at.Post
-build-at-returns-2 t c =
-    let d = c .before .before .before .before in
-    let e = d .before .before .before .before .before .before .before in
-    let a = e .args in
-    build-unit (a .t .now) (a .base) (a .j) (d .before .before .before .pattern-cell .ensures .0) (d .letter .ensures) (c .before .before .before .put-byte .ensures) (c .if2 .taken)
-
-build-at-build-at-requires : (t : ℕ) → build-at-lts.Need-build-at-requires (ks-build-at t) (build-at-at t) build-at.Post
-build-at-build-at-requires t c κs =
-    let d = c .before .before .before .before .before .before .before .before .before in
-    let e = d .before .before .before .before in
-    let a = e .args in
-    (pattern-call (a .t .now) (a .base) (a .j) 2 (e .pre .0) (d .pattern-cell .ensures .0) (c .before .before .if2 .left) (c .before .part .ensures), tt)
-
-build-at-returns-3 : (t : ℕ) → build-at-lts.Need-returns-3 (ks-build-at t) (build-at-at t) build-at.Post
-build-at-returns-3 t c =
-    let d = c .before .before .before .before .before in
-    let e = d .before .before .before .before in
-    let f = e .before .before .before .before in
-    let g = f .before .before .before .before in
-    let a = g .args in
-    build-tag (a .t .now) (a .base) (a .j) (f .pattern-cell .ensures .0) (e .before .letter .ensures) (e .put-byte .ensures) (d .part .ensures) (c .before .before .before .build-at .ensures) (e .before .before .before .if1 .left) (d .before .if2 .left) (c .if3 .taken)
-
-build-at-build-at-requires-2 : (t : ℕ) → build-at-lts.Need-build-at-requires-2 (ks-build-at t) (build-at-at t) build-at.Post
-build-at-build-at-requires-2 t c κs =
-    let d = c .before .before .before .before .before .before .before .before in
-    let e = d .before .before .before .before .before .before .before in
-    let f = e .before .before .before .before in
-    let a = f .args in
-    (pattern-call (a .t .now) (a .base) (a .j) 3 (f .pre .0) (e .pattern-cell .ensures .0) (d .if2 .left) (c .before .part2 .ensures), tt)
-
-build-at-returns-4 : (t : ℕ) → build-at-lts.Need-returns-4 (ks-build-at t) (build-at-at t) build-at.Post
-build-at-returns-4 t c =
-    let d = c .before .before .before .before in
-    let e = d .before .before .before .before in
-    let f = e .before .before .before .before .before .before in
-    let g = f .before .before .before .before in
-    let h = g .before .before .before .before in
-    let a = h .args in
-    build-pair (a .t .now) (a .base) (a .j) (g .pattern-cell .ensures .0) (f .before .letter .ensures) (f .put-byte .ensures) (e .before .before .part .ensures) (e .build-at .ensures) (d .before .if3 .left) (d .part2 .ensures) (c .before .before .build-at2 .kept .1 .1 .1 .1 .0) (c .before .before .build-at2 .ensures)
-
 pub +build-at-spec : {M : Type 1} → statement M
 +build-at-spec = close μ-build-at λ t. build-at-lts.spec (ks-build-at t)
     (build-at-at t)
@@ -86,16 +39,20 @@ pub +build-at-spec : {M : Type 1} → statement M
     (λ c κs. search needs)
     (λ c κs. search needs)
     (λ c. search needs)
-    (build-at-returns t)
+    (λ c. build-variable (c .before .before .before .before .before .before .before .before .before .before .args .t .now) (c .before .before .before .before .before .before .before .before .before .before .args .base) (c .before .before .before .before .before .before .before .before .before .before .args .j) (c .before .before .before .before .before .before .pattern-cell .ensures .0) (c .before .before .before .before .before .if1 .taken) (c .before .before .before .before .pattern-cell2 .ensures .0) (c .before .before .build-var .ensures))
     (λ c κs. search needs)
     (λ c κs. search needs)
+    (λ c κs. search needs)
+    (λ c κs. (pattern-call (c .before .before .before .before .before .before .before .before .before .before .before .before .before .args .t .now) (c .before .before .before .before .before .before .before .before .before .before .before .before .before .args .base) (c .before .before .before .before .before .before .before .before .before .before .before .before .before .args .j) (cellOf (c .before .before .before .before .before .before .before .before .before .before .before .before .before .args .t .now) ((c .before .before .before .before .before .before .before .before .before .before .before .before .before .args .base) + (c .before .before .before .before .before .before .before .before .before .before .before .before .before .args .j)) 2) (c .before .before .before .before .before .before .before .before .before .before .before .before .before .pre .0) (c .before .before .before .before .before .before .before .before .before .pattern-cell .ensures .0) (no-unit (c .before .before .if2 .taken)) (c .before .part .ensures), tt))
+    (λ c κs. search needs)
+    (λ c κs. (pattern-call (c .before .before .before .before .before .before .before .before .before .before .before .before .before .before .before .before .before .before .args .t .now) (c .before .before .before .before .before .before .before .before .before .before .before .before .before .before .before .before .before .before .args .base) (c .before .before .before .before .before .before .before .before .before .before .before .before .before .before .before .before .before .before .args .j) (cellOf (c .before .before .before .before .before .before .before .before .before .before .before .before .before .before .before .before .before .before .args .t .now) ((c .before .before .before .before .before .before .before .before .before .before .before .before .before .before .before .before .before .before .args .base) + (c .before .before .before .before .before .before .before .before .before .before .before .before .before .before .before .before .before .before .args .j)) 3) (c .before .before .before .before .before .before .before .before .before .before .before .before .before .before .before .before .before .before .pre .0) (c .before .before .before .before .before .before .before .before .before .before .before .before .before .before .pattern-cell .ensures .0) (no-unit (c .before .before .before .before .before .before .before .if2 .taken)) (c .before .part2 .ensures), tt))
     (λ c. search needs)
-    (build-at-returns-2 t)
+    (λ c. build-pair (c .before .before .before .before .before .before .before .before .before .before .before .before .before .before .before .before .before .before .before .before .before .args .t .now) (c .before .before .before .before .before .before .before .before .before .before .before .before .before .before .before .before .before .before .before .before .before .args .base) (c .before .before .before .before .before .before .before .before .before .before .before .before .before .before .before .before .before .before .before .before .before .args .j) (c .before .before .before .before .before .before .before .before .before .before .before .before .before .before .before .before .before .pattern-cell .ensures .0) (c .before .before .before .before .before .before .before .before .before .before .before .before .before .before .letter .ensures) (c .before .before .before .before .before .before .before .before .before .before .before .before .before .put-byte .ensures) (c .before .before .before .before .before .before .before .before .before .part .ensures) (c .before .before .before .before .before .before .before .build-at .ensures) (c .before .before .before .before .before .before .before .before .before .before .if2 .taken) (c .before .before .before .before .part2 .ensures) (c .before .before .build-at2 .kept .1 .1 .1 .1 .0) (c .before .before .build-at2 .ensures))
     (λ c κs. search needs)
-    (build-at-build-at-requires t)
+    (λ c κs. (pattern-call (c .before .before .before .before .before .before .before .before .before .before .before .before .before .before .before .args .t .now) (c .before .before .before .before .before .before .before .before .before .before .before .before .before .before .before .args .base) (c .before .before .before .before .before .before .before .before .before .before .before .before .before .before .before .args .j) (cellOf (c .before .before .before .before .before .before .before .before .before .before .before .before .before .before .before .args .t .now) ((c .before .before .before .before .before .before .before .before .before .before .before .before .before .before .before .args .base) + (c .before .before .before .before .before .before .before .before .before .before .before .before .before .before .before .args .j)) 2) (c .before .before .before .before .before .before .before .before .before .before .before .before .before .before .before .pre .0) (c .before .before .before .before .before .before .before .before .before .before .before .pattern-cell .ensures .0) (injects-no-unit (injects (c .before .before .before .before .before .before .before .before .before .before .before .pattern-cell .result) (c .before .before .before .if3 .left) (c .before .before .if4 .taken))) (c .before .part3 .ensures), tt))
     (λ c. search needs)
-    (build-at-returns-3 t)
-    (λ c κs. search needs)
-    (build-at-build-at-requires-2 t)
+    (λ c. build-tag (c .before .before .before .before .before .before .before .before .before .before .before .before .before .before .before .before .before .before .args .t .now) (c .before .before .before .before .before .before .before .before .before .before .before .before .before .before .before .before .before .before .args .base) (c .before .before .before .before .before .before .before .before .before .before .before .before .before .before .before .before .before .before .args .j) (c .before .before .before .before .before .before .before .before .before .before .before .before .before .before .pattern-cell .ensures .0) (c .before .before .before .before .before .before .before .before .before .before .before .letter .ensures) (c .before .before .before .before .before .before .before .before .before .before .put-byte .ensures) (c .before .before .before .before .part3 .ensures) (c .before .before .build-at3 .ensures) (c .before .before .before .before .before .before .if3 .left) (c .before .before .before .before .before .if4 .taken))
     (λ c. search needs)
-    (build-at-returns-4 t)
+    (λ c. build-low (c .before .before .before .before .before .before .before .before .before .before .before .before .args .t .now) (c .before .before .before .before .before .before .before .before .before .before .before .before .args .base) (c .before .before .before .before .before .before .before .before .before .before .before .before .args .j) (c .before .before .before .before .before .before .before .before .pattern-cell .ensures .0) (c .before .before .before .before .before .letter .ensures) (c .before .before .before .before .put-byte .ensures) (c .before .before .before .before .before .before .before .if1 .left) (c .if3 .taken))
+    (λ c. search needs)
+    (λ c. build-high (c .before .before .before .before .before .before .before .before .before .before .before .before .before .args .t .now) (c .before .before .before .before .before .before .before .before .before .before .before .before .before .args .base) (c .before .before .before .before .before .before .before .before .before .before .before .before .before .args .j) (c .before .before .before .before .before .before .before .before .before .pattern-cell .ensures .0) (c .before .before .before .before .before .before .letter .ensures) (c .before .before .before .before .before .put-byte .ensures) (c .before .before .before .before .before .before .before .before .if1 .left) (c .if4 .left) (c .before .before .if2 .left))

@@ -1,4 +1,4 @@
-use Rattle.run_patterns.proofs.Lines.{letter-rest}
+use Rattle.run_patterns.proofs.Lines.{letter-other}
 use Rattle.run_values.specs.Texts.{letterFor}
 use mathlib.Core.Path.{sym, ap}
 use Rattle.run_patterns.proofs.letter.Statement.{statement}
@@ -14,7 +14,7 @@ returns-3 : tie.Need-returns-3
 returns-3 c = sym (ap letterFor (c .if3 .taken))
 
 returns-4 : tie.Need-returns-4
-returns-4 c = sym (letter-rest (c .before .before .before .args .kind) (c .before .before .if1 .left) (c .before .if2 .left) (c .if3 .left))
+returns-4 c = sym (letter-other (c .before .before .before .args .kind) (c .before .before .if1 .left) (c .before .if2 .left) (c .if3 .left))
 
 pub letter-spec : {M : Type 1} → statement M
 letter-spec = tie.close (tie.spec returns returns-2 returns-3 returns-4)

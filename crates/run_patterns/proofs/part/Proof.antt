@@ -1,4 +1,4 @@
-use Rattle.run_patterns.proofs.Lines.{part-of}
+use Rattle.table_trees.proofs.Lines.{part-of}
 use borrow.Author.Needs.{needs}
 use Rattle.run_patterns.proofs.part.Statement.{statement}
 use Rattle.run_patterns.proofs.part.Tie as tie
@@ -10,7 +10,7 @@ smaller-requires : tie.Need-smaller-requires
 smaller-requires c κs = search needs
 
 returns : tie.Need-returns
-returns c = let a = c .before .before .before .args in part-of (a .t .now) (a .base) (a .j) (a .k) (c .before .pattern-cell .ensures .0) (c .smaller .ensures)
+returns c = let a = c .before .before .before .args in part-of (a .j) (c .before .pattern-cell .ensures .0) (c .smaller .ensures)
 
 pub part-spec : {M : Type 1} → statement M
 part-spec = tie.close (tie.spec pattern-cell-requires smaller-requires returns)

@@ -1,10 +1,8 @@
 -- `run_values::copy_range` meets its contract. The loop's invariant: what was read is written, and what is still to be read is as it was. The
 -- measure is what is left to read.
-use Rattle.run_values.proofs.Copying.{copy-end}
-use Rattle.run_values.proofs.Copying.{copy-reads, copy-writes}
+use Rattle.run_values.proofs.Copying.{copy-end, copy-reads, copy-writes, Copied, copy-start, copy-next, copy-behind, copy-before}
 use mathlib.Core.Path.{refl}
 use Prim.Native.Nat.{_-_}
-use Rattle.run_values.proofs.Copying.{Copied, copy-start, copy-next, copy-behind, copy-before}
 use borrow.Author.Needs.{needs}
 use Rattle.run_values.proofs.copy_range.Statement.{statement}
 use Rattle.run_values.proofs.copy_range.Tie as tie

@@ -45,7 +45,7 @@ returns c =
     let a = s .args in
     λ rs h long most.
     one-answered _ (a .k) (a .letters .now) (k .answer-line .last .1 .1 .1 .1 .1 .1 .0) (k .answer-line .result) (s .pre .1)
-    (k .answer-line .ensures rs h long most) (k .answer-line .kept .1 .1 .1 .1 .1 .1 .0) (p .put-three .ensures)
+    (λ room. k .answer-line .ensures rs h long most room .0) (k .answer-line .kept .1 .1 .1 .1 .1 .1 .0) (p .put-three .ensures)
 
 pub answer-one-spec : {M : Type 1} → statement M
 answer-one-spec =

@@ -94,7 +94,7 @@ answer-all-requires c κs =
     let k = f .before .before .before .before .before in
     let a = k .before .before .before .before .before .before .before .args in
     let r = answers-room (a .table .now) (a .work .now) (a .queries .now) (a .numbers .now) (a .letters .now) (k .count-lines .ensures) (f .is-short .ensures) (i .before .if1 .left) in
-    (call-room (a .table .now) (a .work .now) (a .numbers .now) (a .letters .now) (x .check-file .last .1 .1 .0) (k .count-lines .result) (f .is-short .ensures) (i .before .if1 .left) (x .check-file .kept .1 .1 .0), r .0, r .1)
+    (call-room (a .table .now) (a .work .now) (a .numbers .now) (a .letters .now) (x .check-file .last .1 .1 .0) (k .count-lines .result) (f .is-short .ensures) (i .before .if1 .left) (x .check-file .kept .1 .1 .0), r)
 
 clear-bytes-requires : tie.Need-clear-bytes-requires
 clear-bytes-requires c κs = search needs

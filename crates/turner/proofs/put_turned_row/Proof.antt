@@ -1,4 +1,5 @@
 -- `turner::put_turned_row` meets its contract: the row's letter and fields, exchanged and written. Assumes nothing.
+use Rattle.area_cells.proofs.Writing.{prints-writes}
 use Rattle.format.specs.Code.{rowView}
 use Rattle.turner.proofs.Exchanging.{row-written, row-unwritten}
 use borrow.Author.Needs.{needs}
@@ -50,7 +51,7 @@ returns c =
     let b = l .before in
     let a = b .before in
     row-written _ (rowView (e .exchanged .result)) (a .cell .ensures .0) (b .narrow .ensures) (l .kind-of .ensures) (k .k .given .1)
-    (x .cell2 .ensures) (y .cell3 .ensures) (z .cell4 .ensures) (e .exchanged .ensures) (p .put-row .ensures)
+    (x .cell2 .ensures) (y .cell3 .ensures) (z .cell4 .ensures) (e .exchanged .ensures) (λ x y z. prints-writes (p .put-row .ensures x y z))
 
 returns-2 : tie.Need-returns-2
 returns-2 c =

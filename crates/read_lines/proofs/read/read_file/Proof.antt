@@ -56,8 +56,8 @@ loop-again c = so-far-more (c .before .before .before .before .before .before .b
 enum-known-f : tie.Need-enum-known-f Inv-loop μ-loop
 enum-known-f c = search needs
 
-add-t21 : tie.Need-add-t21 Inv-loop μ-loop
-add-t21 c = omega (arith, room (c .before .before .before .before .before .before .before .before .loop .inv) (c .before .before .before .before .before .before .before .loop-test .taken) (c .before .before .before .before .before .before .line-end .ensures) (c .before .before .before .judge-line .result) (c .before .before .before .judge-line .ensures))
+add-t23 : tie.Need-add-t23 Inv-loop μ-loop
+add-t23 c = omega (arith, room (c .before .before .before .before .before .before .before .before .loop .inv) (c .before .before .before .before .before .before .before .loop-test .taken) (c .before .before .before .before .before .before .line-end .ensures) (c .before .before .before .judge-line .result) (c .before .before .before .judge-line .ensures))
 
 same-length : tie.Need-same-length Inv-loop μ-loop
 same-length c = c .before .before .before .before .before .before .before .before .loop .inv .wide
@@ -91,7 +91,7 @@ read-file-spec =
     loop-less
     loop-again
     enum-known-f
-    add-t21
+    add-t23
     same-length
     returns
     same-length-2

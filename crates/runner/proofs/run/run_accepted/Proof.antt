@@ -41,7 +41,7 @@ returns c =
     let h = p .before .before .before .before .before .before .pre in
     let n = front-length (a .room) (a .work .now) h in (
       front-rest (a .room) (a .work .now) (k .run-checked .last .1 .1 .1 .1 .1 .1 .1 .1 .0) _ h (k .run-checked .kept .1 .1 .1 .1 .1 .1 .1 .1 .0) refl,
-      λ s x long short result. k .run-checked .ensures (x .file) (p .prepare .ensures s x (omega arith)) (omega (arith, n, long)) (omega (arith, n, short)) result,
+      λ s x long short result. k .run-checked .ensures (x .file) (p .prepare .ensures s x (omega arith)) (omega (arith, n, long)) (omega (arith, n, short)) result .0,
     )
 
 pub run-accepted-spec : {M : Type 1} → statement M

@@ -1,0 +1,119 @@
+//! Single calls of the services beyond Check, Turn and Run: each on file S and, where the cost can grow, on a
+//! large input.
+
+use crate::call::Call;
+use crate::inputs;
+use rulefile::Overlap;
+
+pub struct Single {
+    pub label: &'static str,
+    pub call: fn() -> Call,
+}
+
+/// The T line of two bits and the iso of two clauses in file S, and a setting with its number.
+const BITS: u32 = 2;
+const ISO: u32 = 1;
+const SETTING: (&[u8], u32) = (b"PLURU", 1);
+
+pub const SINGLES: [Single; 18] = [
+    Single {
+        label: "Number of a setting, file S",
+        call: || Call::number(inputs::s(), BITS, SETTING.0.to_vec(), SETTING.1),
+    },
+    Single {
+        label: "Number of a setting, type of 127 nodes",
+        call: || {
+            let (file, ty) = inputs::many_settings();
+            Call::number(file, ty, inputs::last_setting(), inputs::LAST)
+        },
+    },
+    Single {
+        label: "Setting of a number, file S",
+        call: || Call::setting(inputs::s(), BITS, SETTING.0.to_vec(), SETTING.1),
+    },
+    Single {
+        label: "Setting of a number, type of 127 nodes",
+        call: || {
+            let (file, ty) = inputs::many_settings();
+            Call::setting(file, ty, inputs::last_setting(), inputs::LAST)
+        },
+    },
+    Single {
+        label: "Overlap, file S",
+        call: || {
+            let (clash, pairs) = (true, 2);
+            Call::overlap(inputs::s(), 5, 7, Overlap { clash, pairs })
+        },
+    },
+    Single {
+        label: "Overlap, patterns of 127 nodes, no clash",
+        call: || {
+            let (file, left, right) = inputs::two_trees();
+            let (clash, pairs) = (false, 127);
+            Call::overlap(file, left, right, Overlap { clash, pairs })
+        },
+    },
+    Single {
+        label: "Bounds, file S",
+        call: || Call::bounds(inputs::s(), ISO),
+    },
+    Single {
+        label: "Bounds, tower of 32 isos",
+        call: || Call::bounds(inputs::tower(), 31),
+    },
+    Single {
+        label: "Bounds, 32 isos in 4,096 lines",
+        call: || Call::bounds(inputs::long(4_096), 31),
+    },
+    Single {
+        label: "Export, file S",
+        call: || Call::export(inputs::s(), ISO, 2),
+    },
+    Single {
+        label: "Export, 4,096 values of 12 bits",
+        call: || Call::export(inputs::flips(12), 1, inputs::FLIPS),
+    },
+    Single {
+        label: "Import, 4 pairs, file S",
+        call: || Call::import(inputs::s(), inputs::turned_list(4)),
+    },
+    Single {
+        label: "Import, 32 pairs, 1,023 P lines written",
+        call: || {
+            let file = inputs::sum(32, inputs::PRODUCTS);
+            Call::import(file, inputs::turned_list(32))
+        },
+    },
+    Single {
+        label: "Witness of a gap, file S without its last line",
+        call: || Call::witness(inputs::s_with_last_line(0)),
+    },
+    Single {
+        label: "Witness of a gap, 31 clauses of 127 nodes",
+        call: || Call::witness(inputs::late_gap()),
+    },
+    Single {
+        label: "Witness of a gap, 1 of 4,294,967,296 settings, 32 clauses",
+        call: || Call::witness(inputs::gap()),
+    },
+    Single {
+        label: "Witness of an overlap, file S with its last line twice",
+        call: || Call::witness(inputs::s_with_last_line(2)),
+    },
+    Single {
+        label: "Witness of an overlap, 32 clauses of 127 nodes",
+        call: || Call::witness(inputs::overlap()),
+    },
+];
+
+#[cfg(test)]
+mod tests {
+    use super::*;
+
+    #[test]
+    fn single_calls_give_the_expected_answers() {
+        for single in &SINGLES {
+            (single.call)().agree();
+        }
+    }
+}

@@ -1,2 +1,0 @@
--- The shape of a P line.
-pub mod Shapes

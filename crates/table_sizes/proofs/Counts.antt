@@ -1,0 +1,163 @@
+-- The counts of an unfolded line's nodes, from those of the lines that it names, up to the ceiling that stands for more.
+use Prim.Native.Nat.{ℕ, _+_, min}
+use native.Mathlib.Omega.{arith}
+use mathlib.Core.Path.{_≡_, refl, sym, ap, _∙_, subst}
+use mathlib.Core.List.{List}
+use Rattle.limits.specs.Limits.{manyTags, manyNodes}
+use Rattle.calculus.specs.Trees.{Ty, typeNodes, Pat, nodes, tags}
+use Rattle.format.specs.Judge.{typeNode, patternNode}
+use Rattle.table_trees.specs.Unfolding.{cellOf, smallerOf, typeOf, patternOf}
+use Rattle.table_trees.proofs.Cases.{Parted, sums, products, Whole, node-whole, Injects, lefts, rights, Leaf, unit, var, other}
+use Rattle.table_trees.proofs.Unfolding.{type-node, pattern-node}
+
+-- ---- a node's count, by its kind
+
+pub whole-count : {k : ℕ} (a b : Ty) → Whole k → typeNodes (typeNode k a b) ≡ 1
+whole-count a b h = ap typeNodes (node-whole a b h)
+
+pub type-count : {k : ℕ} (a b : Ty) → Parted k → typeNodes (typeNode k a b) ≡ 1 + typeNodes a + typeNodes b
+type-count a b sums = refl
+type-count a b products = refl
+
+pub leaf-count : {k : ℕ} (n : ℕ) (p q : Pat) → Leaf k → nodes (patternNode k n p q) ≡ 1
+leaf-count n p q unit = refl
+leaf-count n p q var = refl
+leaf-count n p q (other k) = refl
+
+pub inj-count : {k : ℕ} (n : ℕ) (p q : Pat) → Injects k → nodes (patternNode k n p q) ≡ 1 + nodes p
+inj-count n p q lefts = refl
+inj-count n p q rights = refl
+
+pub pair-count : {k : ℕ} (n : ℕ) (p q : Pat) → k ≡ 4 → nodes (patternNode k n p q) ≡ 1 + nodes p + nodes q
+pair-count n p q e = ap (λ k. nodes (patternNode k n p q)) e
+
+pub leaf-tags : {k : ℕ} (n : ℕ) (p q : Pat) → Leaf k → tags (patternNode k n p q) ≡ 0
+leaf-tags n p q unit = refl
+leaf-tags n p q var = refl
+leaf-tags n p q (other k) = refl
+
+pub inj-tags : {k : ℕ} (n : ℕ) (p q : Pat) → Injects k → tags (patternNode k n p q) ≡ 1 + tags p
+inj-tags n p q lefts = refl
+inj-tags n p q rights = refl
+
+pub pair-tags : {k : ℕ} (n : ℕ) (p q : Pat) → k ≡ 4 → tags (patternNode k n p q) ≡ tags p + tags q
+pair-tags n p q e = ap (λ k. tags (patternNode k n p q)) e
+
+-- ---- counts that stop at a ceiling
+
+-- one node above two trees
+pub above-two : {m n r : ℕ} (x y z : ℕ) → m ≡ min manyNodes x → n ≡ min manyNodes y → r ≡ min manyNodes (1 + m + n) → z ≡ 1 + x + y → r ≡ min manyNodes z
+above-two x y z p q e f = omega arith
+
+pub above-one : {m r : ℕ} (x z : ℕ) → m ≡ min manyNodes x → r ≡ min manyNodes (1 + m + 0) → z ≡ 1 + x → r ≡ min manyNodes z
+above-one x z p e f = omega arith
+
+pub both : {m n r : ℕ} (x y z : ℕ) → m ≡ min manyTags x → n ≡ min manyTags y → r ≡ min manyTags (m + n) → z ≡ x + y → r ≡ min manyTags z
+both x y z p q e f = omega arith
+
+pub one-more : {m r : ℕ} (x z : ℕ) → m ≡ min manyTags x → r ≡ min manyTags (1 + m) → z ≡ 1 + x → r ≡ min manyTags z
+one-more x z p e f = omega arith
+
+-- ---- T lines: k is the kind, a and b are the lines that line i names, m and n what was counted there
+
+module _ (t : List ℕ) (i : ℕ) where
+  pub type-size-whole : {k : ℕ} → k ≡ cellOf t i 1 → Whole k → 1 ≡ min manyNodes (typeNodes (typeOf t i))
+  type-size-whole e h = sym (ap (min manyNodes) (ap typeNodes (type-node t i) ∙ whole-count _ _ (subst Whole e h)))
+
+  pub type-size-node :
+      {k u v a b m n r : ℕ} →
+      k ≡ cellOf t i 1 →
+      Parted k →
+      u ≡ cellOf t i 2 →
+      a ≡ smallerOf u i →
+      v ≡ cellOf t i 3 →
+      b ≡ smallerOf v i →
+      m ≡ min manyNodes (typeNodes (typeOf t a)) →
+      n ≡ min manyNodes (typeNodes (typeOf t b)) →
+      r ≡ min manyNodes (1 + m + n) →
+      r ≡ min manyNodes (typeNodes (typeOf t i))
+  type-size-node e h f s g w p q r =
+      above-two _ _ _
+      (p ∙ ap (λ x. min manyNodes (typeNodes (typeOf t x))) (s ∙ ap (λ x. smallerOf x i) f))
+      (q ∙ ap (λ x. min manyNodes (typeNodes (typeOf t x))) (w ∙ ap (λ x. smallerOf x i) g))
+      r
+      (ap typeNodes (type-node t i) ∙ type-count _ _ (subst Parted e h))
+
+-- ---- P lines, likewise
+
+module _ (t : List ℕ) (base j : ℕ) where
+  pub pattern-size-leaf : {k : ℕ} → k ≡ cellOf t (base + j) 1 → Leaf k → 1 ≡ min manyNodes (nodes (patternOf t base j))
+  pattern-size-leaf e h =
+      sym (ap (min manyNodes) (ap nodes (pattern-node t base j) ∙ leaf-count _ _ _ (subst Leaf e h)))
+
+  pub pattern-size-inj :
+      {k u a m r : ℕ} →
+      k ≡ cellOf t (base + j) 1 →
+      Injects k →
+      u ≡ cellOf t (base + j) 2 →
+      a ≡ smallerOf u j →
+      m ≡ min manyNodes (nodes (patternOf t base a)) →
+      r ≡ min manyNodes (1 + m + 0) →
+      r ≡ min manyNodes (nodes (patternOf t base j))
+  pattern-size-inj e h f s p r =
+      above-one _ _
+      (p ∙ ap (λ x. min manyNodes (nodes (patternOf t base x))) (s ∙ ap (λ x. smallerOf x j) f))
+      r
+      (ap nodes (pattern-node t base j) ∙ inj-count _ _ _ (subst Injects e h))
+
+  pub pattern-size-pair :
+      {k u v a b m n r : ℕ} →
+      k ≡ cellOf t (base + j) 1 →
+      k ≡ 4 →
+      u ≡ cellOf t (base + j) 2 →
+      a ≡ smallerOf u j →
+      v ≡ cellOf t (base + j) 3 →
+      b ≡ smallerOf v j →
+      m ≡ min manyNodes (nodes (patternOf t base a)) →
+      n ≡ min manyNodes (nodes (patternOf t base b)) →
+      r ≡ min manyNodes (1 + m + n) →
+      r ≡ min manyNodes (nodes (patternOf t base j))
+  pattern-size-pair e h f s g w p q r =
+      above-two _ _ _
+      (p ∙ ap (λ x. min manyNodes (nodes (patternOf t base x))) (s ∙ ap (λ x. smallerOf x j) f))
+      (q ∙ ap (λ x. min manyNodes (nodes (patternOf t base x))) (w ∙ ap (λ x. smallerOf x j) g))
+      r
+      (ap nodes (pattern-node t base j) ∙ pair-count _ _ _ (sym e ∙ h))
+
+  pub pattern-tags-leaf : {k : ℕ} → k ≡ cellOf t (base + j) 1 → Leaf k → 0 ≡ min manyTags (tags (patternOf t base j))
+  pattern-tags-leaf e h =
+      sym (ap (min manyTags) (ap tags (pattern-node t base j) ∙ leaf-tags _ _ _ (subst Leaf e h)))
+
+  pub pattern-tags-inj :
+      {k u a m r : ℕ} →
+      k ≡ cellOf t (base + j) 1 →
+      Injects k →
+      u ≡ cellOf t (base + j) 2 →
+      a ≡ smallerOf u j →
+      m ≡ min manyTags (tags (patternOf t base a)) →
+      r ≡ min manyTags (1 + m) →
+      r ≡ min manyTags (tags (patternOf t base j))
+  pattern-tags-inj e h f s p r =
+      one-more _ _
+      (p ∙ ap (λ x. min manyTags (tags (patternOf t base x))) (s ∙ ap (λ x. smallerOf x j) f))
+      r
+      (ap tags (pattern-node t base j) ∙ inj-tags _ _ _ (subst Injects e h))
+
+  pub pattern-tags-pair :
+      {k u v a b m n r : ℕ} →
+      k ≡ cellOf t (base + j) 1 →
+      k ≡ 4 →
+      u ≡ cellOf t (base + j) 2 →
+      a ≡ smallerOf u j →
+      v ≡ cellOf t (base + j) 3 →
+      b ≡ smallerOf v j →
+      m ≡ min manyTags (tags (patternOf t base a)) →
+      n ≡ min manyTags (tags (patternOf t base b)) →
+      r ≡ min manyTags (m + n) →
+      r ≡ min manyTags (tags (patternOf t base j))
+  pattern-tags-pair e h f s g w p q r =
+      both _ _ _
+      (p ∙ ap (λ x. min manyTags (tags (patternOf t base x))) (s ∙ ap (λ x. smallerOf x j) f))
+      (q ∙ ap (λ x. min manyTags (tags (patternOf t base x))) (w ∙ ap (λ x. smallerOf x j) g))
+      r
+      (ap tags (pattern-node t base j) ∙ pair-tags _ _ _ (sym e ∙ h))

@@ -1,0 +1,2 @@
+-- Laws about the counts of nodes.
+pub mod Counts

@@ -1,0 +1,28 @@
+-- `table_sizes::above` meets its contract: where either count, or both together, reach 127, the sum with the node is at least 128.
+use native.Mathlib.Omega.{arith}
+use Rattle.table_sizes.proofs.above.Statement.{statement}
+use Rattle.table_sizes.proofs.above.Tie as tie
+
+returns : tie.Need-returns
+returns c = omega arith
+
+returns-2 : tie.Need-returns-2
+returns-2 c = omega arith
+
+add-if3 : tie.Need-add-if3
+add-if3 c = omega arith
+
+returns-3 : tie.Need-returns-3
+returns-3 c = omega arith
+
+add-result : tie.Need-add-result
+add-result c = omega arith
+
+add-result-2 : tie.Need-add-result-2
+add-result-2 c = omega arith
+
+returns-4 : tie.Need-returns-4
+returns-4 c = omega arith
+
+pub above-spec : {M : Type 1} → statement M
+above-spec = tie.close (tie.spec returns returns-2 add-if3 returns-3 add-result add-result-2 returns-4)

@@ -1,0 +1,104 @@
+// The trees that the table's T and P lines unfold to: unfolded size and left/right count, by recursion over
+// lines whose numbers fall.
+
+use codes::FIRST;
+use codes::KIND;
+use codes::LEFT;
+use codes::PAIR;
+use codes::PRODUCT;
+use codes::RIGHT;
+use codes::SECOND;
+use codes::SUM;
+use limits::MANY_NODES;
+use limits::MANY_TAGS;
+use limits::MAX_NODES;
+use table_trees::cell;
+use table_trees::pattern_cell;
+use table_trees::smaller;
+ghost use mathlib.Core.Path.{_≡_};
+ghost use Prim.Native.Nat.{_+_, min};
+ghost use Rattle.limits.specs.Limits.{manyTags, manyNodes};
+ghost use Rattle.calculus.specs.Trees.{typeNodes, nodes, tags};
+ghost use Rattle.table_trees.specs.Unfolding.{typeOf, patternOf};
+
+// One node above two trees, at most 128 nodes told apart.
+pub fn above(m: usize, n: usize) -> usize
+    ensures { λ r. ⌜ r ≡ min manyNodes (1 + m + n) ⌝ }
+{
+    if MAX_NODES <= m {
+        return MANY_NODES;
+    }
+    if MAX_NODES <= n {
+        return MANY_NODES;
+    }
+    if MAX_NODES <= m + n {
+        return MANY_NODES;
+    }
+    1 + m + n
+}
+
+// The nodes of T line i, unfolded; 128 stands for more than 127.
+pub fn type_size(t: &[u16], i: usize) -> usize
+    ensures { λ r. ⌜ r ≡ min manyNodes (typeNodes (typeOf (now (t .entry)) i)) ⌝ }
+{
+    match cell(t, i, KIND) {
+        SUM | PRODUCT => {
+            let a = smaller(cell(t, i, FIRST), i);
+            let b = smaller(cell(t, i, SECOND), i);
+            above(type_size(t, a), type_size(t, b))
+        }
+        _ => 1,
+    }
+}
+
+// The nodes of P line j, unfolded; 128 stands for more than 127.
+pub fn pattern_size(t: &[u16], base: usize, j: usize) -> usize
+    ensures { λ r. ⌜ r ≡ min manyNodes (nodes (patternOf (now (t .entry)) base j)) ⌝ }
+{
+    match pattern_cell(t, base, j, KIND) {
+        LEFT | RIGHT => {
+            let a = smaller(pattern_cell(t, base, j, FIRST), j);
+            above(pattern_size(t, base, a), 0)
+        }
+        PAIR => {
+            let a = smaller(pattern_cell(t, base, j, FIRST), j);
+            let b = smaller(pattern_cell(t, base, j, SECOND), j);
+            above(pattern_size(t, base, a), pattern_size(t, base, b))
+        }
+        _ => 1,
+    }
+}
+
+// Two counts together, at most 41 told apart.
+pub fn together(m: usize, n: usize) -> usize
+    ensures { λ r. ⌜ r ≡ min manyTags (m + n) ⌝ }
+{
+    if MANY_TAGS <= m {
+        return MANY_TAGS;
+    }
+    if MANY_TAGS <= n {
+        return MANY_TAGS;
+    }
+    if MANY_TAGS <= m + n {
+        return MANY_TAGS;
+    }
+    m + n
+}
+
+// The left and right nodes of P line j, unfolded; 41 stands for more than 40.
+pub fn pattern_tags(t: &[u16], base: usize, j: usize) -> usize
+    ensures { λ r. ⌜ r ≡ min manyTags (tags (patternOf (now (t .entry)) base j)) ⌝ }
+{
+    match pattern_cell(t, base, j, KIND) {
+        LEFT | RIGHT => {
+            let a = smaller(pattern_cell(t, base, j, FIRST), j);
+            together(1, pattern_tags(t, base, a))
+        }
+        PAIR => {
+            let a = smaller(pattern_cell(t, base, j, FIRST), j);
+            let b = smaller(pattern_cell(t, base, j, SECOND), j);
+            together(pattern_tags(t, base, a), pattern_tags(t, base, b))
+        }
+        _ => 0,
+    }
+}

@@ -1,0 +1,46 @@
+-- Clauses and sides as the table holds them, and what the code's tests of them come to.
+use Prim.Native.Nat.{ℕ, zero, suc, _-_, _^_}
+use mathlib.Core.Option.{Option}
+use mathlib.Core.List.{List, [], _∷_, map}
+use Rattle.limits.specs.Limits.{maxTags}
+use Rattle.calculus.specs.Tools.{firstFailing}
+use Rattle.calculus.specs.Trees.{Pat, Let, Clause, left, right}
+use Rattle.calculus.specs.Refusals.{Refusal, isoLine, overlap, gap}
+use Rattle.calculus.specs.Clauses.{Sigs, apart, fullWeight}
+use Rattle.table_trees.specs.Unfolding.{cellOf, typeOf, patternOf}
+
+-- the L line in row n, and the L lines in `count` rows from n on
+abbrev pub letAt : List ℕ → ℕ → ℕ → Let
+letAt t base n = record { p = patternOf t base (cellOf t n 1); iso = cellOf t n 2; q = patternOf t base (cellOf t n 3) }
+
+abbrev pub letsIn : List ℕ → ℕ → ℕ → ℕ → List Let
+letsIn t base n zero = []
+letsIn t base n (suc count) = letAt t base n ∷ letsIn t base (suc n) count
+
+-- the clause whose C line is in a row, with the L lines up to row `end`
+abbrev pub clauseIn : List ℕ → ℕ → ℕ → ℕ → Clause
+clauseIn t base row end =
+    record {
+      line = suc row;
+      lhs = patternOf t base (cellOf t row 1);
+      lets = letsIn t base (suc row) (end - suc row);
+      rhs = patternOf t base (cellOf t row 2);
+    }
+
+-- the types of the isos whose I lines are in these rows
+abbrev pub sigsIn : List ℕ → List ℕ → Sigs
+sigsIn t starts = map (λ r. (typeOf t (cellOf t r 1), typeOf t (cellOf t r 2))) starts
+
+-- field k of the C lines in these rows, as patterns
+abbrev pub patternsAt : List ℕ → ℕ → ℕ → List ℕ → List Pat
+patternsAt t base k rows = map (λ r. patternOf t base (cellOf t r k)) rows
+
+-- the weight of a pattern with k left and right nodes
+abbrev pub weightAt : ℕ → ℕ
+weightAt k = 2 ^ (maxTags - k)
+
+-- the lowest of 11 to 14 for the left and the right patterns of an iso
+unfoldable pub sidesFault : List Pat → List Pat → Option Refusal
+sidesFault ls rs =
+    firstFailing
+    ((apart ls, overlap isoLine left) ∷ (apart rs, overlap isoLine right) ∷ (fullWeight ls, gap isoLine left) ∷ (fullWeight rs, gap isoLine right) ∷ [])

@@ -1,0 +1,2 @@
+pub mod InTable
+pub mod Walk
