@@ -24,19 +24,18 @@ use limits::VARIABLES;
 use table_trees::cell;
 ghost use mathlib.Core.Path.{_≡_};
 ghost use mathlib.Core.List.{List};
-ghost use mathlib.Core.Bool.{cond};
 ghost use mathlib.Core.Option.{none};
 ghost use Prim.Native.Nat.{ℕ, _-_, _<_};
-ghost use lib.Dec.{ltb};
 ghost use lib.ListN.{getElem?, replicate};
 ghost use Rattle.limits.specs.Limits.{maxLines, variables};
 ghost use Rattle.format.specs.Code.{refusalView};
-ghost use Rattle.calculus.specs.Clauses.{letEvents, clauseFault};
+ghost use Rattle.calculus.specs.Clauses.{letEvents};
 ghost use Rattle.table_trees.specs.Unfolding.{cellOf, typeOf};
 ghost use Rattle.check_variables.specs.Marks.{markEvents};
 ghost use Rattle.check_typing.specs.Fitting.{envView};
-ghost use Rattle.check_typing.specs.Rules.{Slotted, marked, shaped, fitLet, fittedLets, fitted, testedFault};
+ghost use Rattle.check_typing.specs.Rules.{marked, shaped, fitLet, fittedLets, fitted};
 ghost use Rattle.table_walks.specs.InTable.{letAt, letsIn, clauseIn, sigsIn};
+ghost use Rattle.check_clauses.specs.ClauseTold.{ClauseTold};
 
 // No variable is bound yet.
 fn no_marks() -> Marks
@@ -184,15 +183,7 @@ pub fn clause_fault(
     row: usize,
     end: usize,
 ) -> Refusal
-    ensures { λ r. ⌜
-        (row < maxLines → Slotted (clauseIn (now (t .entry)) base row end)
-        → refusalView r ≡ clauseFault (sigsIn (now (t .entry)) (now (starts .entry)))
-        (typeOf (now (t .entry)) a) (typeOf (now (t .entry)) b)
-        (clauseIn (now (t .entry)) base row end))
-        × (refusalView r ≡ cond (ltb row maxLines)
-        (testedFault (sigsIn (now (t .entry)) (now (starts .entry))) (typeOf (now (t .entry)) a)
-        (typeOf (now (t .entry)) b) (clauseIn (now (t .entry)) base row end)) none)
-        ⌝ }
+    ensures { λ r. ⌜ ClauseTold (now (t .entry)) base (now (starts .entry)) a b row end (refusalView r) ⌝ }
 {
     if MAX_LINES <= row {
         return Refusal::Nothing;

@@ -1,11 +1,13 @@
 -- The promises of `specs/Requests.antt`, proved.
 use Prim.Native.Nat.{ℕ}
 use native.Mathlib.Omega.{arith}
-use mathlib.Core.Path.{_≡_, refl, sym, ap, _∙_, subst}
+use mathlib.Core.Path.{_≡_, refl, sym, ap, ap₂, _∙_, subst}
 use mathlib.Core.Bool.{Bool, _||_}
 use mathlib.Core.List.{List, [], _∷_}
 use lib.Dec.{ltb}
-use lib.ListN.{length}
+use lib.ListN.{length, take, drop}
+use lib.Seq.{take-append-seam}
+use borrow.Author.Tests.{le-ltb}
 use Rattle.limits.specs.Limits.{resultLength}
 use Rattle.format.specs.Lines.{withoutReturns}
 use Rattle.model.specs.Services.{verdict, written, short, unless, turned, runOf, run, RunAnswer, answerOfRun, RunResult, runService}
@@ -15,11 +17,14 @@ use Rattle.model.proofs.Sheets.{block, Room, as-check, each-query}
 use Rattle.law_costs.specs.Bounds.{boundsService}
 use Rattle.law_costs.proofs.Served.{turned-same}
 use Rattle.law_endings.proofs.Feeds.{turned-returnless}
+use Rattle.law_witnesses.proofs.Served.{as-check as as-shown, served-shows, served-silent}
+use Rattle.law_pairlists.specs.PairLists.{Traded, exportService}
+use Rattle.law_pairlists.proofs.Services.{import-checks, import-exports}
 use Rattle.law_reordering.specs.Reordered.{SameButOrder}
 use Rattle.law_reordering.proofs.Files.{reordered-sym}
 use Rattle.law_reordering.proofs.Services.{check-both, run-same, turned-same as turned-order}
-use Rattle.demands.specs.Words.{Areas, Accepted, turnedBytes}
-use Rattle.demands.specs.Requests.{SheetOfLoneRuns, BoundsOfTurned, TurnedWithFeeds, TurnedTwice, BothAccepted, AnswerAlike, TurnedAlike}
+use Rattle.demands.specs.Words.{Areas, yes, Accepted, turnedBytes}
+use Rattle.demands.specs.Requests.{SheetOfLoneRuns, BoundsOfTurned, TurnedWithFeeds, TurnedTwice, importedBytes, ImportAccepted, ExportOfImport, ShowsAsCheck, ShowsFault, BothAccepted, AnswerAlike, TurnedAlike}
 use Rattle.demands.proofs.Serving.{not-short, accepted-rows, turn-writes, gives-run, run-gives, zero-says}
 use Rattle.demands.proofs.Demands.{accepted-anywhere}
 
@@ -73,6 +78,27 @@ turned-twice-too file a t w output t₂ w₂ output₂ areas h areas₂ h₂ =
     let same = turn-writes file output areas h in
     let fits = turned-fits file rs e in
     ap (λ bs. turnedBytes bs t₂ w₂ output₂) same ∙ turn-writes (turned file) output₂ areas₂ (omega arith) ∙ turned-twice file rs e
+
+-- ---- request 07
+
+pub import-accepted : ImportAccepted
+import-accepted file t w i j list output e t₂ w₂ areas =
+    import-checks file t w i j list output (ap (λ x. x .number) e) t₂ w₂ (areas .long) (areas .wide)
+
+pub export-of-import : ExportOfImport
+export-of-import file t w i j list output r same e budget l t₂ w₂ output₂ areas room =
+    let n = ap (λ (x : Traded). x .answer .number) (sym same) ∙ ap (λ x. x .number) e in
+    let x = import-exports file t w i j list output n budget t₂ w₂ output₂ l (areas .long) (areas .wide) room in
+    subst (λ (y : Traded). (exportService (importedBytes y) t₂ w₂ 0 budget output₂ .answer ≡ yes) × (importedBytes (exportService (importedBytes y) t₂ w₂ 0 budget output₂) ≡ withoutReturns list)) (sym same)
+    (x .0, ap₂ take (x .1) (x .2) ∙ take-append-seam (withoutReturns list) (drop (length (withoutReturns list)) output₂))
+
+-- ---- request 09
+
+pub shows-as-check : ShowsAsCheck
+shows-as-check file t w result room = as-shown file t w result (le-ltb (length result) resultLength room)
+
+pub shows-fault : ShowsFault
+shows-fault file t w result = (served-shows file t w result, served-silent file t w result)
 
 -- ---- request 08
 

@@ -1,17 +1,20 @@
 -- Promises of the requests that speak of more than one call, each of which gets areas of its own. What else the requests promise is said of one service, in the crates
--- `model` (`Sheets`), `ranking`, `reuse`, `comparison`, `costs`, `endings` and `reordering`.
+-- `model` (`Sheets`), `check_overlap` and those whose names begin with `law_`.
 use Prim.Native.Nat.{ℕ, _*_, _≤_}
 use mathlib.Core.Path.{_≡_}
 use mathlib.Core.Logic.{_↔_}
-use mathlib.Core.Bool.{Bool}
+use mathlib.Core.Bool.{Bool, true, false}
 use mathlib.Core.Option.{some}
 use mathlib.Core.List.{List, [], _∷_}
 use lib.ListN.{length, take, drop, getElem?}
 use Rattle.format.specs.Lines.{lines, withoutReturns}
-use Rattle.model.specs.Services.{RunResult, runService}
+use Rattle.model.specs.Services.{check, RunResult, runService}
 use Rattle.model.specs.Desk.{Query, queryOf}
 use Rattle.model.specs.Sheet.{sheet}
 use Rattle.law_costs.specs.Bounds.{boundsService}
+use Rattle.law_witnesses.specs.Showing.{showService}
+use Rattle.law_witnesses.specs.Served.{sideAnswer, Given}
+use Rattle.law_pairlists.specs.PairLists.{Traded, importService, exportService}
 use Rattle.law_reordering.specs.Reordered.{SameButOrder}
 use Rattle.demands.specs.Words.{Areas, yes, Accepted, turnedBytes, Gives}
 
@@ -44,6 +47,40 @@ abbrev pub TurnedTwice : Type 0
 TurnedTwice =
     (file : List ℕ) → Accepted file → (t w output t₂ w₂ output₂ : List ℕ) → Areas t w → length file ≤ length output → Areas t₂ w₂ → length file ≤ length output₂
     → turnedBytes (turnedBytes file t w output) t₂ w₂ output₂ ≡ withoutReturns file
+
+-- Request 07, what Import wrote: of its output area the first bytes, as many as the length that it gives; and what Export wrote.
+abbrev pub importedBytes : Traded → List ℕ
+importedBytes r = take (r .length) (r .output)
+
+-- an import that is not refused is a file that Check accepts
+abbrev pub ImportAccepted : Type 0
+ImportAccepted =
+    (file t w : List ℕ) (i j : ℕ) (list output : List ℕ) → importService file t w i j list output .answer ≡ yes
+    → (t₂ w₂ : List ℕ) → Areas t₂ w₂ → check (importedBytes (importService file t w i j list output)) t₂ w₂ .answer ≡ yes
+
+-- "Exporting an imported list with a budget of 1 or more gives the list without its carriage returns."
+abbrev pub ExportOfImport : Type 0
+ExportOfImport =
+    (file t w : List ℕ) (i j : ℕ) (list output : List ℕ) → (r : Traded) → r ≡ importService file t w i j list output → r .answer ≡ yes
+    → (budget : ℕ) → 1 ≤ budget → (t₂ w₂ output₂ : List ℕ) → Areas t₂ w₂ → 40960 ≤ length output₂
+    → (exportService (importedBytes r) t₂ w₂ 0 budget output₂ .answer ≡ yes)
+    × (importedBytes (exportService (importedBytes r) t₂ w₂ 0 budget output₂) ≡ withoutReturns list)
+
+-- Request 09: "A service of its own answers as Check does", in the same areas; with a short result area it is 1.
+abbrev pub ShowsAsCheck : Type 0
+ShowsAsCheck =
+    (file t w result : List ℕ) → 127 ≤ length result
+    → (showService file t w result .answer ≡ check file t w .answer) × (showService file t w result .table ≡ check file t w .table)
+    × (showService file t w result .work ≡ check file t w .work)
+
+-- "and gives, for the iso and side refused, the value …, with the fewest letters, the first in byte order among those. Its length is given, and it
+-- goes into 127 lent bytes; for other answers no value is given and the bytes stay unchanged."
+abbrev pub ShowsFault : Type 0
+ShowsFault =
+    (file t w result : List ℕ)
+    → (sideAnswer (showService file t w result .answer) ≡ true → Given file result (showService file t w result))
+    × (sideAnswer (showService file t w result .answer) ≡ false
+    → (showService file t w result .length ≡ 0) × (showService file t w result .result ≡ result))
 
 -- Request 08: "Two files that differ only in the order of clauses within isos … are both accepted or both refused, and if accepted answer every query alike": one gives y
 -- for x with a count exactly when the other does; and so it is with the turned files.

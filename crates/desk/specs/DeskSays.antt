@@ -1,4 +1,4 @@
--- What the desk's functions assume of state and areas, and what they leave there, against the machine of the queries' specs/Stream.
+-- What the desk's functions assume of state and areas, and what they leave there, against the machine of `query_lines/specs/Stream`.
 use Prim.Native.Nat.{ℕ, _+_, _≤_, _<_}
 use mathlib.Core.Path.{_≡_}
 use mathlib.Core.Logic.{_⊎_}

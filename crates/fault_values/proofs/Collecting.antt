@@ -5,6 +5,7 @@ use mathlib.Core.Path.{_≡_, refl, sym, ap, ap₂, _∙_, subst}
 use mathlib.Core.Option.{some}
 use mathlib.Core.List.{List, [], _∷_, map}
 use lib.ListN.{length, getElem?, drop, set, length-set, length-drop, length-map, drop-of-length-le}
+use Rattle.limits.specs.Limits.{maxClauses}
 use Rattle.calculus.specs.Trees.{Ty, Pat}
 use Rattle.calculus.specs.Refusals.{Kind, typeLine, patternLine, isoLine, clauseLine, letLine}
 use Rattle.format.specs.Lines.{Row, letter}
@@ -28,11 +29,11 @@ kept ts ps clauseLine n r o c i = absurd (c refl)
 kept ts ps letLine n r o c i = refl
 
 -- no clauses
-empty : (l : List ℕ) → length l ≡ 32 → [] ≡ drop 32 l
-empty l h = sym (drop-of-length-le l {i = 32} (omega arith))
+empty : (l : List ℕ) → length l ≡ maxClauses → [] ≡ drop maxClauses l
+empty l h = sym (drop-of-length-le l {i = maxClauses} (omega arith))
 
 module _ {t : List ℕ} {base patterns lines : ℕ} {rs : List Row} (f : FileIn t base patterns lines rs) where
-  pub collected-start : (l : List ℕ) → length l ≡ 32 → Collected t base rs lines (record { rows = l; first = 32 })
+  pub collected-start : (l : List ℕ) → length l ≡ maxClauses → Collected t base rs lines (record { rows = l; first = maxClauses })
   collected-start l h = record {
     places = h;
     within = omega arith;
@@ -45,7 +46,7 @@ module _ {t : List ℕ} {base patterns lines : ℕ} {rs : List Row} (f : FileIn 
     row = row-of f n h
 
     -- an I row
-    pub collected-iso : cellOf t n 0 ≡ 73 → Collected t base rs n (record { rows = c .rows; first = 32 })
+    pub collected-iso : cellOf t n 0 ≡ 73 → Collected t base rs n (record { rows = c .rows; first = maxClauses })
     collected-iso e =
         let here = tail-kind f n (row .1) (letter-iso f n (row .1) e) in
         record {
@@ -67,7 +68,7 @@ module _ {t : List ℕ} {base patterns lines : ℕ} {rs : List Row} (f : FileIn 
           let m : length (tailAt rs n .clauses) ≡ suc (length (tailAt rs (suc n) .clauses)) = ap (λ (q : Tail). length (q .clauses)) here in
           omega (arith, clauses-few (f .passes) n, length-drop (c .first) (c .rows), s .places, s .within)
 
-      pub collected-clause : (r : C.Clauses) → (0 < c .first → c .first ≤ 32 → n < 65536 → (r .rows ≡ set (c .rows) (c .first - 1) n) × (r .first ≡ c .first - 1))
+      pub collected-clause : (r : C.Clauses) → (0 < c .first → c .first ≤ maxClauses → n < 65536 → (r .rows ≡ set (c .rows) (c .first - 1) n) × (r .first ≡ c .first - 1))
           → Collected t base rs n r
       collected-clause r w =
           let k = w room (s .within) (omega (arith, lines-few f)) in
@@ -105,7 +106,7 @@ module _ {t : List ℕ} {base patterns lines : ℕ} {rs : List Row} (f : FileIn 
 pub record Walking (t : List ℕ) (from lines n : ℕ) (c : C.Clauses) : Type 0 where
   pub holds : (rs : List Row) (types patterns : ℕ) → FileIn t types patterns lines rs → from ≤ lines → (from ≤ n) × (n ≤ lines) × Collected t types rs n c
 
-pub walking-start : (t : List ℕ) (from lines : ℕ) (l : List ℕ) → length l ≡ 32 → Walking t from lines lines (record { rows = l; first = 32 })
+pub walking-start : (t : List ℕ) (from lines : ℕ) (l : List ℕ) → length l ≡ maxClauses → Walking t from lines lines (record { rows = l; first = maxClauses })
 walking-start t from lines l h = record { holds = λ rs types patterns f k. (k, omega arith, collected-start f l h) }
 
 pub walking-step : {t : List ℕ} {from lines n : ℕ} {c r : C.Clauses} → Walking t from lines n c → from < n

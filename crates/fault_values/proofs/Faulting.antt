@@ -9,6 +9,7 @@ use mathlib.Core.List.{List, map}
 use lib.Dec.{leb}
 use lib.ListN.{length, take, drop, length-drop}
 use lib.Seq.{take-all}
+use Rattle.limits.specs.Limits.{maxClauses}
 use Rattle.calculus.specs.Trees.{Ty, Pat, Iso}
 use Rattle.calculus.specs.Refusals.{Refusal, number}
 use Rattle.format.specs.Lines.{Row}
@@ -109,7 +110,7 @@ module _ (t : List ℕ) (base lines n place : ℕ) (out₀ out : List ℕ) (r : 
 
   -- an iso's line is not 0, and its clauses are at most 32
   never : (s : List ℕ) (rs : List Row) (patterns : ℕ) → InForm s rs → FileIn t base patterns lines rs → (f : Refusal)
-      → fault (isosOf rs) ≡ some (f, place) → sided f ≡ true → (place ≡ 0 → ⊥) × (32 < c .first → ⊥)
+      → fault (isosOf rs) ≡ some (f, place) → sided f ≡ true → (place ≡ 0 → ⊥) × (maxClauses < c .first → ⊥)
   never s rs patterns form file f e sd =
       let q = refused-iso s rs form f place e sd in
       let h = head file (q .iso) (q .mem) in
@@ -119,8 +120,8 @@ module _ (t : List ℕ) (base lines n place : ℕ) (out₀ out : List ℕ) (r : 
 
   -- whatever file it is
   pub fault-shown : 11 ≤ n → n ≤ 14
-      → SideShown n (typeOf t (cellOf t (place - 1) 1)) (typeOf t (cellOf t (place - 1) 2)) (patternsAt t base 1 (take (32 - c .first) rowsOf))
-      (patternsAt t base 2 (take (32 - c .first) rowsOf)) out₀ out r
+      → SideShown n (typeOf t (cellOf t (place - 1) 1)) (typeOf t (cellOf t (place - 1) 2)) (patternsAt t base 1 (take (maxClauses - c .first) rowsOf))
+      (patternsAt t base 2 (take (maxClauses - c .first) rowsOf)) out₀ out r
       → FaultShown t base lines n place out₀ out r
   fault-shown low high shows = record {
     given = λ s rs patterns form file f k e sd.
@@ -128,7 +129,7 @@ module _ (t : List ℕ) (base lines n place : ℕ) (out₀ out : List ℕ) (r : 
         let h = head file (q .iso) (q .mem) in
         let at : place ≡ suc (h .row) = q .line ∙ h .line in
         let d = collected rs base patterns file (omega (arith, at, h .within)) in
-        let whole : take (32 - c .first) rowsOf ≡ rowsOf = take-all (32 - c .first) rowsOf (omega (arith, length-drop (c .first) (c .rows), d .places)) in
+        let whole : take (maxClauses - c .first) rowsOf ≡ rowsOf = take-all (maxClauses - c .first) rowsOf (omega (arith, length-drop (c .first) (c .rows), d .places)) in
         shown-given s rs patterns form file f k e sd
         (sides-same refl refl (ap (patternsAt t base 1) whole) (ap (patternsAt t base 2) whole) shows);
     below = λ h. absurd (omega arith);
@@ -142,7 +143,7 @@ module _ (t : List ℕ) (base lines n place : ℕ) (out₀ out : List ℕ) (r : 
     above = λ h. absurd (omega arith);
   }
 
-  pub fault-many : 11 ≤ n → n ≤ 14 → 32 < c .first → FaultShown t base lines n place out₀ out r
+  pub fault-many : 11 ≤ n → n ≤ 14 → maxClauses < c .first → FaultShown t base lines n place out₀ out r
   fault-many low high z = record {
     given = λ s rs patterns form file f k e sd. absurd (never s rs patterns form file f e sd .1 z);
     below = λ h. absurd (omega arith);

@@ -36,14 +36,14 @@ by a b ls c = cond c (fails (ceiling clauseLine)) (onList a b (listOf a b ls))
 
 module _ (a b : Ty) (list o : List ℕ) {n : ℕ} (e : n ≡ length (lines list)) where
   -- "Over 32 lines in the list is 7 at line 0"
-  pub list-long : 32 < n → (r : D.Filed) → refusalView (r .refusal) ≡ some (ceiling clauseLine) → r .length ≡ 0 → ListFiled a b list o o r
+  pub list-long : maxClauses < n → (r : D.Filed) → refusalView (r .refusal) ≡ some (ceiling clauseLine) → r .length ≡ 0 → ListFiled a b list o o r
   list-long h r j k = record { does = λ ha hb ca cb room. let l : maxClauses < length (lines list) = omega arith in filed-refused o r (ap (by a b (lines list)) (lt-ltb l)) j k }
 
-  module _ (h : n ≤ 32) where
+  module _ (h : n ≤ maxClauses) where
     few : onLines a b (lines list) ≡ onList a b (listOf a b (lines list))
     few = let l : length (lines list) ≤ maxClauses = omega arith in ap (by a b (lines list)) (not-ltb l)
 
-    module _ {x y : ℕ} (cx : Counts a x) (cy : Counts b y) {m : ℕ} (w : List ℕ) (z : Bool) (wide : 32 ≤ m)
+    module _ {x y : ℕ} (cx : Counts a x) (cy : Counts b y) {m : ℕ} (w : List ℕ) (z : Bool) (wide : maxClauses ≤ m)
         (read : (c d : Ty) → x ≡ count c → y ≡ count d → n ≡ length (lines list) → n ≤ m → y ≤ 65536 → listOf c d (lines list) ≡ cond z (some (take n w)) none) where
       told : count a ≤ maxPairs → count b ≤ maxPairs → listOf a b (lines list) ≡ cond z (some (take n w)) none
       told ca cb = let p = counted a cx (omega arith) in let q = counted b cy (omega arith) in read a b p q e (omega arith) (omega arith)

@@ -1,1 +1,1 @@
-// Request 05's definitions (specs/) and laws (proofs/); its code stands in `costing` and `bounds`.
+// Request 05's definitions (specs/) and laws (proofs/); its code stands in `bound_counts` and `bounds`.

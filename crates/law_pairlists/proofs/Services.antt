@@ -9,7 +9,7 @@ use mathlib.Core.List.{List, [], _∷_}
 use lib.Dec.{ltb}
 use lib.ListN.{length, take, drop, getElem?}
 use lib.Seq.{take-append-seam}
-use Rattle.limits.specs.Limits.{maxPairs, tableLength, workLength, exportLength, importLength}
+use Rattle.limits.specs.Limits.{maxPairs, tableLength, workLength, exportLength, importLength, maxClauses}
 use Rattle.calculus.specs.Trees.{Iso}
 use Rattle.calculus.specs.Refusals.{number, shortArea, noValue, spent}
 use Rattle.format.specs.Lines.{Row, lines, withoutReturns}
@@ -137,7 +137,7 @@ module _ (file t w : List ℕ) (i j : ℕ) (list o : List ℕ) where
         let rs = import-of .0 in
         let ha = small-type file rs (import-of .1) i (source .from) (source .first) in
         let hb = small-type file rs (import-of .1) j (source .to) (source .second) in
-        let l : length (source .tos) ≤ 32 = let z = tos-length 0 (lines list) (source .tos) (source .reads) in let s = source .short in omega arith in
+        let l : length (source .tos) ≤ maxClauses = let z = tos-length 0 (lines list) (source .tos) (source .reads) in let s = source .short in omega arith in
         let few = written-ceiling (source .from) (source .to) (source .tos) ha hb l (source .taken) .0 (source .within) in
         lines-once (source .from) (source .to) (source .tos) ha hb l (source .taken) few m n line (ap (λ z. getElem? (lines z) m) (sym (source .bytes)) ∙ d) (ap (λ z. getElem? (lines z) n) (sym (source .bytes)) ∙ e)
 

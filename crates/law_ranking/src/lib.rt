@@ -1,1 +1,1 @@
-// Request 02's definitions (specs/) and laws (proofs/); its code stands in `numbering` and `settings`.
+// Request 02's definitions (specs/) and laws (proofs/); its code stands in `number_values` and `settings`.

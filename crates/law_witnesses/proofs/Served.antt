@@ -17,6 +17,7 @@ use Rattle.model.specs.Services.{refused, judged, afterReading, over, verdict, 
 use Rattle.calculus.proofs.Basic.{none≢some, some-inj, not-both}
 use Rattle.model.proofs.Files.{InForm, verdict-in-form}
 use Rattle.law_witnesses.specs.Showing.{Shows, sided, Shown, showing, shownOf, showService}
+use Rattle.law_witnesses.specs.Served.{sideAnswer, Given}
 use Rattle.law_witnesses.proofs.Showing.{shows, silent}
 
 -- ---- as Check
@@ -114,21 +115,6 @@ cases file = go (over file) (readFrom start 1 (lines file)) refl refl (lines-uns
         (ap (λ b. cond b [] (shownOf (readFrom start 1 (lines file)))) e ∙ ap shownOf d)
 
 -- ---- what is given
-
--- the answer is one of 11 to 14
-abbrev pub sideAnswer : Answer → Bool
-sideAnswer a = leb 11 (a .number) && leb (a .number) 14
-
--- the letters of the least value that shows the fault of the iso and side refused, their number, and they stand in the result area
-pub record Given (file r : List ℕ) (s : Shown) : Type 0 where
-  pub rows : List Row
-  pub form : InForm file rows
-  pub refusal : Refusal
-  pub number : s .answer .number ≡ number refusal
-  pub letters : List ℕ
-  pub shows : Shows (isosOf rows) (s .answer .line) letters refusal
-  pub length : s .length ≡ length letters
-  pub result : s .result ≡ written letters r
 
 module _ (file t w r : List ℕ) where
   -- "With refusals 11 to 14 … gives, for the iso and side refused, the value …"

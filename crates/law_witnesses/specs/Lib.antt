@@ -1,4 +1,5 @@
 pub mod Showing
+pub mod Served
 pub mod Shapes
 pub mod Seeking
 pub mod Examples

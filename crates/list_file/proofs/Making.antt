@@ -82,7 +82,7 @@ file-rows : (a b : Ty) (cs : List (Val × Val)) {ts ps qs : List Row} {m n : ℕ
 unfolding fileRows
 file-rows a b cs et em en ep eq = λ i. et i ++ (ep i ++ (isoRow (em i) (en i) ∷ eq i))
 
-module _ (a b : Ty) (tos : List ℕ) (k : ℕ) (o : List ℕ) (most : k ≤ 32) where
+module _ (a b : Ty) (tos : List ℕ) (k : ℕ) (o : List ℕ) (most : k ≤ maxClauses) where
   abbrev rows : List Row
   rows = fileRows a b (settings a b 0 (take k tos))
 

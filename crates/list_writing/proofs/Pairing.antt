@@ -7,7 +7,7 @@ use mathlib.Core.Path.{_≡_, refl, sym, ap, ap₂, _∙_, subst}
 use mathlib.Core.List.{List, [], _∷_, _++_, append-assoc, append-nil}
 use lib.ListN.{length, getD, take, drop, drop-of-length-le}
 use lib.Seq.{drop-cons, getD-take, length-take-le}
-use Rattle.limits.specs.Limits.{maxValues}
+use Rattle.limits.specs.Limits.{maxValues, maxClauses}
 use Rattle.calculus.specs.Refusals.{patternLine, clauseLine}
 use Rattle.calculus.specs.Trees.{Ty}
 use Rattle.format.specs.Lines.{Row}
@@ -81,7 +81,7 @@ first-left : (n k : ℕ) (tos : List ℕ) → k < n → n ≤ length tos → dro
 first-left n k tos h l =
     drop-cons (take n tos) k 0 (subst (λ i. k < i) (sym (length-take-le n tos l)) h) ∙ ap₂ (λ x i. x ∷ drop i (take n tos)) (getD-take n tos k 0 h) (sym (add-one k))
 
-pub pairs-next : {a b : Ty} {tos : List ℕ} {n : ℕ} {s₀ q₀ s q s′ q′ : List ℕ} {k end e m x : ℕ} → Pairs a b tos n s₀ q₀ s q k end → k < n → n ≤ 32
+pub pairs-next : {a b : Ty} {tos : List ℕ} {n : ℕ} {s₀ q₀ s q s′ q′ : List ℕ} {k end e m x : ℕ} → Pairs a b tos n s₀ q₀ s q k end → k < n → n ≤ maxClauses
     → x ≡ getD tos k 0 → m ≡ x → ClauseDone a b k m s s′ end q q′ e → length s′ ≡ length s → length q′ ≡ length q → Pairs a b tos n s₀ q₀ s′ q′ (k + 1) e
 pairs-next {a} {b} {tos} {n} {s₀} {q₀} {s} {q} {s′} {q′} {k} {end} {e} {m} {x} p h few ex em c ls lq =
     record {

@@ -33,7 +33,7 @@ right a b k m rs = writeValue (unrank b m) (left a k rs .rows)
 -- the rows of a pair written: the P rows behind those up to row `to`, the C row as row k of the area q
 pub record PairRows (a b : Ty) (k m : ℕ) (rs : List Row) (s′ q q′ : List ℕ) (e : ℕ) : Type 0 where
   pub tracks : Tracks patternLine s′ e (right a b k m rs .rows)
-  pub clause : length (right a b k m rs .rows) ≤ maxEntries → k < 32 → maxClauses * rowWidth ≤ length q
+  pub clause : length (right a b k m rs .rows) ≤ maxEntries → k < maxClauses → maxClauses * rowWidth ≤ length q
       → entriesAt clauseLine q′ 0 (k + 1)
       ≡ entriesAt clauseLine q 0 k ++ (clauseRow (left a k rs .number) (right a b k m rs .number) ∷ [])
 

@@ -1,4 +1,4 @@
--- What the program keeps between two reads, against the machine of the queries' specs/Stream.
+-- What the program keeps between two reads, against the machine of `query_lines/specs/Stream`.
 use Prim.Native.Nat.{ℕ, _≤_}
 use mathlib.Core.Path.{_≡_}
 use mathlib.Core.Bool.{true, false}

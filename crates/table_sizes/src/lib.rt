@@ -25,16 +25,12 @@ ghost use Rattle.table_trees.specs.Unfolding.{typeOf, patternOf};
 pub fn above(m: usize, n: usize) -> usize
     ensures { λ r. ⌜ r ≡ min manyNodes (1 + m + n) ⌝ }
 {
-    if MAX_NODES <= m {
-        return MANY_NODES;
+    if m < MAX_NODES {
+        if n < MAX_NODES - m {
+            return 1 + m + n;
+        }
     }
-    if MAX_NODES <= n {
-        return MANY_NODES;
-    }
-    if MAX_NODES <= m + n {
-        return MANY_NODES;
-    }
-    1 + m + n
+    MANY_NODES
 }
 
 // The nodes of T line i, unfolded; 128 stands for more than 127.
@@ -73,16 +69,12 @@ pub fn pattern_size(t: &[u16], base: usize, j: usize) -> usize
 pub fn together(m: usize, n: usize) -> usize
     ensures { λ r. ⌜ r ≡ min manyTags (m + n) ⌝ }
 {
-    if MANY_TAGS <= m {
-        return MANY_TAGS;
+    if m < MANY_TAGS {
+        if n < MANY_TAGS - m {
+            return m + n;
+        }
     }
-    if MANY_TAGS <= n {
-        return MANY_TAGS;
-    }
-    if MANY_TAGS <= m + n {
-        return MANY_TAGS;
-    }
-    m + n
+    MANY_TAGS
 }
 
 // The left and right nodes of P line j, unfolded; 41 stands for more than 40.

@@ -4,6 +4,7 @@ use native.Mathlib.Omega.{arith}
 use lib.ListN.{length-replicate}
 use Rattle.fault_values.proofs.Collecting.{Walking, walking-start, walking-step, walking-end}
 use borrow.Author.Needs.{needs}
+use Rattle.limits.specs.Limits.{maxClauses}
 use Rattle.fault_values.proofs.clauses_from.Statement.{statement}
 use Rattle.fault_values.proofs.clauses_from.Tie as tie
 
@@ -14,7 +15,7 @@ abbrev μ-loop : tie.MeasureT-loop
 μ-loop t from lines n₀ c₀ n c = n
 
 loop-holds : tie.Need-loop-holds Inv-loop μ-loop
-loop-holds c = walking-start _ _ _ _ (length-replicate {A = ℕ} 32 0)
+loop-holds c = walking-start _ _ _ _ (length-replicate {A = ℕ} maxClauses 0)
 
 sub-n : tie.Need-sub-n Inv-loop μ-loop
 sub-n c = search needs
