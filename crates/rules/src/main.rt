@@ -13,8 +13,8 @@ use limits::INDEX_LENGTH;
 use limits::TABLE_LENGTH;
 use limits::WORK_LENGTH;
 use stdio::Input;
+use stdio::endless;
 use stdio::read_some;
-use stdio::say_endless;
 use stdio::write_front;
 ghost use mathlib.Core.List.{List};
 ghost use Prim.Native.Nat.{ℕ};
@@ -141,7 +141,7 @@ fn answer_all(
         }
         turns -= 1;
     }
-    say_endless();
+    endless();
 }
 
 fn main() {

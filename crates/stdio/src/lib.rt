@@ -6,6 +6,8 @@ ghost use mathlib.Core.Path.{_≡_};
 ghost use Prim.Native.Nat.{_≤_};
 ghost use lib.ListN.{length};
 ghost use Rattle.stdio.specs.Reading.{inputOf, Within, Stays, Fits};
+ghost use Rattle.stdio.specs.declared.Filled.the-variants as filled;
+ghost use mathlib.Core.Bool.{true};
 
 // What a read gave: so many bytes, nothing yet where a signal came first, the end of the input, or
 // nothing, since it failed.
@@ -56,9 +58,13 @@ pub fn read_some(area: &mut [u8]) -> Input
     input_of(got, interrupted, area)
 }
 
-// Says that a loop over the input, which has to end, has used up its turns: no run does.
-pub fn say_endless() {
+// Says that a loop over the input, which has to end, has used up its turns: no run does. What came of
+// reading is then a failure.
+pub fn endless() -> Filled
+    ensures { λ r. ⌜ r ≡ filled.Failed ⌝ }
+{
     io::write_all(2, b"standard input does not end\n");
+    Filled::Failed
 }
 
 // One read more behind the first `done` bytes of an area.
@@ -93,13 +99,18 @@ pub fn read_area(area: &mut [u8]) -> Filled
         }
         turns -= 1;
     }
-    say_endless();
-    Filled::Failed
+    endless()
 }
 
 // Writes the first n bytes of an area, all of them where there are fewer. Answers whether all were
-// written; where they were not, standard error says why.
-pub fn write_front(area: &[u8], n: usize) -> bool {
+// written; where they were not, standard error says why. What reaches standard output no contract can
+// say; where there is nothing to write, nothing can fail.
+pub fn write_front(area: &[u8], n: usize) -> bool
+    ensures { λ r. ⌜ (n ≡ 0 → r ≡ true) ⌝ }
+{
+    if n == 0 {
+        return true;
+    }
     if io::write_all(1, front(area, n)) {
         return true;
     }

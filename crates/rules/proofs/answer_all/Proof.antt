@@ -130,8 +130,8 @@ loop-again c =
       ready-more _ (c .before .p .given .1) (k .answer-some .ensures),
     )
 
-say-endless-requires : tie.Need-say-endless-requires Inv-loop μ-loop
-say-endless-requires c κs = search needs
+endless-requires : tie.Need-endless-requires Inv-loop μ-loop
+endless-requires c κs = search needs
 
 same-length-13 : tie.Need-same-length-13 Inv-loop μ-loop
 same-length-13 c = c .before .before .loop .inv .0 .file
@@ -184,7 +184,7 @@ answer-all-spec =
     sub-turns
     loop-less
     loop-again
-    say-endless-requires
+    endless-requires
     same-length-13
     same-length-14
     same-length-15

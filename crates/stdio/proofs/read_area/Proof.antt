@@ -1,7 +1,8 @@
 -- `stdio::read_area` meets its contract: what came so far lies within the area.
 use Prim.Native.Nat.{_≤_}
 use native.Mathlib.Omega.{arith}
-use mathlib.Core.Path.{_≡_, refl, _∙_}
+use mathlib.Core.Path.{_≡_, refl, sym, _∙_, subst}
+use Rattle.stdio.specs.Reading.{Fits}
 use lib.ListN.{length}
 use Rattle.stdio.proofs.Signs.{more-within}
 use borrow.Author.Needs.{needs}
@@ -53,14 +54,14 @@ loop-less c = let h = c .before .before .before .before .before .before .before 
 loop-again : tie.Need-loop-again Inv-loop μ-loop
 loop-again c = (c .before .before .before .before .before .read-more .kept .0 ∙ c .before .before .before .before .before .before .before .before .loop .inv .0, let k = more-within _ _ (c .before .s .given .1) (c .before .before .before .before .before .read-more .ensures) in let e = c .before .before .before .before .before .read-more .kept .0 in omega (arith, k, e))
 
-say-endless-requires : tie.Need-say-endless-requires Inv-loop μ-loop
-say-endless-requires c κs = search needs
+endless-requires : tie.Need-endless-requires Inv-loop μ-loop
+endless-requires c κs = search needs
 
 same-length-3 : tie.Need-same-length-3 Inv-loop μ-loop
 same-length-3 c = c .before .before .loop .inv .0
 
 returns-3 : tie.Need-returns-3 Inv-loop μ-loop
-returns-3 c = search needs
+returns-3 c = subst (Fits _) (sym (c .endless .ensures)) tt
 
 pub read-area-spec : {M : Type 1} → statement M
 read-area-spec =
@@ -80,6 +81,6 @@ read-area-spec =
     sub-turns
     loop-less
     loop-again
-    say-endless-requires
+    endless-requires
     same-length-3
     returns-3)
