@@ -16,10 +16,10 @@
  *   - nothing else writes to the areas before the call returns.
  *
  * The areas need not be cleared. After a call
- *   - the first RULEFILE_TABLE_LENGTH numbers of the table hold, if the file was accepted, four numbers a
- *     line: the letter's ASCII code and the fields, padded with 0, and zeros behind the last line, so also
- *     where the call is refused with 15 or above, or an import with 7 at line 0; on other refusals 3 to 14
- *     they are all 0;
+ *   - the first RULEFILE_TABLE_LENGTH numbers of the table hold, if the file was accepted, five numbers a
+ *     line: the letter's ASCII code, the fields, padded with 0, and the size of a T or P line, the nodes of the
+ *     tree that it unfolds to (0 for other letters), and zeros behind the last line, so also where the call is
+ *     refused with 15 or above, or an import with 7 at line 0; on other refusals 3 to 14 they are all 0;
  *   - the first RULEFILE_WORK_LENGTH bytes of the work area are 0;
  *   - refusals 1 and 2 leave every area as it was;
  *   - any refusal of the call leaves output, result, and the numbers and letters of a sheet as they were, but
@@ -50,7 +50,7 @@ extern "C" {
 #define RULEFILE_VERSION "0.2.0"
 
 /* Lengths of the areas: at least so many elements, otherwise refusal 1. */
-#define RULEFILE_TABLE_LENGTH 16384 /* numbers of 16 bits */
+#define RULEFILE_TABLE_LENGTH 20480 /* numbers of 16 bits, five for each of 4,096 lines */
 #define RULEFILE_WORK_LENGTH 65536  /* bytes */
 #define RULEFILE_RESULT_LENGTH 127  /* bytes: no value has more letters */
 #define RULEFILE_LIST_LENGTH 40960  /* bytes: no list that is exported is longer */

@@ -2,8 +2,9 @@
 
 use crate::{check, run_rules, turn_rules, Refusal, Rules};
 
-/// "a table area of at least 16,384 numbers of 16 bits".
-pub const TABLE: usize = 16_384;
+/// "a table area of at least 16,384 numbers of 16 bits"; request 10: "what 01
+/// says of 16,384 holds for 20,480".
+pub const TABLE: usize = 20_480;
 /// "a work area of at least 65,536 bytes".
 pub const WORK: usize = 65_536;
 /// "its result area must have 127 bytes".
@@ -74,11 +75,17 @@ impl<'a> Known<'a> {
         table[..TABLE].fill(0);
         work[..WORK].fill(0);
         // "the table holds, if the file is accepted, four numbers a line: the
-        // letter's ASCII code, then the fields, padded with 0".
+        // letter's ASCII code, then the fields, padded with 0"; request 10: "A
+        // table line becomes five numbers, the fifth the unfolded size of a T
+        // or P line and 0 for other letters".
         if let Ok(rules) = checked {
-            for (four, row) in table.chunks_mut(4).zip(&rules.rows) {
-                four[0] = u16::from(row.letter);
-                four[1..].copy_from_slice(&row.fields);
+            let types = rules.types.iter().map(|tree| tree.nodes());
+            let patterns = rules.patterns.iter().map(|tree| tree.nodes());
+            let sizes = types.chain(patterns).chain(std::iter::repeat(0));
+            for ((five, row), size) in table.chunks_mut(5).zip(&rules.rows).zip(sizes) {
+                five[0] = u16::from(row.letter);
+                five[1..4].copy_from_slice(&row.fields);
+                five[4] = size as u16;
             }
         }
         checked

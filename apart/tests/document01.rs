@@ -209,11 +209,12 @@ fn four_thousand_and_ninety_six_lines() {
     let answer = check_areas(&file(&words), &mut table, &mut work);
     assert_eq!(answer, Checked { number: 0, line: 0 });
     assert_eq!(
-        table[16_380..16_385],
+        table[20_475..20_481],
         [
             67,
             u16::try_from(names[31]).unwrap(),
             u16::try_from(names[31]).unwrap(),
+            0,
             0,
             7
         ]
@@ -646,7 +647,7 @@ fn the_desk_readings() {
 
 /// Areas longer than stated, filled with what is not zero.
 fn areas() -> (Vec<u16>, Vec<u8>, Vec<u8>) {
-    (vec![7; 16_390], vec![8; 65_540], vec![9; 70_000])
+    (vec![7; 20_490], vec![8; 65_540], vec![9; 70_000])
 }
 
 #[test]
@@ -655,11 +656,13 @@ fn the_areas_of_an_accepted_file() {
     let (mut table, mut work, _) = areas();
     let answer = check_areas(&bytes, &mut table, &mut work);
     assert_eq!(answer, Checked { number: 0, line: 0 });
-    assert_eq!(table[..8], [84, 0, 0, 0, 84, 1, 0, 0]);
-    assert_eq!(table[44..56], [73, 1, 1, 0, 67, 1, 2, 0, 67, 2, 1, 0]);
-    assert_eq!(table[64..72], [76, 4, 0, 3, 67, 7, 7, 0]);
-    assert!(table[72..16_384].iter().all(|number| *number == 0));
-    assert!(table[16_384..].iter().all(|number| *number == 7));
+    assert_eq!(table[..10], [84, 0, 0, 0, 1, 84, 1, 0, 0, 3]);
+    assert_eq!(table[10..15], [84, 2, 1, 1, 7]);
+    assert_eq!(table[40..45], [80, 4, 1, 3, 4]);
+    assert_eq!(table[55..65], [73, 1, 1, 0, 0, 67, 1, 2, 0, 0]);
+    assert_eq!(table[80..90], [76, 4, 0, 3, 0, 67, 7, 7, 0, 0]);
+    assert!(table[90..20_480].iter().all(|number| *number == 0));
+    assert!(table[20_480..].iter().all(|number| *number == 7));
     assert!(work[..65_536].iter().all(|byte| *byte == 0));
     assert!(work[65_536..].iter().all(|byte| *byte == 8));
 }
@@ -723,8 +726,8 @@ fn the_areas_of_a_refused_run() {
                 length: 0
             }
         );
-        assert_eq!(table[..4], [84, 0, 0, 0]);
-        assert_eq!(table[68..76], [67, 7, 7, 0, 0, 0, 0, 0]);
+        assert_eq!(table[..5], [84, 0, 0, 0, 1]);
+        assert_eq!(table[85..95], [67, 7, 7, 0, 0, 0, 0, 0, 0, 0]);
         assert!(work[..65_536].iter().all(|byte| *byte == 0));
         assert!(output.iter().all(|byte| *byte == 9));
     }
@@ -768,12 +771,12 @@ fn all_kept([t, w, o]: [usize; 3], bytes: &[u8], number: u8) {
 fn the_areas_of_refusals_1_and_2_keep_all() {
     let fine = file(S);
     let long = vec![b'x'; 65_537];
-    all_kept([16_383, 65_536, 70_000], &fine, 1);
-    all_kept([16_384, 65_535, 70_000], &fine, 1);
-    all_kept([16_384, 65_536, 126], &fine, 1);
-    all_kept([16_384, 65_536, 70_000], &long, 2);
-    all_kept([16_383, 65_536, 70_000], &long, 1);
-    all_kept([16_384, 65_536, 126], &long, 1);
+    all_kept([20_479, 65_536, 70_000], &fine, 1);
+    all_kept([20_480, 65_535, 70_000], &fine, 1);
+    all_kept([20_480, 65_536, 126], &fine, 1);
+    all_kept([20_480, 65_536, 70_000], &long, 2);
+    all_kept([20_479, 65_536, 70_000], &long, 1);
+    all_kept([20_480, 65_536, 126], &long, 1);
 }
 
 #[test]
@@ -800,8 +803,8 @@ fn the_areas_of_refusals_3_to_14_are_zero() {
         let answer = turn_areas(&file(words), &mut table, &mut work, &mut output);
         assert_eq!((answer.number, answer.line), of(words));
         assert_eq!(answer.length, 0);
-        assert!(table[..16_384].iter().all(|number| *number == 0));
-        assert!(table[16_384..].iter().all(|number| *number == 7));
+        assert!(table[..20_480].iter().all(|number| *number == 0));
+        assert!(table[20_480..].iter().all(|number| *number == 7));
         assert!(work[..65_536].iter().all(|byte| *byte == 0));
         assert!(work[65_536..].iter().all(|byte| *byte == 8));
         assert!(output.iter().all(|byte| *byte == 9));

@@ -270,7 +270,7 @@ fn areas(output: usize) -> (Vec<u16>, Vec<u8>, Vec<u8>) {
     (vec![7; TABLE + 5], vec![7; WORK + 5], vec![7; output])
 }
 
-/// "After a call the table holds, if the file is accepted, four numbers a line",
+/// "After a call the table holds, if the file is accepted," its lines,
 /// and "with either 7 the table holds the accepted file's lines".
 #[test]
 fn lent_areas_are_left_as_by_check() {

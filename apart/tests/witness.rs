@@ -156,7 +156,7 @@ fn refused(file: &[u8]) -> Option<(Iso, u8)> {
 }
 
 fn areas(file: &[u8], result: usize) -> (Witnessed, Vec<u8>) {
-    let (mut table, mut work) = (vec![7; 16_384], vec![7; 65_536]);
+    let (mut table, mut work) = (vec![7; 20_480], vec![7; 65_536]);
     let mut result = vec![b'x'; result];
     let given = witness(&Known::of(file), &mut table, &mut work, &mut result);
     let cleared = given.number > 2;

@@ -30,7 +30,7 @@ def area(kind, length):
 
 
 def lent(file):
-    return (file, size(len(file)), *area(ctypes.c_uint16, 16384), *area(ctypes.c_uint8, 65536))
+    return (file, size(len(file)), *area(ctypes.c_uint16, 20480), *area(ctypes.c_uint8, 65536))
 
 
 file = open(sys.argv[2], "rb").read()

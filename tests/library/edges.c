@@ -406,14 +406,28 @@ static struct answer make_call(const struct call *call, const struct area *file,
     return (struct answer){.number = a.number, .count = a.count, .length = a.length};
 }
 
-/* The table of an accepted file: four numbers a line. */
+/* The size of a row: the nodes of a T or P line, which names earlier lines of its letter; `first` is its letter's first row. */
+static uint16_t size_of(const uint16_t *row, const uint16_t *first)
+{
+    bool type = row[0] == 'T';
+    if ((!type && row[0] != 'P') || row[1] == 0 || (!type && row[1] == 1))
+        return type || row[0] == 'P';
+    bool two = type || row[1] == 4;
+    return (uint16_t)(1 + first[5 * row[2] + 4] + (two ? first[5 * row[3] + 4] : 0));
+}
+
+/* The table of an accepted file: five numbers a line. */
 static void put_rows(struct bytes file, uint16_t *row)
 {
     size_t field = 0;
+    const uint16_t *first = row;
     for (size_t i = 0; i < file.length; i++) {
         uint8_t byte = file.start[i];
         if (byte == '\n') {
-            row += 4;
+            if (row[0] != first[0])
+                first = row;
+            row[4] = size_of(row, first);
+            row += 5;
             field = 0;
         } else if (byte == ',') {
             field++;
@@ -1365,7 +1379,7 @@ static void header_numbers(void)
     CHECK(COUNT_OF(in_order) == 21);
     for (size_t i = 0; i < COUNT_OF(in_order); i++)
         CHECK(in_order[i] == i);
-    CHECK(RULEFILE_TABLE_LENGTH == 16384);
+    CHECK(RULEFILE_TABLE_LENGTH == 20480);
     CHECK(RULEFILE_WORK_LENGTH == 65536);
     CHECK(RULEFILE_RESULT_LENGTH == 127);
     CHECK(RULEFILE_LIST_LENGTH == 40960);

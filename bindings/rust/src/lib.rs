@@ -46,7 +46,7 @@ pub use refusal::{Refusal, Refused, Witness, Witnessed};
 pub const VERSION: &str = env!("CARGO_PKG_VERSION");
 
 /// The least length of a table area, in numbers of 16 bits.
-pub const TABLE_LENGTH: usize = 16_384;
+pub const TABLE_LENGTH: usize = 20_480;
 /// The least length of a work area, in bytes.
 pub const WORK_LENGTH: usize = 65_536;
 /// The least length of a result area, in bytes.
@@ -403,7 +403,8 @@ impl Desk {
         Ok(output)
     }
 
-    /// The table as the last call left it: four numbers a line of the file that was accepted.
+    /// The table as the last call left it: five numbers a line of the file that was accepted, the letter's code, the
+    /// fields, and the size of a T or P line.
     pub fn table(&self) -> &[u16] {
         &self.table
     }

@@ -149,9 +149,9 @@ fn lent_areas() {
         let (given, table, work) = areas(TABLE_LENGTH + 3, WORK_LENGTH + 3, iso);
         assert_eq!(given, wanted);
         // As after Check: the lines of the file and zeros, and what lies behind is kept.
-        assert_eq!(table[..8], [84, 0, 0, 0, 84, 1, 0, 0]);
-        assert_eq!(table[17 * 4..18 * 4], [67, 7, 7, 0]);
-        assert!(table[18 * 4..TABLE_LENGTH]
+        assert_eq!(table[..10], [84, 0, 0, 0, 1, 84, 1, 0, 0, 3]);
+        assert_eq!(table[17 * 5..18 * 5], [67, 7, 7, 0, 0]);
+        assert!(table[18 * 5..TABLE_LENGTH]
             .iter()
             .all(|number| *number == 0));
         assert_eq!(table[TABLE_LENGTH..], [0xA5A5; 3]);

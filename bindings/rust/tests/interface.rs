@@ -596,11 +596,24 @@ fn number_pattern(length: usize) -> Vec<u32> {
 /// What an accepted file leaves in the table.
 fn rows(lines: &str) -> Vec<u16> {
     let mut table = vec![0; TABLE_LENGTH];
-    for (line, row) in lines.split_whitespace().zip(table.chunks_mut(4)) {
+    let (mut types, mut patterns) = (Vec::new(), Vec::new());
+    for (line, row) in lines.split_whitespace().zip(table.chunks_mut(5)) {
         row[0] = u16::from(line.as_bytes()[0]);
         for (field, number) in line.split(',').skip(1).zip(&mut row[1..]) {
             *number = field.parse().unwrap();
         }
+        let [kind, a, b] = [row[1], row[2], row[3]].map(usize::from);
+        match row[0] {
+            84 => types.push(if kind == 0 { 1 } else { 1 + types[a] + types[b] }),
+            80 => patterns.push(match kind {
+                0 | 1 => 1,
+                4 => 1 + patterns[a] + patterns[b],
+                _ => 1 + patterns[a],
+            }),
+            _ => continue,
+        }
+        let sizes = if row[0] == 84 { &types } else { &patterns };
+        row[4] = *sizes.last().unwrap();
     }
     table
 }

@@ -301,9 +301,9 @@ impl Lent {
 
     /// The lines of S in the table, zeros in the work area, what was written in the output; all else is kept.
     fn expect(&self, written: &[u8]) {
-        assert_eq!(self.table[..8], [84, 0, 0, 0, 84, 1, 0, 0]);
-        assert_eq!(self.table[17 * 4..18 * 4], [67, 7, 7, 0]);
-        let rest = &self.table[18 * 4..TABLE_LENGTH];
+        assert_eq!(self.table[..10], [84, 0, 0, 0, 1, 84, 1, 0, 0, 3]);
+        assert_eq!(self.table[17 * 5..18 * 5], [67, 7, 7, 0, 0]);
+        let rest = &self.table[18 * 5..TABLE_LENGTH];
         assert!(rest.iter().all(|number| *number == 0));
         assert!(self.table[TABLE_LENGTH..]
             .iter()

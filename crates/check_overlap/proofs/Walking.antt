@@ -106,7 +106,7 @@ meets-lines {j = j} {x = x} {m = m} e f h = subst (λ z. Meets x z m) f (subst (
 -- ---- numbers of the table, and parts
 
 module _ (t : List ℕ) (row k : ℕ) (whole : tableLength ≤ length t) (h : row < maxLines) (l : k < rowWidth) where
-  pub number-is : getD t (row * 4 + k) 0 ≡ cellOf t row k
+  pub number-is : getD t (row * rowWidth + k) 0 ≡ cellOf t row k
   number-is = sym (cell-within t row k h l)
 
 module _ (t : List ℕ) (base p k : ℕ) {a : ℕ} (e : a ≡ cellOf t (base + p) k) where

@@ -13,7 +13,8 @@ use Rattle.limits.specs.Limits.{maxBytes, maxLines, tableLength, workLength, ro
 use Rattle.calculus.specs.Tools.{isSome, firstFailing, firstOf, orElse}
 use Rattle.calculus.specs.Trees.{left, right, Ty, Pat, Clause, Iso}
 use Rattle.calculus.specs.Refusals.{Kind, typeLine, patternLine, isoLine, clauseLine, letLine, Refusal, number, shortArea, tooLong, misplaced, badField, badName, ceiling, variable, letShape, badType, overlap, gap}
-use Rattle.format.specs.Lines.{Row, lines, rowOf, tableOf}
+use Rattle.format.specs.Lines.{Row, lines, rowOf}
+use Rattle.format.specs.Table.{tableOf}
 use Rattle.format.specs.Judge.{Seen, start, afterAll, judge, inOrder, fieldsFit, named, withinCeilings, after, Reading, rows, faulty, withRow, onRow, onJudged, readFrom}
 use Rattle.format.specs.Unfold.{Tail, place, tailFrom, isosOf}
 use Rattle.calculus.specs.Clauses.{Sigs, clauseFault, variablesRule, letShapes, typed, sideFault, apart, fullWeight, lefts, rights, at, isoFault, fault, sigsOf}
@@ -271,7 +272,7 @@ outcome-read s t₀ t₁ q r g says e same place =
       table = says .table;
     }
 
--- rows written over the front of a table leave its length and what lies behind 16,384 numbers
+-- rows written over the front of a table leave its length and what lies behind 20,480 numbers
 rows-wide : (t₀ : List ℕ) (rs : List Row) → tableLength ≤ length t₀ → length rs ≤ maxLines
     → length (tableOf rs ++ drop (length rs * rowWidth) t₀) ≡ length t₀
 rows-wide t₀ rs h few =

@@ -49,7 +49,7 @@ fn refused(place: usize, f: Refusal) -> Checked
     }
 }
 
-// A file of at most 4,096 lines, read into a table of at least 16,384 numbers, and its isos.
+// A file of at most 4,096 lines, read into a table of at least 20,480 numbers, and its isos.
 fn judged(file: &[u8], table: &mut [u16]) -> Checked
     requires { ⌜ (tableLength ≤ length (now table)) × (length (lines (now file)) ≤ maxLines) ⌝ }
     ensures { λ r. ⌜
@@ -144,7 +144,7 @@ pub fn check_file(file: &[u8], table: &mut [u16], work: &mut [u8]) -> Checked
     filed(file, table)
 }
 
-// Checks a file. The table needs 16,384 numbers, the work area 65,536 bytes; refusals 1 and 2 change
+// Checks a file. The table needs 20,480 numbers, the work area 65,536 bytes; refusals 1 and 2 change
 // nothing, any other answer clears the work area's front and leaves the file's rows, or zeros, in the
 // table's.
 pub fn check(file: &[u8], table: &mut [u16], work: &mut [u8]) -> Answer

@@ -256,8 +256,8 @@ no-one file (refused f m) e z = ⊎-elim (λ (o, p, q). let y = ap number p in o
 
 long-areas : (t w : List ℕ) → short t w ≡ false → Areas t w
 long-areas t w b =
-    let (p, q) = neither (ltb (length t) 16384) (ltb (length w) 65536) b in
-    record { long = ltb-false (length t) 16384 p; wide = ltb-false (length w) 65536 q }
+    let (p, q) = neither (ltb (length t) 20480) (ltb (length w) 65536) b in
+    record { long = ltb-false (length t) 20480 p; wide = ltb-false (length w) 65536 q }
 
 pub short-exactly : ShortExactly
 unfolding check

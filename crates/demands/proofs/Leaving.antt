@@ -4,20 +4,21 @@ use native.Mathlib.Omega.{arith}
 use mathlib.Core.Path.{_≡_, refl, sym, ap, _∙_, subst}
 use mathlib.Core.Logic.{_⊎_, inl, inr}
 use mathlib.Core.Bool.{Bool, true, false, _||_}
-use mathlib.Core.List.{List, [], _∷_, _++_, map, append-assoc}
+use mathlib.Core.List.{List, [], _∷_, _++_, append-assoc}
 use lib.Dec.{leb, ltb}
 use lib.ListN.{length, take, drop, replicate, length-append, length-drop, length-replicate}
 use lib.Seq.{take-at, drop-at}
 use Rattle.limits.specs.Limits.{maxBytes, maxLines, tableLength, workLength, resultLength}
-use Rattle.calculus.specs.Tools.{concat}
 use Rattle.calculus.specs.Trees.{Iso}
 use Rattle.calculus.specs.Refusals.{Refusal, number, shortArea}
-use Rattle.format.specs.Lines.{Row, lines, numbers}
+use Rattle.format.specs.Lines.{Row, lines}
+use Rattle.format.specs.Table.{tableOf}
 use Rattle.format.specs.Judge.{start}
 use Rattle.model.specs.Services.{Verdict, accepted, refused, over, verdict, filled, written, tableAfter, workAfter, short, unless, answerOf, check, turnedOf, turn, Ran, gives, fails, runOf, run, RunAnswer, answerOfRun, runService}
 use Rattle.model.specs.Answers.{RunIs, absent, strange, passed, done}
 use Rattle.calculus.proofs.Basic.{neither, ltb-false, leb-le, leb-false, bool-cases}
 use Rattle.format.proofs.Printing.{read-count}
+use Rattle.format.proofs.Tables.{length-table}
 use Rattle.model.proofs.Files.{InForm, refused≢accepted, accepted-inj, accepted-form, accepted-iff, number-positive, turned-fits, turned-accepted-bytes}
 use Rattle.model.proofs.Outcomes.{turn-answer}
 use Rattle.model.proofs.Runs.{run-iff}
@@ -54,18 +55,13 @@ module _ (n : ℕ) (front area : List ℕ) (h : length front ≤ n) where
       let d = length-drop n area in
       omega arith
 
--- four numbers a line
-rows-length : (rs : List Row) → length (concat (map numbers rs)) ≡ length rs * 4
-rows-length [] = refl
-rows-length (r ∷ rs) = let h = rows-length rs in omega arith
-
 -- the lines of a file that is not too long fit the table
-rows-fit : (file : List ℕ) (rs : List Row) → InForm file rs → length (concat (map numbers rs)) ≤ tableLength
+pub rows-fit : (file : List ℕ) (rs : List Row) → InForm file rs → length (tableOf rs) ≤ tableLength
 unfolding over
 rows-fit file rs f =
     let few = ltb-false maxLines (length (lines file)) (neither (ltb maxBytes (length file)) (ltb maxLines (length (lines file))) (f .fits) .1) in
     let count = read-count start 1 (lines file) rs (f .reads) in
-    let long = rows-length rs in
+    let long = length-table rs in
     omega arith
 
 -- ---- table and work area
@@ -118,13 +114,13 @@ module _ (file t w : List ℕ) (narrow : Bool) (room : narrow ≡ false → (tab
       record {
         rows = λ x qs f ok.
             let same = accepted-inj (sym v ∙ accepted-iff file qs .1 (f, ok)) in
-            subst (λ z. take 16384 (filled 16384 (concat (map numbers rs)) t) ≡ concat (map numbers z) ++ replicate (16384 - length (concat (map numbers z))) 0) same
-            (filled-front 16384 (concat (map numbers rs)) t fit);
+            subst (λ z. take 20480 (filled 20480 (tableOf rs) t) ≡ tableOf z ++ replicate (20480 - length (tableOf z)) 0) same
+            (filled-front 20480 (tableOf rs) t fit);
         zeros = λ a b. absurd (high a b);
         cleared = λ x. filled-front 65536 [] w (omega arith);
         unchanged = λ x. absurd (low x);
-        beyond = (filled-behind 16384 (concat (map numbers rs)) t fit, filled-behind 65536 [] w (omega arith));
-        lengths = (filled-length 16384 (concat (map numbers rs)) t fit long, filled-length 65536 [] w (omega arith) wide);
+        beyond = (filled-behind 20480 (tableOf rs) t fit, filled-behind 65536 [] w (omega arith));
+        lengths = (filled-length 20480 (tableOf rs) t fit long, filled-length 65536 [] w (omega arith) wide);
       }
 
   -- 1 and 2 change nothing
@@ -140,17 +136,17 @@ module _ (file t w : List ℕ) (narrow : Bool) (room : narrow ≡ false → (tab
       }
 
   -- another refusal leaves zeros
-  left-high : (f : Refusal) (m : ℕ) → refused f m ≡ unless narrow (verdict file) → 3 ≤ number f → Left (number f) file t w (filled 16384 [] t) (filled 65536 [] w)
+  left-high : (f : Refusal) (m : ℕ) → refused f m ≡ unless narrow (verdict file) → 3 ≤ number f → Left (number f) file t w (filled 20480 [] t) (filled 65536 [] w)
   left-high f m e h =
       let (enough, v) = turned-down e h in
       let (long, wide) = room enough in
       record {
         rows = λ x rs a ok. absurd (refused≢accepted (sym v ∙ accepted-iff file rs .1 (a, ok)));
-        zeros = λ c d. filled-front 16384 [] t (omega arith);
+        zeros = λ c d. filled-front 20480 [] t (omega arith);
         cleared = λ x. filled-front 65536 [] w (omega arith);
         unchanged = λ x. absurd (not-low (number f) h x);
-        beyond = (filled-behind 16384 [] t (omega arith), filled-behind 65536 [] w (omega arith));
-        lengths = (filled-length 16384 [] t (omega arith) long, filled-length 65536 [] w (omega arith) wide);
+        beyond = (filled-behind 20480 [] t (omega arith), filled-behind 65536 [] w (omega arith));
+        lengths = (filled-length 20480 [] t (omega arith) long, filled-length 65536 [] w (omega arith) wide);
       }
 
   left : (n : ℕ) (v : Verdict) → v ≡ unless narrow (verdict file) → Tells n v → Left n file t w (tableAfter v t) (workAfter v w)

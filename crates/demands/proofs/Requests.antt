@@ -1,18 +1,25 @@
 -- The promises of `specs/Requests.antt`, proved.
-use Prim.Native.Nat.{ℕ}
+use Prim.Native.Nat.{ℕ, _-_}
 use native.Mathlib.Omega.{arith}
 use mathlib.Core.Path.{_≡_, refl, sym, ap, ap₂, _∙_, subst}
-use mathlib.Core.Bool.{Bool, _||_}
-use mathlib.Core.List.{List, [], _∷_}
+use mathlib.Core.Bool.{Bool, false, _||_}
+use mathlib.Core.List.{List, [], _∷_, _++_}
 use lib.Dec.{ltb}
-use lib.ListN.{length, take, drop}
+use lib.ListN.{length, take, drop, replicate}
 use lib.Seq.{take-append-seam}
 use borrow.Author.Tests.{le-ltb}
-use Rattle.limits.specs.Limits.{resultLength}
-use Rattle.format.specs.Lines.{withoutReturns}
-use Rattle.model.specs.Services.{verdict, written, short, unless, turned, runOf, run, RunAnswer, answerOfRun, RunResult, runService}
+use Rattle.limits.specs.Limits.{tableLength, resultLength}
+use Rattle.format.specs.Lines.{Row, lines, withoutReturns}
+use Rattle.format.specs.Judge.{start, Passes}
+use Rattle.format.specs.Table.{tableOf}
+use Rattle.format.specs.Unfold.{isosOf}
+use Rattle.calculus.specs.Paper.{FileOk}
+use Rattle.format.proofs.Printing.{read-rows}
+use Rattle.format.proofs.Sizes.{type-size-at, pattern-size-at, no-size-at}
+use Rattle.model.specs.Answers.{InForm}
+use Rattle.model.specs.Services.{verdict, written, tableAfter, short, unless, check, turn, turned, runOf, run, RunAnswer, answerOfRun, RunResult, runService}
 use Rattle.model.specs.Sheet.{three}
-use Rattle.model.proofs.Files.{turned-twice, turned-fits}
+use Rattle.model.proofs.Files.{accepted-iff, turned-twice, turned-fits}
 use Rattle.model.proofs.Sheets.{block, Room, as-check, each-query}
 use Rattle.law_costs.specs.Bounds.{boundsService}
 use Rattle.law_costs.proofs.Served.{turned-same}
@@ -24,8 +31,8 @@ use Rattle.law_reordering.specs.Reordered.{SameButOrder}
 use Rattle.law_reordering.proofs.Files.{reordered-sym}
 use Rattle.law_reordering.proofs.Services.{check-both, run-same, turned-same as turned-order}
 use Rattle.demands.specs.Words.{Areas, yes, Accepted, turnedBytes}
-use Rattle.demands.specs.Requests.{SheetOfLoneRuns, BoundsOfTurned, TurnedWithFeeds, TurnedTwice, importedBytes, ImportAccepted, ExportOfImport, ShowsAsCheck, ShowsFault, BothAccepted, AnswerAlike, TurnedAlike}
-use Rattle.demands.proofs.Serving.{not-short, accepted-rows, turn-writes, gives-run, run-gives, zero-says}
+use Rattle.demands.specs.Requests.{SheetOfLoneRuns, BoundsOfTurned, TurnedWithFeeds, TurnedTwice, importedBytes, ImportAccepted, ExportOfImport, ShowsAsCheck, ShowsFault, BothAccepted, AnswerAlike, TurnedAlike, Sizes, SizesLeft}
+use Rattle.demands.proofs.Serving.{not-short, not-tight, accepted-rows, turn-writes, gives-run, run-gives, zero-says}
 use Rattle.demands.proofs.Demands.{accepted-anywhere}
 
 -- ---- request 01
@@ -122,3 +129,24 @@ turned-alike file other order a t w output t₂ w₂ output₂ areas h areas₂ 
     subst (λ bs. SameButOrder bs (turnedBytes other t₂ w₂ output₂)) (sym (turn-writes file output areas h))
     (subst (λ bs. SameButOrder (turned file) bs) (sym (turn-writes other output₂ areas₂ h₂))
     (turned-order file other order (a .table) (a .work) (ap (λ x. x .number) (a .says))))
+
+-- ---- request 10
+
+sizes-in : {rs : List Row} → Passes start rs → (rest : List ℕ) → Sizes rs (tableOf rs ++ rest)
+sizes-in {rs} p rest = record { types = type-size-at p rest; patterns = pattern-size-at p rest; others = no-size-at rs rest }
+
+-- the table of a call by this verdict, no area being short
+sizes-after : (file t : List ℕ) (rs : List Row) → InForm file rs → FileOk (isosOf rs) → {narrow : Bool} → narrow ≡ false
+    → Sizes rs (tableAfter (unless narrow (verdict file)) t)
+sizes-after file t rs f ok e =
+    subst (λ b. Sizes rs (tableAfter (unless b (verdict file)) t)) (sym e)
+    (subst (λ v. Sizes rs (tableAfter v t)) (sym (accepted-iff file rs .1 (f, ok)))
+    (sizes-in (read-rows start 1 (lines file) rs (f .reads) .2) (replicate (tableLength - length (tableOf rs)) 0 ++ drop tableLength t)))
+
+pub sizes-left : SizesLeft
+unfolding check turn runService
+sizes-left file t w areas rs f ok = (
+  sizes-after file t rs f ok (not-short areas),
+  (λ output h. sizes-after file t rs f ok (not-tight output (length file) areas h)),
+  (λ i back budget value result h. sizes-after file t rs f ok (not-tight result resultLength areas h)),
+)

@@ -6,12 +6,12 @@ use mathlib.Core.Path.{_≡_}
 use mathlib.Core.Logic.{_↔_, _⊎_}
 use mathlib.Core.Bool.{Bool}
 use mathlib.Core.Option.{some}
-use mathlib.Core.List.{List, _++_, map}
+use mathlib.Core.List.{List, _++_}
 use lib.ListN.{length, take, drop, replicate, getElem?}
-use Rattle.calculus.specs.Tools.{concat}
 use Rattle.calculus.specs.Trees.{Val, Iso}
 use Rattle.calculus.specs.Refusals.{Refusal, number}
-use Rattle.format.specs.Lines.{Row, numbers}
+use Rattle.format.specs.Lines.{Row}
+use Rattle.format.specs.Table.{tableOf}
 use Rattle.calculus.specs.Clauses.{sigsOf}
 use Rattle.format.specs.Unfold.{isosOf}
 use Rattle.calculus.specs.Letters.{letters}
@@ -32,14 +32,14 @@ OneOrTwo n = (n ≡ 1) ⊎ (n ≡ 2)
 
 -- What a call that answers n for a file leaves of a table t and a work area w: "After a call the table holds, if the file is accepted, four numbers a line …; zeros
 -- fill the rest of the first 16,384. On refusals 3 to 14 those are all zero. The first 65,536 bytes of the work area are zero. Refusals 1 and 2 change nothing. Bytes
--- beyond these lengths … keep their contents."
+-- beyond these lengths … keep their contents." Request 10: "A table line becomes five numbers …, in an area of 20,480. … what 01 says of 16,384 holds for 20,480."
 pub record Left (n : ℕ) (file t w t′ w′ : List ℕ) : Type 0 where
   pub rows : (OneOrTwo n → ⊥) → (rs : List Row) → InForm file rs → FileOk (isosOf rs)
-      → take 16384 t′ ≡ concat (map numbers rs) ++ replicate (16384 - length (concat (map numbers rs))) 0
-  pub zeros : 3 ≤ n → n ≤ 14 → take 16384 t′ ≡ replicate 16384 0
+      → take 20480 t′ ≡ tableOf rs ++ replicate (20480 - length (tableOf rs)) 0
+  pub zeros : 3 ≤ n → n ≤ 14 → take 20480 t′ ≡ replicate 20480 0
   pub cleared : (OneOrTwo n → ⊥) → take 65536 w′ ≡ replicate 65536 0
   pub unchanged : OneOrTwo n → (t′ ≡ t) × (w′ ≡ w)
-  pub beyond : (drop 16384 t′ ≡ drop 16384 t) × (drop 65536 w′ ≡ drop 65536 w)
+  pub beyond : (drop 20480 t′ ≡ drop 20480 t) × (drop 65536 w′ ≡ drop 65536 w)
   pub lengths : (length t′ ≡ length t) × (length w′ ≡ length w)
 
 -- What a call that answers n and the length m leaves of an output area o: "Any refusal gives … length 0, and leaves the output area untouched"; "an output

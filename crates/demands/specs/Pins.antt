@@ -10,8 +10,9 @@ use Rattle.limits.specs.Limits.{maxBytes, maxLines, maxTypes, maxPatterns, maxI
 use Rattle.calculus.specs.Tools.{isSome}
 use Rattle.calculus.specs.Trees.{tunit, left, right, Pat, punit, pinj, vunit, vinj, vpair}
 use Rattle.calculus.specs.Refusals.{Kind, typeLine, patternLine, isoLine, clauseLine, letLine, number, shortArea, tooLong, badLine, misplaced, badField, badName, ceiling, variable, letShape, badType, overlap, gap, noIso, noValue, spent, tooMany, tooHigh, badList}
-use Rattle.format.specs.Lines.{Row, rowOf, numbers}
-use Rattle.format.specs.Judge.{Seen, inOrder, fieldsFit, named, withinCeilings}
+use Rattle.format.specs.Lines.{Row, rowOf}
+use Rattle.format.specs.Table.{numbers, tableOf}
+use Rattle.format.specs.Judge.{Seen, start, inOrder, fieldsFit, named, withinCeilings}
 use Rattle.calculus.specs.Letters.{letters}
 use Rattle.model.specs.Services.{accepted, refused}
 use Rattle.model.specs.Desk.{queryOf, desk}
@@ -31,11 +32,11 @@ ceilings : maxBytes ∷ maxLines ∷ maxTypes ∷ maxPatterns ∷ maxIsos ∷ ma
     ≡ 65536 ∷ 4096 ∷ 256 ∷ 1024 ∷ 32 ∷ 32 ∷ 8 ∷ 127 ∷ 40 ∷ []
 ceilings = refl
 
--- variables 0 to 31, fields 0 to 65,535, budgets 0 to 4,294,967,295, four numbers a line, the areas, a query's 200 bytes; of the requests 600 queries, 4,294,967,295
+-- variables 0 to 31, fields 0 to 65,535, budgets 0 to 4,294,967,295, five numbers a line, the areas, a query's 200 bytes; of the requests 600 queries, 4,294,967,295
 -- values, 4,096 pairs, and areas of 40,960 and 65,536 bytes for lists and their files
 bounds : variables ∷ fieldBound ∷ budgetBound ∷ rowWidth ∷ tableLength ∷ workLength ∷ resultLength ∷ queryLength ∷ maxQueries ∷ maxValues ∷ maxPairs ∷ exportLength
     ∷ importLength ∷ []
-    ≡ 32 ∷ 65536 ∷ 4294967296 ∷ 4 ∷ 16384 ∷ 65536 ∷ 127 ∷ 200 ∷ 600 ∷ 4294967295 ∷ 4096 ∷ 40960 ∷ 65536 ∷ []
+    ≡ 32 ∷ 65536 ∷ 4294967296 ∷ 5 ∷ 20480 ∷ 65536 ∷ 127 ∷ 200 ∷ 600 ∷ 4294967295 ∷ 4096 ∷ 40960 ∷ 65536 ∷ []
 bounds = refl
 
 -- ---- lines
@@ -43,7 +44,7 @@ bounds = refl
 abbrev row : Kind → ℕ → ℕ → ℕ → Row
 row k x y z = record { kind = k; x = x; y = y; z = z }
 
--- "Five line forms exist": the letters' codes, the numbers of fields, and the table's four numbers a line
+-- "Five line forms exist": the letters' codes, the numbers of fields, and the table's five numbers a line
 five-forms : map rowOf (bytes "T,1,2,3\n" ∷ bytes "P,1,2,3\n" ∷ bytes "I,1,2\n" ∷ bytes "C,1,2\n" ∷ bytes "L,1,2,3\n" ∷ [])
     ≡ some (row typeLine 1 2 3) ∷ some (row patternLine 1 2 3) ∷ some (row isoLine 1 2 0) ∷ some (row clauseLine 1 2 0) ∷ some (row letLine 1 2 3) ∷ []
 five-forms = refl
@@ -52,9 +53,17 @@ no-others : map rowOf (bytes "T,1,2\n" ∷ bytes "P,1,2,3,4\n" ∷ bytes "I,1\n"
     ≡ none ∷ none ∷ none ∷ none ∷ none ∷ none ∷ none ∷ none ∷ []
 no-others = refl
 
-four-numbers : map (λ k. numbers (row k 1 2 3)) (typeLine ∷ patternLine ∷ isoLine ∷ clauseLine ∷ letLine ∷ [])
-    ≡ (84 ∷ 1 ∷ 2 ∷ 3 ∷ []) ∷ (80 ∷ 1 ∷ 2 ∷ 3 ∷ []) ∷ (73 ∷ 1 ∷ 2 ∷ 3 ∷ []) ∷ (67 ∷ 1 ∷ 2 ∷ 3 ∷ []) ∷ (76 ∷ 1 ∷ 2 ∷ 3 ∷ []) ∷ []
-four-numbers = refl
+five-numbers : map (λ k. numbers (row k 1 2 3) 7) (typeLine ∷ patternLine ∷ isoLine ∷ clauseLine ∷ letLine ∷ [])
+    ≡ (84 ∷ 1 ∷ 2 ∷ 3 ∷ 7 ∷ []) ∷ (80 ∷ 1 ∷ 2 ∷ 3 ∷ 7 ∷ []) ∷ (73 ∷ 1 ∷ 2 ∷ 3 ∷ 7 ∷ []) ∷ (67 ∷ 1 ∷ 2 ∷ 3 ∷ 7 ∷ []) ∷ (76 ∷ 1 ∷ 2 ∷ 3 ∷ 7 ∷ []) ∷ []
+five-numbers = refl
+
+-- request 10, "the fifth the unfolded size of a T or P line and 0 for other letters": a unit, a sum of two units, that sum times itself; a variable, a left of it, a pair
+sizes : tableOf
+    (row typeLine 0 0 0 ∷ row typeLine 1 0 0 ∷ row typeLine 2 1 1 ∷ row patternLine 1 0 0 ∷ row patternLine 2 0 0 ∷ row patternLine 4 1 0 ∷ row isoLine 2 2 0 ∷ row clauseLine 2 2 0 ∷ [])
+    ≡ (84 ∷ 0 ∷ 0 ∷ 0 ∷ 1 ∷ []) ++ (84 ∷ 1 ∷ 0 ∷ 0 ∷ 3 ∷ []) ++ (84 ∷ 2 ∷ 1 ∷ 1 ∷ 7 ∷ []) ++ (80 ∷ 1 ∷ 0 ∷ 0 ∷ 1 ∷ []) ++ (80 ∷ 2 ∷ 0 ∷ 0 ∷ 2 ∷ [])
+    ++ (80 ∷ 4 ∷ 1 ∷ 0 ∷ 4 ∷ []) ++ (73 ∷ 2 ∷ 2 ∷ 0 ∷ 0 ∷ []) ++ (67 ∷ 2 ∷ 2 ∷ 0 ∷ 0 ∷ [])
+unfolding start
+sizes = refl
 
 -- "decimal numbers 0 to 65,535 without leading zeros; commas part them; there is no quoting and no blank"
 numerals : map (λ l. isSome (rowOf l)) (bytes "I,0,65535\n" ∷ bytes "I,0,65536\n" ∷ bytes "I,00,1\n" ∷ bytes "I,01,1\n" ∷ bytes "I,,1\n" ∷ bytes "I, 0,1\n" ∷ bytes "I,0;1\n" ∷ bytes "I,+0,1\n" ∷ bytes "I,0,1" ∷ [])

@@ -1,14 +1,20 @@
 -- Promises of the requests that speak of more than one call, each of which gets areas of its own. What else the requests promise is said of one service, in the crates
 -- `model` (`Sheets`), `check_overlap` and those whose names begin with `law_`.
-use Prim.Native.Nat.{ℕ, _*_, _≤_}
+use Prim.Native.Nat.{ℕ, _+_, _*_, _≤_, _<_}
 use mathlib.Core.Path.{_≡_}
 use mathlib.Core.Logic.{_↔_}
 use mathlib.Core.Bool.{Bool, true, false}
 use mathlib.Core.Option.{some}
 use mathlib.Core.List.{List, [], _∷_}
-use lib.ListN.{length, take, drop, getElem?}
-use Rattle.format.specs.Lines.{lines, withoutReturns}
-use Rattle.model.specs.Services.{check, RunResult, runService}
+use lib.ListN.{length, take, drop, getD, getElem?}
+use Rattle.calculus.specs.Trees.{tunit, typeNodes, punit, nodes}
+use Rattle.calculus.specs.Refusals.{typeLine, patternLine}
+use Rattle.calculus.specs.Paper.{FileOk}
+use Rattle.format.specs.Lines.{Row, lines, withoutReturns}
+use Rattle.format.specs.Judge.{start, afterAll}
+use Rattle.format.specs.Unfold.{isosOf}
+use Rattle.model.specs.Services.{check, turn, RunResult, runService}
+use Rattle.model.specs.Answers.{InForm}
 use Rattle.model.specs.Desk.{Query, queryOf}
 use Rattle.model.specs.Sheet.{sheet}
 use Rattle.law_costs.specs.Bounds.{boundsService}
@@ -98,3 +104,19 @@ TurnedAlike =
     (file other : List ℕ) → SameButOrder file other → Accepted file → (t w output t₂ w₂ output₂ : List ℕ)
     → Areas t w → length file ≤ length output → Areas t₂ w₂ → length other ≤ length output₂
     → SameButOrder (turnedBytes file t w output) (turnedBytes other t₂ w₂ output₂)
+
+-- Request 10: "A table line becomes five numbers, the fifth the unfolded size of a T or P line and 0 for other letters". T line i stands in row i, P line j in row j behind
+-- the T lines; the trees are those that `isosOf` takes the isos' types and patterns from.
+pub record Sizes (rs : List Row) (t : List ℕ) : Type 0 where
+  pub types : (i : ℕ) → i < length (afterAll start rs .types) → getD t (i * 5 + 4) 0 ≡ typeNodes (getD (afterAll start rs .types) i tunit)
+  pub patterns : (j : ℕ) → j < length (afterAll start rs .patterns)
+      → getD t ((length (afterAll start rs .types) + j) * 5 + 4) 0 ≡ nodes (getD (afterAll start rs .patterns) j punit)
+  pub others : (k : ℕ) (r : Row) → getElem? rs k ≡ some r → (r .kind ≡ typeLine → ⊥) → (r .kind ≡ patternLine → ⊥) → getD t (k * 5 + 4) 0 ≡ 0
+
+-- "Every service keeps it": after Check, Turn and Run with an accepted file, whatever a run answers
+abbrev pub SizesLeft : Type 0
+SizesLeft =
+    (file t w : List ℕ) → Areas t w → (rs : List Row) → InForm file rs → FileOk (isosOf rs)
+    → Sizes rs (check file t w .table)
+    × ((output : List ℕ) → length file ≤ length output → Sizes rs (turn file t w output .table))
+    × ((i : ℕ) (back : Bool) (budget : ℕ) (value result : List ℕ) → 127 ≤ length result → Sizes rs (runService file t w i back budget value result .table))

@@ -5,9 +5,10 @@ use mathlib.Core.List.{List}
 use lib.ListN.{length, take}
 use Rattle.model.specs.Services.{Answer, check, turn, RunResult, RunAnswer}
 
--- "All three take … a table area of at least 16,384 numbers of 16 bits, and a work area of at least 65,536 bytes."
+-- "All three take … a table area of at least 16,384 numbers of 16 bits, and a work area of at least 65,536 bytes." Request
+-- 10: "in an area of 20,480 … what 01 says of 16,384 holds for 20,480."
 pub record Areas (table work : List ℕ) : Type 0 where
-  pub long : 16384 ≤ length table
+  pub long : 20480 ≤ length table
   pub wide : 65536 ≤ length work
 
 -- "`0,0` when accepted"

@@ -337,7 +337,7 @@ fn feed_byte(
 
 // Takes bytes of a chunk one after the other and prints what they give from the output area's start
 // on, up to the chunk's end or to where the output area lacks room for an answer. Of the state behind
-// them it is said where the file's area has 65,537 bytes, the line's 201, the table 16,384 numbers, the
+// them it is said where the file's area has 65,537 bytes, the line's 201, the table 20,480 numbers, the
 // work area 65,536 bytes and the index 1,090 numbers; what the work area then holds is left open.
 pub fn feed(
     d: Desk,

@@ -7,3 +7,4 @@ pub mod Turning
 pub mod Endings
 pub mod Printing
 pub mod Tables
+pub mod Sizes

@@ -1,6 +1,7 @@
 pub mod Lines
 pub mod Kinds
 pub mod Judge
+pub mod Table
 pub mod Unfold
 pub mod Examples
 pub mod Code

@@ -132,11 +132,3 @@ print r = letter (r .kind) ∷ concat (map printField (take (fieldCount (r .kind
 unfoldable pub printRows : List Row → List ℕ
 unfolding print
 printRows rs = concat (map print rs)
-
--- "the table holds … four numbers a line: the letter's ASCII code, then the fields, padded with 0"
-abbrev pub numbers : Row → List ℕ
-numbers r = letter (r .kind) ∷ r .x ∷ r .y ∷ r .z ∷ []
-
--- what the table holds of a file, zeros behind it
-abbrev pub tableOf : List Row → List ℕ
-tableOf rs = concat (map numbers rs)

@@ -48,9 +48,9 @@ fieldBound = 65536
 abbrev pub budgetBound : ℕ
 budgetBound = 4294967296
 
--- the numbers that a line takes in the table, and the lengths of the lent areas
+-- the numbers that a line takes in the table (request 10: its size is the fifth), and the lengths of the lent areas
 abbrev pub rowWidth : ℕ
-rowWidth = 4
+rowWidth = 5
 
 abbrev pub tableLength : ℕ
 tableLength = maxLines * rowWidth

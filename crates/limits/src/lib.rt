@@ -36,8 +36,8 @@ pub const BUDGET_BOUND: usize = 4294967296;
 // The greatest budget; pair lists read their numbers with the same bound.
 pub const MAX_BUDGET: u32 = 4294967295;
 
-// The numbers that a line takes in the table, and the lengths of the lent areas.
-pub const ROW_WIDTH: usize = 4;
+// The numbers that a line takes in the table (request 10: its size is the fifth), and the lengths of the lent areas.
+pub const ROW_WIDTH: usize = 5;
 
 pub const TABLE_LENGTH: usize = MAX_LINES * ROW_WIDTH;
 

@@ -6,6 +6,7 @@ use mathlib.Core.Bool.{Bool, true, false, cond, _&&_}
 use mathlib.Core.List.{List, _∷_}
 use lib.Dec.{eqb}
 use lib.ListN.{set}
+use Rattle.limits.specs.Limits.{rowWidth}
 use Rattle.calculus.specs.Refusals.{Kind}
 use Rattle.format.specs.Lines.{Row, letter}
 use Rattle.law_pairlists.specs.PairLists.{sameRow, find}
@@ -89,7 +90,7 @@ searched-end {s} {to} {x} {y} {z} {i} h l k =
 
 -- ---- a row stored
 
-pub stored : (s : List ℕ) (row x y z : ℕ) {a b d : List ℕ} {p q r : ℕ} → p ≡ x % 65536 → a ≡ set s (row * 4 + 1) p → q ≡ y % 65536 → b ≡ set a (row * 4 + 2) q
-    → r ≡ z % 65536 → d ≡ set b (row * 4 + 3) r → d ≡ storeEntry s row x y z
+pub stored : (s : List ℕ) (row x y z : ℕ) {a b d : List ℕ} {p q r : ℕ} → p ≡ x % 65536 → a ≡ set s (row * rowWidth + 1) p → q ≡ y % 65536 → b ≡ set a (row * rowWidth + 2) q
+    → r ≡ z % 65536 → d ≡ set b (row * rowWidth + 3) r → d ≡ storeEntry s row x y z
 unfolding storeEntry
 stored s row x y z p a q b r d = cc

@@ -9,6 +9,7 @@ use mathlib.Core.List.{List, [], _∷_, _++_}
 use lib.Dec.{ltb, leb}
 use lib.ListN.{length, getD, set, length-set}
 use lib.Seq.{getD-set-same, getD-set-other}
+use Rattle.limits.specs.Limits.{rowWidth}
 use Rattle.calculus.specs.Refusals.{Kind}
 use Rattle.format.specs.Lines.{Row}
 use Rattle.law_pairlists.specs.PairLists.{find, enter}
@@ -20,13 +21,13 @@ use Rattle.list_entries.specs.Entries.{rowOf, entryAt, entriesAt, storeE
 -- ---- a row stored
 
 -- numbers of other rows stay
-cell-stays : (s : List ℕ) (to x y z row j : ℕ) → (row ≡ to → ⊥) → j < 4 → cellOf (storeEntry s to x y z) row j ≡ cellOf s row j
+cell-stays : (s : List ℕ) (to x y z row j : ℕ) → (row ≡ to → ⊥) → j < rowWidth → cellOf (storeEntry s to x y z) row j ≡ cellOf s row j
 unfolding storeEntry
 cell-stays s to x y z row j h l =
-    ap (λ n. cond (ltb row 4096) (cond (ltb j 4) n 0) 0)
-    (getD-set-other (set (set s (to * 4 + 1) (x % 65536)) (to * 4 + 2) (y % 65536)) (to * 4 + 3) (row * 4 + j) (z % 65536) 0 (λ e. h (omega arith))
-    ∙ getD-set-other (set s (to * 4 + 1) (x % 65536)) (to * 4 + 2) (row * 4 + j) (y % 65536) 0 (λ e. h (omega arith))
-    ∙ getD-set-other s (to * 4 + 1) (row * 4 + j) (x % 65536) 0 (λ e. h (omega arith)))
+    ap (λ n. cond (ltb row 4096) (cond (ltb j rowWidth) n 0) 0)
+    (getD-set-other (set (set s (to * rowWidth + 1) (x % 65536)) (to * rowWidth + 2) (y % 65536)) (to * rowWidth + 3) (row * rowWidth + j) (z % 65536) 0 (λ e. h (omega arith))
+    ∙ getD-set-other (set s (to * rowWidth + 1) (x % 65536)) (to * rowWidth + 2) (row * rowWidth + j) (y % 65536) 0 (λ e. h (omega arith))
+    ∙ getD-set-other s (to * rowWidth + 1) (row * rowWidth + j) (x % 65536) 0 (λ e. h (omega arith)))
 
 pub row-eq : (k : Kind) {x x′ y y′ z z′ : ℕ} → x ≡ x′ → y ≡ y′ → z ≡ z′ → rowOf k x y z ≡ rowOf k x′ y′ z′
 row-eq k p q r = λ i. rowOf k (p i) (q i) (r i)
@@ -41,32 +42,32 @@ entries-stay k s to x y z from (suc n) h =
     ap₂ _∷_ (entry-stays k s to x y z from (λ e. lt-irrefl to (omega arith))) (entries-stay k s to x y z (suc from) n (omega arith))
 
 -- its numbers are there
-entry-stored : (k : Kind) (s : List ℕ) (to x y z : ℕ) → x < 65536 → y < 65536 → z < 65536 → to < 4096 → to * 4 + 3 < length s
+entry-stored : (k : Kind) (s : List ℕ) (to x y z : ℕ) → x < 65536 → y < 65536 → z < 65536 → to < 4096 → to * rowWidth + 3 < length s
     → entryAt k (storeEntry s to x y z) to ≡ rowOf k x y z
 unfolding storeEntry
 entry-stored k s to x y z hx hy hz t l =
-    let a : List ℕ = set s (to * 4 + 1) (x % 65536) in
-    let b : List ℕ = set a (to * 4 + 2) (y % 65536) in
-    let d : List ℕ = set b (to * 4 + 3) (z % 65536) in
-    let la : length a ≡ length s = length-set s (to * 4 + 1) (x % 65536) in
-    let lb : length b ≡ length a = length-set a (to * 4 + 2) (y % 65536) in
-    let cell : (j : ℕ) → j < 4 → cellOf d to j ≡ getD d (to * 4 + j) 0 = λ j h. ap₂ (λ p q. cond p (cond q (getD d (to * 4 + j) 0) 0) 0) (lt-ltb t) (lt-ltb h) in
+    let a : List ℕ = set s (to * rowWidth + 1) (x % 65536) in
+    let b : List ℕ = set a (to * rowWidth + 2) (y % 65536) in
+    let d : List ℕ = set b (to * rowWidth + 3) (z % 65536) in
+    let la : length a ≡ length s = length-set s (to * rowWidth + 1) (x % 65536) in
+    let lb : length b ≡ length a = length-set a (to * rowWidth + 2) (y % 65536) in
+    let cell : (j : ℕ) → j < rowWidth → cellOf d to j ≡ getD d (to * rowWidth + j) 0 = λ j h. ap₂ (λ p q. cond p (cond q (getD d (to * rowWidth + j) 0) 0) 0) (lt-ltb t) (lt-ltb h) in
     row-eq k
     (cell 1 (omega arith)
-    ∙ getD-set-other b (to * 4 + 3) (to * 4 + 1) (z % 65536) 0 (λ e. lt-irrefl to (omega arith))
-    ∙ getD-set-other a (to * 4 + 2) (to * 4 + 1) (y % 65536) 0 (λ e. lt-irrefl to (omega arith))
-    ∙ getD-set-same s (to * 4 + 1) (x % 65536) 0 (omega arith) ∙ mod-eq-of-lt hx)
+    ∙ getD-set-other b (to * rowWidth + 3) (to * rowWidth + 1) (z % 65536) 0 (λ e. lt-irrefl to (omega arith))
+    ∙ getD-set-other a (to * rowWidth + 2) (to * rowWidth + 1) (y % 65536) 0 (λ e. lt-irrefl to (omega arith))
+    ∙ getD-set-same s (to * rowWidth + 1) (x % 65536) 0 (omega arith) ∙ mod-eq-of-lt hx)
     (cell 2 (omega arith)
-    ∙ getD-set-other b (to * 4 + 3) (to * 4 + 2) (z % 65536) 0 (λ e. lt-irrefl to (omega arith))
-    ∙ getD-set-same a (to * 4 + 2) (y % 65536) 0 (omega arith) ∙ mod-eq-of-lt hy)
-    (cell 3 (omega arith) ∙ getD-set-same b (to * 4 + 3) (z % 65536) 0 (omega arith) ∙ mod-eq-of-lt hz)
+    ∙ getD-set-other b (to * rowWidth + 3) (to * rowWidth + 2) (z % 65536) 0 (λ e. lt-irrefl to (omega arith))
+    ∙ getD-set-same a (to * rowWidth + 2) (y % 65536) 0 (omega arith) ∙ mod-eq-of-lt hy)
+    (cell 3 (omega arith) ∙ getD-set-same b (to * rowWidth + 3) (z % 65536) 0 (omega arith) ∙ mod-eq-of-lt hz)
 
 pub store-length : (s : List ℕ) (row x y z : ℕ) → length (storeEntry s row x y z) ≡ length s
 unfolding storeEntry
 store-length s row x y z =
-    length-set (set (set s (row * 4 + 1) (x % 65536)) (row * 4 + 2) (y % 65536)) (row * 4 + 3) (z % 65536)
-    ∙ length-set (set s (row * 4 + 1) (x % 65536)) (row * 4 + 2) (y % 65536)
-    ∙ length-set s (row * 4 + 1) (x % 65536)
+    length-set (set (set s (row * rowWidth + 1) (x % 65536)) (row * rowWidth + 2) (y % 65536)) (row * rowWidth + 3) (z % 65536)
+    ∙ length-set (set s (row * rowWidth + 1) (x % 65536)) (row * rowWidth + 2) (y % 65536)
+    ∙ length-set s (row * rowWidth + 1) (x % 65536)
 
 pub entries-length : (k : Kind) (s : List ℕ) (from n : ℕ) → length (entriesAt k s from n) ≡ n
 entries-length k s from zero = refl
@@ -79,7 +80,7 @@ entries-snoc k s from (suc n) =
     ap (λ rs. entryAt k s from ∷ rs) (entries-snoc k s (suc from) n ∙ ap (λ r. entriesAt k s (suc from) n ++ (entryAt k s r ∷ [])) e)
 
 -- a row stored behind n others
-pub entries-stored : (k : Kind) (s : List ℕ) (n x y z : ℕ) → x < 65536 → y < 65536 → z < 65536 → n < 4096 → n * 4 + 3 < length s
+pub entries-stored : (k : Kind) (s : List ℕ) (n x y z : ℕ) → x < 65536 → y < 65536 → z < 65536 → n < 4096 → n * rowWidth + 3 < length s
     → entriesAt k (storeEntry s n x y z) 0 (n + 1) ≡ entriesAt k s 0 n ++ (rowOf k x y z ∷ [])
 entries-stored k s n x y z hx hy hz h l =
     let e : n + 1 ≡ suc n = omega arith in

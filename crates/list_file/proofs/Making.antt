@@ -1,5 +1,5 @@
 -- The rows of a file in three areas, and its bytes, or refusal 7.
-use Prim.Native.Nat.{ℕ, _+_, _≤_, _<_}
+use Prim.Native.Nat.{ℕ, _+_, _*_, _≤_, _<_}
 use native.Mathlib.Nat.{lt-irrefl, zero-add}
 use native.Mathlib.Omega.{arith}
 use mathlib.Core.Path.{_≡_, refl, sym, ap, _∙_, subst}
@@ -10,7 +10,7 @@ use mathlib.Core.List.{List, [], _∷_, _++_}
 use lib.Dec.{leb}
 use lib.ListN.{length, take, drop}
 use lib.Seq.{sets-eq, length-take-le}
-use Rattle.limits.specs.Limits.{maxNodes, maxValues, maxClauses}
+use Rattle.limits.specs.Limits.{maxNodes, maxValues, maxClauses, rowWidth}
 use Rattle.calculus.specs.Trees.{Ty, Val, typeNodes}
 use Rattle.calculus.specs.Refusals.{typeLine, patternLine, clauseLine, ceiling}
 use Rattle.format.specs.Lines.{Row, printRows}
@@ -24,7 +24,7 @@ use Rattle.law_pairlists.specs.PairLists.{writeType, writePairs, isoRow, settin
 use Rattle.law_pairlists.proofs.File.{type-room}
 use Rattle.law_pairlists.proofs.List.{Taken, pairs-taken}
 use Rattle.law_pairlists.proofs.Imports.{written-ceiling, written-room}
-use Rattle.list_entries.specs.Entries.{entriesAt, Tracks, Room, Follows}
+use Rattle.list_entries.specs.Entries.{maxEntries, entriesAt, Tracks, Room, Follows}
 use Rattle.list_entries.proofs.Tracking.{entries-length}
 use Rattle.list_writing.specs.Writing.{TypeDone, PairsDone}
 use Rattle.list_file.specs.Filing.{FileMade}
@@ -60,7 +60,7 @@ record Types (a b : Ty) (s : List ℕ) (m n e : ℕ) : Type 0 where
 types-made : (a b : Ty) {s s₁ s₂ : List ℕ} {m d n e : ℕ} → typeNodes a ≤ maxNodes → typeNodes b ≤ maxNodes → Room s → TypeDone a s s₁ 0 m d → TypeDone b s₁ s₂ d n e
     → Types a b s₂ m n e
 types-made a b {s} {s₁} {s₂} {m} {d} {n} {e} ha hb r f g =
-    both (f .does [] r (none-yet s)) (λ F. g .does (writeType a [] .rows) (record { words = subst (λ i. 4100 ≤ i) (sym (F .long)) (r .words) }) (F .tracks))
+    both (f .does [] r (none-yet s)) (λ F. g .does (writeType a [] .rows) (record { words = subst (λ i. maxEntries * rowWidth ≤ i) (sym (F .long)) (r .words) }) (F .tracks))
   where
     few : length (writeType a [] .rows) ≤ 127
     few = let p = type-room a [] in omega arith
@@ -95,7 +95,7 @@ module _ (a b : Ty) (tos : List ℕ) (k : ℕ) (o : List ℕ) (most : k ≤ maxC
   counts : k ≤ length tos → Taken a b (take k tos) → (count a ≤ maxValues) × (count b ≤ maxValues)
   counts h t = let l = short-list h in let f = t .froms in let g = t .tos in (omega arith, omega arith)
 
-  module _ {p p′ q q′ : List ℕ} {end : ℕ} (pairs : PairsDone a b tos k p p′ q q′ end) (wide : 4100 ≤ length p) (long : 128 ≤ length q) where
+  module _ {p p′ q q′ : List ℕ} {end : ℕ} (pairs : PairsDone a b tos k p p′ q q′ end) (wide : maxEntries * rowWidth ≤ length p) (long : maxClauses * rowWidth ≤ length q) where
     -- over 1,024 P lines
     pub file-over : 1024 < end → (r : F.Filed) → refusalView (r .refusal) ≡ some (ceiling patternLine) → r .length ≡ 0 → FileMade a b tos k o o r
     file-over h r n l =
@@ -114,7 +114,7 @@ module _ (a b : Ty) (tos : List ℕ) (k : ℕ) (o : List ℕ) (most : k ≤ maxC
         }
 
     -- within it
-    pub file-made : {s s₁ s₂ : List ℕ} {m d n e : ℕ} → 4100 ≤ length s → TypeDone a s s₁ 0 m d → TypeDone b s₁ s₂ d n e → end ≤ 1024 → {o′ : List ℕ} {len : ℕ}
+    pub file-made : {s s₁ s₂ : List ℕ} {m d n e : ℕ} → maxEntries * rowWidth ≤ length s → TypeDone a s s₁ 0 m d → TypeDone b s₁ s₂ d n e → end ≤ 1024 → {o′ : List ℕ} {len : ℕ}
         → (m < 10000000000 → n < 10000000000 → Writes o o′ 0 len (printRows (entriesAt typeLine s₂ 0 e ++ (entriesAt patternLine p′ 0 end ++ (isoRow m n ∷ entriesAt clauseLine q′ 0 k)))))
         → (r : F.Filed) → refusalView (r .refusal) ≡ none → r .length ≡ len → FileMade a b tos k o o′ r
     file-made {s} {s₁} {s₂} {m} {d} {n} {e} area f g h {o′} {len} w r j l =

@@ -1,5 +1,5 @@
 -- The rows of types and of closed values, written parts before wholes: an area follows the definition's rows.
-use Prim.Native.Nat.{ℕ, _-_, _/_, _%_, _≤_, _<_}
+use Prim.Native.Nat.{ℕ, _*_, _-_, _/_, _%_, _≤_, _<_}
 use native.Mathlib.Nat.{lt-irrefl}
 use native.Mathlib.Omega.{arith}
 use mathlib.Core.Path.{_≡_, refl, sym, ap, ap₂, _∙_, subst}
@@ -8,7 +8,7 @@ use mathlib.Core.Bool.{true, false, cond}
 use mathlib.Core.List.{List}
 use lib.Dec.{leb}
 use lib.ListN.{length}
-use Rattle.limits.specs.Limits.{maxValues}
+use Rattle.limits.specs.Limits.{maxValues, rowWidth}
 use Rattle.calculus.specs.Refusals.{Kind, typeLine, patternLine}
 use Rattle.format.specs.Lines.{Row}
 use Rattle.calculus.specs.Trees.{Ty, tunit, tsum, tprod, Tag, left, right, Val, vunit, vinj, vpair}
@@ -20,14 +20,14 @@ use Rattle.law_pairlists.proofs.File.{type-grows, value-grows}
 use Rattle.law_pairlists.proofs.Rows.{enter-grows}
 use Rattle.number_values.specs.Numbers.{Counts}
 use Rattle.number_values.proofs.Counting.{counted}
-use Rattle.list_entries.specs.Entries.{rowOf, Tracks, Room, Follows, Entering}
+use Rattle.list_entries.specs.Entries.{maxEntries, rowOf, Tracks, Room, Follows, Entering}
 use Rattle.list_writing.specs.Writing.{TypeDone, RowsOf, ValueDone}
 use Rattle.list_entries.proofs.Tracking.{row-eq}
 
 -- ---- a type written
 
 pub follow-room : {k : Kind} {s s′ : List ℕ} {n e m : ℕ} {qs : List Row} → Follows k s s′ n e qs m → Room s → Room s′
-follow-room f r = record { words = subst (λ w. 4100 ≤ w) (sym (f .long)) (r .words) }
+follow-room f r = record { words = subst (λ w. maxEntries * rowWidth ≤ w) (sym (f .long)) (r .words) }
 
 pub unit-done : {a : Ty} {s s′ : List ℕ} {to n e : ℕ} → a ≡ tunit → ((k : Kind) (rs : List Row) → Entering k s s′ to 0 0 0 n e rs) → TypeDone a s s′ to n e
 unit-done {s = s} {s′ = s′} {to = to} {n = n} {e = e} p h =

@@ -1,5 +1,5 @@
 -- Pairs written one after the other: the P rows and the C rows so far, and what is still to come.
-use Prim.Native.Nat.{ℕ, _+_, _-_, _≤_, _<_}
+use Prim.Native.Nat.{ℕ, _+_, _-_, _*_, _≤_, _<_}
 use native.Mathlib.Nat.{lt-irrefl}
 use native.Mathlib.Numerals.{add-one}
 use native.Mathlib.Omega.{arith}
@@ -7,14 +7,14 @@ use mathlib.Core.Path.{_≡_, refl, sym, ap, ap₂, _∙_, subst}
 use mathlib.Core.List.{List, [], _∷_, _++_, append-assoc, append-nil}
 use lib.ListN.{length, getD, take, drop, drop-of-length-le}
 use lib.Seq.{drop-cons, getD-take, length-take-le}
-use Rattle.limits.specs.Limits.{maxValues, maxClauses}
+use Rattle.limits.specs.Limits.{maxValues, maxClauses, rowWidth}
 use Rattle.calculus.specs.Refusals.{patternLine, clauseLine}
 use Rattle.calculus.specs.Trees.{Ty}
 use Rattle.format.specs.Lines.{Row}
 use Rattle.law_ranking.specs.Numbering.{count, unrank}
 use Rattle.law_pairlists.specs.PairLists.{clauseRow, writePairs, settings}
 use Rattle.law_pairlists.proofs.File.{value-grows}
-use Rattle.list_entries.specs.Entries.{rowOf, entriesAt, storeEntry, Tracks, Room, Follows}
+use Rattle.list_entries.specs.Entries.{maxEntries, rowOf, entriesAt, storeEntry, Tracks, Room, Follows}
 use Rattle.list_entries.proofs.Tracking.{entries-stored}
 use Rattle.list_writing.specs.Writing.{left, right, ValueDone, PairRows, ClauseDone, PairsDone}
 use Rattle.list_writing.proofs.Following.{follow-room}
@@ -58,7 +58,7 @@ pub record Pairs (a b : Ty) (tos : List ℕ) (n : ℕ) (s₀ q₀ s q : List ℕ
   pub within : k ≤ n
   pub long : length s ≡ length s₀
   pub wide : length q ≡ length q₀
-  pub sofar : count a ≤ maxValues → count b ≤ maxValues → n ≤ length tos → Room s₀ → 128 ≤ length q₀ → Sofar a b (take n tos) k s q end
+  pub sofar : count a ≤ maxValues → count b ≤ maxValues → n ≤ length tos → Room s₀ → maxClauses * rowWidth ≤ length q₀ → Sofar a b (take n tos) k s q end
 
 pub pairs-start : (a b : Ty) (tos : List ℕ) (n : ℕ) (s q : List ℕ) → Pairs a b tos n s q s q 0 0
 pairs-start a b tos n s q =
@@ -88,10 +88,10 @@ pairs-next {a} {b} {tos} {n} {s₀} {q₀} {s} {q} {s′} {q′} {k} {end} {e} {
       within = omega arith;
       long = ls ∙ p .long;
       wide = lq ∙ p .wide;
-      sofar = λ ca cb l r w. next l w (p .sofar ca cb l r w) (λ rs t. c .does ca cb rs (record { words = subst (λ i. 4100 ≤ i) (sym (p .long)) (r .words) }) t);
+      sofar = λ ca cb l r w. next l w (p .sofar ca cb l r w) (λ rs t. c .does ca cb rs (record { words = subst (λ i. maxEntries * rowWidth ≤ i) (sym (p .long)) (r .words) }) t);
     }
   where
-    next : n ≤ length tos → 128 ≤ length q₀ → Sofar a b (take n tos) k s q end → ((rs : List Row) → Tracks patternLine s end rs → PairRows a b k m rs s′ q q′ e)
+    next : n ≤ length tos → maxClauses * rowWidth ≤ length q₀ → Sofar a b (take n tos) k s q end → ((rs : List Row) → Tracks patternLine s end rs → PairRows a b k m rs s′ q q′ e)
         → Sofar a b (take n tos) (k + 1) s′ q′ e
     next l w f g = onward (g (f .rows) (f .tracks))
       where

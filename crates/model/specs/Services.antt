@@ -9,7 +9,8 @@ use Rattle.limits.specs.Limits.{maxBytes, maxLines, tableLength, workLength, re
 use Rattle.calculus.specs.Tools.{_>>=_, guard, stages}
 use Rattle.calculus.specs.Trees.{Ty, Val, Iso}
 use Rattle.calculus.specs.Refusals.{Refusal, number, shortArea, tooLong, noIso, noValue, spent}
-use Rattle.format.specs.Lines.{Row, lines, tableOf, printRows}
+use Rattle.format.specs.Lines.{Row, lines, printRows}
+use Rattle.format.specs.Table.{tableOf}
 use Rattle.format.specs.Judge.{start, judge, Reading, rows, faulty, readFrom}
 use Rattle.format.specs.Unfold.{isosOf, turnRows}
 use Rattle.format.specs.Code.{numbered}

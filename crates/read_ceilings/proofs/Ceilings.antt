@@ -12,6 +12,7 @@ use Rattle.limits.specs.Limits.{maxTypes, maxPatterns, maxIsos, maxClauses, max
 use Rattle.calculus.specs.Trees.{tunit, typeNodes, Pat, punit, nodes, tags}
 use Rattle.calculus.specs.Refusals.{typeLine, patternLine}
 use Rattle.format.specs.Judge.{Seen, typeNames, patternNames, named, withinCeilings}
+use Rattle.format.specs.Table.{sizeOf}
 use Rattle.format.specs.declared.Kind.the-variants as kinds
 use Rattle.format.specs.declared.Row as R
 use Rattle.format.specs.Code.{kindView, rowView}
@@ -20,7 +21,7 @@ use Rattle.table_trees.specs.Unfolding.{typeOf, patternOf}
 use Rattle.table_trees.proofs.Cases.{Parted, sums, products, Whole, Injects, lefts, rights, Leaf}
 use Rattle.table_sizes.proofs.Counts.{whole-count, type-count, leaf-count, inj-count, pair-count, leaf-tags, inj-tags, pair-tags, above-two, above-one, both, one-more}
 use Rattle.read_seen.specs.declared.Seen as C
-use Rattle.read_ceilings.specs.Reckoned.{TypeReckoned, PatternReckoned, CeilingsTold}
+use Rattle.read_ceilings.specs.Reckoned.{TypeReckoned, PatternReckoned, CeilingsTold, SizeTold}
 use Rattle.read_seen.specs.Told.{PatternsAt, nextType, nextPattern, Told}
 
 -- ---- what names that stand tell
@@ -222,3 +223,25 @@ module _ (t : List ℕ) (c : C.Seen) (r : R.Row) where
 
   pub within-let : r .kind ≡ kinds.Let → CeilingsTold (kindView (r .kind)) t c r (ltb (c .lets) maxLets)
   within-let q s told names = ap (λ n. ltb n maxLets) (told .counts .lets) ∙ ap (λ k. withinCeilings s (kindView k) (rowView r)) (sym q)
+
+  -- ---- sizes, kind by kind
+
+  pub size-type : {n : ℕ} → r .kind ≡ kinds.Type → TypeReckoned typeNodes manyNodes t (r .x) (r .y) (r .z) n → SizeTold (kindView (r .kind)) t c r n
+  size-type q e s told names =
+      e (s .types) (told .types) (ap (λ k. named s (kindView k) (rowView r)) (sym q) ∙ names)
+      ∙ ap (λ k. min manyNodes (sizeOf (kindView k) s (rowView r))) (sym q)
+
+  pub size-pattern :
+      {n : ℕ} → r .kind ≡ kinds.Pattern → PatternReckoned nodes manyNodes t (c .types) (r .x) (r .y) (r .z) n → SizeTold (kindView (r .kind)) t c r n
+  size-pattern q e s told names =
+      e (s .patterns) (behind-types s told) (ap (λ k. named s (kindView k) (rowView r)) (sym q) ∙ names)
+      ∙ ap (λ k. min manyNodes (sizeOf (kindView k) s (rowView r))) (sym q)
+
+  pub size-iso : r .kind ≡ kinds.Iso → SizeTold (kindView (r .kind)) t c r 0
+  size-iso q s told names = ap (λ k. min manyNodes (sizeOf (kindView k) s (rowView r))) (sym q)
+
+  pub size-clause : r .kind ≡ kinds.Clause → SizeTold (kindView (r .kind)) t c r 0
+  size-clause q s told names = ap (λ k. min manyNodes (sizeOf (kindView k) s (rowView r))) (sym q)
+
+  pub size-let : r .kind ≡ kinds.Let → SizeTold (kindView (r .kind)) t c r 0
+  size-let q s told names = ap (λ k. min manyNodes (sizeOf (kindView k) s (rowView r))) (sym q)

@@ -24,7 +24,7 @@ ghost use Rattle.limits.specs.Limits.{manyTags, manyNodes};
 ghost use Rattle.calculus.specs.Trees.{typeNodes, nodes, tags};
 ghost use Rattle.calculus.specs.Refusals.{typeLine, patternLine};
 ghost use Rattle.format.specs.Code.{kindView};
-ghost use Rattle.read_ceilings.specs.Reckoned.{TypeReckoned, PatternReckoned, CeilingsTold};
+ghost use Rattle.read_ceilings.specs.Reckoned.{TypeReckoned, PatternReckoned, CeilingsTold, SizeTold};
 
 // The nodes of a T line that stands next, over the lines that it names.
 fn type_nodes(t: &[u16], kind: usize, a: usize, b: usize) -> usize
@@ -93,5 +93,19 @@ pub fn within_ceilings(c: Seen, t: &[u16], r: Row) -> bool
         Kind::Iso => c.isos < MAX_ISOS,
         Kind::Clause => c.clauses < MAX_CLAUSES,
         Kind::Let => c.lets < MAX_LETS,
+    }
+}
+
+// The size of a row whose names stand: the nodes of a T or P line, 0 for another letter.
+pub fn row_size(c: Seen, t: &[u16], r: Row) -> usize
+    ensures { λ n. ⌜ SizeTold (kindView (r .kind)) (now (t .entry)) c r n ⌝ }
+{
+    let k = r.kind;
+    match k {
+        Kind::Type => type_nodes(t, r.x, r.y, r.z),
+        Kind::Pattern => pattern_nodes(t, c.types, r.x, r.y, r.z),
+        Kind::Iso => 0,
+        Kind::Clause => 0,
+        Kind::Let => 0,
     }
 }

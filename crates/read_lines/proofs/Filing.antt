@@ -4,11 +4,12 @@ use native.Mathlib.Omega.{arith}
 use mathlib.Core.Path.{_≡_, refl, sym, ap, ap₂, _∙_, subst}
 use mathlib.Core.Option.{Option, none, some}
 use mathlib.Core.List.{List, [], _∷_}
-use lib.ListN.{length, getD, getElem?, drop}
+use lib.ListN.{length, getD, getElem?, take, drop}
 use lib.Dec.{lit<}
 use Rattle.limits.specs.Limits.{maxLines, rowWidth}
 use Rattle.calculus.specs.Refusals.{Refusal}
-use Rattle.format.specs.Lines.{Row, rowOf, lines, numbers}
+use Rattle.format.specs.Lines.{Row, rowOf, lines}
+use Rattle.format.specs.Table.{numbers, rowSize}
 use Rattle.format.specs.Judge.{Seen, start, judge, after, afterAll, Reading, rows, faulty, withRow, onRow, onJudged, readFrom}
 use Rattle.format.specs.Code.{refusalView}
 use Rattle.calculus.proofs.Basic.{index-below, none≢some, some-inj}
@@ -100,7 +101,7 @@ module _ {s t₀ t : List ℕ} {r : R.Read} (h : Holds s t₀ t r) (few : length
   rows-few =
       subst (λ n. n ≤ maxLines) (read-count start 1 (lines s) (h .file) (h .reads)) few
 
-  cell-of : (k m : ℕ) (row : Row) → getElem? (h .file) k ≡ some row → m < rowWidth → cellOf t k m ≡ getD (numbers row) m 0
+  cell-of : (k m : ℕ) (row : Row) → getElem? (h .file) k ≡ some row → m < rowWidth → cellOf t k m ≡ getD (numbers row (rowSize (afterAll start (take k (h .file))) row)) m 0
   cell-of k m row e below =
       let within : k < maxLines = omega (arith, index-below (h .file) k e, rows-few) in
       cell-within t k m within below

@@ -13,90 +13,23 @@ use borrow.Author.Tests.{leb-true}
 use Rattle.limits.specs.Limits.{maxLines, rowWidth}
 use Rattle.calculus.specs.Trees.{Ty, tunit, Pat, punit}
 use Rattle.calculus.specs.Refusals.{Kind, typeLine, patternLine, isoLine, clauseLine, letLine}
-use Rattle.format.specs.Lines.{Row, numbers}
-use Rattle.format.specs.Judge.{Seen, start, stage, inOrder, typeNode, typeTree, typeNames, patternNode, patternTree, patternNames, judge, afterKind, after}
+use Rattle.format.specs.Lines.{Row}
+use Rattle.format.specs.Table.{numbers}
+use Rattle.format.specs.Judge.{Seen, start, stage, typeNode, typeTree, typeNames, patternNode, patternTree, patternNames, judge, afterKind, after}
 use Rattle.format.specs.Kinds.{typeKind, patternKind}
 use Rattle.format.proofs.Naming.{type-by-names, pattern-by-names}
 use Rattle.format.proofs.Passing.{Fit, judge-fit}
+use Rattle.format.proofs.Sizes.{Stands}
 use Rattle.table_trees.specs.Unfolding.{cellOf, smallerOf, typeOf, patternOf}
 use Rattle.table_trees.proofs.Unfolding.{smaller-less, type-node, type-same, pattern-node, pattern-same}
 use Rattle.read_seen.specs.declared.Seen as C
 use Rattle.read_seen.specs.Told.{startSeen, seenAfter, SmallCounts, Counts, TypesAt, PatternsAt, Told}
 use Rattle.read_lines.proofs.Storing.{rows-before, row-stored}
 
--- ---- where rows stand
-
--- after n rows: T lines alone are the first rows, T and P lines alone are all of them, and no count is above n
-pub record Stands (n : ℕ) (s : Seen) : Type 0 where
-  pub only-types : stage (s .above) ≤ 0 → (n ≡ length (s .types)) × (length (s .patterns) ≡ 0)
-  pub no-isos : stage (s .above) ≤ 1 → n ≡ length (s .types) + length (s .patterns)
-  pub behind : length (s .types) + length (s .patterns) ≤ n
-  pub isos : s .isos ≤ n
-  pub clauses : s .clauses ≤ n
-  pub lets : s .lets ≤ n
-
-pub stands-start : Stands 0 start
-unfolding start
-stands-start = record { only-types = λ h. (refl, refl); no-isos = λ h. omega arith; behind = omega arith; isos = omega arith; clauses = omega arith; lets = omega arith }
+-- ---- counts
 
 length-snoc : {A : Type 0} (xs : List A) (x : A) → length (xs ++ (x ∷ [])) ≡ length xs + 1
 length-snoc xs x = length-append xs (x ∷ [])
-
-stands-after : (n : ℕ) (s : Seen) (k : Kind) (r : Row) → inOrder (s .above) k ≡ true → Stands n s → Stands (suc n) (afterKind k s r)
-stands-after n s typeLine r o d =
-    let here = d .only-types (leb-true (stage (s .above)) 0 o) in
-    let more = length-snoc (s .types) (typeTree (s .types) r) in
-    record {
-      only-types = λ h. (omega arith, here .1);
-      no-isos = λ h. omega arith;
-      behind = omega arith;
-      isos = omega (arith, d .isos);
-      clauses = omega (arith, d .clauses);
-      lets = omega (arith, d .lets);
-    }
-stands-after n s patternLine r o d =
-    let here = d .no-isos (leb-true (stage (s .above)) 1 o) in
-    let more = length-snoc (s .patterns) (patternTree (s .patterns) r) in
-    record {
-      only-types = λ h. absurd (omega arith);
-      no-isos = λ h. omega arith;
-      behind = omega arith;
-      isos = omega (arith, d .isos);
-      clauses = omega (arith, d .clauses);
-      lets = omega (arith, d .lets);
-    }
-stands-after n s isoLine r o d =
-    record {
-      only-types = λ h. absurd (omega arith);
-      no-isos = λ h. absurd (omega arith);
-      behind = omega (arith, d .behind);
-      isos = omega (arith, d .isos);
-      clauses = omega arith;
-      lets = omega arith;
-    }
-stands-after n s clauseLine r o d =
-    record {
-      only-types = λ h. absurd (omega arith);
-      no-isos = λ h. absurd (omega arith);
-      behind = omega (arith, d .behind);
-      isos = omega (arith, d .isos);
-      clauses = omega (arith, d .clauses);
-      lets = omega arith;
-    }
-stands-after n s letLine r o d =
-    record {
-      only-types = λ h. absurd (omega arith);
-      no-isos = λ h. absurd (omega arith);
-      behind = omega (arith, d .behind);
-      isos = omega (arith, d .isos);
-      clauses = omega (arith, d .clauses);
-      lets = omega (arith, d .lets);
-    }
-
-pub stands-kept : (n : ℕ) (s : Seen) (r : Row) → judge s r ≡ none → Stands n s → Stands (suc n) (after s r)
-stands-kept n s r j d = stands-after n s (r .kind) r (judge-fit s r j .order) d
-
--- ---- counts
 
 pub counts-start : Counts startSeen start
 unfolding start
@@ -154,16 +87,16 @@ counts-small l d h =
 
 -- ---- the trees of the table's lines
 
-module _ (t t′ : List ℕ) (n : ℕ) (r : Row) (e : t′ ≡ sets t (n * rowWidth) (numbers r)) (h : n < maxLines) (w : n * rowWidth + rowWidth ≤ length t) where
+module _ (t t′ : List ℕ) (n : ℕ) (r : Row) (size : ℕ) (e : t′ ≡ sets t (n * rowWidth) (numbers r size)) (h : n < maxLines) (w : n * rowWidth + rowWidth ≤ length t) where
   -- lines before row n keep their trees
   types-kept : (ts : List Ty) → TypesAt t ts → length ts ≤ n → TypesAt t′ ts
-  types-kept ts at l i b = type-same t t′ n (rows-before t t′ n r e) i (omega arith) ∙ at i b
+  types-kept ts at l i b = type-same t t′ n (rows-before t t′ n r size e) i (omega arith) ∙ at i b
 
   patterns-kept : (base : ℕ) (ps : List Pat) → PatternsAt t base ps → base + length ps ≤ n → PatternsAt t′ base ps
-  patterns-kept base ps at l j b = pattern-same t t′ n (rows-before t t′ n r e) base j (omega arith) ∙ at j b
+  patterns-kept base ps at l j b = pattern-same t t′ n (rows-before t t′ n r size e) base j (omega arith) ∙ at j b
 
-  stored-at : (k : ℕ) → k < rowWidth → cellOf t′ n k ≡ getD (numbers r) k 0
-  stored-at k l = row-stored t t′ n r e k h w l
+  stored-at : (k : ℕ) → k < rowWidth → cellOf t′ n k ≡ getD (numbers r size) k 0
+  stored-at k l = row-stored t t′ n r size e k h w l
 
   module _ (ts : List Ty) (at : TypesAt t ts) (here : n ≡ length ts) (names : typeNames (length ts) (r .x) (r .y) (r .z) ≡ true) where
     -- a line that row n names
@@ -191,7 +124,7 @@ module _ (t t′ : List ℕ) (n : ℕ) (r : Row) (e : t′ ≡ sets t (n * rowWi
     named-pattern : (a : ℕ) → a < length ps → patternOf t′ base (smallerOf a (length ps)) ≡ getD ps a punit
     named-pattern a l = ap (patternOf t′ base) (smaller-less a (length ps) l) ∙ patterns-kept base ps at (omega arith) a l
 
-    stored-here : (k : ℕ) → k < rowWidth → cellOf t′ (base + length ps) k ≡ getD (numbers r) k 0
+    stored-here : (k : ℕ) → k < rowWidth → cellOf t′ (base + length ps) k ≡ getD (numbers r size) k 0
     stored-here k l = ap (λ row. cellOf t′ row k) (sym here) ∙ stored-at k l
 
     pattern-new : patternOf t′ base (length ps) ≡ patternTree ps r

@@ -7,23 +7,27 @@ use mathlib.Core.Option.{Option, none, some}
 use mathlib.Core.List.{List, [], _∷_, _++_, append-nil, append-assoc}
 use lib.ListN.{length, take, drop, length-append, drop-of-length-le}
 use lib.Seq.{sets, sets-eq, length-sets, take-at, drop-append-add, drop-drop}
-use Rattle.limits.specs.Limits.{tableLength, maxLines, rowWidth}
+use Rattle.limits.specs.Limits.{tableLength, maxLines, maxNodes, rowWidth}
 use Rattle.calculus.specs.Refusals.{Refusal, badLine}
-use Rattle.format.specs.Lines.{Row, rowOf, lines, numbers, tableOf}
+use Rattle.format.specs.Lines.{Row, rowOf, lines}
+use Rattle.format.specs.Table.{numbers, rowSize, tableOf}
 use Rattle.format.specs.Judge.{Seen, start, judge, after, afterAll, Reading, rows, faulty, withRow, readFrom}
 use Rattle.format.specs.declared.Row as R
 use Rattle.format.specs.declared.Refusal as F
 use Rattle.format.specs.declared.Refusal.the-variants as refusals
 use Rattle.format.specs.Code.{kindView, rowView, refusalView}
+use Rattle.format.proofs.Passing.{judge-fit}
 use Rattle.format.proofs.Printing.{WellFormed, read-print}
-use Rattle.format.proofs.Tables.{length-table, table-snoc}
+use Rattle.format.proofs.Sizes.{Stands, stands-start, stands-kept}
+use Rattle.format.proofs.Tables.{length-table, table-snoc, size-fits}
+use Rattle.read_ceilings.specs.Reckoned.{SizeTold}
 use Rattle.read_seen.specs.declared.Seen as C
 use Rattle.read_lines.specs.declared.read.Judged as J
 use Rattle.read_lines.specs.declared.read.Judged.the-variants as judged
 use Rattle.read_fields.specs.Views.{LineEnd}
 use Rattle.read_seen.specs.Told.{startSeen, seenAfter, SmallCounts, Told}
 use Rattle.read_lines.specs.Reads.{passes, refused, asJudged, judgedRow, judgedForm, judgedLine, ahead, passing, refusalIn, lineIn, rowsOver, ReadSays}
-use Rattle.read_lines.proofs.Keeping.{Stands, stands-start, stands-kept, counts-small, told-start, told-kept}
+use Rattle.read_lines.proofs.Keeping.{counts-small, told-start, told-kept}
 
 -- ---- one row more at the end
 
@@ -56,15 +60,15 @@ length-snoc rs r = length-append rs (r ∷ [])
 -- rows in front of what a table held behind them
 module _ (a t₀ : List ℕ) (n : ℕ) (e : length a ≡ n * rowWidth) where
   -- one row more is stored behind them
-  table-more : {t t′ : List ℕ} (r : Row) → t ≡ a ++ drop (n * rowWidth) t₀ → n * rowWidth + rowWidth ≤ length t → t′ ≡ sets t (n * rowWidth) (numbers r)
-      → t′ ≡ (a ++ numbers r) ++ drop ((n + 1) * rowWidth) t₀
-  table-more {t} {t′} r p w q =
+  table-more : {t t′ : List ℕ} (r : Row) (size : ℕ) → t ≡ a ++ drop (n * rowWidth) t₀ → n * rowWidth + rowWidth ≤ length t
+      → t′ ≡ sets t (n * rowWidth) (numbers r size) → t′ ≡ (a ++ numbers r size) ++ drop ((n + 1) * rowWidth) t₀
+  table-more {t} {t′} r size p w q =
       let rest : List ℕ = drop (n * rowWidth) t₀ in
       let place : n * rowWidth + rowWidth ≡ (n + 1) * rowWidth = omega arith in
       q
-      ∙ sets-eq (numbers r) t (n * rowWidth) w
-      ∙ ap (λ u. (take (n * rowWidth) u ++ numbers r) ++ drop (n * rowWidth + rowWidth) u) p
-      ∙ ap₂ (λ u v. (u ++ numbers r) ++ v) (take-at a rest (n * rowWidth) e)
+      ∙ sets-eq (numbers r size) t (n * rowWidth) w
+      ∙ ap (λ u. (take (n * rowWidth) u ++ numbers r size) ++ drop (n * rowWidth + rowWidth) u) p
+      ∙ ap₂ (λ u v. (u ++ numbers r size) ++ v) (take-at a rest (n * rowWidth) e)
       (ap (λ k. drop (k + rowWidth) (a ++ rest)) (sym e) ∙ drop-append-add a rest rowWidth ∙ drop-drop rowWidth (n * rowWidth) t₀ ∙ ap (λ k. drop k t₀) place)
 
 -- ---- one line
@@ -178,20 +182,36 @@ module _ {s t₀ t : List ℕ} {at n : ℕ} {c : C.Seen} (d : SoFar s t₀ t at 
       unfolding line now-told
       good-line = good-form (afterAll start (d .file)) (rowView r) (rowOf line) (sym (ap asJudged good) ∙ says (afterAll start (d .file)) (d .told))
 
-      pub fields-small : (n < maxLines) × (r .x < 65536) × (r .y < 65536) × (r .z < 65536)
-      fields-small = let f : WellFormed (rowView r) = read-print line (good-line .0) .1 in (room, f .x, f .y, f .z)
+      -- the size that is reckoned for its row is the row's
+      sized : {size : ℕ} → SizeTold (kindView (r .kind)) t c r size → (size ≡ rowSize now-told (rowView r)) × (size ≤ maxNodes)
+      unfolding now-told
+      sized e =
+          let m : Seen = afterAll start (d .file) in
+          let f = judge-fit m (rowView r) (good-line .1) in
+          let g = size-fits m (kindView (r .kind)) (rowView r) f in
+          let h = e m (d .told) (f .names) in
+          (omega arith, omega arith)
+
+      pub fields-small : {size : ℕ} → SizeTold (kindView (r .kind)) t c r size
+          → (n < maxLines) × (r .x < 65536) × (r .y < 65536) × (r .z < 65536) × (size < 65536)
+      fields-small e =
+          let f : WellFormed (rowView r) = read-print line (good-line .0) .1 in
+          let g = sized e .1 in
+          (room, f .x, f .y, f .z, omega arith)
 
       pub small-counts : SmallCounts c
       small-counts = counts-small room (d .told .counts) (d .stands)
 
       pub so-far-more :
           tableLength ≤ length t₀ →
+          {size : ℕ} →
+          SizeTold (kindView (r .kind)) t c r size →
           {t′ : List ℕ} {c′ : C.Seen} →
-          t′ ≡ sets t (n * rowWidth) (numbers (rowView r)) →
+          t′ ≡ sets t (n * rowWidth) (numbers (rowView r) size) →
           c′ ≡ seenAfter (kindView (r .kind)) c →
           SoFar s t₀ t′ end (n + 1) c′
       unfolding line now-told
-      so-far-more enough {t′} {c′} p q =
+      so-far-more enough {size} e {t′} {c′} p q =
           let row : Row = rowView r in
           let m : Seen = afterAll start (d .file) in
           let rest : length (lines (drop at s)) ≡ suc (length (lines (drop end s))) = ap length (ends .splits inside) in
@@ -213,12 +233,13 @@ module _ {s t₀ t : List ℕ} {at n : ℕ} {c : C.Seen} (d : SoFar s t₀ t at 
                 ∙ ap (λ u. (d .file ++ (row ∷ [])) ++ passing u (lines (drop end s))) (sym (after-snoc start (d .file) row));
             left = omega (arith, d .left);
             table =
-                table-more (tableOf (d .file)) t₀ n filled row (d .table) w p
+                table-more (tableOf (d .file)) t₀ n filled row size (d .table) w p
+                ∙ ap (λ z. (tableOf (d .file) ++ numbers row z) ++ drop ((n + 1) * rowWidth) t₀) (sized e .0)
                 ∙ ap (λ u. u ++ drop ((n + 1) * rowWidth) t₀) (sym (table-snoc (d .file) row));
-            wide = ap length p ∙ length-sets t (n * rowWidth) (numbers row) ∙ d .wide;
+            wide = ap length p ∙ length-sets t (n * rowWidth) (numbers row size) ∙ d .wide;
             told =
                 subst (λ u. Told t′ c′ u) (sym (after-snoc start (d .file) row))
-                (subst (λ x. Told t′ x (after m row)) (sym q) (told-kept t t′ n row p room w m (good-line .1) (d .stands) (d .told)));
+                (subst (λ x. Told t′ x (after m row)) (sym q) (told-kept t t′ n row size p room w m (good-line .1) (d .stands) (d .told)));
             stands =
                 subst (λ u. Stands (n + 1) u) (sym (after-snoc start (d .file) row))
                 (subst (λ k. Stands k (after m row)) (sym (add-one n)) (stands-kept n m row (good-line .1) (d .stands)));

@@ -1,7 +1,7 @@
--- A row that is stored in the table: its four numbers, and every number before it as it was.
+-- A row that is stored in the table: its five numbers, and every number before it as it was.
 use Prim.Native.Nat.{ℕ, zero, suc, _+_, _*_, _<_, _≤_}
 use native.Mathlib.Nat.{add-zero, add-suc, suc-add}
-use native.Mathlib.Numerals.{add-one, add-two, add-three}
+use native.Mathlib.Numerals.{add-one, add-two, add-three, add-four}
 use native.Mathlib.Omega.{arith}
 use mathlib.Core.Path.{_≡_, refl, sym, ap, ap₂, _∙_, subst}
 use mathlib.Core.Bool.{true, false, cond}
@@ -12,15 +12,16 @@ use lib.ListN.{length, getD, set, length-set}
 use lib.Seq.{sets, getD-set-same, getD-set-other}
 use borrow.Author.Tests.{ltb-true}
 use Rattle.limits.specs.Limits.{maxLines, rowWidth}
-use Rattle.format.specs.Lines.{Row, numbers}
+use Rattle.format.specs.Lines.{Row}
+use Rattle.format.specs.Table.{numbers}
 use Rattle.calculus.proofs.Basic.{bool-cases}
 use Rattle.table_trees.specs.Unfolding.{cellOf}
 use Rattle.table_trees.proofs.Unfolding.{cell-within}
 
--- ---- four stores
+-- ---- five stores
 
 pub stored :
-    (t : List ℕ) (b : ℕ) {t₁ t₂ t₃ t₄ : List ℕ} {w x y z l p q r : ℕ} →
+    (t : List ℕ) (b : ℕ) {t₁ t₂ t₃ t₄ t₅ : List ℕ} {w x y z v l p q r m : ℕ} →
     t₁ ≡ set t b w →
     w ≡ l →
     t₂ ≡ set t₁ (b + 1) x →
@@ -29,15 +30,20 @@ pub stored :
     y ≡ q →
     t₄ ≡ set t₃ (b + 3) z →
     z ≡ r →
-    t₄ ≡ sets t b (l ∷ p ∷ q ∷ r ∷ [])
-stored t b {t₁} {t₂} {t₃} {t₄} {w} {x} {y} {z} {l} {p} {q} {r} e₁ f₁ e₂ f₂ e₃ f₃ e₄ f₄ =
-    e₄
-    ∙ ap₂ (λ i v. set t₃ i v) (add-three b) f₄
+    t₅ ≡ set t₄ (b + 4) v →
+    v ≡ m →
+    t₅ ≡ sets t b (l ∷ p ∷ q ∷ r ∷ m ∷ [])
+stored t b {t₁} {t₂} {t₃} {t₄} {t₅} {w} {x} {y} {z} {v} {l} {p} {q} {r} {m} e₁ f₁ e₂ f₂ e₃ f₃ e₄ f₄ e₅ f₅ =
+    e₅
+    ∙ ap₂ (λ i a. set t₄ i a) (add-four b) f₅
+    ∙ ap (λ u. set u (suc (suc (suc (suc b)))) m)
+    (e₄
+    ∙ ap₂ (λ i a. set t₃ i a) (add-three b) f₄
     ∙ ap (λ u. set u (suc (suc (suc b))) r)
     (e₃
-    ∙ ap₂ (λ i v. set t₂ i v) (add-two b) f₃
+    ∙ ap₂ (λ i a. set t₂ i a) (add-two b) f₃
     ∙ ap (λ u. set u (suc (suc b)) q)
-    (e₂ ∙ ap₂ (λ i v. set t₁ i v) (add-one b) f₂ ∙ ap (λ u. set u (suc b) p) (e₁ ∙ ap (set t b) f₁)))
+    (e₂ ∙ ap₂ (λ i a. set t₁ i a) (add-one b) f₂ ∙ ap (λ u. set u (suc b) p) (e₁ ∙ ap (set t b) f₁))))
 
 -- ---- what a run of stores leaves
 
@@ -59,19 +65,19 @@ in-run (v ∷ vs) l at (suc i) h w =
 
 -- ---- rows
 
-module _ (t t′ : List ℕ) (n : ℕ) (r : Row) (e : t′ ≡ sets t (n * rowWidth) (numbers r)) where
+module _ (t t′ : List ℕ) (n : ℕ) (r : Row) (size : ℕ) (e : t′ ≡ sets t (n * rowWidth) (numbers r size)) where
   -- the rows before row n are as they were
   pub rows-before : (row k : ℕ) → row < n → cellOf t′ row k ≡ cellOf t row k
   rows-before row k h = go (bool-cases (ltb k rowWidth))
     where
       same : k < rowWidth → getD t′ (row * rowWidth + k) 0 ≡ getD t (row * rowWidth + k) 0
-      same l = ap (λ u. getD u (row * rowWidth + k) 0) e ∙ before-run (numbers r) t (n * rowWidth) (row * rowWidth + k) (omega arith)
+      same l = ap (λ u. getD u (row * rowWidth + k) 0) e ∙ before-run (numbers r size) t (n * rowWidth) (row * rowWidth + k) (omega arith)
 
       go : (ltb k rowWidth ≡ true) ⊎ (ltb k rowWidth ≡ false) → cellOf t′ row k ≡ cellOf t row k
       go (inl b) = ap (λ x. cond (ltb row maxLines) (cond (ltb k rowWidth) x 0) 0) (same (ltb-true k rowWidth b))
       go (inr b) = rw b
 
   -- row n holds the stored numbers
-  pub row-stored : (k : ℕ) → n < maxLines → n * rowWidth + rowWidth ≤ length t → k < rowWidth → cellOf t′ n k ≡ getD (numbers r) k 0
+  pub row-stored : (k : ℕ) → n < maxLines → n * rowWidth + rowWidth ≤ length t → k < rowWidth → cellOf t′ n k ≡ getD (numbers r size) k 0
   row-stored k h w l =
-      cell-within t′ n k h l ∙ ap (λ u. getD u (n * rowWidth + k) 0) e ∙ in-run (numbers r) t (n * rowWidth) k l w
+      cell-within t′ n k h l ∙ ap (λ u. getD u (n * rowWidth + k) 0) e ∙ in-run (numbers r size) t (n * rowWidth) k l w

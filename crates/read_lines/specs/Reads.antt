@@ -6,7 +6,8 @@ use mathlib.Core.List.{List, [], _∷_, _++_}
 use lib.ListN.{length, drop}
 use Rattle.limits.specs.Limits.{rowWidth}
 use Rattle.calculus.specs.Refusals.{Refusal, badLine}
-use Rattle.format.specs.Lines.{Row, rowOf, lines, tableOf}
+use Rattle.format.specs.Lines.{Row, rowOf, lines}
+use Rattle.format.specs.Table.{tableOf}
 use Rattle.format.specs.Judge.{Seen, start, judge, after, afterAll, Reading, rows, faulty, readFrom}
 use Rattle.format.specs.Code.{rowView, refusalView}
 use Rattle.read_seen.specs.Told.{Told}
@@ -53,7 +54,7 @@ abbrev pub lineIn : Reading → ℕ
 lineIn (rows rs) = 0
 lineIn (faulty f n) = n
 
--- rows in the table's front, four numbers a line; it is as it was behind them
+-- rows in the table's front, five numbers a line; it is as it was behind them
 abbrev pub rowsOver : List Row → List ℕ → List ℕ
 rowsOver rs t₀ = tableOf rs ++ drop (length rs * rowWidth) t₀
 

@@ -5,6 +5,7 @@ use format::Refusal;
 use format::Row;
 use format::is_refused;
 use limits::ROW_WIDTH;
+use read_ceilings::row_size;
 use read_fields::Cursor;
 use read_forms::letter_of;
 use read_judge::judge;
@@ -18,7 +19,8 @@ ghost use Prim.Native.Nat.{_*_, _≤_, _<_};
 ghost use lib.ListN.{length};
 ghost use lib.Seq.{sets};
 ghost use Rattle.limits.specs.Limits.{tableLength, maxLines, rowWidth};
-ghost use Rattle.format.specs.Lines.{lines, numbers};
+ghost use Rattle.format.specs.Lines.{lines};
+ghost use Rattle.format.specs.Table.{numbers};
 ghost use Rattle.format.specs.Judge.{Seen as SeenOf};
 ghost use Rattle.format.specs.Code.{rowView, refusalView};
 ghost use Rattle.read_seen.specs.Told.{Told};
@@ -72,10 +74,10 @@ fn widen(b: u8) -> u16
     b as u16
 }
 
-// Row n of the table becomes r.
-fn put_row(t: &mut [u16], n: usize, r: Row)
-    requires { ⌜ (n < maxLines) × (r .x < 65536) × (r .y < 65536) × (r .z < 65536) ⌝ }
-    ensures { λ u. ⌜ now (t .exit) ≡ sets (now (t .entry)) (n * rowWidth) (numbers (rowView r)) ⌝ }
+// Row n of the table becomes r, with its size.
+fn put_row(t: &mut [u16], n: usize, r: Row, size: usize)
+    requires { ⌜ (n < maxLines) × (r .x < 65536) × (r .y < 65536) × (r .z < 65536) × (size < 65536) ⌝ }
+    ensures { λ u. ⌜ now (t .exit) ≡ sets (now (t .entry)) (n * rowWidth) (numbers (rowView r) size) ⌝ }
 {
     let b = n * ROW_WIDTH;
     let k = r.kind;
@@ -83,9 +85,10 @@ fn put_row(t: &mut [u16], n: usize, r: Row)
     store_word(t, b + 1, narrow(r.x));
     store_word(t, b + 2, narrow(r.y));
     store_word(t, b + 3, narrow(r.z));
+    store_word(t, b + 4, narrow(size));
 }
 
-// Reads a file of at most 4,096 lines into a table of at least 16,384 numbers. The rows of the lines before the
+// Reads a file of at most 4,096 lines into a table of at least 20,480 numbers. The rows of the lines before the
 // first that is refused are then in the table.
 pub fn read_file(s: &[u8], t: &mut [u16]) -> Read
     requires { ⌜ (tableLength ≤ length (now t)) × (length (lines (now s)) ≤ maxLines) ⌝ }
@@ -99,7 +102,8 @@ pub fn read_file(s: &[u8], t: &mut [u16]) -> Read
         match judge_line(&s[at..end], seen, t) {
             Judged::Good(r) => {
                 let k = r.kind;
-                put_row(t, n, r);
+                let size = row_size(seen, t, r);
+                put_row(t, n, r, size);
                 seen = seen_after(seen, k);
                 n += 1;
                 at = end;

@@ -192,7 +192,7 @@ fn answer_all(
     );
 }
 
-// Checks a file and answers up to 600 queries, one a line. The table needs 16,384 numbers, the work area
+// Checks a file and answers up to 600 queries, one a line. The table needs 20,480 numbers, the work area
 // 65,536 bytes, the numbers three elements for each query and the letters 127 bytes; a refusal of the
 // call leaves numbers and letters untouched.
 pub fn sheet(

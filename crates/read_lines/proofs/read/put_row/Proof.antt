@@ -1,7 +1,8 @@
--- `read_lines::read::put_row` meets its contract: four stores, one behind the other.
+-- `read_lines::read::put_row` meets its contract: five stores, one behind the other.
 use Prim.Native.Nat.{_*_}
 use mathlib.Core.Path.{_∙_}
 use borrow.Author.Needs.{needs}
+use Rattle.limits.specs.Limits.{rowWidth}
 use Rattle.read_lines.proofs.Storing.{stored}
 use Rattle.read_lines.proofs.read.put_row.Statement.{statement}
 use Rattle.read_lines.proofs.read.put_row.Tie as tie
@@ -45,11 +46,20 @@ narrow-requires-3 c κs = search needs
 store-word-requires-4 : tie.Need-store-word-requires-4
 store-word-requires-4 c κs = search needs
 
+add-store-word-4 : tie.Need-add-store-word-4
+add-store-word-4 c = search needs
+
+narrow-requires-4 : tie.Need-narrow-requires-4
+narrow-requires-4 c κs = search needs
+
+store-word-requires-5 : tie.Need-store-word-requires-5
+store-word-requires-5 c κs = search needs
+
 same-length : tie.Need-same-length
 same-length c = search needs
 
 returns : tie.Need-returns
-returns c = let a = c .before .before .before .before .before .before .before .before .before .before .before .before .before .before .before .before .before .before .before .before .before .before .args in stored (a .t .now) (a .n * 4) (c .before .before .before .before .before .before .before .before .before .before .before .before .before .before .before .before .before .store-word .ensures) (c .before .before .before .before .before .before .before .before .before .before .before .before .before .before .before .before .before .before .widen .ensures ∙ c .before .before .before .before .before .before .before .before .before .before .before .before .before .before .before .before .before .before .before .letter-of .ensures) (c .before .before .before .before .before .before .before .before .before .before .before .before .store-word2 .ensures) (c .before .before .before .before .before .before .before .before .before .before .before .before .before .narrow .ensures) (c .before .before .before .before .before .before .before .store-word3 .ensures) (c .before .before .before .before .before .before .before .before .narrow2 .ensures) (c .before .before .store-word4 .ensures) (c .before .before .before .narrow3 .ensures)
+returns c = let a = c .before .before .before .before .before .before .before .before .before .before .before .before .before .before .before .before .before .before .before .before .before .before .before .before .before .before .before .args in stored (a .t .now) (a .n * rowWidth) (c .before .before .before .before .before .before .before .before .before .before .before .before .before .before .before .before .before .before .before .before .before .before .store-word .ensures) (c .before .before .before .before .before .before .before .before .before .before .before .before .before .before .before .before .before .before .before .before .before .before .before .widen .ensures ∙ c .before .before .before .before .before .before .before .before .before .before .before .before .before .before .before .before .before .before .before .before .before .before .before .before .letter-of .ensures) (c .before .before .before .before .before .before .before .before .before .before .before .before .before .before .before .before .before .store-word2 .ensures) (c .before .before .before .before .before .before .before .before .before .before .before .before .before .before .before .before .before .before .narrow .ensures) (c .before .before .before .before .before .before .before .before .before .before .before .before .store-word3 .ensures) (c .before .before .before .before .before .before .before .before .before .before .before .before .before .narrow2 .ensures) (c .before .before .before .before .before .before .before .store-word4 .ensures) (c .before .before .before .before .before .before .before .before .narrow3 .ensures) (c .before .before .store-word5 .ensures) (c .before .before .before .narrow4 .ensures)
 
 pub put-row-spec : {M : Type 1} → statement M
 put-row-spec =
@@ -68,5 +78,8 @@ put-row-spec =
     add-store-word-3
     narrow-requires-3
     store-word-requires-4
+    add-store-word-4
+    narrow-requires-4
+    store-word-requires-5
     same-length
     returns)
