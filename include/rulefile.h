@@ -19,7 +19,7 @@
  *   - the first RULEFILE_TABLE_LENGTH numbers of the table hold, if the file was accepted, five numbers a
  *     line: the letter's ASCII code, the fields, padded with 0, and the size of a T or P line, the nodes of the
  *     tree that it unfolds to (0 for other letters), and zeros behind the last line, so also where the call is
- *     refused with 15 or above, or an import with 7 at line 0; on other refusals 3 to 14 they are all 0;
+ *     refused with 15 to 20, or an import with 7 at line 0; on other refusals 3 to 14, and on 21, they are all 0;
  *   - the first RULEFILE_WORK_LENGTH bytes of the work area are 0;
  *   - refusals 1 and 2 leave every area as it was;
  *   - any refusal of the call leaves output, result, and the numbers and letters of a sheet as they were, but
@@ -88,7 +88,8 @@ enum rulefile_number {
     RULEFILE_SPENT = 17,         /* the full count would pass the budget; line 0 */
     RULEFILE_TOO_MANY = 18,      /* the T line has over 4,294,967,295 values, of a pair list 4,096; line 0 */
     RULEFILE_TOO_HIGH = 19,      /* the setting's number is not below the T line's count of values; line 0 */
-    RULEFILE_BAD_LIST = 20       /* the list's lines are not 0,to 1,to and so on, each to once; line 0 */
+    RULEFILE_BAD_LIST = 20,      /* the list's lines are not 0,to 1,to and so on, each to once; line 0 */
+    RULEFILE_IDLE_LINE = 21      /* a T or P line that no I, C or L line reaches; its own line */
 };
 
 /* What Check gives. */

@@ -8,6 +8,7 @@ pub mod clause;
 pub mod cover;
 pub mod desk;
 pub mod generate;
+mod idle;
 pub mod lines;
 pub mod numbering;
 pub mod overlap;
@@ -57,6 +58,10 @@ type ClauseRule = fn(&Clause, &Iso, &[Iso]) -> Result<Clause, u8>;
 /// Check with a rule for clauses.
 fn check_by(file: &[u8], rule: ClauseRule) -> Result<Rules, Refusal> {
     let mut reader = lines::read(file)?;
+    // Request 11: "21 'idle line', after 7 for the whole file and before 8".
+    if let Some(line) = idle::first(&reader.rows) {
+        return Err(Refusal { number: 21, line });
+    }
     for place in 0..reader.isos.len() {
         let (earlier, others) = reader.isos.split_at_mut(place);
         let iso = &mut others[0];

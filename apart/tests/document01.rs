@@ -162,7 +162,7 @@ fn the_further_examples() {
     assert_eq!(turned[12..14], ["C,2,1", "C,1,2"]);
     assert_eq!(turned[14], "I,2,2");
     assert_eq!(turned[15..], ["C,6,5", "L,3,0,4", "C,7,7"]);
-    assert_eq!(of(&s_with(18, "")), (13, 15));
+    assert_eq!(of(&s_with(18, "")), (21, 11));
     assert_eq!(of(&s_with(18, "C,7,7 C,7,7")), (11, 15));
     assert_eq!(of(&s_with(17, "L,4,1,3")), (6, 17));
     assert_eq!(of(&s_with(17, "")), (8, 16));
@@ -170,7 +170,8 @@ fn the_further_examples() {
     let gap = "T,0,0,0 T,1,0,0 P,0,0,0 P,2,0,0 I,0,1 C,0,1";
     assert_eq!(of(gap), (14, 5));
     let seven = "T,0,0,0 T,2,0,0 T,2,1,1 T,2,2,2 T,2,3,3 T,2,4,4 T,2,5,5";
-    assert_eq!(of(seven), (0, 0));
+    assert_eq!(of(&format!("{seven} P,1,0,0 I,6,6 C,0,0")), (0, 0));
+    assert_eq!(of(seven), (21, 1));
     assert_eq!(of(&format!("{seven} T,2,6,6")), (7, 8));
 }
 

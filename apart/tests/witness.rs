@@ -32,7 +32,8 @@ fn is(words: &str, number: u8, line: usize, letters: &str) {
 
 #[test]
 fn values_of_document_01() {
-    is(S, 13, 15, "PRULU");
+    is(S, 21, 11, "");
+    is(&S.replacen(" P,4,2,3", "", 1), 13, 14, "PRULU");
     is(&format!("{S} C,7,7 C,7,7"), 11, 15, "PRULU");
     is("T,0,0,0 T,1,0,0 P,0,0,0 P,2,0,0 I,0,1 C,0,1", 14, 5, "RU");
     // Refused otherwise, and without a value.

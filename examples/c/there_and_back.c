@@ -36,6 +36,7 @@ static const char *word(uint32_t number)
         "accepted", "short area", "too long", "bad line", "misplaced", "bad field",
         "bad name", "ceiling", "variable", "let shape", "type", "overlap left",
         "overlap right", "gap left", "gap right", "no iso", "no value", "spent",
+        "too many values", "number too high", "bad list", "idle line",
     };
     return number < sizeof words / sizeof words[0] ? words[number] : "unknown";
 }

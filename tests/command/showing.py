@@ -116,10 +116,10 @@ def pages(p):
     p.expect("a page with a strange name: escaped", "<h1>a&amp;b &lt;i&gt;&quot;&#39;.rules</h1>" in text)
     p.gives("a page in a file", ["show", H, "--html", "-o", "page.html"], 0, "")
     p.expect("a page in a file: whole", (p.folder / "page.html").read_text().endswith("</html>\n"))
-    bits = "T,0,0,0\nT,1,0,0\n" + "".join(f"T,2,1,{i}\n" for i in range(1, 9)) + "P,1,0,0\n"
-    text, found = page(p, "256 settings", [p.file("bits.rules", bits + "I,8,8\nC,0,0\n")], 0)
+    bits = lambda n: "T,0,0,0\nT,1,0,0\n" + "".join(f"T,2,1,{i}\n" for i in range(1, n)) + f"P,1,0,0\nI,{n},{n}\nC,0,0\n"
+    text, found = page(p, "256 settings", [p.file("bits.rules", bits(8))], 0)
     p.same("256 settings: listed", 256 * 2 * 5, len(found.cells))
-    text, found = page(p, "512 settings", [p.file("bits.rules", bits + "I,9,9\nC,0,0\n")], 0)
+    text, found = page(p, "512 settings", [p.file("bits.rules", bits(9))], 0)
     p.expect("512 settings: not listed", not found.cells and "Over 256 settings" in text)
     tower = "T,0,0,0\nP,0,0,0\nI,0,0\nC,0,0\n" + "".join(f"I,0,0\nC,0,0\n" + f"L,0,{i},0\n" * 8 for i in range(31))
     text, _ = page(p, "runs without end", [p.file("tower.rules", tower)], 0)

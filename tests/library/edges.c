@@ -458,7 +458,8 @@ static void put_replies(const struct sheet *sheet, uint32_t *three, uint8_t *pla
 static bool accepted_file(const struct call *call, struct answer answer)
 {
     bool of_import = call->service == SERVICE_IMPORT && answer.number == RULEFILE_CEILING && answer.line == 0;
-    return answer.number == RULEFILE_ACCEPTED || answer.number >= RULEFILE_NO_ISO || of_import;
+    bool of_call = answer.number >= RULEFILE_NO_ISO && answer.number != RULEFILE_IDLE_LINE;
+    return answer.number == RULEFILE_ACCEPTED || of_call || of_import;
 }
 
 /* Makes the mirrors what the areas are to hold after a call with this answer. */
@@ -592,6 +593,7 @@ static void try_call(int at, const struct setting *setting, const struct call *c
 #define S_RETURNS S_TREES "I,1,1\r\nC,1,2\r\nC,2,1\nI,2,2\r\nC,5,6\nL,4,0,3\r\nC,7,7\r\n"
 #define S_TURNED S_TREES "I,1,1\nC,2,1\nC,1,2\nI,2,2\nC,6,5\nL,3,0,4\nC,7,7\n"
 #define SEVEN_TYPES "T,0,0,0\nT,2,0,0\nT,2,1,1\nT,2,2,2\nT,2,3,3\nT,2,4,4\nT,2,5,5\n"
+#define SEVEN_USED SEVEN_TYPES "P,1,0,0\nI,6,6\nC,0,0\n"
 #define TWO_UNITS "T,0,0,0\nT,0,0,0\nP,0,0,0\n"
 #define BIT "T,0,0,0\nT,1,0,0\nP,0,0,0\nP,2,0,0\nP,3,0,0\n"
 
@@ -628,13 +630,14 @@ static const struct file_case file_cases[] = {
     {__LINE__, 0, 0, TEXT(""), TEXT("")},
     {__LINE__, 0, 0, TEXT(S), TEXT(S_TURNED)},
     {__LINE__, 0, 0, TEXT(S_TURNED), TEXT(S)},
-    {__LINE__, 13, 15, TEXT(S_TO_16 "L,4,0,3\n"), TEXT("")},
+    {__LINE__, 21, 11, TEXT(S_TO_16 "L,4,0,3\n"), TEXT("")},
     {__LINE__, 11, 15, TEXT(S "C,7,7\n"), TEXT("")},
     {__LINE__, 6, 17, TEXT(S_TO_16 "L,4,1,3\nC,7,7\n"), TEXT("")},
     {__LINE__, 8, 16, TEXT(S_TO_16 "C,7,7\n"), TEXT("")},
     {__LINE__, 8, 16, TEXT(S_TO_16 "L,4,0,1\nC,7,7\n"), TEXT("")},
     {__LINE__, 14, 5, TEXT("T,0,0,0\nT,1,0,0\nP,0,0,0\nP,2,0,0\nI,0,1\nC,0,1\n"), TEXT("")},
-    {__LINE__, 0, 0, TEXT(SEVEN_TYPES), TEXT(SEVEN_TYPES)},
+    {__LINE__, 21, 1, TEXT(SEVEN_TYPES), TEXT("")},
+    {__LINE__, 0, 0, TEXT(SEVEN_USED), TEXT(SEVEN_USED)},
     {__LINE__, 7, 8, TEXT(SEVEN_TYPES "T,2,6,6\n"), TEXT("")},
     /* let steps last to first, types exchanged */
     {__LINE__, 0, 0, TEXT(STEPS), TEXT(STEPS_TURNED)},
@@ -654,7 +657,7 @@ static const struct file_case file_cases[] = {
     {__LINE__, 3, 1, TEXT("T"), TEXT("")},
     {__LINE__, 3, 1, TEXT("T,0,0,0"), TEXT("")},
     {__LINE__, 3, 18, TEXT(S_TO_16 "L,4,0,3\nC,7,7"), TEXT("")},
-    {__LINE__, 0, 0, TEXT("T,0,0,0\r\nT,1,0,0\n"), TEXT("T,0,0,0\nT,1,0,0\n")},
+    {__LINE__, 0, 0, TEXT("T,0,0,0\r\nT,1,0,0\nP,1,0,0\r\nI,1,1\nC,0,0\n"), TEXT("T,0,0,0\nT,1,0,0\nP,1,0,0\nI,1,1\nC,0,0\n")},
     {__LINE__, 0, 0, TEXT(S_RETURNS), TEXT(S_TURNED)},
     {__LINE__, 6, 2, TEXT("T,0,0,0\r\nT,1,0,1\r\n"), TEXT("")},
     {__LINE__, 3, 1, TEXT("\rT,0,0,0\n"), TEXT("")},
@@ -732,7 +735,7 @@ static const struct query_case query_cases[] = {
     {__LINE__, TEXT(S), 4294967295, true, 9, TEXT("LU"), 15, 0, TEXT("")},
     {__LINE__, TEXT(""), 0, false, 9, TEXT("U"), 15, 0, TEXT("")},
     {__LINE__, TEXT(""), 0, false, 0, TEXT(""), 15, 0, TEXT("")},
-    {__LINE__, TEXT(SEVEN_TYPES), 0, true, 9, TEXT("U"), 15, 0, TEXT("")},
+    {__LINE__, TEXT(SEVEN_USED), 1, true, 9, TEXT("U"), 15, 0, TEXT("")},
     /* budgets */
     {__LINE__, TEXT(S), 0, false, 0, TEXT("LU"), 17, 0, TEXT("")},
     {__LINE__, TEXT(S), 0, true, 0, TEXT("LU"), 17, 0, TEXT("")},
@@ -807,7 +810,7 @@ static const struct sheet_case sheet_cases[] = {
      {GIVES(1, "PRUU"), GIVES(1, "LU"), REFUSED(16), REFUSED(16)}},
     /* files without isos */
     {__LINE__, TEXT(""), TEXT("Q,0,0,9,U\nQ,0,1,0,\n"), 2, {REFUSED(15), REFUSED(15)}},
-    {__LINE__, TEXT(SEVEN_TYPES), TEXT("Q,0,0,9,U\n"), 1, {REFUSED(15)}},
+    {__LINE__, TEXT(SEVEN_USED), TEXT("Q,1,0,9,U\n"), 1, {REFUSED(15)}},
 };
 
 /* Two queries that no file answers. */
@@ -815,7 +818,7 @@ static const struct reply unanswered[] = {REFUSED(15), REFUSED(3)};
 static const struct sheet unanswered_sheet = {TEXT("Q,65535,0,9,U\nQ\n"), COUNT_OF(unanswered), unanswered};
 
 /* Three times two settings: the first part in three steps, the second a bit. */
-#define SIX "T,0,0,0\nT,1,0,0\nT,1,0,1\nT,2,2,1\n"
+#define SIX "T,0,0,0\nT,1,0,0\nT,1,0,1\nT,2,2,1\nP,1,0,0\nI,3,3\nC,0,0\n"
 
 /* 32 two-valued types as a chain of products: T line 31 has 2^31 values, T line 32 has 2^32. */
 #define BITS                                                                                                 \
@@ -823,6 +826,7 @@ static const struct sheet unanswered_sheet = {TEXT("Q,65535,0,9,U\nQ\n"), COUNT_
     "T,2,1,10\nT,2,1,11\nT,2,1,12\nT,2,1,13\nT,2,1,14\nT,2,1,15\nT,2,1,16\nT,2,1,17\nT,2,1,18\nT,2,1,19\n"     \
     "T,2,1,20\nT,2,1,21\nT,2,1,22\nT,2,1,23\nT,2,1,24\nT,2,1,25\nT,2,1,26\nT,2,1,27\nT,2,1,28\nT,2,1,29\n"     \
     "T,2,1,30\nT,2,1,31\n"
+#define BITS_USED BITS "P,1,0,0\nI,32,32\nC,0,0\n"
 
 /* Ten times a bit 0, ten times a bit 1, each but the last of a chain. */
 #define ZEROS "PLUPLUPLUPLUPLUPLUPLUPLUPLUPLU"
@@ -862,12 +866,12 @@ static const struct setting_case setting_cases[] = {
     {__LINE__, TEXT(SIX), 3, TEXT("PRLURU"), 3},
     {__LINE__, TEXT(SIX), 3, TEXT("PRRULU"), 4},
     {__LINE__, TEXT(SIX), 3, TEXT("PRRURU"), 5},
-    {__LINE__, TEXT(SEVEN_TYPES), 4, TEXT(UNITS_31), 0},
-    {__LINE__, TEXT(SEVEN_TYPES), 6, TEXT(UNITS_127), 0},
-    {__LINE__, TEXT(BITS), 31, TEXT(LOWEST_OF_31), 0},
-    {__LINE__, TEXT(BITS), 31, TEXT(ZEROS ZEROS ZEROS "RU"), 1},
-    {__LINE__, TEXT(BITS), 31, TEXT("PRU" ZEROS ZEROS "PLUPLUPLUPLUPLUPLUPLUPLUPLU" "LU"), 1073741824},
-    {__LINE__, TEXT(BITS), 31, TEXT(HIGHEST_OF_31), 2147483647},
+    {__LINE__, TEXT(SEVEN_USED), 4, TEXT(UNITS_31), 0},
+    {__LINE__, TEXT(SEVEN_USED), 6, TEXT(UNITS_127), 0},
+    {__LINE__, TEXT(BITS_USED), 31, TEXT(LOWEST_OF_31), 0},
+    {__LINE__, TEXT(BITS_USED), 31, TEXT(ZEROS ZEROS ZEROS "RU"), 1},
+    {__LINE__, TEXT(BITS_USED), 31, TEXT("PRU" ZEROS ZEROS "PLUPLUPLUPLUPLUPLUPLUPLUPLU" "LU"), 1073741824},
+    {__LINE__, TEXT(BITS_USED), 31, TEXT(HIGHEST_OF_31), 2147483647},
 };
 
 /* A call for a number or for letters that is refused. */
@@ -892,11 +896,11 @@ static const struct unnumbered_case unnumbered_cases[] = {
     {__LINE__, TEXT(S), 2147483650, TEXT("PLURU"), 1, 15, 15},
     {__LINE__, TEXT(S), 4294967295, TEXT("U"), 0, 15, 15},
     {__LINE__, TEXT(""), 0, TEXT("U"), 0, 15, 15},
-    {__LINE__, TEXT(BITS), 33, TEXT("PLU" LOWEST_OF_31), 0, 15, 15},
+    {__LINE__, TEXT(BITS_USED), 33, TEXT("PLU" LOWEST_OF_31), 0, 15, 15},
     /* too many values, by one */
-    {__LINE__, TEXT(BITS), 32, TEXT("PLU" LOWEST_OF_31), 0, 18, 18},
-    {__LINE__, TEXT(BITS), 32, TEXT("PRU" HIGHEST_OF_31), 1, 18, 18},
-    {__LINE__, TEXT(BITS), 32, TEXT("PRU" HIGHEST_OF_31), 2147483648, 18, 18},
+    {__LINE__, TEXT(BITS_USED), 32, TEXT("PLU" LOWEST_OF_31), 0, 18, 18},
+    {__LINE__, TEXT(BITS_USED), 32, TEXT("PRU" HIGHEST_OF_31), 1, 18, 18},
+    {__LINE__, TEXT(BITS_USED), 32, TEXT("PRU" HIGHEST_OF_31), 2147483648, 18, 18},
     /* not below the count */
     {__LINE__, TEXT(S), 0, TEXT(""), 1, 16, 19},
     {__LINE__, TEXT(S), 1, TEXT(""), 2, 16, 19},
@@ -905,9 +909,9 @@ static const struct unnumbered_case unnumbered_cases[] = {
     {__LINE__, TEXT(S), 2, TEXT(""), 256, 16, 19},
     {__LINE__, TEXT(S), 2, TEXT(""), 65536, 16, 19},
     {__LINE__, TEXT(S), 2, TEXT(""), 4294967295, 16, 19},
-    {__LINE__, TEXT(SEVEN_TYPES), 6, TEXT(UNITS_63), 1, 16, 19},
-    {__LINE__, TEXT(BITS), 31, TEXT("PLU" LOWEST_OF_31), 2147483648, 16, 19},
-    {__LINE__, TEXT(BITS), 31, TEXT(ZEROS ZEROS ZEROS "L"), 4294967295, 16, 19},
+    {__LINE__, TEXT(SEVEN_USED), 6, TEXT(UNITS_63), 1, 16, 19},
+    {__LINE__, TEXT(BITS_USED), 31, TEXT("PLU" LOWEST_OF_31), 2147483648, 16, 19},
+    {__LINE__, TEXT(BITS_USED), 31, TEXT(ZEROS ZEROS ZEROS "L"), 4294967295, 16, 19},
     /* letters that are no setting of the T line */
     {__LINE__, TEXT(S), 2, TEXT("U"), 0, 16, 0},
     {__LINE__, TEXT(S), 2, TEXT("LU"), 0, 16, 0},
@@ -920,13 +924,13 @@ static const struct unnumbered_case unnumbered_cases[] = {
     {__LINE__, TEXT(S), 2, TEXT("PLUR\377"), 0, 16, 0},
     {__LINE__, TEXT(S), 1, TEXT("PLURU"), 0, 16, 0},
     {__LINE__, TEXT(S), 0, TEXT("UU"), 0, 16, 0},
-    {__LINE__, TEXT(SEVEN_TYPES), 6, TEXT(UNITS_127 "U"), 0, 16, 0},
+    {__LINE__, TEXT(SEVEN_USED), 6, TEXT(UNITS_127 "U"), 0, 16, 0},
     /* 15 before 18, 15 before 16 and 19, 18 before 16 and 19 */
-    {__LINE__, TEXT(BITS), 288, TEXT(""), 4294967295, 15, 15},
+    {__LINE__, TEXT(BITS_USED), 288, TEXT(""), 4294967295, 15, 15},
     {__LINE__, TEXT(S), 3, TEXT(""), 4294967295, 15, 15},
-    {__LINE__, TEXT(BITS), 32, TEXT(""), 4294967295, 18, 18},
-    {__LINE__, TEXT(BITS), 32, TEXT("PLU"), 4294967295, 18, 18},
-    {__LINE__, TEXT(BITS), 32, TEXT("U"), 4294967295, 18, 18},
+    {__LINE__, TEXT(BITS_USED), 32, TEXT(""), 4294967295, 18, 18},
+    {__LINE__, TEXT(BITS_USED), 32, TEXT("PLU"), 4294967295, 18, 18},
+    {__LINE__, TEXT(BITS_USED), 32, TEXT("U"), 4294967295, 18, 18},
     /* the file's refusal comes first */
     {__LINE__, TEXT(BITS "T,2,1,32\n"), 33, TEXT("PLU"), 0, 7, 7},
     {__LINE__, TEXT(BITS "\n"), 32, TEXT(""), 4294967295, 3, 3},
@@ -935,9 +939,14 @@ static const struct unnumbered_case unnumbered_cases[] = {
 };
 
 /* 3: left, right; 4: right, left; 5: left, left; 6: a variable; 7: it, right; 8 and 9: a unit, a pair, first. */
-#define COMPARED "P,0,0,0\nP,2,0,0\nP,3,0,0\nP,4,1,2\nP,4,2,1\nP,4,1,1\nP,1,0,0\nP,4,6,2\nP,4,0,1\nP,4,3,2\n"
+#define COMPARED                                                                                             \
+    "T,0,0,0\nT,1,0,0\nT,2,1,1\nT,2,0,1\nT,2,2,1\n"                                                          \
+    "P,0,0,0\nP,2,0,0\nP,3,0,0\nP,4,1,2\nP,4,2,1\nP,4,1,1\nP,1,0,0\nP,4,6,2\nP,4,0,1\nP,4,3,2\n"   \
+    "P,4,2,2\nP,4,6,1\nP,4,0,2\nP,4,3,1\nP,4,4,6\nP,4,5,6\nP,4,10,6\n"                                      \
+    "I,2,2\nC,3,3\nC,4,4\nC,5,5\nC,10,10\nI,2,2\nC,7,7\nC,11,11\nI,3,3\nC,8,8\nC,12,12\n"                   \
+    "I,4,4\nC,9,9\nC,13,13\nC,14,14\nC,15,15\nC,16,16\n"
 /* 6 has 127 nodes. */
-#define SEVEN_PATTERNS "P,0,0,0\nP,4,0,0\nP,4,1,1\nP,4,2,2\nP,4,3,3\nP,4,4,4\nP,4,5,5\n"
+#define SEVEN_PATTERNS SEVEN_TYPES "P,0,0,0\nP,4,0,0\nP,4,1,1\nP,4,2,2\nP,4,3,3\nP,4,4,4\nP,4,5,5\n" "I,6,6\nC,6,6\n"
 
 /* Two P lines, and what both orders give. */
 struct overlap_case {
@@ -979,7 +988,7 @@ static const struct overlap_case overlap_cases[] = {
     {__LINE__, TEXT(S), 1, 65538, 15, false, 0},
     {__LINE__, TEXT(S), 1, UINT32_C(1) << 31, 15, false, 0},
     {__LINE__, TEXT(S), 0, UINT32_MAX, 15, false, 0},
-    {__LINE__, TEXT(SEVEN_TYPES), 0, 0, 15, false, 0},
+    {__LINE__, TEXT(SEVEN_USED), 0, 1, 15, false, 0},
     {__LINE__, TEXT(""), 0, 0, 15, false, 0},
 };
 
@@ -1032,9 +1041,13 @@ static const struct bounds_case bounds_cases[] = {
     "T,0,0,0\nT,1,0,0\nT,1,1,1\nT,2,1,1\nT,1,3,0\nP,0,0,0\nP,1,0,0\nP,2,0,0\nP,3,0,0\n"                      \
     "P,2,2,0\nP,2,3,0\nP,3,2,0\nP,3,3,0\nP,2,1,0\nP,3,1,0\n"
 
+/* Behind the iso that is refused others name all lines. */
+#define FOUR_USED "I,2,4\nI,3,0\nC,0,1\nC,2,3\nC,4,5\nC,6,7\nC,8,9\n"
+
 /* Two parts LLU, LRU or RU; P lines 1 RU, 2 both RU, 4 anything and anything. */
 #define PARTS                                                                                                \
     "T,0,0,0\nT,1,0,0\nT,1,1,0\nT,2,2,2\nP,0,0,0\nP,3,0,0\nP,4,1,1\nP,1,0,0\nP,1,1,0\nP,4,3,4\n"
+#define PARTS_USED "I,3,3\nC,0,1\nC,2,3\nC,4,5\n"
 
 /* A file that is refused with 11 to 14, and the setting that shows the fault. */
 struct witness_case {
@@ -1046,35 +1059,34 @@ struct witness_case {
 };
 
 static const struct witness_case witness_cases[] = {
-    {__LINE__, TEXT(S_TO_16 "L,4,0,3\n"), 13, 15, TEXT("PRULU")},
     {__LINE__, TEXT(S "C,7,7\n"), 11, 15, TEXT("PRULU")},
     {__LINE__, TEXT(S_RETURNS "C,7,7\r\n"), 11, 15, TEXT("PRULU")},
     {__LINE__, TEXT("T,0,0,0\nT,1,0,0\nP,0,0,0\nP,2,0,0\nI,0,1\nC,0,1\n"), 14, 5, TEXT("RU")},
     {__LINE__, TEXT(BIT "I,1,1\nC,1,1\nC,2,1\n"), 12, 6, TEXT("LU")},
     /* two clauses of one value, of one pattern, of one variable */
-    {__LINE__, TEXT(FOUR "I,2,2\nC,4,4\nC,5,5\nC,8,9\n"), 11, 16, TEXT("LLU")},
-    {__LINE__, TEXT(FOUR "I,2,2\nC,7,4\nC,5,6\nC,9,8\n"), 11, 16, TEXT("RRU")},
-    {__LINE__, TEXT(FOUR "I,2,2\nC,1,1\nC,1,1\n"), 11, 16, TEXT("LLU")},
-    {__LINE__, TEXT(FOUR "I,2,2\nC,4,7\nC,5,5\nC,7,5\nC,6,7\n"), 12, 16, TEXT("LRU")},
-    {__LINE__, TEXT(FOUR "I,2,2\nC,7,4\nC,4,5\n"), 13, 16, TEXT("LRU")},
-    {__LINE__, TEXT(FOUR "I,1,2\nC,2,4\nC,3,7\n"), 14, 16, TEXT("LRU")},
+    {__LINE__, TEXT(FOUR "I,2,2\nC,4,4\nC,5,5\nC,8,9\n" FOUR_USED), 11, 16, TEXT("LLU")},
+    {__LINE__, TEXT(FOUR "I,2,2\nC,7,4\nC,5,6\nC,9,8\n" FOUR_USED), 11, 16, TEXT("RRU")},
+    {__LINE__, TEXT(FOUR "I,2,2\nC,1,1\nC,1,1\n" FOUR_USED), 11, 16, TEXT("LLU")},
+    {__LINE__, TEXT(FOUR "I,2,2\nC,4,7\nC,5,5\nC,7,5\nC,6,7\n" FOUR_USED), 12, 16, TEXT("LRU")},
+    {__LINE__, TEXT(FOUR "I,2,2\nC,7,4\nC,4,5\n" FOUR_USED), 13, 16, TEXT("LRU")},
+    {__LINE__, TEXT(FOUR "I,1,2\nC,2,4\nC,3,7\n" FOUR_USED), 14, 16, TEXT("LRU")},
     /* the type of the side refused, the lowest refusal, the first iso, one without clauses */
-    {__LINE__, TEXT(FOUR "I,1,0\nC,2,0\nC,3,0\n"), 12, 16, TEXT("U")},
-    {__LINE__, TEXT(FOUR "I,0,2\nC,0,5\n"), 14, 16, TEXT("LLU")},
-    {__LINE__, TEXT(FOUR "I,2,2\nC,4,5\nC,4,5\n"), 11, 16, TEXT("LLU")},
-    {__LINE__, TEXT(FOUR "I,2,2\nC,4,5\nC,6,5\n"), 12, 16, TEXT("LRU")},
-    {__LINE__, TEXT(FOUR "I,0,0\nC,0,0\nI,2,1\nI,2,2\nC,4,5\nC,4,5\n"), 13, 18, TEXT("LLU")},
+    {__LINE__, TEXT(FOUR "I,1,0\nC,2,0\nC,3,0\n" FOUR_USED), 12, 16, TEXT("U")},
+    {__LINE__, TEXT(FOUR "I,0,2\nC,0,5\n" FOUR_USED), 14, 16, TEXT("LLU")},
+    {__LINE__, TEXT(FOUR "I,2,2\nC,4,5\nC,4,5\n" FOUR_USED), 11, 16, TEXT("LLU")},
+    {__LINE__, TEXT(FOUR "I,2,2\nC,4,5\nC,6,5\n" FOUR_USED), 12, 16, TEXT("LRU")},
+    {__LINE__, TEXT(FOUR "I,0,0\nC,0,0\nI,2,1\nI,2,2\nC,4,5\nC,4,5\n" FOUR_USED), 13, 18, TEXT("LLU")},
     /* fewest letters before byte order, also within the parts of a pair */
-    {__LINE__, TEXT(FOUR "I,4,4\n"), 13, 16, TEXT("RU")},
-    {__LINE__, TEXT(FOUR "I,4,4\nC,1,1\nC,1,1\n"), 11, 16, TEXT("RU")},
-    {__LINE__, TEXT(FOUR "I,4,4\nC,3,3\n"), 13, 16, TEXT("LPLULU")},
-    {__LINE__, TEXT(PARTS "I,3,3\n"), 13, 11, TEXT("PRURU")},
-    {__LINE__, TEXT(PARTS "I,3,3\nC,2,2\n"), 13, 11, TEXT("PLLURU")},
-    {__LINE__, TEXT(PARTS "I,3,3\nC,5,5\nC,2,2\n"), 11, 11, TEXT("PRURU")},
+    {__LINE__, TEXT(FOUR "I,4,4\n" FOUR_USED), 13, 16, TEXT("RU")},
+    {__LINE__, TEXT(FOUR "I,4,4\nC,1,1\nC,1,1\n" FOUR_USED), 11, 16, TEXT("RU")},
+    {__LINE__, TEXT(FOUR "I,4,4\nC,3,3\n" FOUR_USED), 13, 16, TEXT("LPLULU")},
+    {__LINE__, TEXT(PARTS "I,3,3\n" PARTS_USED), 13, 11, TEXT("PRURU")},
+    {__LINE__, TEXT(PARTS "I,3,3\nC,2,2\n" PARTS_USED), 13, 11, TEXT("PLLURU")},
+    {__LINE__, TEXT(PARTS "I,3,3\nC,5,5\nC,2,2\n" PARTS_USED), 11, 11, TEXT("PRURU")},
 };
 
 /* A bit as a sum and a product with a unit; a unit and a bit again; the second bit's parts are other lines. */
-#define LIST_TYPES "T,0,0,0\nT,1,0,0\nT,2,1,0\nT,0,0,0\nT,1,3,3\n"
+#define LIST_TYPES "T,0,0,0\nT,1,0,0\nT,2,1,0\nT,0,0,0\nT,1,3,3\nP,1,0,0\nI,2,2\nC,0,0\nI,4,4\nC,0,0\n"
 #define BIT_EXCHANGED "T,0,0,0\nT,1,0,0\nP,0,0,0\nP,2,0,0\nP,3,0,0\nI,1,1\nC,1,2\nC,2,1\n"
 #define S_LIST "0,1\n1,0\n2,2\n3,3\n"
 #define S_IMPORTED                                                                                           \
@@ -1119,8 +1131,8 @@ static const struct export_case export_cases[] = {
     {__LINE__, TEXT(S), 4294967295, 0, 15, 0, TEXT("")},
     {__LINE__, TEXT(""), 0, 1, 15, 0, TEXT("")},
     /* too many values, before 17 */
-    {__LINE__, TEXT(BITS "P,1,0,0\nI,13,13\nC,0,0\n"), 0, 0, 18, 0, TEXT("")},
-    {__LINE__, TEXT(BITS "P,1,0,0\nI,32,32\nC,0,0\n"), 0, 1, 18, 0, TEXT("")},
+    {__LINE__, TEXT(BITS "P,1,0,0\nI,13,13\nC,0,0\nI,32,32\nC,0,0\n"), 0, 0, 18, 0, TEXT("")},
+    {__LINE__, TEXT(BITS_USED), 0, 1, 18, 0, TEXT("")},
     /* the file's refusal comes first */
     {__LINE__, TEXT(S "C,7,7\n"), 2, 0, 11, 15, TEXT("")},
     {__LINE__, TEXT(S "\n"), 1, 2, 3, 19, TEXT("")},
@@ -1173,7 +1185,7 @@ static const struct import_case import_cases[] = {
     {__LINE__, TEXT(S), 2, 2, TEXT("\377"), 20, 0, TEXT("")},
     {__LINE__, TEXT(S), 2, 1, TEXT(S_LIST), 20, 0, TEXT("")},
     {__LINE__, TEXT(S), 1, 2, TEXT("0,1\n1,0\n"), 20, 0, TEXT("")},
-    {__LINE__, TEXT(BITS), 12, 12, TEXT(S_LIST), 20, 0, TEXT("")},
+    {__LINE__, TEXT(BITS_USED), 12, 12, TEXT(S_LIST), 20, 0, TEXT("")},
     /* T lines that are absent; numbers that would be one with fewer bits */
     {__LINE__, TEXT(S), 3, 2, TEXT(S_LIST), 15, 0, TEXT("")},
     {__LINE__, TEXT(S), 2, 3, TEXT(S_LIST), 15, 0, TEXT("")},
@@ -1183,11 +1195,11 @@ static const struct import_case import_cases[] = {
     {__LINE__, TEXT(S), 2, 4294967295, TEXT(""), 15, 0, TEXT("")},
     {__LINE__, TEXT(""), 0, 0, TEXT(""), 15, 0, TEXT("")},
     /* too many values of either, after 15 and before 20 */
-    {__LINE__, TEXT(BITS), 13, 1, TEXT(""), 18, 0, TEXT("")},
-    {__LINE__, TEXT(BITS), 1, 13, TEXT(""), 18, 0, TEXT("")},
-    {__LINE__, TEXT(BITS), 32, 32, TEXT("x"), 18, 0, TEXT("")},
-    {__LINE__, TEXT(BITS), 32, 33, TEXT("x"), 15, 0, TEXT("")},
-    {__LINE__, TEXT(BITS), 33, 32, TEXT("x"), 15, 0, TEXT("")},
+    {__LINE__, TEXT(BITS_USED), 13, 1, TEXT(""), 18, 0, TEXT("")},
+    {__LINE__, TEXT(BITS_USED), 1, 13, TEXT(""), 18, 0, TEXT("")},
+    {__LINE__, TEXT(BITS_USED), 32, 32, TEXT("x"), 18, 0, TEXT("")},
+    {__LINE__, TEXT(BITS_USED), 32, 33, TEXT("x"), 15, 0, TEXT("")},
+    {__LINE__, TEXT(BITS_USED), 33, 32, TEXT("x"), 15, 0, TEXT("")},
     /* the file's refusal comes first */
     {__LINE__, TEXT(S "C,7,7\n"), 3, 2, TEXT(""), 11, 15, TEXT("")},
     {__LINE__, TEXT(S "\n"), 2, 2, TEXT(S_LIST), 3, 19, TEXT("")},
@@ -1374,9 +1386,9 @@ static void header_numbers(void)
         RULEFILE_BAD_FIELD, RULEFILE_BAD_NAME, RULEFILE_CEILING, RULEFILE_VARIABLE, RULEFILE_LET_SHAPE,
         RULEFILE_TYPE, RULEFILE_OVERLAP_LEFT, RULEFILE_OVERLAP_RIGHT, RULEFILE_GAP_LEFT, RULEFILE_GAP_RIGHT,
         RULEFILE_NO_ISO, RULEFILE_NO_VALUE, RULEFILE_SPENT, RULEFILE_TOO_MANY, RULEFILE_TOO_HIGH,
-        RULEFILE_BAD_LIST,
+        RULEFILE_BAD_LIST, RULEFILE_IDLE_LINE,
     };
-    CHECK(COUNT_OF(in_order) == 21);
+    CHECK(COUNT_OF(in_order) == 22);
     for (size_t i = 0; i < COUNT_OF(in_order); i++)
         CHECK(in_order[i] == i);
     CHECK(RULEFILE_TABLE_LENGTH == 20480);
@@ -1534,7 +1546,7 @@ static void short_areas_of_runs(void)
 static void short_areas_of_settings(void)
 {
     static const struct bytes file = TEXT(S);
-    static const struct bytes bits = TEXT(BITS);
+    static const struct bytes bits = TEXT(BITS_USED);
     static const struct bytes letters = TEXT("PRULU");
     static const enum place places[] = {NULL_IF_EMPTY, BEFORE_GUARD};
     for (size_t i = 0; i < COUNT_OF(places); i++) {
@@ -1590,13 +1602,13 @@ static void short_areas_of_lists(void)
     static const struct export_case exports[] = {
         {__LINE__, TEXT(S), 1, 2, 0, 0, TEXT(S_LIST)},
         {__LINE__, TEXT(S), 1, 1, 17, 0, TEXT("")},
-        {__LINE__, TEXT(BITS "P,1,0,0\nI,13,13\nC,0,0\n"), 0, 1, 18, 0, TEXT("")},
+        {__LINE__, TEXT(BITS "P,1,0,0\nI,13,13\nC,0,0\nI,32,32\nC,0,0\n"), 0, 1, 18, 0, TEXT("")},
     };
     static const struct import_case imports[] = {
         {__LINE__, TEXT(S), 2, 2, TEXT(S_LIST), 0, 0, TEXT(S_IMPORTED)},
         {__LINE__, TEXT(S), 2, 2, TEXT("x"), 20, 0, TEXT("")},
         {__LINE__, TEXT(S), 2, 2, {(const uint8_t *)LINES_33, 33}, 7, 0, TEXT("")},
-        {__LINE__, TEXT(BITS), 13, 1, TEXT(""), 18, 0, TEXT("")},
+        {__LINE__, TEXT(BITS_USED), 13, 1, TEXT(""), 18, 0, TEXT("")},
     };
     static const enum place places[] = {NULL_IF_EMPTY, BEFORE_GUARD};
     for (size_t i = 0; i < COUNT_OF(places); i++) {
@@ -1719,7 +1731,7 @@ static void null_areas_of_lists(void)
         rulefile_import(NULL, 0, table, RULEFILE_TABLE_LENGTH, lent.work.start, RULEFILE_WORK_LENGTH, 0, 0, NULL, 0,
                         lent.out.start, RULEFILE_MAX_FILE_LENGTH);
     CHECK(m.number == RULEFILE_NO_ISO && m.line == 0 && m.length == 0 && as_foreseen(&lent.out));
-    m = rulefile_import((const uint8_t *)"T,0,0,0\n", 8, table, RULEFILE_TABLE_LENGTH, lent.work.start,
+    m = rulefile_import((const uint8_t *)"T,0,0,0\nP,0,0,0\nI,0,0\nC,0,0\n", 28, table, RULEFILE_TABLE_LENGTH, lent.work.start,
                         RULEFILE_WORK_LENGTH, 0, 0, NULL, 0, lent.out.start, RULEFILE_MAX_FILE_LENGTH);
     CHECK(m.number == RULEFILE_BAD_LIST && m.line == 0 && m.length == 0 && as_foreseen(&lent.out));
     m = rulefile_import(NULL, 0, NULL, 0, NULL, 0, 0, 0, NULL, 0, NULL, 0);
@@ -1827,13 +1839,19 @@ static void file_lengths(void)
 }
 
 /* An iso of ten clauses, each with eight let steps but the last, which has as many as stated. */
-static void add_ten_clauses(size_t last)
+static void add_ten_clauses(int type, size_t last, int *unit)
 {
-    add("I,9,9\n");
+    add_line('I', type, type, -1);
     for (int step = 0; step < 10; step++) {
         int place = step < 9 ? step + 1 : 18;
         add_line('C', place, place, -1);
-        add_times("L,0,0,0\n", step < 9 ? 8 : last);
+        int lets = step < 9 ? 8 : (int)last;
+        for (int let = 0; let < lets; let++) { /* the same from both ends with sides exchanged */
+            int near = let < lets - 1 - let ? let : lets - 1 - let;
+            int other = let == lets - 1 - let ? 0 : 1;
+            add_line('L', *unit + 2 * near + (let > near ? other : 0), 0, *unit + 2 * near + (let > near ? 0 : other));
+        }
+        *unit = *unit == 1016 ? 19 : *unit + 8 < 1016 ? *unit + 8 : 1016;
     }
 }
 
@@ -1841,10 +1859,9 @@ static void add_ten_clauses(size_t last)
 static void build_longest(void)
 {
     begin();
-    add("T,0,0,0\nT,1,0,0\n");
-    for (int type = 1; type < 9; type++) /* type 9 has ten values: LU, RLU, and so on */
-        add_line('T', 1, 0, type);
-    add_times("T,0,0,0\n", 246);
+    add_times("T,0,0,0\n", 4);
+    for (int type = 4; type < 256; type++) /* 28 types of ten values: LU, RLU, and so on */
+        add_line('T', 1, type % 3, (type - 4) % 9 == 0 ? 3 : type - 1);
     add("P,0,0,0\nP,2,0,0\n");
     for (int place = 1; place < 9; place++)
         add_line('P', 3, place, 0);
@@ -1853,8 +1870,9 @@ static void build_longest(void)
         add_line('P', 3, place, 0);
     add_times("P,0,0,0\n", 1005);
     add("I,0,0\nC,0,0\n");
+    int unit = 19; /* the units from here on are named by let steps */
     for (int iso = 1; iso < 32; iso++)
-        add_ten_clauses(iso < 25 ? 8 : 7);
+        add_ten_clauses(12 + 9 * (iso % 28), iso < 25 ? 8 : 7, &unit);
 }
 
 static size_t built_lines(void)
@@ -1899,9 +1917,9 @@ static void try_repeated(int at, const char *head, const char *text, size_t time
 
 static void ceilings(void)
 {
-    try_repeated(__LINE__, "", "T,0,0,0\n", 256, 0, 0);
+    try_repeated(__LINE__, "", "T,0,0,0\n", 256, 21, 1);
     try_repeated(__LINE__, "", "T,0,0,0\n", 257, 7, 257);
-    try_repeated(__LINE__, "", "P,0,0,0\n", 1024, 0, 0);
+    try_repeated(__LINE__, "", "P,0,0,0\n", 1024, 21, 1);
     try_repeated(__LINE__, "", "P,0,0,0\n", 1025, 7, 1025);
     try_repeated(__LINE__, "T,0,0,0\nP,0,0,0\n", "I,0,0\nC,0,0\n", 32, 0, 0);
     try_repeated(__LINE__, "T,0,0,0\nP,0,0,0\n", "I,0,0\nC,0,0\n", 33, 7, 67);
@@ -1913,14 +1931,14 @@ static void ceilings(void)
     add("P,0,0,0\n");
     for (int place = 0; place < 6; place++)
         add_line('P', 4, place, place);
-    try_built(__LINE__, 0, 0); /* 127 nodes */
+    try_built(__LINE__, 21, 1); /* 127 nodes, and no line is used */
     add("P,4,6,6\n");
     try_built(__LINE__, 7, 8);
     begin();
     add("P,0,0,0\n");
     for (int place = 0; place < 40; place++)
         add_line('P', 2 + place % 2, place, 0);
-    try_built(__LINE__, 0, 0); /* 40 left and right nodes */
+    try_built(__LINE__, 21, 1); /* 40 left and right nodes */
     add("P,2,40,0\n");
     try_built(__LINE__, 7, 42);
 }
@@ -1949,7 +1967,7 @@ static void value_lengths(void)
     value.length = put_largest_value(letters);
     CHECK(value.length == RULEFILE_RESULT_LENGTH);
     begin();
-    add(SEVEN_TYPES "P,1,0,0\nI,6,6\nC,0,0\n");
+    add(SEVEN_USED);
     try_built_run(__LINE__, 0, false, 1, value, (struct answer){.count = 1}, value);
     try_built_run(__LINE__, 0, true, 1, value, (struct answer){.count = 1}, value);
     for (size_t i = 0; i < COUNT_OF(wrong); i++) {
@@ -2062,7 +2080,8 @@ static void bounds_of_towers(void)
 static void build_limit(const int *calls, size_t count, bool other)
 {
     begin();
-    add(BIT "I,0,0\nC,0,0\n");
+    add(other ? BIT : "T,0,0,0\nP,0,0,0\n");
+    add("I,0,0\nC,0,0\n");
     for (int iso = 0; iso < 30; iso++) {
         add("I,0,0\nC,0,0\n");
         add_line('L', 0, iso, 0);
@@ -2129,7 +2148,7 @@ static void longest_witnesses(void)
     uint8_t letters[RULEFILE_RESULT_LENGTH];
     struct bytes value = {letters, put_largest_value(letters)};
     begin();
-    add(SEVEN_TYPES "P,1,0,0\nI,6,6\nC,0,0\nC,0,0\n");
+    add(SEVEN_USED "C,0,0\n");
     try_built_witness(__LINE__, RULEFILE_OVERLAP_LEFT, 9, value);
     begin();
     add(SEVEN_TYPES "T,1,0,0\nP,0,0,0\nP,2,0,0\nP,3,0,0\nP,4,0,0\nP,4,3,3\nP,4,4,4\nP,4,5,5\nP,4,6,6\nP,4,7,7\n"
@@ -2164,6 +2183,10 @@ static void build_bits(int bits, int clauses)
     add_line('I', bits, bits, -1);
     for (int clause = 0; clause < clauses; clause++)
         add_line('C', lasts[clause <= bits ? clause : bits], lasts[clause <= bits ? clause : bits], -1);
+    if (clauses == bits) { /* the pattern left out is used by another iso */
+        add_line('I', bits, bits, -1);
+        add_line('C', lasts[bits], lasts[bits], -1);
+    }
 }
 
 /* One setting of 2^30: left out, then matched twice; 30 and 32 clauses. */
@@ -2180,7 +2203,7 @@ static void one_of_many(void)
     }
     struct bytes value = {letters, length};
     build_bits(BITS_THERE, BITS_THERE);
-    size_t line = built_lines() - BITS_THERE;
+    size_t line = built_lines() - BITS_THERE - 2;
     try_built_witness(__LINE__, RULEFILE_GAP_LEFT, line, value);
     build_bits(BITS_THERE, BITS_THERE + 1);
     try_built_witness(__LINE__, RULEFILE_ACCEPTED, 0, nothing);
@@ -2188,14 +2211,16 @@ static void one_of_many(void)
     try_built_witness(__LINE__, RULEFILE_OVERLAP_LEFT, line, value);
 }
 
-/* T line 255 of the built file, the last that a file can have: a chain of sums of so many values. */
+/* A chain of sums of so many values, the last T line of the built file, and an iso that uses it. */
 static void build_steps(int values)
 {
     begin();
     add("T,0,0,0\n");
-    add_times("T,0,0,0\n", (size_t)(256 - values));
-    for (int type = 257 - values; type < 256; type++)
+    for (int type = 1; type < values; type++)
         add_line('T', 1, 0, type - 1);
+    add("P,1,0,0\n");
+    add_line('I', values - 1, values - 1, -1);
+    add("C,0,0\n");
 }
 
 /* The letters of a step: so many R, then L if it is not the last, then U. */
@@ -2218,12 +2243,12 @@ static void steps_in_order(void)
     build_steps(VALUES);
     for (uint32_t step = 0; step < VALUES; step++) {
         struct bytes text = step_letters(letters[step % 2], step, VALUES);
-        struct setting_case c = {__LINE__, built_file(), 255, text, step};
+        struct setting_case c = {__LINE__, built_file(), VALUES - 1, text, step};
         try_setting(&setting, &c);
         if (step > 0)
             CHECK(memcmp(letters[(step + 1) % 2], letters[step % 2], step + 1) < 0);
     }
-    struct unnumbered_case c = {__LINE__, built_file(), 255, nothing, VALUES, 16, 19};
+    struct unnumbered_case c = {__LINE__, built_file(), VALUES - 1, nothing, VALUES, 16, 19};
     try_unnumbered(&setting, &c);
     c.type = 256;
     c.of_letters = c.of_number = 15;
@@ -2239,7 +2264,7 @@ static void setting_lengths(void)
     memset(letters, 'U', sizeof letters);
     require(put_largest_value(letters) == RULEFILE_RESULT_LENGTH);
     begin();
-    add(SEVEN_TYPES);
+    add(SEVEN_USED);
     for (size_t i = 0; i < COUNT_OF(lengths) * COUNT_OF(settings); i++) {
         struct bytes value = {letters, lengths[i / COUNT_OF(settings)]};
         struct unnumbered_case c = {__LINE__, built_file(), 6, value, 1, 16, 19};
@@ -2541,7 +2566,7 @@ static void megabyte_lists(void)
 /* 600 queries of 127 letters, the same refused, and both by turns: the letters of a refused one stay. */
 static void largest_sheet(void)
 {
-    static const struct bytes file = TEXT(SEVEN_TYPES "P,1,0,0\nI,6,6\nC,0,0\n");
+    static const struct bytes file = TEXT(SEVEN_USED);
     static const struct line_case refused = {__LINE__, TEXT("Q,0,0,1,U\n"), REFUSED(16)};
     uint8_t line[8 + RULEFILE_RESULT_LENGTH + 1] = "Q,0,1,1,";
     size_t length = put_largest_value(line + 8);
@@ -2749,6 +2774,9 @@ static void lists_at_the_ceilings(void)
         struct bytes text = {written, built.length};
         memcpy(written, built.bytes, text.length);
         built.length = before;
+        add("P,1,0,0\n");
+        add_line('I', 31 + products[i], 31 + products[i], -1);
+        add("C,0,0\n");
         uint32_t type = (uint32_t)(31 + products[i]);
         struct call call = {.service = SERVICE_IMPORT, .left = type, .right = type, .value = identity(32)};
         try_built_list(__LINE__, call, products[i] == 31 ? RULEFILE_CEILING : RULEFILE_ACCEPTED, text);
@@ -2938,7 +2966,7 @@ static void uninitialized_areas(void)
         call = (struct call){.service = SERVICE_SETTING_OF, .file = c->file, .type = c->type, .setting = c->setting};
         try_uninitialized(c->at, &call, (struct answer){0}, c->letters);
     }
-    call = (struct call){.service = SERVICE_SETTING_OF, .file = TEXT(BITS), .type = 32};
+    call = (struct call){.service = SERVICE_SETTING_OF, .file = TEXT(BITS_USED), .type = 32};
     try_uninitialized(__LINE__, &call, (struct answer){.number = RULEFILE_TOO_MANY}, nothing);
     call = (struct call){.service = SERVICE_SETTING_OF, .file = TEXT(S), .type = 2, .setting = 4};
     try_uninitialized(__LINE__, &call, (struct answer){.number = RULEFILE_TOO_HIGH}, nothing);

@@ -104,6 +104,7 @@ static void build_sums(const struct shape *shape, int number)
         int left = number == 11 && twice ? last : number == 14 && clause == CLAUSES - 1 ? 72 : step;
         add("C,%d,%d\n", left, number == 12 && twice ? last : step);
     }
+    add("I,%d,%d\nC,0,1\nC,41,81\n", NESTED, NESTED); /* all lines are used, behind the fault */
 }
 
 /* Other types: a variable in every clause, of one type or of both sides of a sum of smaller ones; or no clause. */
@@ -120,13 +121,14 @@ static void build_others(const struct shape *shape, int number)
         add("I,%d,%d\n", NESTED, NESTED);
     for (int clause = 0; number == 11 && clause < CLAUSES; clause++)
         add("C,1,1\n");
+    add("I,%d,%d\nC,0,1\nC,2,3\n", NESTED, NESTED);
 }
 
 /* A unit or the nested type, of which the unit alone is covered. */
 static void build_gap(const struct shape *shape)
 {
     begin(shape);
-    add("T,1,0,%d\nP,0,0,0\nP,2,0,0\nI,0,%d\nC,0,1\n", NESTED - 1, NESTED + 1);
+    add("T,1,0,%d\nP,0,0,0\nP,2,0,0\nI,0,%d\nC,0,1\nI,%d,%d\n", NESTED - 1, NESTED + 1, NESTED, NESTED);
 }
 
 static void build(const struct shape *shape, int number)

@@ -49,6 +49,8 @@ pub enum Refusal {
     TooHigh = 19,
     /// The lines of the list are not `0,to`, `1,to` and so on up to the counts of both types, each to once.
     BadList = 20,
+    /// A T or P line that no I, C or L line reaches.
+    IdleLine = 21,
     /// A number that this crate has no name for: the library that is linked is of a later version.
     Unknown(u32),
 }
@@ -77,6 +79,7 @@ const ALL: &[(Refusal, &str)] = &[
     (TooMany, "too many values"),
     (TooHigh, "number too high"),
     (BadList, "bad list"),
+    (IdleLine, "idle line"),
 ];
 
 impl Refusal {

@@ -22,7 +22,7 @@ const QUERIES: &str = "Q,1,0,9,PLURU\nQ,1,1,9,PLULU\nQ,1,0,2,PRULU\nQ,1,0,2,PLUR
     Q,2,0,9,U\nQ,1,0,9,PLU\n";
 
 /// The words of documents 01 and 02, the first one for number 1.
-const WORDS: [&str; 20] = [
+const WORDS: [&str; 21] = [
     "short area",
     "too long",
     "bad line",
@@ -43,6 +43,7 @@ const WORDS: [&str; 20] = [
     "too many values",
     "number too high",
     "bad list",
+    "idle line",
 ];
 
 /// The words of which a refusal's name is made; those of two are cut.
@@ -114,7 +115,9 @@ fn files_of_document_01() {
     let mut desk = Desk::new();
     assert_eq!(desk.check(b""), Ok(()));
     assert_eq!(desk.check(&file(S)), Ok(()));
-    expect_refused(&file(&s_without(18)), Refusal::GapLeft, 15);
+    expect_refused(&file(&s_without(18)), Refusal::IdleLine, 11);
+    let gap = s_without(18).replacen(" P,4,2,3", "", 1);
+    expect_refused(&file(&gap), Refusal::GapLeft, 14);
     expect_refused(&file(&format!("{S} C,7,7")), Refusal::OverlapLeft, 15);
     expect_refused(&file(&s_with_17("L,4,1,3")), Refusal::BadName, 17);
     expect_refused(&file(&s_without(17)), Refusal::Variable, 16);
@@ -126,7 +129,9 @@ fn files_of_document_01() {
 #[test]
 fn types_of_127_and_255_nodes() {
     let seven = "T,0,0,0 T,2,0,0 T,2,1,1 T,2,2,2 T,2,3,3 T,2,4,4 T,2,5,5";
-    assert_eq!(Desk::new().check(&file(seven)), Ok(()));
+    let used = format!("{seven} P,1,0,0 I,6,6 C,0,0");
+    assert_eq!(Desk::new().check(&file(&used)), Ok(()));
+    expect_refused(&file(seven), Refusal::IdleLine, 1);
     expect_refused(&file(&format!("{seven} T,2,6,6")), Refusal::Ceiling, 8);
 }
 
@@ -299,7 +304,11 @@ fn a_file_for_each_refusal() {
         (Refusal::BadField, "T,0,0,0 P,0,0,0 P,1,32,0".to_string(), 3),
         (Refusal::BadName, "T,0,0,0 T,1,0,1".to_string(), 2),
         (Refusal::Ceiling, "T,0,0,0 ".repeat(257), 257),
-        (Refusal::Variable, format!("{bit} P,1,0,0 I,1,1 C,3,1"), 8),
+        (
+            Refusal::Variable,
+            format!("{bit} P,1,0,0 I,1,1 C,3,1 C,2,2"),
+            8,
+        ),
         (
             Refusal::LetShape,
             format!("{bit} P,1,0,0 P,1,1,0 P,2,4,0 I,1,1 C,1,2 C,2,1 I,1,1 C,3,4 L,5,0,3"),
@@ -312,8 +321,16 @@ fn a_file_for_each_refusal() {
         ),
         (Refusal::OverlapLeft, format!("{bit} I,1,1 C,1,1 C,1,2"), 6),
         (Refusal::OverlapRight, format!("{bit} I,1,1 C,1,1 C,2,1"), 6),
-        (Refusal::GapLeft, format!("{bit} I,1,0 C,1,0"), 6),
-        (Refusal::GapRight, format!("{bit} I,0,1 C,0,1"), 6),
+        (
+            Refusal::GapLeft,
+            format!("{bit} I,1,0 C,1,0 I,1,1 C,2,2"),
+            6,
+        ),
+        (
+            Refusal::GapRight,
+            format!("{bit} I,0,1 C,0,1 I,1,1 C,2,2"),
+            6,
+        ),
     ];
     for (place, (refusal, lines, line)) in cases.iter().enumerate() {
         assert_eq!(refusal.number() as usize, place + 3);
@@ -407,7 +424,7 @@ fn settings_of_document_01_as_numbers() {
     }
     assert_eq!(desk.table(), rows(S));
     // Three times two settings, the left ones of a sum before the right ones.
-    let six = file("T,0,0,0 T,1,0,0 T,1,0,1 T,2,2,1");
+    let six = file("T,0,0,0 T,1,0,0 T,1,0,1 T,2,2,1 P,1,0,0 I,3,3 C,0,0");
     expect_number(&mut desk, &six, 3, 1, "PLURU");
     expect_number(&mut desk, &six, 3, 2, "PRLULU");
     expect_number(&mut desk, &six, 3, 5, "PRRURU");
@@ -440,8 +457,13 @@ fn patterns_of_document_01_compared() {
 fn the_first_clash_ends_a_comparison() {
     let mut desk = Desk::new();
     // 3: left, right; 4: right, left; 5: left, left; 6: a variable, right; 8 to 13: pairs up to 127 nodes.
-    let lines = "P,0,0,0 P,2,0,0 P,3,0,0 P,4,1,2 P,4,2,1 P,4,1,1 P,1,0,0 P,4,6,2 \
-        P,4,0,0 P,4,8,8 P,4,9,9 P,4,10,10 P,4,11,11 P,4,12,12 P,4,0,1 P,4,8,2";
+    // Each stands in an iso whose clauses leave nothing out.
+    let lines =
+        "T,0,0,0 T,1,0,0 T,2,1,1 T,2,0,0 T,2,3,3 T,2,4,4 T,2,5,5 T,2,6,6 T,2,7,7 T,2,0,1 T,2,3,1 \
+        P,0,0,0 P,2,0,0 P,3,0,0 P,4,1,2 P,4,2,1 P,4,1,1 P,1,0,0 P,4,6,2 \
+        P,4,0,0 P,4,8,8 P,4,9,9 P,4,10,10 P,4,11,11 P,4,12,12 P,4,0,1 P,4,8,2 \
+        P,4,2,2 P,4,6,1 P,4,0,2 P,4,8,1 I,2,2 C,3,3 C,4,4 C,5,5 C,16,16 I,2,2 C,7,7 C,17,17 \
+        I,8,8 C,13,13 I,9,9 C,14,14 C,18,18 I,10,10 C,15,15 C,19,19";
     let lines = file(lines);
     expect_overlap(&mut desk, &lines, [3, 4], true, 2);
     expect_overlap(&mut desk, &lines, [3, 5], true, 4);
@@ -470,7 +492,8 @@ fn refusals_of_overlaps() {
 /// So many two-valued types as one chain of products; T line `count` is the last.
 fn bits(count: u32) -> String {
     let chain = (1..count).map(|above| format!(" T,2,1,{above}"));
-    format!("T,0,0,0 T,1,0,0{}", chain.collect::<String>())
+    let chain = chain.collect::<String>();
+    format!("T,0,0,0 T,1,0,0{chain} P,1,0,0 I,{count},{count} C,0,0")
 }
 
 #[test]
@@ -547,7 +570,7 @@ fn refusals_by_number_and_word() {
         let name = format!("{refusal:?}").to_lowercase();
         assert_eq!(name, name_words(word).replace(' ', ""));
     }
-    for number in [0, 21, 22, 256, 257, 65_537, u32::MAX] {
+    for number in [0, 22, 23, 256, 257, 65_537, u32::MAX] {
         assert_eq!(Refusal::of(number), None);
     }
 }
@@ -604,7 +627,11 @@ fn rows(lines: &str) -> Vec<u16> {
         }
         let [kind, a, b] = [row[1], row[2], row[3]].map(usize::from);
         match row[0] {
-            84 => types.push(if kind == 0 { 1 } else { 1 + types[a] + types[b] }),
+            84 => types.push(if kind == 0 {
+                1
+            } else {
+                1 + types[a] + types[b]
+            }),
             80 => patterns.push(match kind {
                 0 | 1 => 1,
                 4 => 1 + patterns[a] + patterns[b],

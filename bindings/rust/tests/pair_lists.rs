@@ -54,7 +54,9 @@ fn under_products(count: usize) -> (Vec<u8>, u32) {
     for below in 31..31 + count {
         file += &format!("T,2,0,{below} ");
     }
-    (lines(&file), 31 + count as u32)
+    let last = 31 + count;
+    file += &format!("P,1,0,0 I,{last},{last} C,0,0");
+    (lines(&file), last as u32)
 }
 
 #[test]
@@ -86,7 +88,7 @@ fn document_01_as_a_list_and_back() {
 #[test]
 fn two_types() {
     let mut desk = Desk::new();
-    let file = lines("T,0,0,0 T,1,0,0 T,2,1,0 T,0,0,0 T,1,3,3");
+    let file = lines("T,0,0,0 T,1,0,0 T,2,1,0 T,0,0,0 T,1,3,3 P,1,0,0 I,2,2 C,0,0 I,4,4 C,0,0");
     for (from, to, written) in [
         (
             1,

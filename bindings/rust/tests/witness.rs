@@ -17,6 +17,14 @@ const S: &str = "T,0,0,0 T,1,0,0 T,2,1,1 P,0,0,0 P,2,0,0 P,3,0,0 P,1,0,0 P,1,1,0
 const FOUR: &str = "T,0,0,0 T,1,0,0 T,1,1,1 T,2,1,1 T,1,3,0 P,0,0,0 P,1,0,0 P,2,0,0 P,3,0,0 \
     P,2,2,0 P,2,3,0 P,3,2,0 P,3,3,0 P,2,1,0 P,3,1,0";
 
+/// Isos that name all lines of it, behind the one that is refused.
+const FOUR_USED: &str = "I,2,4 I,3,0 C,0,1 C,2,3 C,4,5 C,6,7 C,8,9";
+
+/// S without its last clause and the pattern of it.
+fn gap() -> String {
+    S.trim_end_matches(" C,7,7").replacen(" P,4,2,3", "", 1)
+}
+
 /// A file from its lines.
 fn file(lines: &str) -> Vec<u8> {
     lines
@@ -40,8 +48,9 @@ fn by(refusal: Refusal, line: usize, letters: &str) -> Result<(), Witness> {
 fn files_of_document_01() {
     assert_eq!(shown(S), Ok(()));
     assert_eq!(shown(""), Ok(()));
-    let gap = S.trim_end_matches(" C,7,7");
-    assert_eq!(shown(gap), by(Refusal::GapLeft, 15, "PRULU"));
+    assert_eq!(shown(&gap()), by(Refusal::GapLeft, 14, "PRULU"));
+    let idle = S.trim_end_matches(" C,7,7");
+    assert_eq!(shown(idle), by(Refusal::IdleLine, 11, ""));
     let twice = format!("{S} C,7,7");
     assert_eq!(shown(&twice), by(Refusal::OverlapLeft, 15, "PRULU"));
     let right = "T,0,0,0 T,1,0,0 P,0,0,0 P,2,0,0 I,0,1 C,0,1";
@@ -51,7 +60,7 @@ fn files_of_document_01() {
 
 #[test]
 fn each_side() {
-    let of = |lines: &str| shown(&format!("{FOUR} {lines}"));
+    let of = |lines: &str| shown(&format!("{FOUR} {lines} {FOUR_USED}"));
     let (left, right) = (Refusal::OverlapLeft, Refusal::OverlapRight);
     assert_eq!(of("I,2,2 C,4,4 C,5,5 C,8,9"), by(left, 16, "LLU"));
     assert_eq!(of("I,2,2 C,1,1 C,1,1"), by(left, 16, "LLU"));
@@ -69,13 +78,14 @@ fn each_side() {
 /// Fewest letters come before byte order, over the whole value.
 #[test]
 fn fewest_letters_first() {
-    let of = |lines: &str| shown(&format!("{FOUR} {lines}"));
+    let of = |lines: &str| shown(&format!("{FOUR} {lines} {FOUR_USED}"));
     assert_eq!(of("I,4,4"), by(Refusal::GapLeft, 16, "RU"));
     let twice = of("I,4,4 C,1,1 C,1,1");
     assert_eq!(twice, by(Refusal::OverlapLeft, 16, "RU"));
     assert_eq!(of("I,4,4 C,3,3"), by(Refusal::GapLeft, 16, "LPLULU"));
     let parts = "T,0,0,0 T,1,0,0 T,1,1,0 T,2,2,2 P,0,0,0 P,3,0,0 P,4,1,1 I,3,3";
-    assert_eq!(shown(parts), by(Refusal::GapLeft, 8, "PRURU"));
+    let all = format!("{parts} I,3,3 C,2,2");
+    assert_eq!(shown(&all), by(Refusal::GapLeft, 8, "PRURU"));
     let but_one = format!("{parts} C,2,2");
     assert_eq!(shown(&but_one), by(Refusal::GapLeft, 8, "PLLURU"));
 }
@@ -95,10 +105,9 @@ fn a_value_of_127_letters() {
 #[test]
 fn refusals_as_text() {
     let text = |lines: &str| shown(lines).unwrap_err().to_string();
-    let gap = S.trim_end_matches(" C,7,7");
     assert_eq!(
-        text(gap),
-        "refused with 13, gap left, at line 15, shown by PRULU"
+        text(&gap()),
+        "refused with 13, gap left, at line 14, shown by PRULU"
     );
     assert_eq!(text("x"), "refused with 3, bad line, at line 1");
     let witnessed = Witnessed {
@@ -128,10 +137,10 @@ fn lent(file: &[u8], areas: &mut Areas) -> Result<(), Witnessed> {
 /// Number, line, table and work area are those of `check`, and the result is kept behind the letters.
 #[test]
 fn lent_areas() {
-    let gap = S.trim_end_matches(" C,7,7");
+    let gap = gap();
     let long = "\n".repeat(4_097);
     let refused = ["T,0,0,0 T,1,0,1", "T,0,0,0 P,1,32,0"].map(file);
-    let files = [file(S), file(gap), long.into_bytes(), b"T".to_vec()];
+    let files = [file(S), file(&gap), long.into_bytes(), b"T".to_vec()];
     for file in files.iter().chain(&refused) {
         for more in [0, 1, 300] {
             let lengths = [TABLE_LENGTH, WORK_LENGTH, RESULT_LENGTH].map(|length| length + more);
@@ -149,7 +158,7 @@ fn lent_areas() {
 
 #[test]
 fn short_areas() {
-    let gap = file(S.trim_end_matches(" C,7,7"));
+    let gap = file(&gap());
     for (table, work, result) in [
         (TABLE_LENGTH - 1, WORK_LENGTH, RESULT_LENGTH),
         (TABLE_LENGTH, WORK_LENGTH - 1, RESULT_LENGTH),

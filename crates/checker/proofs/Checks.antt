@@ -10,15 +10,16 @@ use lib.Dec.{ltb, lit≤}
 use lib.ListN.{length, drop, replicate, length-append, length-drop, length-replicate}
 use borrow.Author.Tests.{lt-ltb, le-ltb, lt-leb}
 use Rattle.limits.specs.Limits.{maxBytes, maxLines, tableLength, workLength, rowWidth}
-use Rattle.calculus.specs.Tools.{isSome, firstFailing, firstOf, orElse}
+use Rattle.calculus.specs.Tools.{isSome, firstFailing, firstOf, orElse, stages}
 use Rattle.calculus.specs.Trees.{left, right, Ty, Pat, Clause, Iso}
-use Rattle.calculus.specs.Refusals.{Kind, typeLine, patternLine, isoLine, clauseLine, letLine, Refusal, number, shortArea, tooLong, misplaced, badField, badName, ceiling, variable, letShape, badType, overlap, gap}
+use Rattle.calculus.specs.Refusals.{Kind, typeLine, patternLine, isoLine, clauseLine, letLine, Refusal, number, shortArea, tooLong, misplaced, badField, badName, ceiling, variable, letShape, badType, overlap, gap, idle}
 use Rattle.format.specs.Lines.{Row, lines, rowOf}
 use Rattle.format.specs.Table.{tableOf}
 use Rattle.format.specs.Judge.{Seen, start, afterAll, judge, inOrder, fieldsFit, named, withinCeilings, after, Reading, rows, faulty, withRow, onRow, onJudged, readFrom}
 use Rattle.format.specs.Unfold.{Tail, place, tailFrom, isosOf}
+use Rattle.format.specs.Idle.{typeLines, reach, isRoot, member, Reach, reachFrom, idleFault}
 use Rattle.calculus.specs.Clauses.{Sigs, clauseFault, variablesRule, letShapes, typed, sideFault, apart, fullWeight, lefts, rights, at, isoFault, fault, sigsOf}
-use Rattle.model.specs.Services.{Verdict, accepted, refused, judged, afterReading, over, verdict, filled, tableAfter, workAfter, short, unless, answerOf, refusalBy, check}
+use Rattle.model.specs.Services.{Verdict, accepted, refused, judged, fileTests, afterReading, over, verdict, filled, tableAfter, workAfter, short, unless, answerOf, refusalBy, check}
 use Rattle.format.specs.Code.{refusalView, numbered}
 use Rattle.format.specs.declared.Answer as A
 use Rattle.format.specs.declared.Refusal as F
@@ -128,9 +129,43 @@ iso-number sigs o =
     (λ c. at-number (c .line) (clauseFault sigs (o .from) (o .to) c) (clause-number sigs o c)))
     (at-number (o .line) (sideFault o) (side-number o))
 
-fault-number : (os : List Iso) (f : Refusal) (n : ℕ) → fault os ≡ some (f, n) → 3 ≤ number f
-unfolding fault
-fault-number os f n e = subst FaultAtLeast3 e (first-number (isoFault (sigsOf os)) os (iso-number (sigsOf os)))
+-- an idle line is 21
+idle-from : (ts n : ℕ) (rs : List Row) → FaultAtLeast3 (reachFrom ts n rs .found)
+idle-from ts n [] = tt
+idle-from ts n (r ∷ rs) = go (isRoot (r .kind) || member n (reachFrom ts (suc n) rs .named)) (idle-from ts (suc n) rs)
+  where
+    o : Reach
+    o = reachFrom ts (suc n) rs
+
+    go : (b : Bool) → FaultAtLeast3 (reachFrom ts (suc n) rs .found)
+        → FaultAtLeast3 (cond {A = Reach} b (record { named = reach ts (r .kind) r ++ reachFrom ts (suc n) rs .named; found = reachFrom ts (suc n) rs .found })
+        (record { named = reachFrom ts (suc n) rs .named; found = some (idle (r .kind), suc n) }) .found)
+    go true h = h
+    go false h = lit≤ tt
+
+stage-number : (rs : List Row) (f : Refusal) (n : ℕ) → stages fileTests rs ≡ some (f, n) → 3 ≤ number f
+unfolding fault idleFault
+stage-number rs f n e =
+    subst FaultAtLeast3 e
+    (or-number (idleFault rs) (fault (isosOf rs)) (idle-from (typeLines rs) 0 rs) (first-number (isoFault (sigsOf (isosOf rs))) (isosOf rs) (iso-number (sigsOf (isosOf rs)))))
+
+-- the refusal of an idle line, or else that of an iso
+pub lines-idle : (a : A.Answer) (b : Bool) (rs : List Row) → asFault a ≡ idleFault rs → b ≡ isSome (refusalView (a .refusal)) → b ≡ true
+    → asFault a ≡ stages fileTests rs
+lines-idle a b rs e h k =
+    let g = isSome-true (refusalView (a .refusal)) (sym h ∙ k) in
+    let z : asFault a ≡ some (g .0, a .place) = ap (at (a .place)) (g .1) in
+    z ∙ sym (ap (λ x. orElse x (fault (isosOf rs))) (sym e ∙ z))
+
+pub lines-isos : (a r : A.Answer) (b : Bool) (rs : List Row) → asFault a ≡ idleFault rs → b ≡ isSome (refusalView (a .refusal)) → b ≡ false
+    → asFault r ≡ fault (isosOf rs) → asFault r ≡ stages fileTests rs
+lines-isos a r b rs e h k f =
+    let z : refusalView (a .refusal) ≡ none = none-of b (refusalView (a .refusal)) h k in
+    f ∙ sym (ap (λ x. orElse x (fault (isosOf rs))) (sym e ∙ ap (at (a .place)) z))
+  where
+    none-of : (b : Bool) (x : Option Refusal) → b ≡ isSome x → b ≡ false → x ≡ none
+    none-of b none e h = refl
+    none-of b (some f) e h = absurd (true≢false (sym e ∙ h))
 
 -- ---- verdicts
 
@@ -213,15 +248,15 @@ refused-later s t w t₁ t′ w′ r f ht hw v m n wide behind et ew =
     (et ∙ cleared-again tableLength t t₁ ht wide behind ∙ cleared-table f (r .place) t m)
     (ew ∙ cleared-filled workLength w hw ∙ cleared-work f (r .place) w m)
 
--- the verdict of a file whose reading is refused, and of one with a faulty iso
+-- the verdict of a file whose reading is refused, and of one with an idle line or a faulty iso
 pub verdict-read : (s : List ℕ) (f : Refusal) (n : ℕ) → length s ≤ maxBytes → length (lines s) ≤ maxLines
     → readFrom start 1 (lines s) ≡ faulty f n → (verdict s ≡ refused f n) × (3 ≤ number f)
 verdict-read s f n hb hl e = (verdict-not-over s hb hl ∙ ap afterReading e, read-number s f n e)
 
 pub verdict-fault : (s : List ℕ) (rs : List Row) (f : Refusal) (n : ℕ) → length s ≤ maxBytes → length (lines s) ≤ maxLines
-    → readFrom start 1 (lines s) ≡ rows rs → fault (isosOf rs) ≡ some (f, n) → (verdict s ≡ refused f n) × (3 ≤ number f)
+    → readFrom start 1 (lines s) ≡ rows rs → stages fileTests rs ≡ some (f, n) → (verdict s ≡ refused f n) × (3 ≤ number f)
 verdict-fault s rs f n hb hl e k =
-    (verdict-not-over s hb hl ∙ ap afterReading e ∙ ap (judged rs) k, fault-number (isosOf rs) f n k)
+    (verdict-not-over s hb hl ∙ ap afterReading e ∙ ap (judged rs) k, stage-number rs f n k)
 
 drop-replicate : (k n : ℕ) (l : List ℕ) → k ≤ n → drop k (replicate n 0 ++ l) ≡ replicate (n - k) 0 ++ l
 drop-replicate zero n l h = ap (λ m. replicate m 0 ++ l) (sym (sub-zero n))
@@ -240,7 +275,7 @@ rows-then-zeros t t₀ rs h few e =
 
 -- 0: the table holds the rows, and zeros behind them
 pub accepted-says : (s t w t₀ t′ w′ : List ℕ) (rs : List Row) (r : A.Answer) → tableLength ≤ length t → workLength ≤ length w
-    → length s ≤ maxBytes → length (lines s) ≤ maxLines → readFrom start 1 (lines s) ≡ rows rs → fault (isosOf rs) ≡ none
+    → length s ≤ maxBytes → length (lines s) ≤ maxLines → readFrom start 1 (lines s) ≡ rows rs → stages fileTests rs ≡ none
     → refusalView (r .refusal) ≡ none → r .place ≡ 0
     → t₀ ≡ cleared tableLength t → t′ ≡ tableOf rs ++ drop (length rs * rowWidth) t₀ → w′ ≡ cleared workLength w
     → CheckSays s t w t′ w′ r
@@ -299,14 +334,14 @@ fault-some a f e = ap (at (a .place)) e
 
 -- a reading that is accepted, and the first refusal of its isos
 pub outcome-isos : (s t₀ t₁ : List ℕ) (q : R.Read) (r : A.Answer) → length (lines s) ≤ maxLines → ReadSays s t₀ t₁ q
-    → (h : Holds s t₀ t₁ q) → (FileIn t₁ (q .seen .types) (q .seen .patterns) (q .lines) (h .file) → asFault r ≡ fault (isosOf (h .file)))
+    → (h : Holds s t₀ t₁ q) → (FileIn t₁ (q .seen .types) (q .seen .patterns) (q .lines) (h .file) → asFault r ≡ stages fileTests (h .file))
     → (refusalView (r .refusal) ≡ none → r .place ≡ 0) → Outcome s t₀ t₁ r
 outcome-isos s t₀ t₁ q r few read h says place =
     let e = says (filed h few) in
     record {
       accepts = λ k. (h .file, h .reads, sym e ∙ fault-none r k, place k);
       refuses = λ f k. ap afterReading (h .reads) ∙ ap (judged (h .file)) (sym e ∙ fault-some r f k);
-      later = λ f k. fault-number (isosOf (h .file)) f (r .place) (sym e ∙ fault-some r f k);
+      later = λ f k. stage-number (h .file) f (r .place) (sym e ∙ fault-some r f k);
       table = read .table;
     }
 
@@ -369,7 +404,7 @@ outcome-refused s t₀ t₁ q r b says e h same place =
 
 pub outcome-whole : (s t₀ t₁ : List ℕ) (q : R.Read) (r : A.Answer) (b : Bool) → length (lines s) ≤ maxLines
     → ReadSays s t₀ t₁ q → b ≡ isSome (refusalView (q .refusal)) → b ≡ false
-    → ((rs : List Row) → FileIn t₁ (q .seen .types) (q .seen .patterns) (q .lines) rs → asFault r ≡ fault (isosOf rs)) × (refusalView (r .refusal) ≡ none → r .place ≡ 0)
+    → ((rs : List Row) → FileIn t₁ (q .seen .types) (q .seen .patterns) (q .lines) rs → asFault r ≡ stages fileTests rs) × (refusalView (r .refusal) ≡ none → r .place ≡ 0)
     → Outcome s t₀ t₁ r
 outcome-whole s t₀ t₁ q r b few says e h found =
     let k = holds says (flag-none b (refusalView (q .refusal)) e h) in outcome-isos s t₀ t₁ q r few says k (found .0 (k .file)) (found .1)
@@ -421,7 +456,7 @@ accepted-rows s t₀ t₁ a hb hl o held n =
     let same : k .0 ≡ l .file = rows-inj (sym (k .1) ∙ l .reads) in
     record {
       file = l .file;
-      accepts = verdict-not-over s hb hl ∙ ap afterReading (l .reads) ∙ ap (judged (l .file)) (subst (λ rs. fault (isosOf rs) ≡ none) same (k .2));
+      accepts = verdict-not-over s hb hl ∙ ap afterReading (l .reads) ∙ ap (judged (l .file)) (subst (λ rs. stages fileTests rs ≡ none) same (k .2));
       table = l .table;
       isos = l .isos;
     }

@@ -9,8 +9,8 @@ use Rattle.calculus.specs.Refusals.{Refusal, number}
 use Rattle.format.specs.Lines.{Row, lines}
 use Rattle.format.specs.Judge.{Seen, start, afterAll, Reading, rows, faulty, readFrom}
 use Rattle.format.specs.Unfold.{isosOf}
-use Rattle.calculus.specs.Clauses.{fault}
-use Rattle.model.specs.Services.{Verdict, check, afterReading, refused, accepted, verdict, short, unless, refusalBy}
+use Rattle.calculus.specs.Tools.{stages}
+use Rattle.model.specs.Services.{Verdict, fileTests, check, afterReading, refused, accepted, verdict, short, unless, refusalBy}
 use Rattle.format.specs.Code.{numberOf, refusalView}
 use Rattle.format.specs.declared.Answer as A
 use Rattle.format.specs.declared.Refusal as F
@@ -54,10 +54,10 @@ abbrev pub countsRead : Reading → Counts
 countsRead (rows rs) = countsIn rs
 countsRead (faulty f n) = noCounts
 
--- a file read into a table, t₀ before and t₁ after, and its isos: no iso is faulty, or the refusal and its line are those of the model; the
+-- a file read into a table, t₀ before and t₁ after, its idle lines and its isos: no line is idle and no iso faulty, or the refusal and its line are those of the model; the
 -- table holds the lines before the first that is refused
 pub record Outcome (s t₀ t₁ : List ℕ) (r : A.Answer) : Type 0 where
-  pub accepts : refusalView (r .refusal) ≡ none → (rs : List Row) × (readFrom start 1 (lines s) ≡ rows rs) × (fault (isosOf rs) ≡ none)
+  pub accepts : refusalView (r .refusal) ≡ none → (rs : List Row) × (readFrom start 1 (lines s) ≡ rows rs) × (stages fileTests rs ≡ none)
       × (r .place ≡ 0)
   pub refuses : (f : Refusal) → refusalView (r .refusal) ≡ some f → afterReading (readFrom start 1 (lines s)) ≡ refused f (r .place)
   pub later : (f : Refusal) → refusalView (r .refusal) ≡ some f → 3 ≤ number f

@@ -2,6 +2,7 @@
 
 use area_parts::clear_bytes;
 use area_parts::clear_words;
+use check_idle::idle_fault;
 use check_isos::isos_fault;
 use format::Answer;
 use format::Refusal;
@@ -21,7 +22,10 @@ ghost use Rattle.limits.specs.Limits.{tableLength, maxLines};
 ghost use Rattle.format.specs.Lines.{Row as RowOf, lines};
 ghost use Rattle.format.specs.Judge.{start, rows, readFrom};
 ghost use Rattle.format.specs.Code.{refusalView};
-ghost use Rattle.model.specs.Services.{short, unless, verdict};
+ghost use Rattle.model.specs.Services.{fileTests, short, unless, verdict};
+ghost use Rattle.calculus.specs.Tools.{stages};
+ghost use Rattle.table_walks.specs.Walk.{FileIn};
+ghost use Rattle.check_isos.specs.Answers.{asFault};
 ghost use Rattle.checker.specs.CheckSays.{CheckSays, Outcome, Loaded, Entered, Settled, Accepted, Filed, Early, countsOf, noCounts, countsRead, countsBy};
 
 // An answer, and how many T, P and I lines the table holds, and how many lines; 0 of each where it holds none.
@@ -49,6 +53,22 @@ fn refused(place: usize, f: Refusal) -> Checked
     }
 }
 
+// The first refusal of the rows of a file, behind the reading: an idle line, and only then its isos.
+fn lines_fault(t: &[u16], types: usize, patterns: usize, lines: usize) -> Answer
+    requires { ⌜ tableLength ≤ length (now t) ⌝ }
+    ensures { λ r. ⌜
+        ((rs : List RowOf) → FileIn (now (t .entry)) types patterns lines rs → asFault r ≡ stages fileTests rs)
+        × (refusalView (r .refusal) ≡ none → r .place ≡ 0)
+        ⌝ }
+{
+    let a = idle_fault(t, types, lines);
+    let f = a.refusal;
+    if is_refused(f) {
+        return a;
+    }
+    isos_fault(t, types, patterns, lines)
+}
+
 // A file of at most 4,096 lines, read into a table of at least 20,480 numbers, and its isos.
 fn judged(file: &[u8], table: &mut [u16]) -> Checked
     requires { ⌜ (tableLength ≤ length (now table)) × (length (lines (now file)) ≤ maxLines) ⌝ }
@@ -65,7 +85,7 @@ fn judged(file: &[u8], table: &mut [u16]) -> Checked
         return refused(r.place, f);
     }
     let seen = r.seen;
-    let a = isos_fault(table, seen.types, seen.patterns, r.lines);
+    let a = lines_fault(table, seen.types, seen.patterns, r.lines);
     Checked {
         answer: a,
         types: seen.types,

@@ -23,6 +23,10 @@ pub const LETTER_PAIR: u8 = 80;
 // A row's first number is its line's letter.
 pub const ROW_LETTER: usize = 0;
 
+pub const TYPE_LINE: usize = 84;
+
+pub const PATTERN_LINE: usize = 80;
+
 pub const ISO_LINE: usize = 73;
 
 pub const CLAUSE_LINE: usize = 67;

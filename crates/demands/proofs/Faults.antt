@@ -8,24 +8,27 @@ use mathlib.Core.Option.{Option, none, some}
 use mathlib.Core.List.{List, [], _∷_}
 use lib.Dec.{ltb}
 use lib.ListN.{length}
-use Rattle.calculus.specs.Tools.{firstFailing}
-use Rattle.calculus.specs.Refusals.{Kind, typeLine, patternLine, isoLine, clauseLine, letLine, Refusal, number, tooLong, misplaced, badField, badName, ceiling}
+use Rattle.calculus.specs.Tools.{firstFailing, orElse}
+use Rattle.calculus.specs.Refusals.{Kind, typeLine, patternLine, isoLine, clauseLine, letLine, Refusal, number, tooLong, misplaced, badField, badName, ceiling, idle}
 use Rattle.format.specs.Lines.{Row, lines, rowOf}
 use Rattle.format.specs.Judge.{Seen, start, inOrder, fieldsFit, named, withinCeilings, judge, afterKind, after, Reading, rows, faulty, withRow, onRow, onJudged, readFrom}
 use Rattle.calculus.specs.Trees.{Ty, Clause, Iso}
-use Rattle.calculus.specs.Clauses.{Sigs}
-use Rattle.model.specs.Services.{Verdict, accepted, refused, afterReading, over, verdict, short, unless, Answer, answerOf, check, turn, Ran, runOf, run, answerOfRun, runService}
+use Rattle.calculus.specs.Clauses.{Sigs, fault}
+use Rattle.format.specs.Unfold.{isosOf}
+use Rattle.format.specs.Idle.{FirstIdle, idleFault}
+use Rattle.format.proofs.Idling.{idle-some}
+use Rattle.model.specs.Services.{Verdict, accepted, refused, judged, afterReading, over, verdict, short, unless, Answer, answerOf, check, turn, Ran, runOf, run, answerOfRun, runService}
 use Rattle.calculus.specs.Faulty.{ClauseFault, variables, shapes, SideFault, overlapLeft, overlapRight, gapLeft, gapRight, FirstClause, IsoFault, inClause, inSides, FirstIso}
 use Rattle.model.specs.Answers.{RunIs, absent, strange, passed, done}
 use Rattle.calculus.proofs.Basic.{none≢some, some-inj, bool-cases, neither, ltb-lt, lt-ltb, ltb-false, not-ltb, or-true, true-or-left, true-or-right}
 use Rattle.format.proofs.Passing.{Passes, Passes.done, Passes.next, judge-fit, fit-judge}
-use Rattle.model.proofs.Files.{passes, refused-iff}
+use Rattle.model.proofs.Files.{passes, refused-iff, passes-read, verdict-read, ReadCases, read-cases}
 use Rattle.model.proofs.Outcomes.{turn-answer}
 use Rattle.model.proofs.Runs.{run-iff}
 use Rattle.demands.specs.Words.{Areas}
 use Rattle.demands.proofs.Serving.{check-says, turn-says, run-shows}
 use Rattle.demands.proofs.Leaving.{says-tells}
-use Rattle.demands.specs.Faults.{NumberedAnswers, ShortExactly, TurnShortExactly, RunShortExactly, LongExactly, LinesExactly, LineFault, LinePasses, FirstLine, here, later, Place, types, patterns, clauses, lets, Stand, type, noType, pattern, noPattern, iso, clause, noClause, let-step, noLet, end, RowsInOrder}
+use Rattle.demands.specs.Faults.{UpTo, NumberedAnswers, IdleExactly, ShortExactly, TurnShortExactly, RunShortExactly, LongExactly, LinesExactly, LineFault, LinePasses, FirstLine, here, later, Place, types, patterns, clauses, lets, Stand, type, noType, pattern, noPattern, iso, clause, noClause, let-step, noLet, end, RowsInOrder}
 use Rattle.law_reordering.proofs.Unmoved.{withRow-faulty}
 
 -- ---- one line
@@ -198,18 +201,36 @@ in-isos : {sigs : Sigs} {os : List Iso} {f : Refusal} {n : ℕ} → FirstIso sig
 in-isos (FirstIso.here x) = in-iso x
 in-isos (FirstIso.later y x) = in-isos x
 
--- what a file that is not too long is refused for: its first line at fault, or an iso
-refused-for : (file : List ℕ) {f : Refusal} {m : ℕ} → over file ≡ false → verdict file ≡ refused f m → FirstLine start 1 (lines file) f m ⊎ ((8 ≤ number f) × (number f ≤ 14))
+-- what a file that is not too long is refused for: its first line at fault, or an idle line, or an iso
+abbrev Later : ℕ → Type 0
+Later n = ((8 ≤ n) × (n ≤ 14)) ⊎ (n ≡ 21)
+
+later-high : (n : ℕ) → Later n → 8 ≤ n
+later-high n (inl h) = h .0
+later-high n (inr h) = omega arith
+
+later-most : (n : ℕ) → Later n → UpTo 14 n
+later-most n (inl h) = inl (h .1)
+later-most n (inr h) = inr h
+
+refused-for : (file : List ℕ) {f : Refusal} {m : ℕ} → over file ≡ false → verdict file ≡ refused f m → FirstLine start 1 (lines file) f m ⊎ Later (number f)
 unfolding verdict
 refused-for file {f} {m} short-enough e =
     go (readFrom start 1 (lines file)) refl (sym (ap (λ b. cond b (refused tooLong 0) (afterReading (readFrom start 1 (lines file)))) short-enough) ∙ e)
   where
-    go : (r : Reading) → readFrom start 1 (lines file) ≡ r → afterReading r ≡ refused f m → FirstLine start 1 (lines file) f m ⊎ ((8 ≤ number f) × (number f ≤ 14))
+    go : (r : Reading) → readFrom start 1 (lines file) ≡ r → afterReading r ≡ refused f m → FirstLine start 1 (lines file) f m ⊎ Later (number f)
     go (faulty g k) h x =
         let same : g ≡ f = cc in
         let line : k ≡ m = cc in
         inl (read-first start 1 (lines file) (h ∙ ap₂ faulty same line))
-    go (rows rs) h x = inr (in-isos (refused-iff file rs (record { fits = short-enough; reads = h }) f m .0 e))
+    go (rows rs) h x = read (read-cases file rs short-enough h)
+      where
+        read : ReadCases file rs → FirstLine start 1 (lines file) f m ⊎ Later (number f)
+        read (ReadCases.inForm i) = inr (inl (in-isos (refused-iff file rs i f m .0 e)))
+        read (ReadCases.idleAt k n i v) =
+            let z = sym v ∙ e in
+            let same : idle k ≡ f = cc in
+            inr (inr (ap number (sym same)))
 
 too-long : (file : List ℕ) → over file ≡ true → verdict file ≡ refused tooLong 0
 unfolding verdict
@@ -234,14 +255,14 @@ over-iff file = (
 )
 
 -- a verdict is refused with 2, a line's number or an iso's
-verdict-high : (file : List ℕ) {f : Refusal} {m : ℕ} → verdict file ≡ refused f m → ((over file ≡ true) × (f ≡ tooLong) × (m ≡ 0)) ⊎ ((over file ≡ false) × (3 ≤ number f) × (number f ≤ 14))
+verdict-high : (file : List ℕ) {f : Refusal} {m : ℕ} → verdict file ≡ refused f m → ((over file ≡ true) × (f ≡ tooLong) × (m ≡ 0)) ⊎ ((over file ≡ false) × (3 ≤ number f) × UpTo 14 (number f))
 verdict-high file {f} {m} e = go (bool-cases (over file))
   where
-    low : FirstLine start 1 (lines file) f m ⊎ ((8 ≤ number f) × (number f ≤ 14)) → (3 ≤ number f) × (number f ≤ 14)
-    low (inl x) = let (h, k) = first-number x in (h, omega arith)
-    low (inr (h, k)) = (omega arith, k)
+    low : FirstLine start 1 (lines file) f m ⊎ Later (number f) → (3 ≤ number f) × UpTo 14 (number f)
+    low (inl x) = let (h, k) = first-number x in (h, inl (omega arith))
+    low (inr x) = (omega (arith, later-high (number f) x), later-most (number f) x)
 
-    go : (over file ≡ true) ⊎ (over file ≡ false) → ((over file ≡ true) × (f ≡ tooLong) × (m ≡ 0)) ⊎ ((over file ≡ false) × (3 ≤ number f) × (number f ≤ 14))
+    go : (over file ≡ true) ⊎ (over file ≡ false) → ((over file ≡ true) × (f ≡ tooLong) × (m ≡ 0)) ⊎ ((over file ≡ false) × (3 ≤ number f) × UpTo 14 (number f))
     go (inl t) =
         let h = sym (too-long file t) ∙ e in
         let refusal : tooLong ≡ f = cc in
@@ -318,16 +339,51 @@ lines-exactly file t w a few-bytes few-lines n m positive low = (
     go (refused f k) e h =
         let z = ap (λ x. x .number) h in
         let line = ap (λ x. x .line) h in
-        (f, z, ⊎-elim (λ x. subst (FirstLine start 1 (lines file) f) line x) (λ (high, h). absurd (omega arith)) (refused-for file fits e))
+        (f, z, ⊎-elim (λ x. subst (FirstLine start 1 (lines file) f) line x) (λ x. absurd (omega (arith, later-high (number f) x))) (refused-for file fits e))
+
+pub idle-exactly : IdleExactly
+unfolding over
+idle-exactly file t w a few-bytes few-lines m = (
+  (λ e. go (verdict file) refl (sym (check-says file a) ∙ e)),
+  (λ (rs, r, f, x).
+      let p = idle-some (passes-read file rs r) f m .1 x in
+      check-says file a ∙ ap answerOf (verdict-read file rs fits r ∙ ap (λ o. judged rs (orElse o (fault (isosOf rs)))) p) ∙ ap (λ (g : Refusal). said (number g) m) (x .refusal)),
+)
+  where
+    fits : over file ≡ false
+    fits = ap₂ _||_ (not-ltb few-bytes) (not-ltb few-lines)
+
+    go : (v : Verdict) → verdict file ≡ v → answerOf v ≡ said 21 m → (rs : List Row) × (readFrom start 1 (lines file) ≡ rows rs) × (f : Refusal) × FirstIdle rs f m
+    go (accepted rs) e h = let z = ap (λ x. x .number) h in absurd (omega arith)
+    go (refused f k) e h = on (readFrom start 1 (lines file)) refl
+      where
+        high : 21 ≤ number f
+        high = let z = ap (λ x. x .number) h in omega arith
+
+        on : (r : Reading) → readFrom start 1 (lines file) ≡ r → (rs : List Row) × (readFrom start 1 (lines file) ≡ rows rs) × (f : Refusal) × FirstIdle rs f m
+        on (faulty g j) r =
+            let z = sym (at-a-line file fits (read-first start 1 (lines file) r)) ∙ e in
+            let same : g ≡ f = cc in
+            let low = first-number (read-first start 1 (lines file) r) .1 in
+            absurd (omega (arith, ap number same, high))
+        on (rows rs) r = read (read-cases file rs fits r)
+          where
+            read : ReadCases file rs → (qs : List Row) × (readFrom start 1 (lines file) ≡ rows qs) × (g : Refusal) × FirstIdle qs g m
+            read (ReadCases.inForm i) = let b = in-isos (refused-iff file rs i f k .0 e) .1 in absurd (omega (arith, high))
+            read (ReadCases.idleAt κ n i v) =
+                let z = sym v ∙ e in
+                let line : n ≡ k = cc in
+                let place = line ∙ ap (λ x. x .line) h in
+                (rs, r, idle κ, subst (FirstIdle rs (idle κ)) place (idle-some (passes-read file rs r) (idle κ) n .0 i))
 
 -- ---- numbered answers
 
-verdict-most : (file : List ℕ) (v : Verdict) → verdict file ≡ v → answerOf v .number ≤ 14
-verdict-most file (accepted rs) e = omega arith
-verdict-most file (refused f m) e = ⊎-elim (λ (o, p, q). let y = ap number p in omega arith) (λ (o, p, q). q) (verdict-high file e)
+verdict-most : (file : List ℕ) (v : Verdict) → verdict file ≡ v → UpTo 14 (answerOf v .number)
+verdict-most file (accepted rs) e = inl (omega arith)
+verdict-most file (refused f m) e = ⊎-elim (λ (o, p, q). let y = ap number p in inl (omega arith)) (λ (o, p, q). q) (verdict-high file e)
 
-unless-most : (file : List ℕ) (b : Bool) → answerOf (unless b (verdict file)) .number ≤ 14
-unless-most file true = omega arith
+unless-most : (file : List ℕ) (b : Bool) → UpTo 14 (answerOf (unless b (verdict file)) .number)
+unless-most file true = inl (omega arith)
 unless-most file false = verdict-most file (verdict file) refl
 
 says-most : {os : List Iso} {i budget : ℕ} {bs : List ℕ} {r : Ran} → RunIs os i budget bs r → answerOfRun r .number ≤ 17
@@ -336,27 +392,27 @@ says-most (strange o e h) = omega arith
 says-most (passed o v w k e x h s l) = omega arith
 says-most (done o v w k e x h s l) = omega arith
 
-run-most : (file : List ℕ) (i : ℕ) (back : Bool) (budget : ℕ) (value : List ℕ) (v : Verdict) → verdict file ≡ v → answerOfRun (runOf v i back budget value) .number ≤ 17
+run-most : (file : List ℕ) (i : ℕ) (back : Bool) (budget : ℕ) (value : List ℕ) (v : Verdict) → verdict file ≡ v → UpTo 17 (answerOfRun (runOf v i back budget value) .number)
 unfolding run
-run-most file i back budget value (refused f m) e = let h = verdict-most file (refused f m) e in omega arith
+run-most file i back budget value (refused f m) e = ⊎-elim (λ h. inl (omega arith)) inr (verdict-most file (refused f m) e)
 run-most file i back budget value (accepted rs) e =
-    says-most (run-iff file rs e i back budget value (runOf (accepted rs) i back budget value) .0 (ap (λ v. runOf v i back budget value) e))
+    inl (says-most (run-iff file rs e i back budget value (runOf (accepted rs) i back budget value) .0 (ap (λ v. runOf v i back budget value) e)))
 
 unless-run-most : (file : List ℕ) (i : ℕ) (back : Bool) (budget : ℕ) (value : List ℕ) (b : Bool)
-    → answerOfRun (runOf (unless b (verdict file)) i back budget value) .number ≤ 17
-unless-run-most file i back budget value true = omega arith
+    → UpTo 17 (answerOfRun (runOf (unless b (verdict file)) i back budget value) .number)
+unless-run-most file i back budget value true = inl (omega arith)
 unless-run-most file i back budget value false = run-most file i back budget value (verdict file) refl
 
-check-most : (file t w : List ℕ) → check file t w .answer .number ≤ 14
+check-most : (file t w : List ℕ) → UpTo 14 (check file t w .answer .number)
 unfolding check
 check-most file t w = unless-most file (short t w)
 
-turn-most : (file t w o : List ℕ) → turn file t w o .answer .number ≤ 14
+turn-most : (file t w o : List ℕ) → UpTo 14 (turn file t w o .answer .number)
 unfolding turn
 turn-most file t w o =
-    subst (λ a. a .number ≤ 14) (sym (turn-answer file t w o)) (unless-most file (short t w || ltb (length o) (length file)))
+    subst (λ (a : Answer). UpTo 14 (a .number)) (sym (turn-answer file t w o)) (unless-most file (short t w || ltb (length o) (length file)))
 
-service-most : (file t w : List ℕ) (i : ℕ) (back : Bool) (budget : ℕ) (value o : List ℕ) → runService file t w i back budget value o .number ≤ 17
+service-most : (file t w : List ℕ) (i : ℕ) (back : Bool) (budget : ℕ) (value o : List ℕ) → UpTo 17 (runService file t w i back budget value o .number)
 unfolding runService
 service-most file t w i back budget value o = unless-run-most file i back budget value (short t w || ltb (length o) 127)
 

@@ -24,7 +24,7 @@ use Rattle.model.proofs.Outcomes.{turn-answer}
 use Rattle.model.proofs.Runs.{run-iff}
 use Rattle.model.proofs.Sizes.{short-result}
 use Rattle.model.proofs.Sheets.{written-length}
-use Rattle.demands.specs.Demands.{OneOrTwo, Left, Written, CheckLeaves, TurnLeaves, RunLeaves}
+use Rattle.demands.specs.Demands.{OneOrTwo, OfFile, Left, Written, CheckLeaves, TurnLeaves, RunLeaves}
 
 -- ---- an area whose front is filled
 
@@ -68,7 +68,7 @@ rows-fit file rs f =
 
 -- a number that a call may answer where the verdict is v
 abbrev Tells : ℕ → Verdict → Type 0
-Tells n (accepted rs) = (n ≡ 0) ⊎ (15 ≤ n)
+Tells n (accepted rs) = (n ≡ 0) ⊎ ((15 ≤ n) × (n ≤ 17))
 Tells n (refused f m) = n ≡ number f
 
 one-or-two : (n : ℕ) → 0 < n → n ≤ 2 → OneOrTwo n
@@ -82,10 +82,19 @@ not-low : (n : ℕ) → 3 ≤ n → OneOrTwo n → ⊥
 not-low n h (inl x) = omega arith
 not-low n h (inr x) = omega arith
 
-not-low′ : (n : ℕ) → (n ≡ 0) ⊎ (15 ≤ n) → OneOrTwo n → ⊥
+not-low′ : (n : ℕ) → (n ≡ 0) ⊎ ((15 ≤ n) × (n ≤ 17)) → OneOrTwo n → ⊥
 not-low′ n (inl z) (inl x) = omega arith
 not-low′ n (inl z) (inr x) = omega arith
-not-low′ n (inr z) x = not-low n (omega arith) x
+not-low′ n (inr z) x = not-low n (omega (arith, z .0)) x
+
+not-file : (n : ℕ) → n ≤ 2 → OfFile n → ⊥
+not-file n h (inl x) = omega (arith, x .0)
+not-file n h (inr x) = omega arith
+
+not-of-file : (n : ℕ) → (n ≡ 0) ⊎ ((15 ≤ n) × (n ≤ 17)) → OfFile n → ⊥
+not-of-file n (inl z) x = not-file n (omega arith) x
+not-of-file n (inr z) (inl x) = omega (arith, z .0, x .1)
+not-of-file n (inr z) (inr x) = omega (arith, z .1)
 
 -- the verdict by which a call goes, where `narrow` says that some area is short
 module _ (file t w : List ℕ) (narrow : Bool) (room : narrow ≡ false → (tableLength ≤ length t) × (workLength ≤ length w)) where
@@ -105,7 +114,7 @@ module _ (file t w : List ℕ) (narrow : Bool) (room : narrow ≡ false → (tab
       go false e h = (refl, sym e)
 
   -- an accepted file's lines stand in the table, and neither 1 nor 2 nor a refusal of a file is answered
-  left-accepted : (n : ℕ) (rs : List Row) → accepted rs ≡ unless narrow (verdict file) → (OneOrTwo n → ⊥) → (3 ≤ n → n ≤ 14 → ⊥)
+  left-accepted : (n : ℕ) (rs : List Row) → accepted rs ≡ unless narrow (verdict file) → (OneOrTwo n → ⊥) → (OfFile n → ⊥)
       → Left n file t w (tableAfter (accepted rs) t) (workAfter (accepted rs) w)
   left-accepted n rs e low high =
       let (enough, v) = held e in
@@ -116,7 +125,7 @@ module _ (file t w : List ℕ) (narrow : Bool) (room : narrow ≡ false → (tab
             let same = accepted-inj (sym v ∙ accepted-iff file qs .1 (f, ok)) in
             subst (λ z. take 20480 (filled 20480 (tableOf rs) t) ≡ tableOf z ++ replicate (20480 - length (tableOf z)) 0) same
             (filled-front 20480 (tableOf rs) t fit);
-        zeros = λ a b. absurd (high a b);
+        zeros = λ a. absurd (high a);
         cleared = λ x. filled-front 65536 [] w (omega arith);
         unchanged = λ x. absurd (low x);
         beyond = (filled-behind 20480 (tableOf rs) t fit, filled-behind 65536 [] w (omega arith));
@@ -128,7 +137,7 @@ module _ (file t w : List ℕ) (narrow : Bool) (room : narrow ≡ false → (tab
   left-low n a b =
       record {
         rows = λ x rs f ok. absurd (x (one-or-two n a b));
-        zeros = λ c d. absurd (omega arith);
+        zeros = λ c. absurd (not-file n b c);
         cleared = λ x. absurd (x (one-or-two n a b));
         unchanged = λ x. (refl, refl);
         beyond = (refl, refl);
@@ -142,7 +151,7 @@ module _ (file t w : List ℕ) (narrow : Bool) (room : narrow ≡ false → (tab
       let (long, wide) = room enough in
       record {
         rows = λ x rs a ok. absurd (refused≢accepted (sym v ∙ accepted-iff file rs .1 (a, ok)));
-        zeros = λ c d. filled-front 20480 [] t (omega arith);
+        zeros = λ c. filled-front 20480 [] t (omega arith);
         cleared = λ x. filled-front 65536 [] w (omega arith);
         unchanged = λ x. absurd (not-low (number f) h x);
         beyond = (filled-behind 20480 [] t (omega arith), filled-behind 65536 [] w (omega arith));
@@ -150,8 +159,7 @@ module _ (file t w : List ℕ) (narrow : Bool) (room : narrow ≡ false → (tab
       }
 
   left : (n : ℕ) (v : Verdict) → v ≡ unless narrow (verdict file) → Tells n v → Left n file t w (tableAfter v t) (workAfter v w)
-  left n (accepted rs) e (inl z) = left-accepted n rs e (λ x. not-low′ n (inl z) x) (λ a b. omega arith)
-  left n (accepted rs) e (inr z) = left-accepted n rs e (λ x. not-low′ n (inr z) x) (λ a b. omega arith)
+  left n (accepted rs) e z = left-accepted n rs e (λ x. not-low′ n z x) (not-of-file n z)
   left n (refused f m) e z = subst (λ k. Left k file t w (tableAfter (refused f m) t) (workAfter (refused f m) w)) (sym z) (go (bool-cases (leb (number f) 2)))
     where
       go : (leb (number f) 2 ≡ true) ⊎ (leb (number f) 2 ≡ false) → Left (number f) file t w (tableAfter (refused f m) t) (workAfter (refused f m) w)
@@ -220,10 +228,10 @@ turn-leaves file t w o =
     (left file t w (narrow t w o (length file)) (wide-enough t w o (length file)) (answerOf v .number) v refl (answer-tells v), turn-written file t w o v refl)
 
 -- the number that Run answers for an accepted file
-pub says-tells : {os : List Iso} {i budget : ℕ} {bs : List ℕ} {r : Ran} → RunIs os i budget bs r → (answerOfRun r .number ≡ 0) ⊎ (15 ≤ answerOfRun r .number)
-says-tells (absent e) = inr (omega arith)
-says-tells (strange o e h) = inr (omega arith)
-says-tells (passed o v w k e x h s l) = inr (omega arith)
+pub says-tells : {os : List Iso} {i budget : ℕ} {bs : List ℕ} {r : Ran} → RunIs os i budget bs r → (answerOfRun r .number ≡ 0) ⊎ ((15 ≤ answerOfRun r .number) × (answerOfRun r .number ≤ 17))
+says-tells (absent e) = inr (omega arith, omega arith)
+says-tells (strange o e h) = inr (omega arith, omega arith)
+says-tells (passed o v w k e x h s l) = inr (omega arith, omega arith)
 says-tells (done o v w k e x h s l) = inl refl
 
 -- a run that is refused has no letters and the count 0

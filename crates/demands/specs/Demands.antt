@@ -30,13 +30,18 @@ use Rattle.calculus.specs.Next.{Next}
 abbrev pub OneOrTwo : ℕ → Type 0
 OneOrTwo n = (n ≡ 1) ⊎ (n ≡ 2)
 
+-- a refusal of the file, in areas that are long enough and for a file that is not too long: 3 to 14, and request 11's 21
+abbrev pub OfFile : ℕ → Type 0
+OfFile n = ((3 ≤ n) × (n ≤ 14)) ⊎ (n ≡ 21)
+
 -- What a call that answers n for a file leaves of a table t and a work area w: "After a call the table holds, if the file is accepted, four numbers a line …; zeros
 -- fill the rest of the first 16,384. On refusals 3 to 14 those are all zero. The first 65,536 bytes of the work area are zero. Refusals 1 and 2 change nothing. Bytes
 -- beyond these lengths … keep their contents." Request 10: "A table line becomes five numbers …, in an area of 20,480. … what 01 says of 16,384 holds for 20,480."
+-- Request 11: 21 "with the table all zero".
 pub record Left (n : ℕ) (file t w t′ w′ : List ℕ) : Type 0 where
   pub rows : (OneOrTwo n → ⊥) → (rs : List Row) → InForm file rs → FileOk (isosOf rs)
       → take 20480 t′ ≡ tableOf rs ++ replicate (20480 - length (tableOf rs)) 0
-  pub zeros : 3 ≤ n → n ≤ 14 → take 20480 t′ ≡ replicate 20480 0
+  pub zeros : OfFile n → take 20480 t′ ≡ replicate 20480 0
   pub cleared : (OneOrTwo n → ⊥) → take 65536 w′ ≡ replicate 65536 0
   pub unchanged : OneOrTwo n → (t′ ≡ t) × (w′ ≡ w)
   pub beyond : (drop 20480 t′ ≡ drop 20480 t) × (drop 65536 w′ ≡ drop 65536 w)
@@ -68,8 +73,8 @@ RunLeaves =
 -- ---- demand 2: "A file is accepted exactly when the typing rules of the paper, as document 01 amends them, accept it; a run is refused exactly where
 -- document 01 says, and otherwise gives the value and the application count of the paper's reduction."
 
--- "A file is accepted exactly when the typing rules of the paper, as document 01 amends them, accept it": its lines are in form, and the judgements
--- of the paper hold of the isos that they unfold to.
+-- "A file is accepted exactly when the typing rules of the paper, as document 01 amends them, accept it": its lines are in form, no T or P line among them idle (request
+-- 11), and the judgements of the paper hold of the isos that they unfold to.
 abbrev pub AcceptedExactly : Type 0
 AcceptedExactly = (file t w : List ℕ) → Areas t w → (check file t w .answer ≡ yes) ↔ ((rs : List Row) × InForm file rs × FileOk (isosOf rs))
 

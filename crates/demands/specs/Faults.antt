@@ -1,4 +1,4 @@
--- Refusals 1 to 7, exactly where document 01 has them: `Demands.RefusedExactly` has 8 to 14. And the order in which the lines of a file in form stand.
+-- Refusals 1 to 7, exactly where document 01 has them, and request 11's 21: `Demands.RefusedExactly` has 8 to 14. And the order in which the lines of a file in form stand.
 use Prim.Native.Nat.{ℕ, suc, _≤_, _<_}
 use mathlib.Core.Path.{_≡_}
 use mathlib.Core.Logic.{_↔_, _⊎_}
@@ -8,18 +8,22 @@ use mathlib.Core.List.{List, [], _∷_}
 use lib.ListN.{length}
 use Rattle.calculus.specs.Refusals.{typeLine, patternLine, isoLine, clauseLine, letLine, Refusal, number, badLine, misplaced, badField, badName, ceiling}
 use Rattle.format.specs.Lines.{Row, lines, rowOf}
-use Rattle.format.specs.Judge.{Seen, start, inOrder, fieldsFit, named, withinCeilings, after}
+use Rattle.format.specs.Judge.{Seen, start, inOrder, fieldsFit, named, withinCeilings, after, rows, readFrom}
+use Rattle.format.specs.Idle.{FirstIdle}
 use Rattle.model.specs.Services.{check, turn, runService}
 use Rattle.model.specs.Answers.{InForm}
 use Rattle.demands.specs.Words.{Areas}
 
--- "an answer or a numbered refusal": Check and Turn answer 0 or one of 1 to 14, Run one of 1 to 17
+-- "an answer or a numbered refusal": Check and Turn answer 0, one of 1 to 14 or 21, Run 0, one of 1 to 17 or 21
+abbrev pub UpTo : ℕ → ℕ → Type 0
+UpTo k n = (n ≤ k) ⊎ (n ≡ 21)
+
 abbrev pub NumberedAnswers : Type 0
 NumberedAnswers =
     (file t w : List ℕ)
-    → (check file t w .answer .number ≤ 14)
-    × ((output : List ℕ) → turn file t w output .answer .number ≤ 14)
-    × ((i : ℕ) (back : Bool) (budget : ℕ) (value result : List ℕ) → runService file t w i back budget value result .number ≤ 17)
+    → UpTo 14 (check file t w .answer .number)
+    × ((output : List ℕ) → UpTo 14 (turn file t w output .answer .number))
+    × ((i : ℕ) (back : Bool) (budget : ℕ) (value result : List ℕ) → UpTo 17 (runService file t w i back budget value result .number))
 
 -- 1, "a lent area is shorter than stated": for Check the table or the work area, for Turn also its output area, which "must be as long as the file", for Run its result area, which
 -- "must have 127 bytes"
@@ -69,6 +73,13 @@ abbrev pub LinesExactly : Type 0
 LinesExactly =
     (file t w : List ℕ) → Areas t w → length file ≤ 65536 → length (lines file) ≤ 4096 → (n m : ℕ) → 0 < n → n ≤ 7
     → (check file t w .answer ≡ record { number = n; line = m }) ↔ ((f : Refusal) × (number f ≡ n) × FirstLine start 1 (lines file) f m)
+
+-- 21, request 11: "A T or P line reached from no I, C or L line is now refused at the first such line", "after 7 for the whole file and before 8"
+abbrev pub IdleExactly : Type 0
+IdleExactly =
+    (file t w : List ℕ) → Areas t w → length file ≤ 65536 → length (lines file) ≤ 4096 → (m : ℕ)
+    → (check file t w .answer ≡ record { number = 21; line = m })
+    ↔ ((rs : List Row) × (readFrom start 1 (lines file) ≡ rows rs) × (f : Refusal) × FirstIdle rs f m)
 
 -- "All T lines come first, then all P lines, then the isos, each an I line, its C lines, and under each C line its L lines in order": T*, P*, (I (C L*)*)*. What may
 -- stand at a place is a line of its kind, or what may stand at the next one.

@@ -9,7 +9,7 @@ use lib.ListN.{replicate}
 use Rattle.limits.specs.Limits.{maxBytes, maxLines, maxTypes, maxPatterns, maxIsos, maxClauses, maxLets, maxNodes, maxTags, variables, fieldBound, budgetBound, rowWidth, tableLength, workLength, resultLength, queryLength, maxQueries, maxValues, maxPairs, exportLength, importLength}
 use Rattle.calculus.specs.Tools.{isSome}
 use Rattle.calculus.specs.Trees.{tunit, left, right, Pat, punit, pinj, vunit, vinj, vpair}
-use Rattle.calculus.specs.Refusals.{Kind, typeLine, patternLine, isoLine, clauseLine, letLine, number, shortArea, tooLong, badLine, misplaced, badField, badName, ceiling, variable, letShape, badType, overlap, gap, noIso, noValue, spent, tooMany, tooHigh, badList}
+use Rattle.calculus.specs.Refusals.{Kind, typeLine, patternLine, isoLine, clauseLine, letLine, number, shortArea, tooLong, badLine, misplaced, badField, badName, ceiling, variable, letShape, badType, overlap, gap, noIso, noValue, spent, tooMany, tooHigh, badList, idle}
 use Rattle.format.specs.Lines.{Row, rowOf}
 use Rattle.format.specs.Table.{numbers, tableOf}
 use Rattle.format.specs.Judge.{Seen, start, inOrder, fieldsFit, named, withinCeilings}
@@ -19,12 +19,12 @@ use Rattle.model.specs.Desk.{queryOf, desk}
 use Rattle.model.specs.Sheet.{sheetVerdict}
 use Rattle.model.specs.Cases.{bytes}
 
--- the column "number" of the table of refusals, and request 02's two
+-- the column "number" of the table of refusals, request 02's two, 07's and 11's
 numbered : (k : Kind)
     → map number
     (shortArea ∷ tooLong ∷ badLine ∷ misplaced k ∷ badField k ∷ badName k ∷ ceiling k ∷ variable k ∷ letShape k ∷ badType k ∷ overlap k left ∷ overlap k right
-    ∷ gap k left ∷ gap k right ∷ noIso ∷ noValue ∷ spent ∷ tooMany ∷ tooHigh ∷ badList ∷ [])
-    ≡ 1 ∷ 2 ∷ 3 ∷ 4 ∷ 5 ∷ 6 ∷ 7 ∷ 8 ∷ 9 ∷ 10 ∷ 11 ∷ 12 ∷ 13 ∷ 14 ∷ 15 ∷ 16 ∷ 17 ∷ 18 ∷ 19 ∷ 20 ∷ []
+    ∷ gap k left ∷ gap k right ∷ noIso ∷ noValue ∷ spent ∷ tooMany ∷ tooHigh ∷ badList ∷ idle k ∷ [])
+    ≡ 1 ∷ 2 ∷ 3 ∷ 4 ∷ 5 ∷ 6 ∷ 7 ∷ 8 ∷ 9 ∷ 10 ∷ 11 ∷ 12 ∷ 13 ∷ 14 ∷ 15 ∷ 16 ∷ 17 ∷ 18 ∷ 19 ∷ 20 ∷ 21 ∷ []
 numbered k = refl
 
 -- "Ceilings: 65,536 bytes; 4,096 lines; 256 T; 1,024 P; 32 I; 32 C in an iso; 8 L in a clause; 127 nodes in an unfolded T or P; 40 left and right nodes in an unfolded P."
@@ -128,13 +128,23 @@ first-too-many : withinCeilings (above 256 0 0 0 0) typeLine (row typeLine 0 0 0
 first-too-many = refl
 
 -- "One unit and products of each line with itself: the seventh T has 127 nodes and passes, the eighth has 255: `7,8`"
-doubled : desk (bytes "T,0,0,0\nT,2,0,0\nT,2,1,1\nT,2,2,2\nT,2,3,3\nT,2,4,4\nT,2,5,5\n") ≡ bytes "0,0\n"
+-- (with an iso that uses it: request 11)
+doubled : desk (bytes "T,0,0,0\nT,2,0,0\nT,2,1,1\nT,2,2,2\nT,2,3,3\nT,2,4,4\nT,2,5,5\nP,1,0,0\nI,6,6\nC,0,0\n") ≡ bytes "0,0\n"
 unfolding desk
 doubled = refl
 
 doubled-again : desk (bytes "T,0,0,0\nT,2,0,0\nT,2,1,1\nT,2,2,2\nT,2,3,3\nT,2,4,4\nT,2,5,5\nT,2,6,6\n") ≡ bytes "7,8\n"
 unfolding desk
 doubled-again = refl
+
+-- request 11: a line that no I, C or L line reaches, a line that only such a line names, and the first of several; 3 to 7 of a later line come first, and the empty
+-- file has none
+idle-lines : map desk
+    (bytes "T,0,0,0\n" ∷ bytes "T,0,0,0\nT,1,0,0\nT,2,0,0\nP,0,0,0\nI,0,0\nC,0,0\n" ∷ bytes "T,0,0,0\nP,1,0,0\nP,2,0,0\nP,3,1,0\nI,0,0\nC,0,0\n"
+    ∷ bytes "T,0,0,0\nI,1,1\n" ∷ bytes "T,0,0,0\nP,0,0,0\nP,1,0,0\nI,0,0\nC,1,0\n" ∷ bytes "T,0,0,0\nP,0,0,0\nP,1,0,0\nI,0,0\nC,1,1\n" ∷ [] ∷ [])
+    ≡ bytes "21,1\n" ∷ bytes "21,2\n" ∷ bytes "21,3\n" ∷ bytes "6,2\n" ∷ bytes "8,5\n" ∷ bytes "21,2\n" ∷ bytes "0,0\n" ∷ []
+unfolding desk
+idle-lines = refl
 
 -- n left nodes
 abbrev lefts : ℕ → Pat

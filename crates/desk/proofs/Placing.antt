@@ -3,20 +3,21 @@ use Prim.Native.Nat.{ℕ, zero, suc, _+_, _/_, _%_, _≤_, _<_}
 use native.Mathlib.Omega.{arith}
 use mathlib.Core.Path.{_≡_, refl, ap}
 use mathlib.Core.Logic.{_⊎_, inl, inr}
-use mathlib.Core.Bool.{true, false}
+use mathlib.Core.Bool.{Bool, true, false, cond, _||_}
 use mathlib.Core.Option.{Option, none, some}
 use mathlib.Core.List.{List, [], _∷_, _++_, List·Memᴰ, List·Memᴰ·head, List·Memᴰ·tail}
 use lib.Dec.{ltb}
 use lib.ListN.{length, length-append}
 use Rattle.limits.specs.Limits.{maxBytes, maxLines, digitZero, comma, lineFeed}
-use Rattle.calculus.specs.Tools.{orElse, firstOf}
+use Rattle.calculus.specs.Tools.{orElse, firstOf, stages}
 use Rattle.calculus.specs.Trees.{Ty, Pat, Clause, Iso}
-use Rattle.calculus.specs.Refusals.{Kind, typeLine, patternLine, isoLine, clauseLine, letLine, Refusal}
+use Rattle.calculus.specs.Refusals.{Kind, typeLine, patternLine, isoLine, clauseLine, letLine, Refusal, idle}
 use Rattle.format.specs.Lines.{Row, lines, rowOf, decimalOf, decimal}
 use Rattle.format.specs.Judge.{Seen, start, judge, after, afterAll, Reading, rows, faulty, withRow, onRow, onJudged, readFrom}
 use Rattle.format.specs.Unfold.{Tail, place, tailFrom, isosOf}
+use Rattle.format.specs.Idle.{typeLines, reach, isRoot, member, Reach, reachFrom, idleFault}
 use Rattle.calculus.specs.Clauses.{Sigs, at, clauseFault, sideFault, isoFault, sigsOf, fault}
-use Rattle.model.specs.Services.{Verdict, accepted, refused, judged, afterReading, over, verdict, Answer, answerOf, RunAnswer}
+use Rattle.model.specs.Services.{Verdict, accepted, refused, judged, fileTests, afterReading, over, verdict, Answer, answerOf, RunAnswer}
 use Rattle.model.specs.Desk.{queryLine, fileLine}
 use Rattle.calculus.proofs.Basic.{bool-cases, each-nil, each-cons, ltb-false, true-or-right, not-both}
 use Rattle.desk.specs.DeskSays.{answerRoom}
@@ -116,6 +117,23 @@ fault-bounded b rs h =
     first-bounded b (isoFault (sigsOf (isosOf rs))) (isosOf rs)
     (λ o m. iso-bounded b (sigsOf (isosOf rs)) o (tail-below (afterAll start rs .types) (afterAll start rs .patterns) b 1 rs h .isos o m))
 
+-- an idle line is one of the file's
+idle-bounded : (b ts n : ℕ) (rs : List Row) → suc n + length rs ≤ b → Bounded b (reachFrom ts n rs .found)
+idle-bounded b ts n [] h = tt
+idle-bounded b ts n (r ∷ rs) h =
+    go (isRoot (r .kind) || member n (reachFrom ts (suc n) rs .named)) (idle-bounded b ts (suc n) rs (omega (arith, h)))
+  where
+    go : (c : Bool) → Bounded b (reachFrom ts (suc n) rs .found)
+        → Bounded b (cond {A = Reach} c (record { named = reach ts (r .kind) r ++ reachFrom ts (suc n) rs .named; found = reachFrom ts (suc n) rs .found })
+        (record { named = reachFrom ts (suc n) rs .named; found = some (idle (r .kind), suc n) }) .found)
+    go true k = k
+    go false k = omega (arith, h)
+
+stages-bounded : (b : ℕ) (rs : List Row) → 1 + length rs ≤ b → Bounded b (stages fileTests rs)
+unfolding idleFault
+stages-bounded b rs h =
+    or-bounded b (idleFault rs) (fault (isosOf rs)) (idle-bounded b (typeLines rs) 0 rs (omega (arith, h))) (fault-bounded b rs h)
+
 -- ---- the verdict
 
 -- a refusal of a line before line b, or acceptance
@@ -130,7 +148,7 @@ judged-below b rs (some p) h = h
 
 -- by the lines
 reading-below : (b k : ℕ) (x : Reading) → Placed 1 k x → 1 + k ≤ b → VerdictBelow b (afterReading x)
-reading-below b k (rows rs) h j = judged-below b rs (fault (isosOf rs)) (fault-bounded b rs (omega (arith, h, j)))
+reading-below b k (rows rs) h j = judged-below b rs (stages fileTests rs) (stages-bounded b rs (omega (arith, h, j)))
 reading-below b k (faulty f n) h j = omega (arith, h, j)
 
 -- a file that is not over the ceilings has at most 4,096 lines

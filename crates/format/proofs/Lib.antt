@@ -4,6 +4,7 @@ pub mod Numerals
 pub mod Naming
 pub mod Passing
 pub mod Turning
+pub mod Idling
 pub mod Endings
 pub mod Printing
 pub mod Tables

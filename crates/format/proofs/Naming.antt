@@ -28,7 +28,7 @@ pattern-listed (suc (suc (suc (suc (suc k))))) a b e = absurd (false≢true e)
 
 -- ---- names
 
-both-named : (n a b : ℕ) → (ltb a n && ltb b n) ≡ true → (a < n) × (b < n)
+pub both-named : (n a b : ℕ) → (ltb a n && ltb b n) ≡ true → (a < n) × (b < n)
 both-named n a b e = let h = and-true (ltb a n) (ltb b n) e in (ltb-lt a n (h .0), ltb-lt b n (h .1))
 
 one-mono : {m n : ℕ} (a : ℕ) → m ≤ n → ltb a m ≡ true → ltb a n ≡ true

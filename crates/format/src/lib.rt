@@ -51,6 +51,7 @@ pub enum Refusal {
     TooMany,
     TooHigh,
     BadList,
+    Idle(Kind),
 }
 
 // A refusal and its line, counted over the file from 1; 0 where no line is named.
@@ -111,5 +112,6 @@ pub fn number_of(r: Refusal) -> u8
         Refusal::TooMany => 18,
         Refusal::TooHigh => 19,
         Refusal::BadList => 20,
+        Refusal::Idle(_) => 21,
     }
 }

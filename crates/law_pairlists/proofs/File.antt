@@ -16,12 +16,14 @@ use Rattle.calculus.specs.Refusals.{typeLine, patternLine, isoLine, clauseLine}
 use Rattle.format.specs.Lines.{Row, fieldCount}
 use Rattle.format.specs.Judge.{Seen, start, stage, typeFields, typeNames, typeNode, typeTree, patternFields, patternNames, patternTree, withinCeilings, judge, afterKind, after, afterAll}
 use Rattle.format.specs.Kinds.{typeKind, patternKind}
+use Rattle.format.specs.Idle.{typeLines, NoneIdle}
 use Rattle.format.specs.Unfold.{Tail, place, tailFrom, isosOf}
 use Rattle.law_pairlists.specs.PairLists.{Entry, entry, typeRow, patternRow, clauseRow, isoRow, writeType, writeValue, Written, writePairs, fileRows, withinAll}
 use Rattle.calculus.proofs.Basic.{and-true, true-and, ltb-lt, lt-ltb, le-leb, index-below, mem-index, eqb-eq, each-nil, each-cons, each-append, index-default}
 use Rattle.format.proofs.Naming.{type-by-names, type-names-mono, pattern-by-names, pattern-names-mono}
 use Rattle.format.proofs.Passing.{Passes, done, next, Fit, judge-fit, fit-judge, after-append, passes-append}
 use Rattle.format.proofs.Printing.{WellFormed}
+use Rattle.law_pairlists.proofs.Used.{none-idle}
 use Rattle.law_pairlists.proofs.Rows.{Stored, nothing, more, Entered, entered, still, after-others, same-length, ok-at, length-snoc, index-front, enter-length, enter-grows}
 
 -- ---- T rows
@@ -450,10 +452,11 @@ pub record FileWritten (a b : Ty) (cs : List (Val × Val)) (rs : List Row) : Typ
   pub isos : isosOf rs ≡ closedIso line a b cs ∷ []
   pub formed : (r : Row) → List·Memᴰ r rs → WellFormed r
   pub few : length rs ≤ 1311
+  pub used : NoneIdle rs
 
 pub file-written : (a b : Ty) (cs : List (Val × Val)) → typeNodes a ≤ maxNodes → typeNodes b ≤ maxNodes → ((c : Val × Val) → List·Memᴰ c cs → SmallPair c)
     → length cs ≤ maxClauses → length (writePairs cs [] .patterns) ≤ maxPatterns → FileWritten a b cs (fileRows a b cs)
-unfolding fileRows isosOf
+unfolding fileRows isosOf typeLines
 file-written a b cs ha hb hc lc lp =
     record {
       passes = passes-append (tp .0) (passes-append (pp .0) (next (iso-judged s₂ (g .trees) (o .trees) (f .number) (e .number) (pp .1) fa (g .here)) cp));
@@ -470,6 +473,7 @@ file-written a b cs ha hb hc lc lp =
           let q = length-append (w .patterns) (isoRow (f .number) (e .number) ∷ w .clauses) in
           let r = clauses-length (o .rows) in
           omega (arith, troom);
+      used = none-idle a b cs (ap length ts ∙ sym (same-length typeTree TypeOk SmallType type-keep type-mono (g .stored)));
     }
   where
     f : Entry

@@ -173,7 +173,7 @@ written-accepted a b ts ha hb l t w =
       rows = rs;
       accepts =
           accepted-iff (printRows rs) rs .1 (
-            record { fits = not-over rs (h .few) (h .formed); reads = printed-reading (h .passes) (h .formed) },
+            record { fits = not-over rs (h .few) (h .formed); reads = printed-reading (h .passes) (h .formed); used = h .used },
             subst FileOk (sym (h .isos)) (closed-ok (h .line) a b cs (lefts-all t) (rights-all t)),
           );
       line = h .line;

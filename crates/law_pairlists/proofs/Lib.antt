@@ -1,5 +1,7 @@
 -- rows written each once
 pub mod Rows
+-- request 11: no line of a written file is idle
+pub mod Used
 -- the rows of a written file
 pub mod File
 -- its iso

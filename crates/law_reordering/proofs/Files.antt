@@ -7,14 +7,20 @@ use mathlib.Core.List.{List, [], _∷_, _++_, map}
 use lib.Dec.{ltb}
 use lib.ListN.{length, length-append}
 use Rattle.limits.specs.Limits.{maxBytes, maxLines}
-use Rattle.calculus.specs.Tools.{concat}
+use mathlib.Core.Bool.{false}
+use mathlib.Core.Option.{some}
+use Rattle.calculus.specs.Tools.{concat, orElse}
+use Rattle.calculus.specs.Refusals.{Refusal}
+use Rattle.calculus.specs.Clauses.{fault}
+use Rattle.format.specs.Idle.{idleFault}
 use Rattle.format.specs.Lines.{Row, lines, print}
-use Rattle.format.specs.Judge.{start}
+use Rattle.format.specs.Judge.{start, rows, readFrom}
 use Rattle.format.specs.Unfold.{isosOf, turnRows}
-use Rattle.model.specs.Services.{accepted, judged, verdict, over, turned}
+use Rattle.model.specs.Services.{accepted, refused, judged, verdict, over, turned}
 use Rattle.format.proofs.Passing.{Passes}
+use Rattle.format.proofs.Idling.{idle-none}
 use Rattle.format.proofs.Printing.{lines-print, concat-lines}
-use Rattle.model.proofs.Files.{InForm, passes, accepted-form, verdict-in-form, turned-accepted-bytes}
+use Rattle.model.proofs.Files.{InForm, passes, accepted-form, verdict-in-form, verdict-read, turned-accepted-bytes}
 use Rattle.law_ranking.specs.Numbering.{typesOf}
 use Rattle.law_reordering.specs.Reordered.{Exchanged, Reordered, SameButOrder, Alike}
 use Rattle.law_reordering.proofs.Alike.{fault-alike}
@@ -104,8 +110,23 @@ in-form file other r rs h =
     let (q, p) = read-pass start 1 (lines file) rs (h .reads) in
     let o = other-rows r rs q p in (
       o .others,
-      record { fits = sym (same-over file other r) ∙ h .fits; reads = pass-read 1 (o .each) (o .passes) },
+      record {
+        fits = sym (same-over file other r) ∙ h .fits;
+        reads = pass-read 1 (o .each) (o .passes);
+        used = idle-none (o .passes) .0 (sym (o .idle) ∙ idle-none p .1 (h .used));
+      },
       record { passes = p; passes′ = o .passes; types = o .types; alike = o .alike; turned = o .turned },
+    )
+
+-- Request 11: where lines that pass 3 to 7 have an idle line, the other file is refused at the same line.
+pub idle-too : (file other : List ℕ) → SameButOrder file other → over file ≡ false → (rs : List Row) → readFrom start 1 (lines file) ≡ rows rs
+    → (f : Refusal) (n : ℕ) → idleFault rs ≡ some (f, n) → (verdict file ≡ refused f n) × (verdict other ≡ refused f n)
+idle-too file other r h rs e f n i =
+    let (q, p) = read-pass start 1 (lines file) rs e in
+    let o = other-rows r rs q p in (
+      verdict-read file rs h e ∙ ap (λ x. judged rs (orElse x (fault (isosOf rs)))) i,
+      verdict-read other (o .others) (sym (same-over file other r) ∙ h) (pass-read 1 (o .each) (o .passes))
+          ∙ ap (λ x. judged (o .others) (orElse x (fault (isosOf (o .others))))) (sym (o .idle) ∙ i),
     )
 
 -- both are accepted, or neither

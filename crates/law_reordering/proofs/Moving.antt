@@ -12,8 +12,12 @@ use Rattle.format.specs.Lines.{Row}
 use Rattle.format.specs.Judge.{Seen, start, stage, judge, typeTree, patternTree, afterKind, after, afterAll}
 use Rattle.format.specs.Unfold.{Tail, place, tailFrom, isosOf, exchange, turnRow, turnFrom, turnRows}
 use Rattle.law_ranking.specs.Numbering.{typesOf}
+use mathlib.Core.Bool.{true}
+use Rattle.calculus.specs.Tools.{all}
+use Rattle.format.specs.Idle.{typeLines, isRoot, reachFrom, idleFault}
+use Rattle.format.proofs.Idling.{isRootRow, like-front, like-exchange}
 use Rattle.law_reordering.specs.Reordered.{Permuted, keep, swap, bare, Alike, more}
-use Rattle.calculus.proofs.Basic.{leb-le, le-leb, lt-ltb}
+use Rattle.calculus.proofs.Basic.{leb-le, le-leb, lt-ltb, true-and}
 use Rattle.format.proofs.Passing.{Passes, done, next, Fit, judge-fit, fit-judge, clause-fit, after-append, passes-append}
 use Rattle.format.proofs.Turning.{AllLets, held-lets, judge-let, let-judge, passes-next, after-let}
 use Rattle.law_reordering.proofs.Alike.{perm-refl, alike-refl}
@@ -310,6 +314,27 @@ moved-alike {rs} {qs} v p =
     let b : Alike (isosOf (v .before ++ xs)) (isosOf (v .before ++ ys)) =
     subst (Alike (isosOf (v .before ++ xs))) (ap₂ (λ us qs. tailFrom us qs 1 (v .before ++ ys) .isos) e f) (a .isos) in
     subst (λ z. Alike (isosOf z) (isosOf qs)) (sym (v .here)) (subst (λ z. Alike (isosOf (v .before ++ xs)) (isosOf z)) (sym (v .there)) b)
+
+-- ---- idle lines
+
+lets-roots : (ls : List Row) → AllLets ls → all isRootRow ls ≡ true
+lets-roots [] u = refl
+lets-roots (l ∷ ls) u = true-and (ap isRoot (u .0)) (lets-roots ls (u .1))
+
+-- request 11: exchanging clauses moves no idle line, and makes none
+pub moved-idle : {rs qs : List Row} → Moved rs qs → Passes start rs → idleFault rs ≡ idleFault qs
+unfolding idleFault typeLines typesOf
+moved-idle {rs} {qs} v p =
+    let one : List Row = v .c ∷ v .ls in
+    let two : List Row = v .d ∷ v .ms in
+    let ts : ℕ = typeLines rs in
+    let l = like-front ts 0 (v .before) (one ++ (two ++ v .behind)) (two ++ (one ++ v .behind))
+    (like-exchange ts (0 + length (v .before)) one two (v .behind) (true-and (ap isRoot (v .cKind)) (lets-roots (v .ls) (v .lsLets)))
+    (true-and (ap isRoot (v .dKind)) (lets-roots (v .ms) (v .msLets)))) in
+    ap (λ z. reachFrom ts 0 z .found) (v .here)
+    ∙ l .found
+    ∙ ap (λ z. reachFrom ts 0 z .found) (sym (v .there))
+    ∙ ap (λ z. reachFrom (length z) 0 qs .found) (moved-types v p)
 
 -- ---- turned
 

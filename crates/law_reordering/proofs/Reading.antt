@@ -16,9 +16,10 @@ use Rattle.format.proofs.Passing.{Passes, done, next}
 use Rattle.format.proofs.Printing.{AllWellFormed, body, print-shape, print-read, read-line, row-iff, read-rows, read-each}
 use Rattle.format.proofs.Turning.{AllLets}
 use Rattle.law_ranking.specs.Numbering.{typesOf}
+use Rattle.format.specs.Idle.{idleFault}
 use Rattle.law_reordering.specs.Reordered.{beginsWith, isClause, isLet, isBlock, isWhole, Exchanged, Reordered, Alike}
 use Rattle.law_reordering.proofs.Alike.{alike-refl, alike-then}
-use Rattle.law_reordering.proofs.Moving.{Whole, Moved, moved-passes, moved-types, moved-alike, moved-turn}
+use Rattle.law_reordering.proofs.Moving.{Whole, Moved, moved-passes, moved-types, moved-idle, moved-alike, moved-turn}
 
 -- ---- the rows of lines, one by one
 
@@ -197,12 +198,13 @@ pub record Other (rs : List Row) (ys : List (List ℕ)) : Type 0 where
   pub each : Rows ys others
   pub passes : Passes start others
   pub types : typesOf rs ≡ typesOf others
+  pub idle : idleFault rs ≡ idleFault others
   pub alike : Alike (isosOf rs) (isosOf others)
   pub turned : Reordered (map print (turnRows rs)) (map print (turnRows others))
 
 pub other-rows : {xs ys : List (List ℕ)} → Reordered xs ys → (rs : List Row) → Rows xs rs → Passes start rs → Other rs ys
 other-rows (Reordered.same e) rs q p =
-    record { others = rs; each = subst (λ z. Rows z rs) e q; passes = p; types = refl; alike = alike-refl (isosOf rs); turned = Reordered.same refl }
+    record { others = rs; each = subst (λ z. Rows z rs) e q; passes = p; types = refl; idle = refl; alike = alike-refl (isosOf rs); turned = Reordered.same refl }
 other-rows (Reordered.exchange x r) rs q p =
     let o = rows-of rs q x in
     let rest = other-rows r (o .others) (o .each) (moved-passes (o .moved) p) in
@@ -211,6 +213,7 @@ other-rows (Reordered.exchange x r) rs q p =
       each = rest .each;
       passes = rest .passes;
       types = moved-types (o .moved) p ∙ rest .types;
+      idle = moved-idle (o .moved) p ∙ rest .idle;
       alike = alike-then (moved-alike (o .moved) p) (rest .alike);
       turned = Reordered.exchange (lines-of (moved-turn (o .moved))) (rest .turned);
     }

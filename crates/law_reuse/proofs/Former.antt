@@ -15,12 +15,14 @@ use Rattle.calculus.specs.Clauses as today
 use Rattle.format.specs.Lines.{Row, lines}
 use Rattle.format.specs.Judge.{Reading, rows, faulty, start, readFrom}
 use Rattle.format.specs.Unfold.{isosOf}
+use Rattle.format.specs.Idle.{idleFault}
 use Rattle.model.specs.Services.{accepted, refused, judged, over, verdict, checkBy, check, turnBy, turn, runBy, runService}
 use Rattle.model.specs.Desk.{deskBy, filePart, desk}
 use Rattle.model.specs.Sheet.{sheetBy, sheet}
 use Rattle.calculus.proofs.Basic.{bind-some, none≢some, some-inj, bool-cases, not-true, or-true, eqb-eq, eq-eqb, eqb-false, sameType-eq, none-failing, failing-none, orElse-none, all-mem, mem-all, firstOf-none, none-firstOf, mem-index}
 use Rattle.calculus.proofs.Formed.{Formed, FormedClause}
-use Rattle.model.proofs.Files.{refused≢accepted, judged-accepted, InForm, formed-of, verdict-in-form}
+use Rattle.model.proofs.Files.{refused≢accepted, judged-accepted, InForm, formed-of, verdict-in-form, passes-read}
+use Rattle.format.proofs.Idling.{idle-none}
 use Rattle.calculus.proofs.Variables.{variables-iff}
 use Rattle.calculus.proofs.Typing.{typed-iff}
 use Rattle.law_reuse.specs.Bindings.{Under, Along, Assigned}
@@ -172,8 +174,11 @@ former-form bs rs = go (over bs) refl (readFrom start 1 (lines bs)) refl
     go true o r e h = absurd (refused≢accepted h)
     go false o (faulty f n) e h = absurd (refused≢accepted h)
     go false o (rows qs) e h =
-        let x = judged-accepted qs rs (fault (isosOf qs)) h in
-        (record { fits = o; reads = e ∙ ap rows (x .0) }, subst (λ q. fault (isosOf q) ≡ none) (x .0) (x .1))
+        let x = judged-accepted qs rs (orElse (idleFault qs) (fault (isosOf qs))) h in
+        let y = orElse-none (idleFault qs) (fault (isosOf qs)) (x .1) in
+        let reads : readFrom start 1 (lines bs) ≡ rows rs = e ∙ ap rows (x .0) in
+        let used = idle-none (passes-read bs rs reads) .0 (subst (λ q. idleFault q ≡ none) (x .0) (y .0)) in
+        (record { fits = o; reads = reads; used = used }, subst (λ q. fault (isosOf q) ≡ none) (x .0) (y .1))
 
 -- ---- the services
 

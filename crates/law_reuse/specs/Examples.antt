@@ -37,11 +37,11 @@ unfolding desk former
 keeps-answer = (refl, refl)
 
 -- Near misses, each with the one fault named, all 8 at line 13. Patterns: 0 is x, 1 is y, 2 is z, 3 is ⟨x, y⟩, 4 is ⟨x, x⟩, 5 is (), 6 is ⟨y, z⟩. Iso 0
--- is the identity on the unit.
+-- is the identity on the unit, and the last iso names what the others do not, so that no line is idle.
 abbrev nearMiss : String → Case
 nearMiss iso =
     prints
-    (bytes "T,0,0,0\nT,2,0,0\nP,1,0,0\nP,1,1,0\nP,1,2,0\nP,4,0,1\nP,4,0,0\nP,0,0,0\nP,4,1,2\nI,0,0\nC,0,0\n" ++ bytes iso)
+    (bytes "T,0,0,0\nT,2,0,0\nP,1,0,0\nP,1,1,0\nP,1,2,0\nP,4,0,1\nP,4,0,0\nP,0,0,0\nP,4,1,2\nI,0,0\nC,0,0\n" ++ (bytes iso ++ bytes "I,1,1\nC,2,3\nC,4,5\nC,6,6\n"))
     (bytes "8,13\n")
 
 -- bound while live, by the left pattern and a p, by two ps, by one p, by the left pattern alone

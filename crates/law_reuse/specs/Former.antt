@@ -13,6 +13,7 @@ use Rattle.calculus.specs.Clauses.{Deed, binds, uses, events, history, letShape
 use Rattle.format.specs.Lines.{lines}
 use Rattle.format.specs.Judge.{Reading, rows, faulty, start, judge, readFrom}
 use Rattle.format.specs.Unfold.{isosOf}
+use Rattle.format.specs.Idle.{idleFault}
 use Rattle.model.specs.Services.{Verdict, refused, judged, over}
 
 -- 8. "each number is bound once and, after that, used once"
@@ -84,10 +85,11 @@ unfoldable pub fault : List Iso → Option (Refusal × ℕ)
 unfolding isoFault
 fault os = firstOf (isoFault (sigsOf os)) os
 
+-- all else is as it is today, idle lines included
 abbrev pub afterReading : Reading → Verdict
 afterReading (faulty f n) = refused f n
-afterReading (rows rs) = judged rs (fault (isosOf rs))
+afterReading (rows rs) = judged rs (orElse (idleFault rs) (fault (isosOf rs)))
 
 unfoldable pub former : List ℕ → Verdict
-unfolding over start judge isosOf fault
+unfolding over start judge idleFault isosOf fault
 former bs = cond (over bs) (refused tooLong 0) (afterReading (readFrom start 1 (lines bs)))

@@ -8,15 +8,15 @@ use lib.Dec.{leb, ltb}
 use lib.ListN.{length}
 use Rattle.limits.specs.Limits.{resultLength}
 use Rattle.calculus.specs.Tools.{firstFailing}
-use Rattle.calculus.specs.Refusals.{Refusal, number, shortArea, tooLong, misplaced, badField, badName, ceiling}
+use Rattle.calculus.specs.Refusals.{Refusal, number, shortArea, tooLong, misplaced, badField, badName, ceiling, idle}
 use Rattle.format.specs.Lines.{Row, rowOf, lines}
 use Rattle.format.specs.Judge.{Seen, start, inOrder, fieldsFit, named, withinCeilings, judge, after, Reading, rows, faulty, withRow, onRow, onJudged, readFrom}
 use Rattle.format.specs.Unfold.{isosOf}
-use Rattle.calculus.specs.Clauses.{fault}
+use Rattle.calculus.specs.Clauses.{fault, sigsOf}
 use Rattle.model.specs.Services.{refused, judged, afterReading, over, verdict, Answer, answerOf, refusalBy, tableAfter, workAfter, short, unless, written, check}
 use Rattle.calculus.proofs.Basic.{none≢some, some-inj, not-both}
-use Rattle.model.proofs.Files.{InForm, verdict-in-form}
-use Rattle.law_witnesses.specs.Showing.{Shows, sided, Shown, showing, shownOf, showService}
+use Rattle.model.proofs.Files.{InForm, verdict-in-form, ReadCases, read-cases}
+use Rattle.law_witnesses.specs.Showing.{Shows, sided, Shown, showing, shownFirst, lettersOf?, shownUnless, shownOf, showService}
 use Rattle.law_witnesses.specs.Served.{sideAnswer, Given}
 use Rattle.law_witnesses.proofs.Showing.{shows, silent}
 
@@ -109,7 +109,14 @@ cases file = go (over file) (readFrom start 1 (lines file)) refl refl (lines-uns
     go true x e d u =
         other tooLong 0 (ap (λ b. cond b (refused tooLong 0) (afterReading (readFrom start 1 (lines file)))) e) refl
         (ap (λ b. cond b [] (shownOf (readFrom start 1 (lines file)))) e)
-    go false (rows rs) e d u = inForm rs (record { fits = e; reads = d })
+    go false (rows rs) e d u = read (read-cases file rs e d)
+      where
+        read : ReadCases file rs → Cases file
+        read (ReadCases.inForm h) = inForm rs h
+        read (ReadCases.idleAt k n h v) =
+            other (idle k) n v refl
+            (ap (λ b. cond b [] (shownOf (readFrom start 1 (lines file)))) e ∙ ap shownOf d
+            ∙ ap (λ x. shownUnless x (lettersOf? (shownFirst (sigsOf (isosOf rs)) (isosOf rs)))) h)
     go false (faulty f n) e d u =
         other f n (ap (λ b. cond b (refused tooLong 0) (afterReading (readFrom start 1 (lines file)))) e ∙ ap afterReading d) u
         (ap (λ b. cond b [] (shownOf (readFrom start 1 (lines file)))) e ∙ ap shownOf d)

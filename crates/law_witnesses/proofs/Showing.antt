@@ -12,9 +12,10 @@ use Rattle.format.specs.Lines.{Row, lines}
 use Rattle.format.specs.Judge.{start, readFrom}
 use Rattle.format.specs.Unfold.{isosOf}
 use Rattle.calculus.specs.Clauses.{Sigs, sigsOf, isoFault, fault}
-use Rattle.law_witnesses.specs.Showing.{Shows, sided, shownBy, shown, shownOr, shownFirst, lettersOf?, shownOf, showing}
+use Rattle.law_witnesses.specs.Showing.{Shows, sided, shownBy, shown, shownOr, shownFirst, lettersOf?, shownUnless, shownOf, showing}
 use Rattle.calculus.proofs.Basic.{none≢some, some-inj, not-both, not-eqb}
 use Rattle.calculus.proofs.Checking.{light-of}
+use Rattle.format.proofs.Idling.{idle-none}
 use Rattle.model.proofs.Sizes.{small-types}
 use Rattle.model.proofs.Files.{InForm, passes, formed-of}
 use Rattle.law_witnesses.proofs.Sides.{Found, Known, iso-found}
@@ -75,7 +76,10 @@ module _ (sigs : Sigs) where
 
 pub showing-rows : (bs : List ℕ) (rs : List Row) → InForm bs rs → showing bs ≡ lettersOf? (shownFirst (sigsOf (isosOf rs)) (isosOf rs))
 unfolding showing
-showing-rows bs rs h = ap (λ b. cond b [] (shownOf (readFrom start 1 (lines bs)))) (h .fits) ∙ ap shownOf (h .reads)
+showing-rows bs rs h =
+    ap (λ b. cond b [] (shownOf (readFrom start 1 (lines bs)))) (h .fits)
+    ∙ ap shownOf (h .reads)
+    ∙ ap (λ x. shownUnless x (lettersOf? (shownFirst (sigsOf (isosOf rs)) (isosOf rs)))) (idle-none (passes bs rs h) .1 (h .used))
 
 -- what reading tells of the isos
 pub known-isos : (bs : List ℕ) (rs : List Row) → InForm bs rs → (o : Iso) → List·Memᴰ o (isosOf rs) → Known o

@@ -6,12 +6,16 @@ use Rattle.model.specs.Cases.{bytes, fileS}
 use Rattle.law_witnesses.specs.Showing.{showing}
 
 abbrev head : String
-head = "T,0,0,0\nT,1,0,0\nT,2,1,1\nP,0,0,0\nP,2,0,0\nP,3,0,0\nP,1,0,0\nP,1,1,0\nP,4,1,3\nP,4,1,4\nP,4,2,3\n"
+head = "T,0,0,0\nT,1,0,0\nT,2,1,1\nP,0,0,0\nP,2,0,0\nP,3,0,0\nP,1,0,0\nP,1,1,0\nP,4,1,3\nP,4,1,4\n"
 
--- S without line 18 is 13,15; S with line 18 twice is 11,15; the file refused 14,5; S itself is accepted
+-- S without lines 11 and 18 is 13,14; S with line 18 twice is 11,15; the file refused 14,5; S itself is accepted, and S without line 18 is 21,11
 pub gap-left : showing (bytes head ++ bytes "I,1,1\nC,1,2\nC,2,1\nI,2,2\nC,5,6\nL,4,0,3\n") ≡ bytes "PRULU"
 unfolding showing
 gap-left = refl
+
+pub idle-line : showing (bytes head ++ bytes "P,4,2,3\nI,1,1\nC,1,2\nC,2,1\nI,2,2\nC,5,6\nL,4,0,3\n") ≡ []
+unfolding showing
+idle-line = refl
 
 pub overlap-left : showing (fileS ++ bytes "C,7,7\n") ≡ bytes "PRULU"
 unfolding showing

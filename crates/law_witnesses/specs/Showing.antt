@@ -14,6 +14,7 @@ use Rattle.calculus.specs.Refusals.{Refusal, number, isoLine, overlap, gap}
 use Rattle.format.specs.Lines.{lines}
 use Rattle.format.specs.Judge.{start, judge, Reading, rows, faulty, readFrom}
 use Rattle.format.specs.Unfold.{isosOf}
+use Rattle.format.specs.Idle.{idleFault}
 use Rattle.calculus.specs.Clauses.{Sigs, sigsOf, lefts, rights, isoFault}
 use Rattle.calculus.specs.Letters.{letterU, letterOf, letterP, letters}
 use Rattle.model.specs.Services.{Answer, Verdict, over, verdict, answerOf, refusalBy, tableAfter, workAfter, short, unless, written}
@@ -140,13 +141,18 @@ abbrev pub lettersOf? : Option Val → List ℕ
 lettersOf? none = []
 lettersOf? (some v) = letters v
 
+-- request 11: a file with an idle line is refused before its isos are judged
+abbrev pub shownUnless : Option (Refusal × ℕ) → List ℕ → List ℕ
+shownUnless none ls = ls
+shownUnless (some f) ls = []
+
 abbrev pub shownOf : Reading → List ℕ
 shownOf (faulty f n) = []
-shownOf (rows rs) = lettersOf? (shownFirst (sigsOf (isosOf rs)) (isosOf rs))
+shownOf (rows rs) = shownUnless (idleFault rs) (lettersOf? (shownFirst (sigsOf (isosOf rs)) (isosOf rs)))
 
 -- the letters that a file's bytes are answered with, none where no value is given
 unfoldable pub showing : List ℕ → List ℕ
-unfolding over start judge isosOf isoFault setting
+unfolding over start judge idleFault isosOf isoFault setting
 showing bs = cond (over bs) [] (shownOf (readFrom start 1 (lines bs)))
 
 pub record Shown : Type 0 where

@@ -6,17 +6,18 @@ use mathlib.Core.Path.{_≡_, refl, sym, ap, ap₂, _∙_, subst}
 use mathlib.Core.Logic.{_↔_}
 use mathlib.Core.Bool.{Bool, true, false, cond, _||_, false≢true}
 use mathlib.Core.Option.{Option, none, some}
-use mathlib.Core.List.{List, List·Memᴰ, List·Memᴰ·head}
+use mathlib.Core.List.{List, List·Memᴰ, List·Memᴰ·head, List·Memᴰ·tail}
 use lib.Dec.{ltb}
 use lib.ListN.{length, length-map}
 use borrow.Author.Tests.{lt-ltb}
 use Rattle.limits.specs.Limits.{maxBytes, maxLines}
-use Rattle.calculus.specs.Tools.{stages}
+use Rattle.calculus.specs.Tools.{stages, orElse}
 use Rattle.calculus.specs.Trees.{left, right}
-use Rattle.calculus.specs.Refusals.{Refusal, number, shortArea, tooLong, badLine, misplaced, badField, badName, ceiling, variable, letShape, badType, overlap, gap, noIso, noValue, spent, tooMany, tooHigh, badList}
+use Rattle.calculus.specs.Refusals.{Kind, Refusal, number, shortArea, tooLong, badLine, misplaced, badField, badName, ceiling, variable, letShape, badType, overlap, gap, noIso, noValue, spent, tooMany, tooHigh, badList, idle}
 use Rattle.format.specs.Lines.{Row, lines, withoutReturns, print, printRows}
 use Rattle.format.specs.Judge.{start, Reading, rows, faulty, readFrom}
 use Rattle.format.specs.Unfold.{isosOf, turnRows}
+use Rattle.format.specs.Idle.{NoneIdle, FirstIdle, idleFault}
 use Rattle.format.specs.Code.{numbered}
 use Rattle.calculus.specs.Clauses.{fault, sigsOf}
 use Rattle.model.specs.Services.{Verdict, accepted, refused, judged, fileTests, afterReading, over, verdict, answerOf, refusalBy, turned, turnedOf}
@@ -29,6 +30,7 @@ use Rattle.calculus.proofs.Checking.{file-ok, file-fault}
 use Rattle.calculus.proofs.Inverted.{file-invert}
 use Rattle.format.proofs.Passing.{Passes, formed}
 use Rattle.format.proofs.Turning.{turn-turn, isos-turn, passes-turn}
+use Rattle.format.proofs.Idling.{idle-none, idle-some, idle-turn}
 use Rattle.format.proofs.Endings.{without-length}
 use Rattle.format.proofs.Printing.{WellFormed, read-rows, read-count, lines-print, reading-printed, printed-reading, length-printRows-turn, wellformed-turn, length-turnRows}
 
@@ -51,7 +53,9 @@ formed-of bs rs h = formed (passes bs rs h)
 pub verdict-in-form : (bs : List ℕ) (rs : List Row) → InForm bs rs → verdict bs ≡ judged rs (fault (isosOf rs))
 unfolding verdict
 verdict-in-form bs rs h =
-    ap (λ b. cond b (refused tooLong 0) (afterReading (readFrom start 1 (lines bs)))) (h .fits) ∙ ap afterReading (h .reads)
+    ap (λ b. cond b (refused tooLong 0) (afterReading (readFrom start 1 (lines bs)))) (h .fits)
+    ∙ ap afterReading (h .reads)
+    ∙ ap (λ o. judged rs (orElse o (fault (isosOf rs)))) (idle-none (passes bs rs h) .1 (h .used))
 
 pub judged-accepted : (rs qs : List Row) (x : Option (Refusal × ℕ)) → judged rs x ≡ accepted qs → (rs ≡ qs) × (x ≡ none)
 judged-accepted rs qs none e = (accepted-inj e, refl)
@@ -59,7 +63,11 @@ judged-accepted rs qs (some f) e = absurd (refused≢accepted e)
 
 -- rows that pass every stage behind the reading have no faulty iso
 isos-stage : (rs : List Row) → stages fileTests rs ≡ none → fault (isosOf rs) ≡ none
-isos-stage rs e = stages-none rs fileTests e (λ qs. fault (isosOf qs)) (List·Memᴰ·head refl)
+isos-stage rs e = stages-none rs fileTests e (λ qs. fault (isosOf qs)) (List·Memᴰ·tail (List·Memᴰ·head refl))
+
+-- and no idle line
+idle-stage : (rs : List Row) → stages fileTests rs ≡ none → idleFault rs ≡ none
+idle-stage rs e = stages-none rs fileTests e idleFault (List·Memᴰ·head refl)
 
 -- an accepted file is in form, and no iso of it has a fault
 pub accepted-form : (bs : List ℕ) (rs : List Row) → verdict bs ≡ accepted rs → InForm bs rs × (fault (isosOf rs) ≡ none)
@@ -72,7 +80,32 @@ accepted-form bs rs = go (over bs) (readFrom start 1 (lines bs)) refl refl
     go false (faulty f n) hb hr e = absurd (refused≢accepted e)
     go false (rows qs) hb hr e =
         let j = judged-accepted qs rs (stages fileTests qs) e in
-        (record { fits = hb; reads = hr ∙ ap rows (j .0) }, subst (λ q. fault (isosOf q) ≡ none) (j .0) (isos-stage qs (j .1)))
+        let reads : readFrom start 1 (lines bs) ≡ rows rs = hr ∙ ap rows (j .0) in
+        let used = idle-none (read-rows start 1 (lines bs) rs reads .2) .0 (subst (λ q. idleFault q ≡ none) (j .0) (idle-stage qs (j .1))) in
+        (record { fits = hb; reads = reads; used = used }, subst (λ q. fault (isosOf q) ≡ none) (j .0) (isos-stage qs (j .1)))
+
+-- the verdict of a file whose lines pass 3 to 7
+pub verdict-read : (bs : List ℕ) (rs : List Row) → over bs ≡ false → readFrom start 1 (lines bs) ≡ rows rs → verdict bs ≡ judged rs (orElse (idleFault rs) (fault (isosOf rs)))
+unfolding verdict
+verdict-read bs rs o e = ap (λ b. cond b (refused tooLong 0) (afterReading (readFrom start 1 (lines bs)))) o ∙ ap afterReading e
+
+pub passes-read : (bs : List ℕ) (rs : List Row) → readFrom start 1 (lines bs) ≡ rows rs → Passes start rs
+passes-read bs rs e = read-rows start 1 (lines bs) rs e .2
+
+-- … is in form, or has an idle line, and then is refused there
+pub data ReadCases (bs : List ℕ) (rs : List Row) : Type 0 where
+  inForm : InForm bs rs → ReadCases bs rs
+  idleAt : (k : Kind) (n : ℕ) → idleFault rs ≡ some (idle k, n) → verdict bs ≡ refused (idle k) n → ReadCases bs rs
+
+pub read-cases : (bs : List ℕ) (rs : List Row) → over bs ≡ false → readFrom start 1 (lines bs) ≡ rows rs → ReadCases bs rs
+read-cases bs rs o e = go (idleFault rs) refl
+  where
+    go : (x : Option (Refusal × ℕ)) → idleFault rs ≡ x → ReadCases bs rs
+    go none h = ReadCases.inForm (record { fits = o; reads = e; used = idle-none (passes-read bs rs e) .0 h })
+    go (some f) h =
+        let w = idle-some (passes-read bs rs e) (f .0) (f .1) .0 h in
+        let i : idleFault rs ≡ some (idle (w .row .kind), f .1) = h ∙ some-pair (w .refusal) refl in
+        ReadCases.idleAt (w .row .kind) (f .1) i (verdict-read bs rs o e ∙ ap (λ x. judged rs (orElse x (fault (isosOf rs)))) i)
 
 -- Check's verdict is "accepted" exactly when the lines are in form and the judgements hold of the unfolded file.
 pub accepted-iff : (bs : List ℕ) (rs : List Row) → (verdict bs ≡ accepted rs) ↔ (InForm bs rs × FileOk (isosOf rs))
@@ -119,6 +152,7 @@ number-positive spent = omega arith
 number-positive tooMany = omega arith
 number-positive tooHigh = omega arith
 number-positive badList = omega arith
+number-positive (idle k) = omega arith
 
 -- the number of an answer is that of its refusal
 pub number-by : (v : Verdict) → numbered (refusalBy v) ≡ answerOf v .number
@@ -178,6 +212,7 @@ turned-form bs rs h =
     record {
       fits = over-less bs (printRows (turnRows rs)) (let p = turned-length-rows bs rs h in let q = without-length bs in omega arith) (turned-lines bs rs h) (h .fits);
       reads = printed-reading (passes-turn (passes bs rs h)) (wellformed-turn rs (wellformed bs rs h));
+      used = idle-none (passes-turn (passes bs rs h)) .0 (idle-turn (passes bs rs h) ∙ idle-none (passes bs rs h) .1 (h .used));
     }
 
 -- the judgements hold of the turned rows too

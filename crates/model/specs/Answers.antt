@@ -10,15 +10,17 @@ use Rattle.calculus.specs.Refusals.{noIso, noValue, spent}
 use Rattle.format.specs.Lines.{Row, lines}
 use Rattle.format.specs.Judge.{start, Passes, rows, readFrom}
 use Rattle.format.specs.Unfold.{isosOf}
+use Rattle.format.specs.Idle.{NoneIdle}
 use Rattle.calculus.specs.Letters.{letters}
 use Rattle.model.specs.Services.{over, Ran, gives, fails}
 use Rattle.calculus.specs.Terms.{Steps, eapp, valTerm}
 use Rattle.calculus.specs.Paper.{Of, FileOk}
 
--- the lines of a file are in form: not too long, and read as rows that pass 3 to 7
+-- the lines of a file are in form: not too long, read as rows that pass 3 to 7, and (request 11: "demand 2's line form now asks it") no T or P line idle
 pub record InForm (bs : List ℕ) (rs : List Row) : Type 0 where
   pub fits : over bs ≡ false
   pub reads : readFrom start 1 (lines bs) ≡ rows rs
+  pub used : NoneIdle rs
 
 -- the rows of an accepted file, as they are or turned
 pub record GoodRows (rs : List Row) : Type 0 where

@@ -13,6 +13,7 @@ use Rattle.format.specs.Lines.{Row, lines, printRows}
 use Rattle.format.specs.Table.{tableOf}
 use Rattle.format.specs.Judge.{start, judge, Reading, rows, faulty, readFrom}
 use Rattle.format.specs.Unfold.{isosOf, turnRows}
+use Rattle.format.specs.Idle.{idleFault}
 use Rattle.format.specs.Code.{numbered}
 use Rattle.calculus.specs.Clauses.{fault}
 use Rattle.calculus.specs.Reduction.{reduce}
@@ -27,9 +28,9 @@ abbrev pub judged : List Row → Option (Refusal × ℕ) → Verdict
 judged rs none = accepted rs
 judged rs (some f) = refused (f .0) (f .1)
 
--- "Only then the isos in order": the tests of rows that were read, in their order. A stage more is a test more in this list.
+-- Request 11's 21, "after 7 for the whole file and before 8"; "Only then the isos in order": the tests of rows that were read, in their order. A stage more is a test more in this list.
 abbrev pub fileTests : List (List Row → Option (Refusal × ℕ))
-fileTests = (λ rs. fault (isosOf rs)) ∷ []
+fileTests = idleFault ∷ (λ rs. fault (isosOf rs)) ∷ []
 
 abbrev pub afterReading : Reading → Verdict
 afterReading (faulty f n) = refused f n
@@ -41,7 +42,7 @@ over bs = ltb maxBytes (length bs) || ltb maxLines (length (lines bs))
 
 -- "2. Then all lines from the first … Only then the isos in order"
 unfoldable pub verdict : List ℕ → Verdict
-unfolding over start judge isosOf fault
+unfolding over start judge idleFault isosOf fault
 verdict bs = cond (over bs) (refused tooLong 0) (afterReading (readFrom start 1 (lines bs)))
 
 -- A lent area whose first n elements become `front` and zeros; "Bytes beyond these lengths … keep their contents".

@@ -10,17 +10,20 @@ use lib.Dec.{leb, ltb}
 use lib.ListN.{length}
 use borrow.Author.Tests.{lt-ltb, le-ltb}
 use Rattle.limits.specs.Limits.{maxBytes, maxLines, tableLength, workLength, resultLength}
-use Rattle.calculus.specs.Tools.{isSome}
+use Rattle.calculus.specs.Tools.{isSome, orElse}
 use Rattle.calculus.specs.Refusals.{Refusal, number, shortArea}
 use Rattle.format.specs.Lines.{lines}
 use Rattle.format.specs.Judge.{rows}
 use Rattle.format.specs.Unfold.{isosOf}
+use Rattle.format.specs.Idle.{idleFault}
+use Rattle.format.proofs.Idling.{idle-none}
+use Rattle.format.proofs.Printing.{rows-inj}
 use Rattle.calculus.specs.Clauses.{fault}
-use Rattle.model.specs.Services.{afterReading, check, short, written}
+use Rattle.model.specs.Services.{judged, afterReading, check, short, written}
 use Rattle.format.specs.Code.{refusalView, numberOf, numbered}
 use Rattle.format.specs.declared.Refusal as F
 use Rattle.calculus.proofs.Basic.{bool-cases, not-leb, le-leb, leb-le, leb-false, isSome-true}
-use Rattle.model.proofs.Files.{InForm, judged-refused}
+use Rattle.model.proofs.Files.{InForm, passes, judged-refused}
 use Rattle.area_parts.specs.Cleared.{cleared}
 use Rattle.checker.specs.CheckSays.{CheckSays, Entered, Settled, Early}
 use Rattle.checker.specs.declared.Checked as C
@@ -122,9 +125,11 @@ module _ (s t out t₁ t′ out′ : List ℕ) (c d : C.Checked) (n : ℕ) (ht :
         let a = answer-number s t w out t′ w′ out′ r ho says in
         let g = served-shows s t w out (ap (λ x. leb 11 x && leb x 14) (sym a ∙ told ∙ u ∙ sym v) ∙ sd) in
         let l = o .loaded (g .rows) (g .form .reads) in
-        let form : InForm s (l .file) = record { fits = g .form .fits; reads = l .reads } in
+        let form : InForm s (l .file) = subst (InForm s) (rows-inj (sym (g .form .reads) ∙ l .reads)) (g .form) in
+        let used : idleFault (l .file) ≡ none = idle-none (passes s (l .file) form) .1 (form .used) in
         let is : fault (isosOf (l .file)) ≡ some (f, c .answer .place) =
-        judged-refused (l .file) (fault (isosOf (l .file))) f (c .answer .place) (sym (ap afterReading (l .reads)) ∙ o .outcome .refuses f e) in
+        judged-refused (l .file) (fault (isosOf (l .file))) f (c .answer .place)
+        (ap (λ x. judged (l .file) (orElse x (fault (isosOf (l .file))))) (sym used) ∙ sym (ap afterReading (l .reads)) ∙ o .outcome .refuses f e) in
         let q = shows .given s (l .file) (c .patterns) form (l .table) f v is sd in
         let z = shown-here s t w out ht hw ho in
         with-value s t w out t′ w′ out′ r ho says (len ∙ q .0 ∙ sym (z .0)) (q .1 ∙ sym (z .1))

@@ -7,7 +7,7 @@ use Rattle.checker.proofs.judged.Reads as reads
 use Rattle.checker.proofs.judged.Lts as lts
 use Rattle.format.proofs.is_refused.Reads as is-refused-reads
 use Rattle.checker.proofs.refused.Reads as refused-reads
-use Rattle.check_isos.proofs.isos_fault.Reads as isos-fault-reads
+use Rattle.checker.proofs.lines_fault.Reads as lines-fault-reads
 use Rattle.read_lines.proofs.read.read_file.Reads as read-file-reads
 
 -- src/lib.rt:75:9
@@ -38,8 +38,8 @@ returns c =
     )
 
 -- src/lib.rt:81:9
-isos-fault-requires : tie.Need-isos-fault-requires
-isos-fault-requires c κs = search needs
+lines-fault-requires : tie.Need-lines-fault-requires
+lines-fault-requires c κs = search needs
 
 -- src/lib.rt:70:1
 same-length-2 : tie.Need-same-length-2
@@ -53,7 +53,7 @@ returns-2 c =
     let e = c .before .before .before .before .is-refused .ensures in
     let h = c .before .before .before .if1 .left in
     let l = loaded _ _ _ _ _ (p .1) r e h _ refl refl refl refl in
-    (outcome-whole _ _ _ _ _ _ (p .1) r e h (c .isos-fault .ensures), λ rs k. l, counts-loaded _ _ _ l)
+    (outcome-whole _ _ _ _ _ _ (p .1) r e h (c .lines-fault .ensures), λ rs k. l, counts-loaded _ _ _ l)
 
 pub judged-spec : {M : Type 1} → statement M
 judged-spec =
@@ -64,6 +64,6 @@ judged-spec =
     refused-requires
     same-length
     returns
-    isos-fault-requires
+    lines-fault-requires
     same-length-2
     returns-2)

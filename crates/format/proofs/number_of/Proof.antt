@@ -68,6 +68,9 @@ enum-told-16 c = search needs
 enum-told-17 : tie.Need-enum-told-17
 enum-told-17 c = search needs
 
+enum-told-18 : tie.Need-enum-told-18
+enum-told-18 c = search needs
+
 returns : tie.Need-returns
 returns c = sym (ap numberOf (c .enum-told .given .1))
 
@@ -125,6 +128,9 @@ returns-18 c = sym (ap numberOf (c .enum-told16 .given .1))
 returns-19 : tie.Need-returns-19
 returns-19 c = sym (ap numberOf (c .enum-told17 .given .1))
 
+returns-20 : tie.Need-returns-20
+returns-20 c = sym (ap numberOf (c .enum-told18 .given .1))
+
 pub number-of-spec : {M : Type 1} → statement M
 number-of-spec =
     tie.close
@@ -150,6 +156,7 @@ number-of-spec =
     enum-told-15
     enum-told-16
     enum-told-17
+    enum-told-18
     returns
     returns-2
     returns-3
@@ -168,4 +175,5 @@ number-of-spec =
     returns-16
     returns-17
     returns-18
-    returns-19)
+    returns-19
+    returns-20)

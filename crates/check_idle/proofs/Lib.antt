@@ -1,0 +1,2 @@
+-- What the marks tell, and the walk row by row.
+pub mod Marking
