@@ -328,10 +328,11 @@ struct rulefile_export_answer rulefile_export(
  * again, without its carriage returns. The output needs RULEFILE_MAX_FILE_LENGTH bytes.
  *
  * The refusals in their order: 1, 2, those of the file, which alone name a line, 15 where it lacks either
- * T line, 18 where either has over 4,096 values, 7 where the list has over 32 lines (bytes behind the last
+ * T line, 18 where either has over 4,096 values, 7 where the list has over 128 lines (bytes behind the last
  * line feed are a line too), 20 where a line is not two numbers, a comma between and its ending behind them,
  * the froms are not 0, 1, 2 and so on up to the counts of both types, or a to is repeated or not below the
- * count, and 7 where the written file would have over 1,024 P lines. Table and work area are left as
+ * count, and 7 where the written file would have over 1,024 P lines, or a value of over 40 left and right
+ * nodes. Table and work area are left as
  * rulefile_check leaves them, so with these two 7 the table holds the file's lines; on refusal the output
  * is as it was.
  */

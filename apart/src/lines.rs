@@ -4,15 +4,15 @@ use crate::tree::{Pattern, Type};
 use crate::Refusal;
 use std::rc::Rc;
 
-/// "Ceilings: 65,536 bytes; 4,096 lines; 256 T; 1,024 P; 32 I; 32 C in an iso;
-/// 8 L in a clause; 127 nodes in an unfolded T or P; 40 left and right nodes
+/// "Ceilings: 65,536 bytes; 4,096 lines; 256 T; 1,024 P; 32 I; 32 C in an iso
+/// (request 13: 128 instead); 8 L in a clause; 127 nodes in an unfolded T or P; 40 left and right nodes
 /// in an unfolded P."
 pub const BYTES: usize = 65_536;
 pub const LINES: usize = 4_096;
 pub const TYPES: usize = 256;
 pub const PATTERNS: usize = 1_024;
 pub const ISOS: usize = 32;
-pub const CLAUSES: usize = 32;
+pub const CLAUSES: usize = 128;
 pub const LETS: usize = 8;
 pub const NODES: usize = 127;
 pub const SIDES: usize = 40;
@@ -252,7 +252,7 @@ impl Reader {
         Some(())
     }
 
-    /// "32 C in an iso".
+    /// Request 13: "128 clauses an iso instead of 32".
     fn enter_clause(&mut self, [left, right, _]: [u16; 3], line: usize) -> Option<()> {
         let iso = self.isos.last_mut()?;
         if iso.clauses.len() == CLAUSES {

@@ -104,7 +104,8 @@ pub fn import_rules(rules: &Rules, from: u32, to: u32, list: &[u8]) -> Result<Ve
 pub fn unjudged(rules: &Rules, from: u32, to: u32, list: &[u8]) -> Result<Vec<u8>, Refusal> {
     let (from, to) = (named(&rules.types, from)?, named(&rules.types, to)?);
     few(from).and_then(|()| few(to))?;
-    // "Over 32 lines in the list is 7 at line 0, tested after 15 and 18".
+    // "Over 32 lines in the list is 7 at line 0, tested after 15 and 18"; request
+    // 13: "import takes 128 pairs".
     if split(list).len() > CLAUSES {
         return Err(refused(7));
     }

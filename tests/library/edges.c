@@ -1094,7 +1094,8 @@ static const struct witness_case witness_cases[] = {
     "I,2,2\nC,2,4\nC,4,2\nC,5,5\nC,6,6\n"
 
 /* So many empty lines. */
-#define LINES_33 "\n\n\n\n\n\n\n\n\n\n\n\n\n\n\n\n\n\n\n\n\n\n\n\n\n\n\n\n\n\n\n\n\n"
+#define LINES_43 "\n\n\n\n\n\n\n\n\n\n\n\n\n\n\n\n\n\n\n\n\n\n\n\n\n\n\n\n\n\n\n\n\n\n\n\n\n\n\n\n\n\n\n"
+#define LINES_129 LINES_43 LINES_43 LINES_43
 
 /* An iso and the list that it gives, or the number that the call is refused with. */
 struct export_case {
@@ -1607,7 +1608,7 @@ static void short_areas_of_lists(void)
     static const struct import_case imports[] = {
         {__LINE__, TEXT(S), 2, 2, TEXT(S_LIST), 0, 0, TEXT(S_IMPORTED)},
         {__LINE__, TEXT(S), 2, 2, TEXT("x"), 20, 0, TEXT("")},
-        {__LINE__, TEXT(S), 2, 2, {(const uint8_t *)LINES_33, 33}, 7, 0, TEXT("")},
+        {__LINE__, TEXT(S), 2, 2, {(const uint8_t *)LINES_129, 129}, 7, 0, TEXT("")},
         {__LINE__, TEXT(BITS_USED), 13, 1, TEXT(""), 18, 0, TEXT("")},
     };
     static const enum place places[] = {NULL_IF_EMPTY, BEFORE_GUARD};
@@ -1923,8 +1924,8 @@ static void ceilings(void)
     try_repeated(__LINE__, "", "P,0,0,0\n", 1025, 7, 1025);
     try_repeated(__LINE__, "T,0,0,0\nP,0,0,0\n", "I,0,0\nC,0,0\n", 32, 0, 0);
     try_repeated(__LINE__, "T,0,0,0\nP,0,0,0\n", "I,0,0\nC,0,0\n", 33, 7, 67);
-    try_repeated(__LINE__, "T,0,0,0\nP,0,0,0\nI,0,0\n", "C,0,0\n", 32, 11, 3);
-    try_repeated(__LINE__, "T,0,0,0\nP,0,0,0\nI,0,0\n", "C,0,0\n", 33, 7, 36);
+    try_repeated(__LINE__, "T,0,0,0\nP,0,0,0\nI,0,0\n", "C,0,0\n", 128, 11, 3);
+    try_repeated(__LINE__, "T,0,0,0\nP,0,0,0\nI,0,0\n", "C,0,0\n", 129, 7, 132);
     try_repeated(__LINE__, "T,0,0,0\nP,0,0,0\nI,0,0\nC,0,0\nI,0,0\nC,0,0\n", "L,0,0,0\n", 8, 0, 0);
     try_repeated(__LINE__, "T,0,0,0\nP,0,0,0\nI,0,0\nC,0,0\nI,0,0\nC,0,0\n", "L,0,0,0\n", 9, 7, 15);
     begin();
@@ -2762,7 +2763,7 @@ static void build_sum(int products)
         add_line('T', 2, 0, type);
 }
 
-/* 32 pairs and 33, 1,023 P lines and 1,055. */
+/* 32 pairs, 33 and 129, 1,023 P lines and 1,055. */
 static void lists_at_the_ceilings(void)
 {
     static uint8_t written[RULEFILE_MAX_FILE_LENGTH];
@@ -2783,8 +2784,10 @@ static void lists_at_the_ceilings(void)
         call.value = identity(31);
         try_built_list(__LINE__, call, RULEFILE_BAD_LIST, nothing);
         call.value = identity(33);
+        try_built_list(__LINE__, call, RULEFILE_BAD_LIST, nothing);
+        call.value = identity(129);
         try_built_list(__LINE__, call, RULEFILE_CEILING, nothing);
-        call.value.length -= 2; /* the last of 33 lines is cut short */
+        call.value.length -= 2; /* the last of 129 lines is cut short */
         try_built_list(__LINE__, call, RULEFILE_CEILING, nothing);
     }
 }

@@ -262,9 +262,9 @@ pub fn export(
 /// the list again, without its carriage returns.
 ///
 /// Refused, in this order: what [`check`] refuses, of which 1 also for an output area of less than 65,536 bytes,
-/// an absent T line (15), one of over 4,096 values (18), a list of over 32 lines (7), one whose lines are not
+/// an absent T line (15), one of over 4,096 values (18), a list of over 128 lines (7), one whose lines are not
 /// `0,to`, `1,to` and so on up to the counts of both types with each to once (20), a file of over 1,024 P lines
-/// (7). The output area is then as it was.
+/// or with a value of over 40 left and right nodes (7). The output area is then as it was.
 pub fn import(
     file: &[u8],
     table: &mut [u16],

@@ -129,7 +129,9 @@ fn counts_at_the_limits() {
     assert_eq!(desk.export(&small, 1, 1), Ok(identity(33)));
     let written = desk.import(&small, 5, 5, &identity(32)).unwrap();
     assert_eq!(desk.export(&written, 0, 1), Ok(identity(32)));
-    for list in [identity(33), [identity(32), b"3".to_vec()].concat()] {
+    let written = desk.import(&small, 6, 6, &identity(33)).unwrap();
+    assert_eq!(desk.export(&written, 0, 1), Ok(identity(33)));
+    for list in [identity(129), [identity(128), b"1".to_vec()].concat()] {
         assert_eq!(desk.import(&small, 6, 6, &list), Err(refused(Ceiling)));
         assert_eq!(desk.import(&small, 5, 5, &list), Err(refused(Ceiling)));
     }
@@ -225,7 +227,7 @@ fn refusals_of_export() {
 fn refusals_of_import() {
     let mut desk = Desk::new();
     let (s, large) = (lines(S), bits(13));
-    let (good, bad, long) = (identity(4), &b"x"[..], identity(33));
+    let (good, bad, long) = (identity(4), &b"x"[..], identity(129));
     for ty in [3, 12, 256, 258, 65_536, 65_538, 1 << 31, u32::MAX] {
         for list in [&good[..], bad, &long] {
             assert_eq!(desk.import(&s, ty, 2, list), Err(refused(NoIso)));
@@ -240,7 +242,7 @@ fn refusals_of_import() {
         assert_eq!(desk.import(&large, 2, 13, list), Err(refused(TooMany)));
     }
     // 7 before 20; types of 4,096 values are no 18.
-    let bad = vec![b'\n'; 33];
+    let bad = vec![b'\n'; 129];
     assert_eq!(desk.import(&s, 2, 2, &bad), Err(refused(Ceiling)));
     assert_eq!(desk.import(&large, 12, 12, &long), Err(refused(Ceiling)));
     assert_eq!(desk.import(&large, 12, 12, &good), Err(refused(BadList)));
@@ -337,7 +339,7 @@ fn lent_areas() {
         for (list, wanted) in [
             (&list, Ok(file.len())),
             (&identity(3), Err(refused(BadList))),
-            (&identity(33), Err(refused(Ceiling))),
+            (&identity(129), Err(refused(Ceiling))),
         ] {
             let mut areas = lent(MAX_FILE_LENGTH);
             assert_eq!(areas.import(&s, list), wanted);

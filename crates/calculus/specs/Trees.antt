@@ -2,7 +2,7 @@
 -- of the file unfolds to one of these trees. The two injections are one constructor with a tag.
 use mathlib.Core.Bool.{Bool, true, false, _&&_}
 use mathlib.Core.List.{List, [], _∷_, _++_, map, reverse}
-use Prim.Native.Nat.{ℕ, _+_}
+use Prim.Native.Nat.{ℕ, _+_, suc, max}
 
 -- "unit, sum and product types"
 pub data Ty : Type 0 where
@@ -86,6 +86,12 @@ tags punit = 0
 tags (pvar n) = 0
 tags (pinj t p) = 1 + tags p
 tags (ppair p q) = tags p + tags q
+
+-- the most of them that a closed value of a type has (request 13: with 128 pairs an imported value may pass the ceiling)
+abbrev pub mostTags : Ty → ℕ
+mostTags tunit = 0
+mostTags (tsum a b) = suc (max (mostTags a) (mostTags b))
+mostTags (tprod a b) = mostTags a + mostTags b
 
 -- the variables of a pattern, in prefix order
 abbrev pub vars : Pat → List ℕ

@@ -27,9 +27,9 @@ numbered : (k : Kind)
     ≡ 1 ∷ 2 ∷ 3 ∷ 4 ∷ 5 ∷ 6 ∷ 7 ∷ 8 ∷ 9 ∷ 10 ∷ 11 ∷ 12 ∷ 13 ∷ 14 ∷ 15 ∷ 16 ∷ 17 ∷ 18 ∷ 19 ∷ 20 ∷ 21 ∷ []
 numbered k = refl
 
--- "Ceilings: 65,536 bytes; 4,096 lines; 256 T; 1,024 P; 32 I; 32 C in an iso; 8 L in a clause; 127 nodes in an unfolded T or P; 40 left and right nodes in an unfolded P."
+-- "Ceilings: 65,536 bytes; 4,096 lines; 256 T; 1,024 P; 32 I; 32 C in an iso (128 since request 13); 8 L in a clause; 127 nodes in an unfolded T or P; 40 left and right nodes in an unfolded P."
 ceilings : maxBytes ∷ maxLines ∷ maxTypes ∷ maxPatterns ∷ maxIsos ∷ maxClauses ∷ maxLets ∷ maxNodes ∷ maxTags ∷ []
-    ≡ 65536 ∷ 4096 ∷ 256 ∷ 1024 ∷ 32 ∷ 32 ∷ 8 ∷ 127 ∷ 40 ∷ []
+    ≡ 65536 ∷ 4096 ∷ 256 ∷ 1024 ∷ 32 ∷ 128 ∷ 8 ∷ 127 ∷ 40 ∷ []
 ceilings = refl
 
 -- variables 0 to 31, fields 0 to 65,535, budgets 0 to 4,294,967,295, five numbers a line, the areas, a query's 200 bytes; of the requests 600 queries, 4,294,967,295
@@ -108,11 +108,11 @@ names : map (λ r. named (above 2 2 2 0 0) (r .kind) r)
     ≡ true ∷ false ∷ false ∷ true ∷ false ∷ false ∷ true ∷ false ∷ true ∷ false ∷ false ∷ true ∷ false ∷ false ∷ true ∷ false ∷ false ∷ false ∷ []
 names = refl
 
--- the 256th T, 1,024th P, 32nd I, 32nd C and 8th L pass, and the next of each does not
+-- the 256th T, 1,024th P, 32nd I, 128th C and 8th L pass, and the next of each does not
 last-lines : withinCeilings (above 255 0 0 0 0) typeLine (row typeLine 0 0 0)
     ∷ withinCeilings (above 0 1023 0 0 0) patternLine (row patternLine 0 0 0)
     ∷ withinCeilings (above 0 0 31 0 0) isoLine (row isoLine 0 0 0)
-    ∷ withinCeilings (above 0 0 0 31 0) clauseLine (row clauseLine 0 0 0)
+    ∷ withinCeilings (above 0 0 0 127 0) clauseLine (row clauseLine 0 0 0)
     ∷ withinCeilings (above 0 0 0 0 7) letLine (row letLine 0 0 0)
     ∷ []
     ≡ true ∷ true ∷ true ∷ true ∷ true ∷ []
@@ -121,7 +121,7 @@ last-lines = refl
 first-too-many : withinCeilings (above 256 0 0 0 0) typeLine (row typeLine 0 0 0)
     ∷ withinCeilings (above 0 1024 0 0 0) patternLine (row patternLine 0 0 0)
     ∷ withinCeilings (above 0 0 32 0 0) isoLine (row isoLine 0 0 0)
-    ∷ withinCeilings (above 0 0 0 32 0) clauseLine (row clauseLine 0 0 0)
+    ∷ withinCeilings (above 0 0 0 128 0) clauseLine (row clauseLine 0 0 0)
     ∷ withinCeilings (above 0 0 0 0 8) letLine (row letLine 0 0 0)
     ∷ []
     ≡ false ∷ false ∷ false ∷ false ∷ false ∷ []

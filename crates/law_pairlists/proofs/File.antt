@@ -7,7 +7,7 @@ use mathlib.Core.Path.{_≡_, refl, sym, ap, ap₂, _∙_, subst}
 use mathlib.Core.Logic.{_⊎_, inl, inr, _↔_}
 use mathlib.Core.Bool.{true, _&&_, false≢true}
 use mathlib.Core.Option.{none, some}
-use mathlib.Core.List.{List, [], _∷_, _++_, append-nil, append-assoc, List·Memᴰ, List·Memᴰ·head, List·Memᴰ·tail}
+use mathlib.Core.List.{List, [], _∷_, _++_, append-nil, append-assoc, List·Memᴰ, List·Memᴰ·head, List·Memᴰ·tail, List·Memᴰ·not-nil}
 use lib.Dec.{eqb, ltb, leb}
 use lib.ListN.{length, getElem?, getD, List·getD-append, length-append}
 use Rattle.limits.specs.Limits.{variables, fieldBound, maxTypes, maxPatterns, maxIsos, maxClauses, maxNodes, maxTags}
@@ -19,12 +19,12 @@ use Rattle.format.specs.Kinds.{typeKind, patternKind}
 use Rattle.format.specs.Idle.{typeLines, NoneIdle}
 use Rattle.format.specs.Unfold.{Tail, place, tailFrom, isosOf}
 use Rattle.law_pairlists.specs.PairLists.{Entry, entry, typeRow, patternRow, clauseRow, isoRow, writeType, writeValue, Written, writePairs, fileRows, withinAll}
-use Rattle.calculus.proofs.Basic.{and-true, true-and, ltb-lt, lt-ltb, le-leb, index-below, mem-index, eqb-eq, each-nil, each-cons, each-append, index-default}
+use Rattle.calculus.proofs.Basic.{none≢some, leb-le, and-true, true-and, ltb-lt, lt-ltb, le-leb, index-below, mem-index, eqb-eq, each-nil, each-cons, each-append, index-default}
 use Rattle.format.proofs.Naming.{type-by-names, type-names-mono, pattern-by-names, pattern-names-mono}
 use Rattle.format.proofs.Passing.{Passes, done, next, Fit, judge-fit, fit-judge, after-append, passes-append}
 use Rattle.format.proofs.Printing.{WellFormed}
 use Rattle.law_pairlists.proofs.Used.{none-idle}
-use Rattle.law_pairlists.proofs.Rows.{Stored, nothing, more, Entered, entered, still, after-others, same-length, ok-at, length-snoc, index-front, enter-length, enter-grows}
+use Rattle.law_pairlists.proofs.Rows.{Stored, nothing, more, Entered, entered, still, after-others, same-length, ok-at, length-snoc, index-front, index-snoc, enter-length, enter-grows}
 
 -- ---- T rows
 
@@ -136,14 +136,15 @@ pattern-keep ts us r h =
 pub pattern-mono : (m n : ℕ) (r : Row) → m ≤ n → PatternOk m r → PatternOk n r
 pattern-mono m n r l h = record { kind = h .kind; fields = h .fields; names = pattern-names-mono (patternKind (r .x)) (r .y) (r .z) l (h .names) }
 
-abbrev pub SmallPattern : Pat → Type 0
-SmallPattern p = (nodes p ≤ maxNodes) × (tags p ≤ maxTags)
+-- `lim` bounds the left and right nodes: the ceiling of 40, or more where it is asked whether that is kept
+abbrev pub SmallPattern : ℕ → Pat → Type 0
+SmallPattern lim p = (nodes p ≤ maxNodes) × (tags p ≤ lim)
 
-abbrev pub Patterns : List Row → List Pat → Type 0
-Patterns = Stored patternTree PatternOk SmallPattern pattern-keep pattern-mono
+abbrev pub Patterns : ℕ → List Row → List Pat → Type 0
+Patterns lim = Stored patternTree PatternOk (SmallPattern lim) pattern-keep pattern-mono
 
-abbrev pub PatternEntered : Entry → List Pat → Pat → Type 0
-PatternEntered = Entered patternTree PatternOk SmallPattern pattern-keep pattern-mono
+abbrev pub PatternEntered : ℕ → Entry → List Pat → Pat → Type 0
+PatternEntered lim = Entered patternTree PatternOk (SmallPattern lim) pattern-keep pattern-mono
 
 -- a closed value as a pattern
 abbrev pub closed : Val → Pat
@@ -151,35 +152,35 @@ closed vunit = punit
 closed (vinj t v) = pinj t (closed v)
 closed (vpair v w) = ppair (closed v) (closed w)
 
-enterP : {rs : List Row} {ts : List Pat} {p : Pat} (r : Row) → Patterns rs ts → PatternOk (length ts) r → patternTree ts r ≡ p → SmallPattern p
-    → PatternEntered (entry r rs) ts p
-enterP {rs} {ts} r s k e l =
-    subst (PatternEntered (entry r rs) ts) e
-    (entered patternTree PatternOk SmallPattern pattern-keep pattern-mono r s k (subst SmallPattern (sym e) l))
+enterP : (lim : ℕ) {rs : List Row} {ts : List Pat} {p : Pat} (r : Row) → Patterns lim rs ts → PatternOk (length ts) r → patternTree ts r ≡ p → SmallPattern lim p
+    → PatternEntered lim (entry r rs) ts p
+enterP lim {rs} {ts} r s k e l =
+    subst (PatternEntered lim (entry r rs) ts) e
+    (entered patternTree PatternOk (SmallPattern lim) pattern-keep pattern-mono r s k (subst (SmallPattern lim) (sym e) l))
 
 -- the same of closed values
-pub value-written : (v : Val) {rs : List Row} {ts : List Pat} → Patterns rs ts → nodes (closed v) ≤ maxNodes → tags (closed v) ≤ maxTags
-    → PatternEntered (writeValue v rs) ts (closed v)
-value-written vunit s l t = enterP (patternRow 0 0 0) s (record { kind = refl; fields = refl; names = refl }) refl (l, t)
-value-written (vinj left v) s l t =
-    let f = value-written v s (omega arith) (omega arith) in
-    let h = enterP (patternRow 2 _ 0) (f .stored) (record { kind = refl; fields = refl; names = lt-ltb (index-below (f .trees) _ (f .here)) })
+pub value-written : (lim : ℕ) (v : Val) {rs : List Row} {ts : List Pat} → Patterns lim rs ts → nodes (closed v) ≤ maxNodes → tags (closed v) ≤ lim
+    → PatternEntered lim (writeValue v rs) ts (closed v)
+value-written lim vunit s l t = enterP lim (patternRow 0 0 0) s (record { kind = refl; fields = refl; names = refl }) refl (l, t)
+value-written lim (vinj left v) s l t =
+    let f = value-written lim v s (omega arith) (omega arith) in
+    let h = enterP lim (patternRow 2 _ 0) (f .stored) (record { kind = refl; fields = refl; names = lt-ltb (index-below (f .trees) _ (f .here)) })
     (ap (pinj left) (index-default (f .trees) _ punit (f .here))) (l, t) in
-    after-others patternTree PatternOk SmallPattern pattern-keep pattern-mono f h
-value-written (vinj right v) s l t =
-    let f = value-written v s (omega arith) (omega arith) in
-    let h = enterP (patternRow 3 _ 0) (f .stored) (record { kind = refl; fields = refl; names = lt-ltb (index-below (f .trees) _ (f .here)) })
+    after-others patternTree PatternOk (SmallPattern lim) pattern-keep pattern-mono f h
+value-written lim (vinj right v) s l t =
+    let f = value-written lim v s (omega arith) (omega arith) in
+    let h = enterP lim (patternRow 3 _ 0) (f .stored) (record { kind = refl; fields = refl; names = lt-ltb (index-below (f .trees) _ (f .here)) })
     (ap (pinj right) (index-default (f .trees) _ punit (f .here))) (l, t) in
-    after-others patternTree PatternOk SmallPattern pattern-keep pattern-mono f h
-value-written (vpair v w) s l t =
-    let f = value-written v s (omega arith) (omega arith) in
-    let g = value-written w (f .stored) (omega arith) (omega arith) in
-    let p = still patternTree PatternOk SmallPattern pattern-keep pattern-mono g _ (f .here) in
-    let h = enterP (patternRow 4 _ _) (g .stored)
+    after-others patternTree PatternOk (SmallPattern lim) pattern-keep pattern-mono f h
+value-written lim (vpair v w) s l t =
+    let f = value-written lim v s (omega arith) (omega arith) in
+    let g = value-written lim w (f .stored) (omega arith) (omega arith) in
+    let p = still patternTree PatternOk (SmallPattern lim) pattern-keep pattern-mono g _ (f .here) in
+    let h = enterP lim (patternRow 4 _ _) (g .stored)
     (record { kind = refl; fields = refl; names = both-below (index-below (g .trees) _ p) (index-below (g .trees) _ (g .here)) })
     (ap₂ ppair (index-default (g .trees) _ punit p) (index-default (g .trees) _ punit (g .here))) (l, t) in
-    after-others patternTree PatternOk SmallPattern pattern-keep pattern-mono f
-    (after-others patternTree PatternOk SmallPattern pattern-keep pattern-mono g h)
+    after-others patternTree PatternOk (SmallPattern lim) pattern-keep pattern-mono f
+    (after-others patternTree PatternOk (SmallPattern lim) pattern-keep pattern-mono g h)
 
 -- the rows never become fewer
 pub value-grows : (v : Val) (rs : List Row) → length rs ≤ length (writeValue v rs .rows)
@@ -215,26 +216,26 @@ pub data Named (ps : List Pat) : List Row → List (Val × Val) → Type 0 where
       → Named ps rs cs → Named ps (clauseRow i j ∷ rs) (c ∷ cs)
 
 -- values that keep the ceilings
-pub record SmallPair (c : Val × Val) : Type 0 where
-  pub lhs : SmallPattern (closed (c .0))
-  pub rhs : SmallPattern (closed (c .1))
+pub record SmallPair (lim : ℕ) (c : Val × Val) : Type 0 where
+  pub lhs : SmallPattern lim (closed (c .0))
+  pub rhs : SmallPattern lim (closed (c .1))
 
-pub record PairsWritten (w : Written) (ts : List Pat) (cs : List (Val × Val)) : Type 0 where
+pub record PairsWritten (lim : ℕ) (w : Written) (ts : List Pat) (cs : List (Val × Val)) : Type 0 where
   pub trees : List Pat
-  pub stored : Patterns (w .patterns) trees
+  pub stored : Patterns lim (w .patterns) trees
   pub added : List Pat
   pub extends : trees ≡ ts ++ added
   pub rows : Named trees (w .clauses) cs
 
-pub pairs-written : (cs : List (Val × Val)) {rs : List Row} {ts : List Pat} → ((c : Val × Val) → List·Memᴰ c cs → SmallPair c) → Patterns rs ts
-    → PairsWritten (writePairs cs rs) ts cs
-pairs-written [] {rs} {ts} h s = record { trees = ts; stored = s; added = []; extends = sym (append-nil ts); rows = unnamed }
-pairs-written (c ∷ cs) {rs} {ts} h s =
+pub pairs-written : (lim : ℕ) (cs : List (Val × Val)) {rs : List Row} {ts : List Pat} → ((c : Val × Val) → List·Memᴰ c cs → SmallPair lim c) → Patterns lim rs ts
+    → PairsWritten lim (writePairs cs rs) ts cs
+pairs-written lim [] {rs} {ts} h s = record { trees = ts; stored = s; added = []; extends = sym (append-nil ts); rows = unnamed }
+pairs-written lim (c ∷ cs) {rs} {ts} h s =
     let k = h c (List·Memᴰ·head refl) in
-    let l = value-written (c .0) s (k .lhs .0) (k .lhs .1) in
-    let r = value-written (c .1) (l .stored) (k .rhs .0) (k .rhs .1) in
-    let o = pairs-written cs (λ d m. h d (List·Memᴰ·tail m)) (r .stored) in
-    let p = still patternTree PatternOk SmallPattern pattern-keep pattern-mono r _ (l .here) in
+    let l = value-written lim (c .0) s (k .lhs .0) (k .lhs .1) in
+    let r = value-written lim (c .1) (l .stored) (k .rhs .0) (k .rhs .1) in
+    let o = pairs-written lim cs (λ d m. h d (List·Memᴰ·tail m)) (r .stored) in
+    let p = still patternTree PatternOk (SmallPattern lim) pattern-keep pattern-mono r _ (l .here) in
     record {
       trees = o .trees;
       stored = o .stored;
@@ -295,7 +296,7 @@ pub record PatternsSeen (s : Seen) (ts : List Ty) (ps : List Pat) : Type 0 where
   pub patterns : s .patterns ≡ ps
   pub isos : s .isos ≡ 0
 
-pattern-judged : (s : Seen) (ts : List Ty) (ps : List Pat) (r : Row) → PatternsSeen s ts ps → PatternOk (length ps) r → SmallPattern (patternTree ps r)
+pattern-judged : (s : Seen) (ts : List Ty) (ps : List Pat) (r : Row) → PatternsSeen s ts ps → PatternOk (length ps) r → SmallPattern maxTags (patternTree ps r)
     → length ps < maxPatterns → judge s r ≡ none
 pattern-judged s ts ps r h k l m = fit-judge s r (subst (λ q. Fit s q r) (sym (k .kind)) fit)
   where
@@ -316,7 +317,7 @@ pattern-seen s ts ps r h k =
     subst (λ q. PatternsSeen (afterKind q s r) ts (ps ++ (patternTree ps r ∷ []))) (sym k)
     (record { order = omega arith; types = h .types; patterns = ap (λ z. z ++ (patternTree z r ∷ [])) (h .patterns); isos = h .isos })
 
-pub patterns-pass : (s₀ : Seen) (ts : List Ty) → PatternsSeen s₀ ts [] → {rs : List Row} {ps : List Pat} → Patterns rs ps → length ps ≤ maxPatterns
+pub patterns-pass : (s₀ : Seen) (ts : List Ty) → PatternsSeen s₀ ts [] → {rs : List Row} {ps : List Pat} → Patterns maxTags rs ps → length ps ≤ maxPatterns
     → Passes s₀ rs × PatternsSeen (afterAll s₀ rs) ts ps
 patterns-pass s₀ ts h₀ nothing l = (done, h₀)
 patterns-pass s₀ ts h₀ (more {rs} {qs} {ts = ps} {us = us} r s k m f p q) l =
@@ -392,8 +393,8 @@ module _ (ts : List Ty) (ps : List Pat) where
 type-kinds : {rs : List Row} {ts : List Ty} → Types rs ts → (r : Row) → List·Memᴰ r rs → (r .kind ≡ typeLine) ⊎ (r .kind ≡ patternLine)
 type-kinds s r m = let i = mem-index m in inl (ok-at typeTree TypeOk SmallType type-keep type-mono s (i .0) r (i .1) .kind)
 
-pattern-kinds : {rs : List Row} {ps : List Pat} → Patterns rs ps → (r : Row) → List·Memᴰ r rs → (r .kind ≡ typeLine) ⊎ (r .kind ≡ patternLine)
-pattern-kinds s r m = let i = mem-index m in inr (ok-at patternTree PatternOk SmallPattern pattern-keep pattern-mono s (i .0) r (i .1) .kind)
+pattern-kinds : {rs : List Row} {ps : List Pat} → Patterns maxTags rs ps → (r : Row) → List·Memᴰ r rs → (r .kind ≡ typeLine) ⊎ (r .kind ≡ patternLine)
+pattern-kinds s r m = let i = mem-index m in inr (ok-at patternTree PatternOk (SmallPattern maxTags) pattern-keep pattern-mono s (i .0) r (i .1) .kind)
 
 -- ---- rows that a line can hold
 
@@ -451,10 +452,10 @@ pub record FileWritten (a b : Ty) (cs : List (Val × Val)) (rs : List Row) : Typ
   pub line : ℕ
   pub isos : isosOf rs ≡ closedIso line a b cs ∷ []
   pub formed : (r : Row) → List·Memᴰ r rs → WellFormed r
-  pub few : length rs ≤ 1311
+  pub few : length rs ≤ 1407
   pub used : NoneIdle rs
 
-pub file-written : (a b : Ty) (cs : List (Val × Val)) → typeNodes a ≤ maxNodes → typeNodes b ≤ maxNodes → ((c : Val × Val) → List·Memᴰ c cs → SmallPair c)
+pub file-written : (a b : Ty) (cs : List (Val × Val)) → typeNodes a ≤ maxNodes → typeNodes b ≤ maxNodes → ((c : Val × Val) → List·Memᴰ c cs → SmallPair maxTags c)
     → length cs ≤ maxClauses → length (writePairs cs [] .patterns) ≤ maxPatterns → FileWritten a b cs (fileRows a b cs)
 unfolding fileRows isosOf typeLines
 file-written a b cs ha hb hc lc lp =
@@ -464,7 +465,7 @@ file-written a b cs ha hb hc lc lp =
       isos = isos;
       formed =
           each-append WellFormed (e .rows) (λ r m. let i = mem-index m in type-formed (length (g .trees)) r (omega (arith, room)) (ok-at typeTree TypeOk SmallType type-keep type-mono (g .stored) (i .0) r (i .1)))
-          (each-append WellFormed (w .patterns) (λ r m. let i = mem-index m in pattern-formed (length (o .trees)) r (omega (arith, proom)) (ok-at patternTree PatternOk SmallPattern pattern-keep pattern-mono (o .stored) (i .0) r (i .1)))
+          (each-append WellFormed (w .patterns) (λ r m. let i = mem-index m in pattern-formed (length (o .trees)) r (omega (arith, proom)) (ok-at patternTree PatternOk (SmallPattern maxTags) pattern-keep pattern-mono (o .stored) (i .0) r (i .1)))
           (each-cons WellFormed
           (record { x = omega (arith, room, index-below (g .trees) (f .number) fa); y = omega (arith, room, index-below (g .trees) (e .number) (g .here)); z = omega arith; missing = λ q. refl })
           (clauses-formed (omega (arith, proom)) (o .rows))));
@@ -494,14 +495,14 @@ file-written a b cs ha hb hc lc lp =
     fa : getElem? (g .trees) (f .number) ≡ some a
     fa = still typeTree TypeOk SmallType type-keep type-mono g (f .number) (h .here)
 
-    o : PairsWritten w [] cs
-    o = pairs-written cs hc nothing
+    o : PairsWritten maxTags w [] cs
+    o = pairs-written maxTags cs hc nothing
 
     troom : length (e .rows) ≤ 254
     troom = let p = type-room a [] in let q = type-room b (f .rows) in omega arith
 
     proom : length (o .trees) ≤ maxPatterns
-    proom = omega (arith, same-length patternTree PatternOk SmallPattern pattern-keep pattern-mono (o .stored))
+    proom = omega (arith, same-length patternTree PatternOk (SmallPattern maxTags) pattern-keep pattern-mono (o .stored))
 
     room : length (g .trees) ≤ maxTypes
     room =
@@ -519,7 +520,7 @@ file-written a b cs ha hb hc lc lp =
     pp =
         let t = tp .1 in
         patterns-pass s₁ (g .trees) (record { order = omega (arith, t .order); types = t .types; patterns = t .patterns; isos = t .isos }) (o .stored)
-        (omega (arith, same-length patternTree PatternOk SmallPattern pattern-keep pattern-mono (o .stored)))
+        (omega (arith, same-length patternTree PatternOk (SmallPattern maxTags) pattern-keep pattern-mono (o .stored)))
 
     s₂ : Seen
     s₂ = afterAll s₁ (w .patterns)
@@ -579,11 +580,52 @@ within-patterns s (r ∷ rs) qs h l e =
     let ih = within-patterns (after s r) rs qs (λ q m. h q (List·Memᴰ·tail m)) (omega arith) (p .1) in
     omega arith
 
--- "another ceiling passed in the writing": it is that of the P lines, and no other
-pub ceiling-of-patterns : (a b : Ty) (cs : List (Val × Val)) → typeNodes a ≤ maxNodes → typeNodes b ≤ maxNodes → ((c : Val × Val) → List·Memᴰ c cs → SmallPair c)
-    → length cs ≤ maxClauses → (withinAll start (fileRows a b cs) ≡ true) ↔ (length (writePairs cs [] .patterns) ≤ maxPatterns)
+-- P rows tell their trees
+patterns-told : (lim : ℕ) (s : Seen) → s .patterns ≡ [] → {rs : List Row} {ps : List Pat} → Patterns lim rs ps → afterAll s rs .patterns ≡ ps
+patterns-told lim s e nothing = e
+patterns-told lim s e (more {rs} {qs} {ts = ps} {us = us} r h k l f p q) =
+    ap (λ z. afterAll s z .patterns) p
+    ∙ ap (λ (z : Seen). z .patterns) (after-append s rs (r ∷ []))
+    ∙ ap (λ κ. afterKind κ (afterAll s rs) r .patterns) (k .kind)
+    ∙ ap (λ z. z ++ (patternTree z r ∷ [])) (patterns-told lim s e h)
+    ∙ sym q
+
+-- within the ceilings none of them has over 40 left and right nodes
+within-trees : (lim : ℕ) (s : Seen) → s .patterns ≡ [] → {rs : List Row} {ps : List Pat} → Patterns lim rs ps → (qs : List Row) → withinAll s (rs ++ qs) ≡ true
+    → (i : ℕ) (p : Pat) → getElem? ps i ≡ some p → tags p ≤ maxTags
+within-trees lim s e nothing qs w i p g = absurd (none≢some g)
+within-trees lim s e (more {rs} {qs = os} {ts = ps} {us = us} r h k l f p q) qs w i z g =
+    go (within-trees lim s e h (r ∷ qs) front i z) (index-snoc ps (patternTree ps r) i (ap (λ y. getElem? y i) (sym q) ∙ g))
+  where
+    front : withinAll s (rs ++ (r ∷ qs)) ≡ true
+    front = ap (withinAll s) (sym (append-assoc rs (r ∷ []) qs) ∙ ap (λ y. y ++ qs) (sym p)) ∙ w
+
+    here : tags (patternTree ps r) ≤ maxTags
+    here =
+        let v = within-append s rs (r ∷ qs) front in
+        let a = and-true (withinCeilings (afterAll s rs) (r .kind) r) (withinAll (after (afterAll s rs) r) qs) v .0 in
+        let b : withinCeilings (afterAll s rs) patternLine r ≡ true = ap (λ κ. withinCeilings (afterAll s rs) κ r) (sym (k .kind)) ∙ a in
+        let us : List Pat = afterAll s rs .patterns in
+        let c = and-true (ltb (length us) maxPatterns && leb (nodes (patternTree us r)) maxNodes) (leb (tags (patternTree us r)) maxTags) b .1 in
+        subst (λ y. tags (patternTree y r) ≤ maxTags) (patterns-told lim s e h) (leb-le (tags (patternTree us r)) maxTags c)
+
+    go : (getElem? ps i ≡ some z → tags z ≤ maxTags) → (getElem? ps i ≡ some z) ⊎ ((i ≡ length ps) × (z ≡ patternTree ps r)) → tags z ≤ maxTags
+    go below (inl x) = below x
+    go below (inr x) = subst (λ y. tags y ≤ maxTags) (sym (x .1)) here
+
+-- the numbers of a pair's values
+named-pair : {ps : List Pat} {rs : List Row} {cs : List (Val × Val)} → Named ps rs cs → (c : Val × Val) → List·Memᴰ c cs
+    → ((i : ℕ) × (getElem? ps i ≡ some (closed (c .0)))) × ((j : ℕ) × (getElem? ps j ≡ some (closed (c .1))))
+named-pair unnamed c m = absurd (List·Memᴰ·not-nil m)
+named-pair {ps} (one i j d p q h) c (List·Memᴰ·head e) =
+    ((i, p ∙ ap (λ (y : Val × Val). some (closed (y .0))) (sym e)), (j, q ∙ ap (λ (y : Val × Val). some (closed (y .1))) (sym e)))
+named-pair (one i j d p q h) c (List·Memᴰ·tail m) = named-pair h c m
+
+-- "another ceiling passed in the writing": it is that of the P lines or of a P line's left and right nodes, and no other
+pub light-pairs : (lim : ℕ) (a b : Ty) (cs : List (Val × Val)) → typeNodes a ≤ maxNodes → typeNodes b ≤ maxNodes → ((c : Val × Val) → List·Memᴰ c cs → SmallPair lim c)
+    → withinAll start (fileRows a b cs) ≡ true → (length (writePairs cs [] .patterns) ≤ maxPatterns) × ((c : Val × Val) → List·Memᴰ c cs → SmallPair maxTags c)
 unfolding fileRows
-ceiling-of-patterns a b cs ha hb hc lc = (there, λ h. passes-within (file-written a b cs ha hb hc lc h .passes))
+light-pairs lim a b cs ha hb hc q = (few, light)
   where
     f : Entry
     f = writeType a []
@@ -600,17 +642,36 @@ ceiling-of-patterns a b cs ha hb hc lc = (there, λ h. passes-within (file-writt
     g : TypeEntered e (h .trees) b
     g = type-written b (h .stored) hb
 
-    o : PairsWritten w [] cs
-    o = pairs-written cs hc nothing
+    o : PairsWritten lim w [] cs
+    o = pairs-written lim cs hc nothing
 
     tp : TypesSeen (afterAll start (e .rows)) (g .trees)
     tp = types-pass (g .stored) (omega (arith, type-room a [], type-room b (f .rows), same-length typeTree TypeOk SmallType type-keep type-mono (g .stored))) .1
 
-    there : withinAll start (e .rows ++ (w .patterns ++ (isoRow (f .number) (e .number) ∷ w .clauses))) ≡ true → length (w .patterns) ≤ maxPatterns
-    there q =
+    back : List Row
+    back = isoRow (f .number) (e .number) ∷ w .clauses
+
+    rest : withinAll (afterAll start (e .rows)) (w .patterns ++ back) ≡ true
+    rest = within-append start (e .rows) (w .patterns ++ back) q
+
+    few : length (w .patterns) ≤ maxPatterns
+    few =
         let z : length (afterAll start (e .rows) .patterns) ≡ 0 = ap length (tp .patterns) in
-        let r = within-patterns (afterAll start (e .rows)) (w .patterns) (isoRow (f .number) (e .number) ∷ w .clauses)
-        (λ r m. let i = mem-index m in ok-at patternTree PatternOk SmallPattern pattern-keep pattern-mono (o .stored) (i .0) r (i .1) .kind)
-        (omega arith)
-        (within-append start (e .rows) (w .patterns ++ (isoRow (f .number) (e .number) ∷ w .clauses)) q) in
+        let r = within-patterns (afterAll start (e .rows)) (w .patterns) back
+        (λ r m. let i = mem-index m in ok-at patternTree PatternOk (SmallPattern lim) pattern-keep pattern-mono (o .stored) (i .0) r (i .1) .kind)
+        (omega arith) rest in
         omega arith
+
+    light : (c : Val × Val) → List·Memᴰ c cs → SmallPair maxTags c
+    light c m =
+        let n = named-pair (o .rows) c m in
+        let t = within-trees lim (afterAll start (e .rows)) (tp .patterns) (o .stored) back rest in
+        let s = hc c m in
+        record {
+          lhs = (s .lhs .0, t (n .0 .0) (closed (c .0)) (n .0 .1));
+          rhs = (s .rhs .0, t (n .1 .0) (closed (c .1)) (n .1 .1));
+        }
+
+pub pairs-within : (a b : Ty) (cs : List (Val × Val)) → typeNodes a ≤ maxNodes → typeNodes b ≤ maxNodes → ((c : Val × Val) → List·Memᴰ c cs → SmallPair maxTags c)
+    → length cs ≤ maxClauses → length (writePairs cs [] .patterns) ≤ maxPatterns → withinAll start (fileRows a b cs) ≡ true
+pairs-within a b cs ha hb hc lc h = passes-within (file-written a b cs ha hb hc lc h .passes)

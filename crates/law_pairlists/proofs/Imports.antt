@@ -7,12 +7,12 @@ use mathlib.Core.Path.{_≡_, refl, sym, ap, ap₂, _∙_, subst}
 use mathlib.Core.Logic.{_↔_}
 use mathlib.Core.Bool.{Bool, true, false, cond, _||_}
 use mathlib.Core.Option.{Option, none, some}
-use mathlib.Core.List.{List, [], _∷_, map, List·Memᴰ, List·Memᴰ·head, List·Memᴰ·tail, Memᴰ·map}
+use mathlib.Core.List.{List, [], _∷_, map, List·Memᴰ, List·Memᴰ·head, List·Memᴰ·tail, Memᴰ·map, Memᴰ·of-map}
 use lib.Dec.{ltb, leb}
 use lib.ListN.{length, getElem?, length-map, length-append}
-use Rattle.limits.specs.Limits.{fieldBound, maxBytes, maxLines, maxClauses, maxPatterns, maxNodes, maxPairs, importLength}
+use Rattle.limits.specs.Limits.{fieldBound, maxBytes, maxLines, maxClauses, maxPatterns, maxNodes, maxTags, maxPairs, importLength}
 use Rattle.calculus.specs.Tools.{_>>=_, guard, total}
-use Rattle.calculus.specs.Trees.{Ty, Val, Iso, typeNodes}
+use Rattle.calculus.specs.Trees.{Ty, Val, Iso, typeNodes, tags, mostTags}
 use Rattle.calculus.specs.Refusals.{Kind, typeLine, patternLine, isoLine, clauseLine, letLine, ceiling, tooMany}
 use Rattle.format.specs.Lines.{Row, lines, withoutReturns, decimal, print, printRows}
 use Rattle.format.specs.Judge.{start}
@@ -28,8 +28,8 @@ use Rattle.model.proofs.Files.{accepted-iff}
 use Rattle.model.proofs.Outcomes.{fails≢gives, gives-inj}
 use Rattle.law_ranking.proofs.Outcomes.{small-type}
 use Rattle.law_ranking.proofs.Numbering.{rank-unrank}
-use Rattle.law_pairlists.proofs.File.{SmallPair, closedIso, FileWritten, file-written, ceiling-of-patterns}
-use Rattle.law_pairlists.proofs.Iso.{Lists, firsts, seconds, closed-nodes, closed-tags, closed-ok, closed-run}
+use Rattle.law_pairlists.proofs.File.{closed, SmallPair, closedIso, FileWritten, file-written, light-pairs, pairs-within}
+use Rattle.law_pairlists.proofs.Iso.{Lists, firsts, seconds, closed-nodes, closed-most, most-value, tags-nodes, closed-ok, closed-run}
 use Rattle.law_pairlists.proofs.List.{Taken, pairs-taken, lefts-all, rights-all, settings-length, settings-at, tos-printed, tos-length, decimal-few}
 
 -- ---- an import that is not refused
@@ -114,7 +114,7 @@ rows-short (r ∷ rs) h =
     let s = shown-short (r .kind) (r .x) (r .y) (r .z) (w .x) (w .y) (w .z) in
     omega arith
 
-not-over : (rs : List Row) → length rs ≤ 1311 → ((r : Row) → List·Memᴰ r rs → WellFormed r) → over (printRows rs) ≡ false
+not-over : (rs : List Row) → length rs ≤ 1407 → ((r : Row) → List·Memᴰ r rs → WellFormed r) → over (printRows rs) ≡ false
 unfolding over
 not-over rs l h =
     let p = length-printRows rs in
@@ -124,31 +124,59 @@ not-over rs l h =
 
 -- ---- the imported file
 
-pub small-pairs : {a b : Ty} (cs : List (Val × Val)) → typeNodes a ≤ maxNodes → typeNodes b ≤ maxNodes → count a ≤ maxClauses → count b ≤ maxClauses
-    → Lists a (firsts cs) → Lists b (seconds cs) → (c : Val × Val) → List·Memᴰ c cs → SmallPair c
-small-pairs {a} {b} cs ha hb ca cb h k c m =
+-- values of few nodes
+wide-pairs : {a b : Ty} (cs : List (Val × Val)) → typeNodes a ≤ maxNodes → typeNodes b ≤ maxNodes
+    → Lists a (firsts cs) → Lists b (seconds cs) → (c : Val × Val) → List·Memᴰ c cs → SmallPair maxNodes c
+wide-pairs {a} {b} cs ha hb h k c m =
+    let p = le-trans (closed-nodes (h .typed (c .0) (Memᴰ·map (λ (d : Val × Val). d .0) m))) ha in
+    let q = le-trans (closed-nodes (k .typed (c .1) (Memᴰ·map (λ (d : Val × Val). d .1) m))) hb in
+    record { lhs = (p, le-trans (tags-nodes (closed (c .0))) p); rhs = (q, le-trans (tags-nodes (closed (c .1))) q) }
+
+-- and of types whose values have at most 40 left and right nodes
+pub small-pairs : {a b : Ty} (cs : List (Val × Val)) → typeNodes a ≤ maxNodes → typeNodes b ≤ maxNodes → mostTags a ≤ maxTags → mostTags b ≤ maxTags
+    → Lists a (firsts cs) → Lists b (seconds cs) → (c : Val × Val) → List·Memᴰ c cs → SmallPair maxTags c
+small-pairs {a} {b} cs ha hb ta tb h k c m =
     let p = h .typed (c .0) (Memᴰ·map (λ (d : Val × Val). d .0) m) in
     let q = k .typed (c .1) (Memᴰ·map (λ (d : Val × Val). d .1) m) in
-    let pt = closed-tags p in
-    let qt = closed-tags q in
-    record { lhs = (le-trans (closed-nodes p) ha, omega arith); rhs = (le-trans (closed-nodes q) hb, omega arith) }
+    record { lhs = (le-trans (closed-nodes p) ha, le-trans (closed-most p) ta); rhs = (le-trans (closed-nodes q) hb, le-trans (closed-most q) tb) }
+
+-- what the ceilings of P lines come to: 40 left and right nodes for every value of both types, and 1,024 P lines
+pub record Light (a b : Ty) (ts : List ℕ) : Type 0 where
+  pub from : mostTags a ≤ maxTags
+  pub to : mostTags b ≤ maxTags
+  pub few : length (writePairs (settings a b 0 ts) [] .patterns) ≤ maxPatterns
 
 module _ (a b : Ty) (ts : List ℕ) (ha : typeNodes a ≤ maxNodes) (hb : typeNodes b ≤ maxNodes) (l : length ts ≤ maxClauses) (t : Taken a b ts) where
-  pub small : (c : Val × Val) → List·Memᴰ c (settings a b 0 ts) → SmallPair c
-  small = let f = t .froms in let g = t .tos in small-pairs (settings a b 0 ts) ha hb (omega arith) (omega arith) (lefts-all t) (rights-all t)
+  pub wide : (c : Val × Val) → List·Memᴰ c (settings a b 0 ts) → SmallPair maxNodes c
+  wide = wide-pairs (settings a b 0 ts) ha hb (lefts-all t) (rights-all t)
 
   few : length (settings a b 0 ts) ≤ maxClauses
   few = let n = settings-length a b 0 ts in omega arith
 
-  -- "another ceiling passed in the writing": over 1,024 P lines
-  pub written-ceiling : (withinAll start (fileRows a b (settings a b 0 ts)) ≡ true) ↔ (length (writePairs (settings a b 0 ts) [] .patterns) ≤ maxPatterns)
-  written-ceiling = ceiling-of-patterns a b (settings a b 0 ts) ha hb small few
+  -- "another ceiling passed in the writing": over 1,024 P lines, or over 40 left and right nodes in one of them
+  pub written-ceiling : (withinAll start (fileRows a b (settings a b 0 ts)) ≡ true) ↔ Light a b ts
+  written-ceiling = (there, λ h. pairs-within a b (settings a b 0 ts) ha hb (small-pairs (settings a b 0 ts) ha hb (h .from) (h .to) (lefts-all t) (rights-all t)) few (h .few))
+    where
+      there : withinAll start (fileRows a b (settings a b 0 ts)) ≡ true → Light a b ts
+      there w =
+          let x = light-pairs maxNodes a b (settings a b 0 ts) ha hb wide w in
+          let v = most-value a in
+          let u = most-value b in
+          let c = Memᴰ·of-map (λ (d : Val × Val). d .0) (settings a b 0 ts) (lefts-all t .whole (v .0) (v .1)) in
+          let d = Memᴰ·of-map (λ (d : Val × Val). d .1) (settings a b 0 ts) (rights-all t .whole (u .0) (u .1)) in
+          let e = ap (λ z. tags (closed z)) (c .2) ∙ v .2 in
+          let f = ap (λ z. tags (closed z)) (d .2) ∙ u .2 in
+          record {
+            from = subst (λ n. n ≤ maxTags) e (x .1 (c .0) (c .1) .lhs .1);
+            to = subst (λ n. n ≤ maxTags) f (x .1 (d .0) (d .1) .rhs .1);
+            few = x .0;
+          }
 
-  pub whole : length (writePairs (settings a b 0 ts) [] .patterns) ≤ maxPatterns → FileWritten a b (settings a b 0 ts) (fileRows a b (settings a b 0 ts))
-  whole = file-written a b (settings a b 0 ts) ha hb small few
+  pub whole : Light a b ts → FileWritten a b (settings a b 0 ts) (fileRows a b (settings a b 0 ts))
+  whole h = file-written a b (settings a b 0 ts) ha hb (small-pairs (settings a b 0 ts) ha hb (h .from) (h .to) (lefts-all t) (rights-all t)) few (h .few)
 
   -- "into an area of 65,536 bytes"
-  pub written-room : length (writePairs (settings a b 0 ts) [] .patterns) ≤ maxPatterns → length (printRows (fileRows a b (settings a b 0 ts))) ≤ importLength
+  pub written-room : Light a b ts → length (printRows (fileRows a b (settings a b 0 ts))) ≤ importLength
   written-room h =
       let w = whole h in
       let p = length-printRows (fileRows a b (settings a b 0 ts)) in

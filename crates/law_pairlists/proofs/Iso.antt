@@ -1,6 +1,6 @@
 -- Request 07: an iso of closed values, one clause a pair. Where each side lists all values of its type, each once, it keeps the rules of clause and iso,
 -- and each of its runs takes one application.
-use Prim.Native.Nat.{ℕ, suc, _+_, _*_, _≤_, _<_}
+use Prim.Native.Nat.{ℕ, suc, _+_, _*_, _≤_, _<_, max}
 use native.Mathlib.Nat.{le-refl, suc-mul, mul-le-mul}
 use native.Mathlib.Omega.{arith}
 use mathlib.Core.Path.{_≡_, refl, sym, ap, ap₂, _∙_, subst}
@@ -10,13 +10,13 @@ use mathlib.Core.Option.{none, some}
 use mathlib.Core.List.{List, [], _∷_, _++_, map, List·Memᴰ, List·Memᴰ·head, List·Memᴰ·tail, List·Memᴰ·not-nil, Memᴰ·map, Memᴰ·of-map}
 use lib.Dec.{eqb}
 use Rattle.calculus.specs.Tools.{_>>=_, isSome}
-use Rattle.calculus.specs.Trees.{Ty, left, right, ppair, Val, vunit, vinj, vpair, Clause, Iso, vars, nodes, tags, typeNodes}
+use Rattle.calculus.specs.Trees.{Ty, tunit, tsum, tprod, mostTags, left, right, Pat, punit, pvar, pinj, ppair, Val, vunit, vinj, vpair, Clause, Iso, vars, nodes, tags, typeNodes}
 use Rattle.calculus.specs.Slots.{Slots, empty, allEmpty}
 use Rattle.calculus.specs.Clauses.{Sigs, sigsOf, events, history, binds, uses}
 use Rattle.calculus.specs.Reduction.{bind, build, runClause, reduceTo, reduce}
 use Rattle.law_ranking.specs.Numbering.{count, rank, unrank}
 use Rattle.calculus.specs.Paper.{Of, Join, Fits, Chain, Alternate, Orth, Apart, Matched, fill, Covers, ClauseOk, IsoOk, FileOk}
-use Rattle.calculus.proofs.Basic.{some-bind, true-guard, sameTag-refl, bool-cases, not-both, eqb-eq, eq-eqb, each-nil, each-cons}
+use Rattle.calculus.proofs.Basic.{some-bind, true-guard, sameTag-refl, bool-cases, not-both, eqb-eq, eq-eqb, each-nil, each-cons, le-or-lt}
 use Rattle.calculus.proofs.Letters.{of-inhabits}
 use Rattle.calculus.proofs.Slots.{length-empty, allEmpty-empty}
 use Rattle.calculus.proofs.Running.{run-clause, only-hit}
@@ -104,7 +104,35 @@ closed-nodes (Of.inj {t = left} h) = let k = closed-nodes h in omega arith
 closed-nodes (Of.inj {t = right} h) = let k = closed-nodes h in omega arith
 closed-nodes (Of.pair h k) = let p = closed-nodes h in let q = closed-nodes k in omega arith
 
--- fewer left and right nodes than its type has values: with 32 clauses no closed value passes the ceiling of 40
+-- no more left and right nodes than the most of its type, which some value has
+pub closed-most : {v : Val} {a : Ty} → Of v a → tags (closed v) ≤ mostTags a
+closed-most Of.unit = omega arith
+closed-most (Of.inj {t = left} {a = a} {b = b} h) = let k = closed-most h in omega arith
+closed-most (Of.inj {t = right} {a = a} {b = b} h) = let k = closed-most h in omega arith
+closed-most (Of.pair h k) = let p = closed-most h in let q = closed-most k in omega arith
+
+pub most-value : (a : Ty) → (v : Val) × Of v a × (tags (closed v) ≡ mostTags a)
+most-value tunit = (vunit, Of.unit, refl)
+most-value (tsum a b) = go (le-or-lt (mostTags a) (mostTags b)) (most-value a) (most-value b)
+  where
+    go : (mostTags a ≤ mostTags b) ⊎ (mostTags b < mostTags a) → (v : Val) × Of v a × (tags (closed v) ≡ mostTags a) → (v : Val) × Of v b × (tags (closed v) ≡ mostTags b)
+        → (v : Val) × Of v (tsum a b) × (tags (closed v) ≡ mostTags (tsum a b))
+    go (inl l) x y = let e = y .2 in (vinj right (y .0), Of.inj (y .1), omega arith)
+    go (inr l) x y = let e = x .2 in (vinj left (x .0), Of.inj (x .1), omega arith)
+most-value (tprod a b) =
+    let x = most-value a in
+    let y = most-value b in
+    let e = x .2 in
+    let f = y .2 in
+    (vpair (x .0) (y .0), Of.pair (x .1) (y .1), omega arith)
+
+pub tags-nodes : (p : Pat) → tags p ≤ nodes p
+tags-nodes punit = omega arith
+tags-nodes (pvar n) = omega arith
+tags-nodes (pinj t p) = let h = tags-nodes p in omega arith
+tags-nodes (ppair p q) = let h = tags-nodes p in let k = tags-nodes q in omega arith
+
+-- fewer left and right nodes than its type has values
 pub closed-tags : {v : Val} {a : Ty} → Of v a → tags (closed v) < count a
 closed-tags Of.unit = omega arith
 closed-tags (Of.inj {t = left} {b = b} h) = let k = closed-tags h in let p = count-positive b in omega arith

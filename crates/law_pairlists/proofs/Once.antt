@@ -20,7 +20,7 @@ use Rattle.law_pairlists.proofs.Rows.{nothing, once, ok-at}
 use Rattle.law_pairlists.proofs.File.{TypeOk, type-keep, type-mono, SmallType, type-written, PatternOk, pattern-keep, pattern-mono, SmallPattern, closed, Named, unnamed, one, pairs-written}
 use Rattle.law_pairlists.proofs.Iso.{Differ, beside, firsts, closed-build}
 use Rattle.law_pairlists.proofs.List.{Taken, lefts-all}
-use Rattle.law_pairlists.proofs.Imports.{small, whole}
+use Rattle.law_pairlists.proofs.Imports.{wide, Light, whole}
 
 -- each row at one place
 abbrev Once : List Row → Type 0
@@ -99,14 +99,14 @@ module _ (a b : Ty) (ts : List ℕ) (ha : typeNodes a ≤ maxNodes) (hb : typeNo
 
   patterns-are : Once patterns × ((r : Row) → List·Memᴰ r patterns → r .kind ≡ patternLine)
   patterns-are =
-      let o = pairs-written (settings a b 0 ts) (small a b ts ha hb l t) nothing in (
-        once patternTree PatternOk SmallPattern pattern-keep pattern-mono (o .stored),
-        λ r m. let i = mem-index m in ok-at patternTree PatternOk SmallPattern pattern-keep pattern-mono (o .stored) (i .0) r (i .1) .kind,
+      let o = pairs-written maxNodes (settings a b 0 ts) (wide a b ts ha hb l t) nothing in (
+        once patternTree PatternOk (SmallPattern maxNodes) pattern-keep pattern-mono (o .stored),
+        λ r m. let i = mem-index m in ok-at patternTree PatternOk (SmallPattern maxNodes) pattern-keep pattern-mono (o .stored) (i .0) r (i .1) .kind,
       )
 
   clauses-are : Once clauses × ((r : Row) → List·Memᴰ r clauses → r .kind ≡ clauseLine)
   clauses-are =
-      let o = pairs-written (settings a b 0 ts) (small a b ts ha hb l t) nothing in
+      let o = pairs-written maxNodes (settings a b 0 ts) (wide a b ts ha hb l t) nothing in
       (named-once (o .rows) (lefts-all t .differ), λ r m. named-of (o .rows) r m .0)
 
   iso-once : Once (iso ∷ clauses)
@@ -128,7 +128,7 @@ module _ (a b : Ty) (ts : List ℕ) (ha : typeNodes a ≤ maxNodes) (hb : typeNo
       (behind typeLine (λ e. omega arith) (λ e. omega arith)) r n (types-are .1 r m))
 
   -- and of lines
-  pub lines-once : length patterns ≤ maxPatterns → (i j : ℕ) (line : List ℕ) → getElem? (lines (printRows (fileRows a b (settings a b 0 ts)))) i ≡ some line
+  pub lines-once : Light a b ts → (i j : ℕ) (line : List ℕ) → getElem? (lines (printRows (fileRows a b (settings a b 0 ts)))) i ≡ some line
       → getElem? (lines (printRows (fileRows a b (settings a b 0 ts)))) j ≡ some line → i ≡ j
   lines-once few i j line d e =
       let rs : List Row = fileRows a b (settings a b 0 ts) in

@@ -30,9 +30,9 @@ use Rattle.model.proofs.Runs.{results, accepted-good, good, preserves, reduces-
 use Rattle.law_ranking.proofs.Numbering.{unrank-inhabits, unrank-rank}
 use Rattle.model.proofs.Outcomes.{fails≢gives}
 use Rattle.law_ranking.proofs.Outcomes.{small-type}
-use Rattle.law_pairlists.proofs.File.{closedIso, ceiling-of-patterns}
+use Rattle.law_pairlists.proofs.File.{closedIso}
 use Rattle.law_pairlists.proofs.List.{Taken, twice-none, lefts-all, rights-all, settings-length, tos-length}
-use Rattle.law_pairlists.proofs.Imports.{Imported, Trades, traded-run, small-pairs, import-accepted}
+use Rattle.law_pairlists.proofs.Imports.{Imported, Trades, traded-run, Light, written-ceiling, import-accepted}
 use Rattle.law_pairlists.proofs.Exports.{Exported, upwards-at, there-is, export-taken, export-reads, export-import}
 
 -- the first pair that is not sent
@@ -225,10 +225,11 @@ module _ (rs : List Row) (i j : ℕ) (list : List ℕ) where
               listed ∙ ap (onList a b) taken-list
               ∙ ap (λ c. cond c (gives (printRows (fileRows a b (settings a b 0 ts)))) (fails (ceiling patternLine))) w
 
--- An exported list of at most 32 lines is imported between the iso's types, unless its values take more than 1,024 P lines.
+-- An exported list of at most 128 lines is imported between the iso's types, unless its values take more than 1,024 P lines or one of them has over 40 left and
+-- right nodes.
 pub export-importable : (file : List ℕ) (rs : List Row) → verdict file ≡ accepted rs → (i budget : ℕ) (list : List ℕ) (x : Exported rs i budget list)
     → (a b : ℕ) → getElem? (typesOf rs) a ≡ some (x .iso .from) → getElem? (typesOf rs) b ≡ some (x .iso .to) → count (x .iso .from) ≤ maxClauses
-    → length (writePairs (settings (x .iso .from) (x .iso .to) 0 (x .tos)) [] .patterns) ≤ maxPatterns
+    → Light (x .iso .from) (x .iso .to) (x .tos)
     → importRows rs a b list ≡ gives (printRows (fileRows (x .iso .from) (x .iso .to) (settings (x .iso .from) (x .iso .to) 0 (x .tos))))
 export-importable file rs e i budget list x a b p q l r =
     let t = export-taken file rs e i budget list x in
@@ -242,9 +243,8 @@ export-importable file rs e i budget list x a b p q l r =
     let k = settings-length from to 0 (x .tos) in
     let sa = small-type file rs e a from p in
     let sb = small-type file rs e b to q in
-    let small = small-pairs cs sa sb (omega arith) (omega arith) (lefts-all t) (rights-all t) in
     import-given rs a b list from to p q (omega arith) (omega arith) (omega arith) (x .tos) z t
-    (ceiling-of-patterns from to cs sa sb small (omega arith) .1 r)
+    (written-ceiling from to (x .tos) sa sb (omega arith) t .1 r)
 
 -- ---- export and Run
 

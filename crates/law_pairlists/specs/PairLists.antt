@@ -154,7 +154,7 @@ abbrev pub onList : Ty → Ty → Option (List ℕ) → Outcome (List ℕ)
 onList a b none = fails badList
 onList a b (some ts) = writing (fileRows a b (settings a b 0 ts))
 
--- "Over 32 lines in the list is 7 at line 0, tested after 15 and 18"; 20; "another ceiling …, tested last"
+-- "Over 32 lines in the list is 7 at line 0, tested after 15 and 18" (request 13: "import takes 128 pairs"); 20; "another ceiling …, tested last"
 abbrev pub onLines : Ty → Ty → List (List ℕ) → Outcome (List ℕ)
 onLines a b ls = cond (ltb maxClauses (length ls)) (fails (ceiling clauseLine)) (onList a b (listOf a b ls))
 

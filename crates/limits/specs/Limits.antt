@@ -8,7 +8,7 @@ maxBytes = 65536
 abbrev pub maxLines : ℕ
 maxLines = 4096
 
--- how many T, P and I lines a file holds, C lines an iso, L lines a clause
+-- how many T, P and I lines a file holds, C lines an iso (request 13: 128 instead of 32), L lines a clause
 abbrev pub maxTypes : ℕ
 maxTypes = 256
 
@@ -19,7 +19,7 @@ abbrev pub maxIsos : ℕ
 maxIsos = 32
 
 abbrev pub maxClauses : ℕ
-maxClauses = 32
+maxClauses = 128
 
 abbrev pub maxLets : ℕ
 maxLets = 8

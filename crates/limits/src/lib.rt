@@ -12,7 +12,7 @@ pub const MAX_PATTERNS: usize = 1024;
 
 pub const MAX_ISOS: usize = 32;
 
-pub const MAX_CLAUSES: usize = 32;
+pub const MAX_CLAUSES: usize = 128;
 
 pub const MAX_LETS: usize = 8;
 

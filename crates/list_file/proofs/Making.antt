@@ -1,5 +1,5 @@
 -- The rows of a file in three areas, and its bytes, or refusal 7.
-use Prim.Native.Nat.{ℕ, _+_, _*_, _≤_, _<_}
+use Prim.Native.Nat.{ℕ, _+_, _*_, _≤_, _<_, min}
 use native.Mathlib.Nat.{lt-irrefl, zero-add}
 use native.Mathlib.Omega.{arith}
 use mathlib.Core.Path.{_≡_, refl, sym, ap, _∙_, subst}
@@ -10,8 +10,8 @@ use mathlib.Core.List.{List, [], _∷_, _++_}
 use lib.Dec.{leb}
 use lib.ListN.{length, take, drop}
 use lib.Seq.{sets-eq, length-take-le}
-use Rattle.limits.specs.Limits.{maxNodes, maxValues, maxClauses, rowWidth}
-use Rattle.calculus.specs.Trees.{Ty, Val, typeNodes}
+use Rattle.limits.specs.Limits.{maxNodes, maxTags, manyTags, maxValues, maxClauses, rowWidth}
+use Rattle.calculus.specs.Trees.{Ty, Val, typeNodes, mostTags}
 use Rattle.calculus.specs.Refusals.{typeLine, patternLine, clauseLine, ceiling}
 use Rattle.format.specs.Lines.{Row, printRows}
 use Rattle.format.specs.Judge.{start}
@@ -23,11 +23,11 @@ use Rattle.area_cells.specs.Areas.{Writes}
 use Rattle.law_pairlists.specs.PairLists.{writeType, writePairs, isoRow, settings, fileRows, withinAll, writing}
 use Rattle.law_pairlists.proofs.File.{type-room}
 use Rattle.law_pairlists.proofs.List.{Taken, pairs-taken}
-use Rattle.law_pairlists.proofs.Imports.{written-ceiling, written-room}
+use Rattle.law_pairlists.proofs.Imports.{Light, written-ceiling, written-room}
 use Rattle.list_entries.specs.Entries.{maxEntries, entriesAt, Tracks, Room, Follows}
 use Rattle.list_entries.proofs.Tracking.{entries-length}
 use Rattle.list_writing.specs.Writing.{TypeDone, PairsDone}
-use Rattle.list_file.specs.Filing.{FileMade}
+use Rattle.list_file.specs.Filing.{FileMade, RowsMade}
 use Rattle.list_file.specs.declared.Filed as F
 
 -- no rows yet
@@ -97,14 +97,14 @@ module _ (a b : Ty) (tos : List ℕ) (k : ℕ) (o : List ℕ) (most : k ≤ maxC
 
   module _ {p p′ q q′ : List ℕ} {end : ℕ} (pairs : PairsDone a b tos k p p′ q q′ end) (wide : maxEntries * rowWidth ≤ length p) (long : maxClauses * rowWidth ≤ length q) where
     -- over 1,024 P lines
-    pub file-over : 1024 < end → (r : F.Filed) → refusalView (r .refusal) ≡ some (ceiling patternLine) → r .length ≡ 0 → FileMade a b tos k o o r
+    pub file-over : 1024 < end → (r : F.Filed) → refusalView (r .refusal) ≡ some (ceiling patternLine) → r .length ≡ 0 → RowsMade a b tos k o o r
     file-over h r n l =
         record {
-          does = λ ha hb le up room.
+          does = λ ta tb ha hb le up room.
               let t = pairs-taken a b (take k tos) up in
               let c = counts le t in
               let d = pairs .does (c .0) (c .1) le (record { words = wide }) long in
-              let no-room : withinAll start rows ≡ false = is-false (withinAll start rows) (λ w. tracks-many (d .0) h (written-ceiling a b (take k tos) ha hb (short-list le) t .0 w)) in
+              let no-room : withinAll start rows ≡ false = is-false (withinAll start rows) (λ w. tracks-many (d .0) h (written-ceiling a b (take k tos) ha hb (short-list le) t .0 w .few)) in
               let x : writing rows ≡ fails (ceiling patternLine) = ap (λ y. cond y (gives (printRows rows)) (fails (ceiling patternLine))) no-room in
               record {
                 refusal = n ∙ sym (ap refusalOf x);
@@ -116,26 +116,49 @@ module _ (a b : Ty) (tos : List ℕ) (k : ℕ) (o : List ℕ) (most : k ≤ maxC
     -- within it
     pub file-made : {s s₁ s₂ : List ℕ} {m d n e : ℕ} → maxEntries * rowWidth ≤ length s → TypeDone a s s₁ 0 m d → TypeDone b s₁ s₂ d n e → end ≤ 1024 → {o′ : List ℕ} {len : ℕ}
         → (m < 10000000000 → n < 10000000000 → Writes o o′ 0 len (printRows (entriesAt typeLine s₂ 0 e ++ (entriesAt patternLine p′ 0 end ++ (isoRow m n ∷ entriesAt clauseLine q′ 0 k)))))
-        → (r : F.Filed) → refusalView (r .refusal) ≡ none → r .length ≡ len → FileMade a b tos k o o′ r
+        → (r : F.Filed) → refusalView (r .refusal) ≡ none → r .length ≡ len → RowsMade a b tos k o o′ r
     file-made {s} {s₁} {s₂} {m} {d} {n} {e} area f g h {o′} {len} w r j l =
         record {
-          does = λ ha hb le up room.
+          does = λ ta tb ha hb le up room.
               let t = pairs-taken a b (take k tos) up in
               let c = counts le t in
               let z = pairs .does (c .0) (c .1) le (record { words = wide }) long in
               let few = tracks-few (z .0) h in
+              let light : Light a b (take k tos) = record { from = ta; to = tb; few = few } in
               let types = types-made a b ha hb (record { words = area }) f g in
               let x : writing rows ≡ gives (printRows rows) =
-              ap (λ y. cond y (gives (printRows rows)) (fails (ceiling patternLine))) (written-ceiling a b (take k tos) ha hb (short-list le) t .1 few) in
+              ap (λ y. cond y (gives (printRows rows)) (fails (ceiling patternLine))) (written-ceiling a b (take k tos) ha hb (short-list le) t .1 light) in
               let same : entriesAt typeLine s₂ 0 e ++ (entriesAt patternLine p′ 0 end ++ (isoRow m n ∷ entriesAt clauseLine q′ 0 k)) ≡ rows =
               file-rows a b (settings a b 0 (take k tos)) (types .rows) (types .from) (types .to) (z .0 .exact (omega (arith, few))) (z .1 (omega (arith, few))) in
               let bs : List ℕ = printRows rows in
               let put : Writes o o′ 0 len bs = subst (λ y. Writes o o′ 0 len (printRows y)) same (w (omega (arith, types .below)) (omega (arith, types .under))) in
               let zero : 0 + length bs ≡ length bs = zero-add (length bs) in
-              let fits : 0 + length bs ≤ length o = omega (arith, written-room a b (take k tos) ha hb (short-list le) t few) in
+              let fits : 0 + length bs ≤ length o = omega (arith, written-room a b (take k tos) ha hb (short-list le) t light) in
               record {
                 refusal = j ∙ sym (ap refusalOf x);
                 bytes = l ∙ put .place fits ∙ zero ∙ sym (ap (λ y. length (bytesFrom y)) x);
                 output = put .area fits ∙ sets-eq bs o 0 fits ∙ ap (λ y. bs ++ drop y o) zero ∙ sym (ap (λ y. written (bytesFrom y) o) x);
               };
         }
+
+  -- a value of over 40 left and right nodes
+  pub file-heavy : {x : ℕ} → (mostTags a ≤ maxTags → mostTags b ≤ maxTags → x ≤ maxTags) → {n : ℕ} → n ≡ min manyTags x → maxTags < n → (r : F.Filed)
+      → (refusalView (r .refusal) ≡ some (ceiling patternLine)) × (r .length ≡ 0) → FileMade a b tos k o o r
+  file-heavy {x} light {n} e over r says =
+      record {
+        does = λ ha hb le up room.
+            let t = pairs-taken a b (take k tos) up in
+            let no-room : withinAll start rows ≡ false =
+            is-false (withinAll start rows)
+            (λ w. let l = written-ceiling a b (take k tos) ha hb (short-list le) t .0 w in let z = light (l .from) (l .to) in absurd (lt-irrefl 40 (omega arith))) in
+            let y : writing rows ≡ fails (ceiling patternLine) = ap (λ y. cond y (gives (printRows rows)) (fails (ceiling patternLine))) no-room in
+            record {
+              refusal = says .0 ∙ sym (ap refusalOf y);
+              bytes = says .1 ∙ sym (ap (λ z. length (bytesFrom z)) y);
+              output = sym (ap (λ z. written (bytesFrom z) o) y);
+            };
+      }
+
+  pub file-light : {o′ : List ℕ} {r : F.Filed} {m n : ℕ} → m ≡ min manyTags (mostTags a) → m ≤ maxTags → n ≡ min manyTags (mostTags b) → n ≤ maxTags
+      → RowsMade a b tos k o o′ r → FileMade a b tos k o o′ r
+  file-light e l f g h = record { does = λ ha hb le up room. h .does (omega arith) (omega arith) ha hb le up room }

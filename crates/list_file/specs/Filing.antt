@@ -4,9 +4,9 @@ use mathlib.Core.Path.{_≡_}
 use mathlib.Core.Bool.{true}
 use mathlib.Core.List.{List, _∷_, _++_}
 use lib.ListN.{length, take}
-use Rattle.limits.specs.Limits.{maxNodes, importLength}
+use Rattle.limits.specs.Limits.{maxNodes, maxTags, importLength}
 use Rattle.calculus.specs.Refusals.{typeLine, patternLine, clauseLine}
-use Rattle.calculus.specs.Trees.{Ty, typeNodes}
+use Rattle.calculus.specs.Trees.{Ty, typeNodes, mostTags}
 use Rattle.model.specs.Services.{written, Outcome, refusalOf, bytesFrom}
 use Rattle.format.specs.Lines.{Row, printRows}
 use Rattle.format.specs.Code.{refusalView}
@@ -36,3 +36,8 @@ FilePut ts ps cs m o o′ r = m .from < 10000000000 → m .to < 10000000000 → 
 pub record FileMade (a b : Ty) (tos : List ℕ) (n : ℕ) (o o′ : List ℕ) (r : F.Filed) : Type 0 where
   pub does : typeNodes a ≤ maxNodes → typeNodes b ≤ maxNodes → n ≤ length tos → pairsUp a b (take n tos) ≡ true → importLength ≤ length o
       → FiledAs (writing (fileRows a b (settings a b 0 (take n tos)))) o o′ r
+
+-- the same, where no value of either type has over 40 left and right nodes
+pub record RowsMade (a b : Ty) (tos : List ℕ) (n : ℕ) (o o′ : List ℕ) (r : F.Filed) : Type 0 where
+  pub does : mostTags a ≤ maxTags → mostTags b ≤ maxTags → typeNodes a ≤ maxNodes → typeNodes b ≤ maxNodes → n ≤ length tos → pairsUp a b (take n tos) ≡ true
+      → importLength ≤ length o → FiledAs (writing (fileRows a b (settings a b 0 (take n tos)))) o o′ r

@@ -8,20 +8,25 @@ use format::Refusal;
 use format::Row;
 use limits::MAX_CLAUSES;
 use limits::MAX_PATTERNS;
+use limits::MAX_TAGS;
 use limits::ROW_WIDTH;
 use list_entries::MAX_ENTRIES;
 use list_writing::write_pairs;
 use list_writing::write_type;
 use print_text::put_row;
+use table_sizes::type_tags;
 use table_trees::cell;
 ghost use Prim.Native.Nat.{_≤_};
+ghost use mathlib.Core.Path.{_≡_};
+ghost use mathlib.Core.Option.{some};
+ghost use Rattle.calculus.specs.Refusals.{patternLine, ceiling};
 ghost use Rattle.limits.specs.Limits.{maxClauses};
 ghost use Rattle.format.specs.Lines.{print, printRows};
-ghost use Rattle.format.specs.Code.{kindView};
+ghost use Rattle.format.specs.Code.{kindView, refusalView};
 ghost use Rattle.area_cells.specs.Areas.{Writes};
 ghost use Rattle.table_trees.specs.Unfolding.{typeOf};
 ghost use Rattle.list_entries.specs.Entries.{entryAt, entriesAt};
-ghost use Rattle.list_file.specs.Filing.{FilePut, FileMade};
+ghost use Rattle.list_file.specs.Filing.{FilePut, FileMade, RowsMade};
 
 // The words of the T rows, of the P rows and of the C rows.
 const ENTRY_WORDS: usize = MAX_ENTRIES * ROW_WIDTH;
@@ -91,12 +96,39 @@ fn put_file(ts: &[u16], ps: &[u16], cs: &[u16], m: Made, out: &mut [u8]) -> usiz
     put_entries(cs, Kind::Clause, m.clauses, out, z)
 }
 
+// A file that passes a ceiling of P lines, and no bytes.
+fn over() -> Filed
+    ensures { λ r. ⌜ (refusalView (r .refusal) ≡ some (ceiling patternLine)) × (r .length ≡ 0) ⌝ }
+{
+    Filed {
+        refusal: Refusal::Ceiling(Kind::Pattern),
+        length: 0,
+    }
+}
+
 // Writes the file whose iso sends value k of T line i to value tos[k] of T line j, for n values. The output area needs 65,536 bytes; a
 // refusal leaves it untouched.
 pub fn write_file(t: &[u16], i: usize, j: usize, tos: &[u16], n: usize, out: &mut [u8]) -> Filed
     requires { ⌜ n ≤ maxClauses ⌝ }
     ensures { λ r. ⌜
         FileMade (typeOf (now (t .entry)) i) (typeOf (now (t .entry)) j) (now (tos .entry)) n
+        (now (out .entry)) (now (out .exit)) r
+        ⌝ }
+{
+    if MAX_TAGS < type_tags(t, i) {
+        return over();
+    }
+    if MAX_TAGS < type_tags(t, j) {
+        return over();
+    }
+    write_rows(t, i, j, tos, n, out)
+}
+
+// The same, where no value of the two types has over 40 left and right nodes.
+fn write_rows(t: &[u16], i: usize, j: usize, tos: &[u16], n: usize, out: &mut [u8]) -> Filed
+    requires { ⌜ n ≤ maxClauses ⌝ }
+    ensures { λ r. ⌜
+        RowsMade (typeOf (now (t .entry)) i) (typeOf (now (t .entry)) j) (now (tos .entry)) n
         (now (out .entry)) (now (out .exit)) r
         ⌝ }
 {

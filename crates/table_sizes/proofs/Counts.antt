@@ -1,10 +1,13 @@
 -- The counts of an unfolded line's nodes, from those of the lines that it names, up to the ceiling that stands for more.
-use Prim.Native.Nat.{ℕ, _+_, min}
+use Prim.Native.Nat.{ℕ, suc, _+_, _<_, _≤_, min, max}
 use native.Mathlib.Omega.{arith}
 use mathlib.Core.Path.{_≡_, refl, sym, ap, _∙_, subst}
 use mathlib.Core.List.{List}
 use Rattle.limits.specs.Limits.{manyTags, manyNodes}
-use Rattle.calculus.specs.Trees.{Ty, typeNodes, Pat, nodes, tags}
+use Rattle.calculus.specs.Trees.{Ty, typeNodes, Pat, nodes, tags, mostTags}
+use mathlib.Core.Bool.{cond}
+use Rattle.calculus.proofs.Basic.{not-eqb}
+use Rattle.table_sizes.specs.Joined.{joinTags}
 use Rattle.format.specs.Judge.{typeNode, patternNode}
 use Rattle.table_trees.specs.Unfolding.{cellOf, smallerOf, typeOf, patternOf}
 use Rattle.table_trees.proofs.Cases.{Parted, sums, products, Whole, node-whole, Injects, lefts, rights, Leaf, unit, var, other}
@@ -58,6 +61,21 @@ both x y z p q e f = omega arith
 pub one-more : {m r : ℕ} (x z : ℕ) → m ≡ min manyTags x → r ≡ min manyTags (1 + m) → z ≡ 1 + x → r ≡ min manyTags z
 one-more x z p e f = omega arith
 
+-- the values of a sum or a product
+pub join-two : {k m n r : ℕ} (x y : Ty) {z : ℕ} → Parted k → m ≡ min manyTags (mostTags x) → n ≡ min manyTags (mostTags y) → r ≡ min manyTags (joinTags k m n)
+    → z ≡ mostTags (typeNode k x y) → r ≡ min manyTags z
+join-two x y sums p q e f = omega arith
+join-two x y products p q e f = omega arith
+
+pub joined-second : (k m n : ℕ) {r : ℕ} → k ≡ 1 → m < n → r ≡ min manyTags (1 + n) → r ≡ min manyTags (joinTags k m n)
+joined-second k m n {r} h l e = subst (λ j. r ≡ min manyTags (joinTags j m n)) (sym h) (omega arith)
+
+pub joined-first : (k m n : ℕ) {r : ℕ} → k ≡ 1 → n ≤ m → r ≡ min manyTags (1 + m) → r ≡ min manyTags (joinTags k m n)
+joined-first k m n {r} h l e = subst (λ j. r ≡ min manyTags (joinTags j m n)) (sym h) (omega arith)
+
+pub joined-both : (k m n : ℕ) {r : ℕ} → (k ≡ 1 → ⊥) → r ≡ min manyTags (m + n) → r ≡ min manyTags (joinTags k m n)
+joined-both k m n h e = e ∙ sym (ap (λ b. min manyTags (cond b (suc (max m n)) (m + n))) (not-eqb h))
+
 -- ---- T lines: k is the kind, a and b are the lines that line i names, m and n what was counted there
 
 module _ (t : List ℕ) (i : ℕ) where
@@ -82,6 +100,28 @@ module _ (t : List ℕ) (i : ℕ) where
       (q ∙ ap (λ x. min manyNodes (typeNodes (typeOf t x))) (w ∙ ap (λ x. smallerOf x i) g))
       r
       (ap typeNodes (type-node t i) ∙ type-count _ _ (subst Parted e h))
+
+  pub type-tags-whole : {k : ℕ} → k ≡ cellOf t i 1 → Whole k → 0 ≡ min manyTags (mostTags (typeOf t i))
+  type-tags-whole e h = sym (ap (min manyTags) (ap mostTags (type-node t i ∙ node-whole _ _ (subst Whole e h))))
+
+  pub type-tags-node :
+      {k u v a b m n r : ℕ} →
+      k ≡ cellOf t i 1 →
+      Parted k →
+      u ≡ cellOf t i 2 →
+      a ≡ smallerOf u i →
+      v ≡ cellOf t i 3 →
+      b ≡ smallerOf v i →
+      m ≡ min manyTags (mostTags (typeOf t a)) →
+      n ≡ min manyTags (mostTags (typeOf t b)) →
+      r ≡ min manyTags (joinTags k m n) →
+      r ≡ min manyTags (mostTags (typeOf t i))
+  type-tags-node e h f s g w p q r =
+      join-two (typeOf t (smallerOf (cellOf t i 2) i)) (typeOf t (smallerOf (cellOf t i 3) i)) h
+      (p ∙ ap (λ x. min manyTags (mostTags (typeOf t x))) (s ∙ ap (λ x. smallerOf x i) f))
+      (q ∙ ap (λ x. min manyTags (mostTags (typeOf t x))) (w ∙ ap (λ x. smallerOf x i) g))
+      r
+      (ap mostTags (type-node t i) ∙ ap (λ k. mostTags (typeNode k (typeOf t (smallerOf (cellOf t i 2) i)) (typeOf t (smallerOf (cellOf t i 3) i)))) (sym e))
 
 -- ---- P lines, likewise
 

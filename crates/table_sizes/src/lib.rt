@@ -18,7 +18,8 @@ use table_trees::smaller;
 ghost use mathlib.Core.Path.{_≡_};
 ghost use Prim.Native.Nat.{_+_, min};
 ghost use Rattle.limits.specs.Limits.{manyTags, manyNodes};
-ghost use Rattle.calculus.specs.Trees.{typeNodes, nodes, tags};
+ghost use Rattle.calculus.specs.Trees.{typeNodes, nodes, tags, mostTags};
+ghost use Rattle.table_sizes.specs.Joined.{joinTags};
 ghost use Rattle.table_trees.specs.Unfolding.{typeOf, patternOf};
 
 // One node above two trees, at most 128 nodes told apart.
@@ -75,6 +76,34 @@ pub fn together(m: usize, n: usize) -> usize
         }
     }
     MANY_TAGS
+}
+
+// The left and right nodes of the values of a sum (kind 1) or product, from the most of those of its parts.
+fn joined(kind: usize, m: usize, n: usize) -> usize
+    ensures { λ r. ⌜ r ≡ min manyTags (joinTags kind m n) ⌝ }
+{
+    if kind == SUM {
+        if m < n {
+            return together(1, n);
+        }
+        return together(1, m);
+    }
+    together(m, n)
+}
+
+// The most left and right nodes that a closed value of T line i has; 41 stands for more than 40.
+pub fn type_tags(t: &[u16], i: usize) -> usize
+    ensures { λ r. ⌜ r ≡ min manyTags (mostTags (typeOf (now (t .entry)) i)) ⌝ }
+{
+    let kind = cell(t, i, KIND);
+    match kind {
+        SUM | PRODUCT => {
+            let a = smaller(cell(t, i, FIRST), i);
+            let b = smaller(cell(t, i, SECOND), i);
+            joined(kind, type_tags(t, a), type_tags(t, b))
+        }
+        _ => 0,
+    }
 }
 
 // The left and right nodes of P line j, unfolded; 41 stands for more than 40.

@@ -1,67 +1,62 @@
-use Rattle.list_file.proofs.Making.{file-over, file-made}
+-- `list_file::write_file` meets its contract: values of over 40 left and right nodes are told before any row is written.
+use Rattle.list_file.proofs.Making.{file-heavy, file-light}
 use Rattle.table_trees.specs.Unfolding.{typeOf}
-use mathlib.Core.Path.{refl}
+use Rattle.calculus.specs.Trees.{mostTags}
 use borrow.Author.Needs.{needs}
 use Rattle.list_file.proofs.write_file.Statement.{statement}
 use Rattle.list_file.proofs.write_file.Tie as tie
+use Rattle.list_file.proofs.write_file.Reads as reads
+use Rattle.list_file.proofs.write_file.Lts as lts
+use Rattle.list_file.proofs.over.Reads as over-reads
+use Rattle.list_file.proofs.write_rows.Reads as write-rows-reads
+use Rattle.table_sizes.proofs.type_tags.Reads as type-tags-reads
 
-slice-aggregate-write-type : tie.Need-slice-aggregate-write-type
-slice-aggregate-write-type c = search needs
+-- src/lib.rt:118:19
+type-tags-requires : tie.Need-type-tags-requires
+type-tags-requires c κs = search needs
 
-write-type-requires : tie.Need-write-type-requires
-write-type-requires c κs = search needs
+-- src/lib.rt:119:9
+over-requires : tie.Need-over-requires
+over-requires c κs = search needs
 
-slice-aggregate-write-type-2 : tie.Need-slice-aggregate-write-type-2
-slice-aggregate-write-type-2 c = search needs
-
-write-type-requires-2 : tie.Need-write-type-requires-2
-write-type-requires-2 c κs = search needs
-
-slice-aggregate-write-pairs : tie.Need-slice-aggregate-write-pairs
-slice-aggregate-write-pairs c = search needs
-
-slice-aggregate-write-pairs-2 : tie.Need-slice-aggregate-write-pairs-2
-slice-aggregate-write-pairs-2 c = search needs
-
-write-pairs-requires : tie.Need-write-pairs-requires
-write-pairs-requires c κs = search needs
-
+-- src/lib.rt:119:9
 returns : tie.Need-returns
-returns c = let a = c .before .before .before .before .before .before .before .before .before .before .before .before .before .before .before .args in file-over (typeOf (a .t .now) (a .i)) (typeOf (a .t .now) (a .j)) (a .tos .now) (a .n) (a .out .now) (c .before .before .before .before .before .before .before .before .before .before .before .before .before .before .before .pre) (c .before .before .before .write-pairs .ensures) (search needs) (search needs) (c .if1 .taken) _ refl refl
+returns c = let a = c .before .before .before .before .before .before .args in file-heavy (typeOf (a .t .now) (a .i)) (typeOf (a .t .now) (a .j)) (a .tos .now) (a .n) (a .out .now) (c .before .before .before .before .before .before .pre) {x = mostTags (typeOf (a .t .now) (a .i))} (λ x y. x) (c .before .before .type-tags .ensures) (c .before .if1 .taken) _ (c .over .ensures)
 
-slice-aggregate-put-file : tie.Need-slice-aggregate-put-file
-slice-aggregate-put-file c = search needs
+-- src/lib.rt:121:19
+type-tags-requires-2 : tie.Need-type-tags-requires-2
+type-tags-requires-2 c κs = search needs
 
-slice-aggregate-put-file-2 : tie.Need-slice-aggregate-put-file-2
-slice-aggregate-put-file-2 c = search needs
+-- src/lib.rt:122:9
+over-requires-2 : tie.Need-over-requires-2
+over-requires-2 c κs = search needs
 
-slice-aggregate-put-file-3 : tie.Need-slice-aggregate-put-file-3
-slice-aggregate-put-file-3 c = search needs
+-- src/lib.rt:122:9
+returns-2 : tie.Need-returns-2
+returns-2 c = let a = c .before .before .before .before .before .before .before .before .args in file-heavy (typeOf (a .t .now) (a .i)) (typeOf (a .t .now) (a .j)) (a .tos .now) (a .n) (a .out .now) (c .before .before .before .before .before .before .before .before .pre) {x = mostTags (typeOf (a .t .now) (a .j))} (λ x y. y) (c .before .before .type-tags2 .ensures) (c .before .if2 .taken) _ (c .over2 .ensures)
 
-put-file-requires : tie.Need-put-file-requires
-put-file-requires c κs = search needs
+-- src/lib.rt:124:5
+write-rows-requires : tie.Need-write-rows-requires
+write-rows-requires c κs = search needs
 
+-- src/lib.rt:111:1
 same-length : tie.Need-same-length
 same-length c = search needs
 
-returns-2 : tie.Need-returns-2
-returns-2 c = let a = c .before .before .before .before .before .before .before .before .before .before .before .before .before .before .before .before .before .before .before .before .before .before .args in file-made (typeOf (a .t .now) (a .i)) (typeOf (a .t .now) (a .j)) (a .tos .now) (a .n) (a .out .now) (c .before .before .before .before .before .before .before .before .before .before .before .before .before .before .before .before .before .before .before .before .before .before .pre) (c .before .before .before .before .before .before .before .before .before .before .write-pairs .ensures) (search needs) (search needs) (search needs) (c .before .before .before .before .before .before .before .before .before .before .before .before .before .before .before .before .before .write-type .ensures) (c .before .before .before .before .before .before .before .before .before .before .before .before .before .before .write-type2 .ensures) (c .before .before .before .before .before .before .before .if1 .left) (c .before .before .put-file .ensures) _ refl refl
+-- src/lib.rt:111:1
+returns-3 : tie.Need-returns-3
+returns-3 c = let a = c .before .before .before .before .before .before .before .before .before .before .before .args in file-light (typeOf (a .t .now) (a .i)) (typeOf (a .t .now) (a .j)) (a .tos .now) (a .n) (a .out .now) (c .before .before .before .before .before .before .before .before .before .before .before .pre) (c .before .before .before .before .before .before .before .type-tags .ensures) (c .before .before .before .before .before .before .if1 .left) (c .before .before .before .before .before .type-tags2 .ensures) (c .before .before .before .before .if2 .left) (c .before .before .write-rows .ensures)
 
 pub write-file-spec : {M : Type 1} → statement M
 write-file-spec =
     tie.close
     (tie.spec
-    slice-aggregate-write-type
-    write-type-requires
-    slice-aggregate-write-type-2
-    write-type-requires-2
-    slice-aggregate-write-pairs
-    slice-aggregate-write-pairs-2
-    write-pairs-requires
+    type-tags-requires
+    over-requires
     returns
-    slice-aggregate-put-file
-    slice-aggregate-put-file-2
-    slice-aggregate-put-file-3
-    put-file-requires
+    type-tags-requires-2
+    over-requires-2
+    returns-2
+    write-rows-requires
     same-length
-    returns-2)
+    returns-3)

@@ -1,0 +1,4 @@
+-- verdicts and services
+pub mod Former
+-- pair lists
+pub mod Lists

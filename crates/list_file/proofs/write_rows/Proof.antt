@@ -1,0 +1,67 @@
+use Rattle.list_file.proofs.Making.{file-over, file-made}
+use Rattle.table_trees.specs.Unfolding.{typeOf}
+use mathlib.Core.Path.{refl}
+use borrow.Author.Needs.{needs}
+use Rattle.list_file.proofs.write_rows.Statement.{statement}
+use Rattle.list_file.proofs.write_rows.Tie as tie
+
+slice-aggregate-write-type : tie.Need-slice-aggregate-write-type
+slice-aggregate-write-type c = search needs
+
+write-type-requires : tie.Need-write-type-requires
+write-type-requires c κs = search needs
+
+slice-aggregate-write-type-2 : tie.Need-slice-aggregate-write-type-2
+slice-aggregate-write-type-2 c = search needs
+
+write-type-requires-2 : tie.Need-write-type-requires-2
+write-type-requires-2 c κs = search needs
+
+slice-aggregate-write-pairs : tie.Need-slice-aggregate-write-pairs
+slice-aggregate-write-pairs c = search needs
+
+slice-aggregate-write-pairs-2 : tie.Need-slice-aggregate-write-pairs-2
+slice-aggregate-write-pairs-2 c = search needs
+
+write-pairs-requires : tie.Need-write-pairs-requires
+write-pairs-requires c κs = search needs
+
+returns : tie.Need-returns
+returns c = let a = c .before .before .before .before .before .before .before .before .before .before .before .before .before .before .before .args in file-over (typeOf (a .t .now) (a .i)) (typeOf (a .t .now) (a .j)) (a .tos .now) (a .n) (a .out .now) (c .before .before .before .before .before .before .before .before .before .before .before .before .before .before .before .pre) (c .before .before .before .write-pairs .ensures) (search needs) (search needs) (c .if1 .taken) _ refl refl
+
+slice-aggregate-put-file : tie.Need-slice-aggregate-put-file
+slice-aggregate-put-file c = search needs
+
+slice-aggregate-put-file-2 : tie.Need-slice-aggregate-put-file-2
+slice-aggregate-put-file-2 c = search needs
+
+slice-aggregate-put-file-3 : tie.Need-slice-aggregate-put-file-3
+slice-aggregate-put-file-3 c = search needs
+
+put-file-requires : tie.Need-put-file-requires
+put-file-requires c κs = search needs
+
+same-length : tie.Need-same-length
+same-length c = search needs
+
+returns-2 : tie.Need-returns-2
+returns-2 c = let a = c .before .before .before .before .before .before .before .before .before .before .before .before .before .before .before .before .before .before .before .before .before .before .args in file-made (typeOf (a .t .now) (a .i)) (typeOf (a .t .now) (a .j)) (a .tos .now) (a .n) (a .out .now) (c .before .before .before .before .before .before .before .before .before .before .before .before .before .before .before .before .before .before .before .before .before .before .pre) (c .before .before .before .before .before .before .before .before .before .before .write-pairs .ensures) (search needs) (search needs) (search needs) (c .before .before .before .before .before .before .before .before .before .before .before .before .before .before .before .before .before .write-type .ensures) (c .before .before .before .before .before .before .before .before .before .before .before .before .before .before .write-type2 .ensures) (c .before .before .before .before .before .before .before .if1 .left) (c .before .before .put-file .ensures) _ refl refl
+
+pub write-rows-spec : {M : Type 1} → statement M
+write-rows-spec =
+    tie.close
+    (tie.spec
+    slice-aggregate-write-type
+    write-type-requires
+    slice-aggregate-write-type-2
+    write-type-requires-2
+    slice-aggregate-write-pairs
+    slice-aggregate-write-pairs-2
+    write-pairs-requires
+    returns
+    slice-aggregate-put-file
+    slice-aggregate-put-file-2
+    slice-aggregate-put-file-3
+    put-file-requires
+    same-length
+    returns-2)
