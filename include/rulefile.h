@@ -1,6 +1,6 @@
 /*
  * rulefile.h - Check, Turn, Run, whole sheets of queries, settings as numbers, the overlap of two patterns,
- * steps known beforehand, pair lists and settings that show a fault for rule files.
+ * steps known beforehand, pair lists, settings that show a fault and units tried out for rule files.
  *
  * `bin/install PREFIX` puts librulefile.a, librulefile.so and this header in place, with a file for pkg-config;
  * `rt staticlib rulefile` writes target/staticlib/librulefile.a alone. The platform is x86-64 Linux. The library
@@ -11,7 +11,7 @@
  * 0, or with the number of a refusal. What the caller owes:
  *   - each pointer leads to as many elements as the length behind it says, readable, and writable where
  *     it is not const; with length 0 any pointer will do, NULL too;
- *   - the table is aligned to 2 bytes, the numbers of a sheet to 4;
+ *   - the table is aligned to 2 bytes, the numbers of a sheet, the areas of units and the record of visits to 4;
  *   - a writable area overlaps no other area of the call;
  *   - nothing else writes to the areas before the call returns.
  *
@@ -19,11 +19,11 @@
  *   - the first RULEFILE_TABLE_LENGTH numbers of the table hold, if the file was accepted, five numbers a
  *     line: the letter's ASCII code, the fields, padded with 0, and the size of a T or P line, the nodes of the
  *     tree that it unfolds to (0 for other letters), and zeros behind the last line, so also where the call is
- *     refused with 15 to 20, or an import with 7 at line 0; on other refusals 3 to 14, and on 21, they are all 0;
+ *     refused with 15 to 20 or 22, or an import with 7 at line 0; on other refusals 3 to 14, and on 21, they are all 0;
  *   - the first RULEFILE_WORK_LENGTH bytes of the work area are 0;
  *   - refusals 1 and 2 leave every area as it was;
- *   - any refusal of the call leaves output, result, and the numbers and letters of a sheet as they were, but
- *     for the result of rulefile_witness, which is written on refusals 11 to 14;
+ *   - any refusal of the call leaves output, result, the numbers and letters of a sheet, and the units and the
+ *     record of a play as they were, but for the result of rulefile_witness, which is written on refusals 11 to 14;
  *   - whatever lies behind these lengths, and behind what was written, keeps its contents.
  *
  * A line of a file or of a list ends with a line feed, or with a carriage return and a line feed; lengths
@@ -61,6 +61,9 @@ extern "C" {
 /* A sheet of more queries is refused with 2. */
 #define RULEFILE_MAX_QUERIES 600
 
+/* The most units of a play: more are refused with 2. */
+#define RULEFILE_MAX_UNITS 1000
+
 /* A longer file is refused with 2. An output area of this length is long enough for every file,
    and an import needs it. */
 #define RULEFILE_MAX_FILE_LENGTH 65536
@@ -89,7 +92,8 @@ enum rulefile_number {
     RULEFILE_TOO_MANY = 18,      /* the T line has over 4,294,967,295 values, of a pair list 4,096; line 0 */
     RULEFILE_TOO_HIGH = 19,      /* the setting's number is not below the T line's count of values; line 0 */
     RULEFILE_BAD_LIST = 20,      /* the list's lines are not 0,to 1,to and so on, each to once; line 0 */
-    RULEFILE_IDLE_LINE = 21      /* a T or P line that no I, C or L line reaches; its own line */
+    RULEFILE_IDLE_LINE = 21,     /* a T or P line that no I, C or L line reaches; its own line */
+    RULEFILE_BAD_SCRIPT = 22     /* a line of the script is no visit, or names an absent unit or iso; line 0 */
 };
 
 /* What Check gives. */
@@ -153,6 +157,19 @@ struct rulefile_witness_answer {
     uint32_t number; /* enum rulefile_number, as rulefile_check gives it */
     size_t line;     /* the line refused, 0 where none is named */
     size_t length;   /* letters written to result: on refusals 11 to 14 at least 1, otherwise 0 */
+};
+
+/* What a play gives. */
+struct rulefile_play_answer {
+    uint32_t number; /* enum rulefile_number */
+    size_t line;     /* the line of a refused file, 0 where none is named */
+};
+
+/* What came of the visits of a play, counted from 0 in each. */
+struct rulefile_tally {
+    uint32_t done;    /* the unit holds what the run gave */
+    uint32_t skipped; /* the unit has another type than the iso begins at */
+    uint32_t spent;   /* the run would pass the budget */
 };
 
 /*
@@ -343,6 +360,33 @@ struct rulefile_import_answer rulefile_import(
     uint32_t from, uint32_t to,
     const uint8_t *list, size_t list_length,
     uint8_t *output, size_t output_length);
+
+/*
+ * Checks a file and plays a script of visits on units. Unit k holds T line types[k] and the setting of that
+ * type with number settings[k], as rulefile_number_of numbers it. A line `S,unit,iso,direction` of the script
+ * sends the unit's setting through the iso, there (0) or back (1), under the budget, which each visit has for
+ * itself: where the unit's type is another tree than the one the iso begins at, the visit is skipped; where
+ * the run would pass the budget, it is spent; both leave the unit. Any other is done: the unit then holds the
+ * T line that the iso's I line names at the other end, and the number of the setting that the run gives. If
+ * none was skipped or spent, a play of the script last line first with directions exchanged, under the same
+ * budget, restores each type tree and number.
+ *
+ * At most 1,000 units and 4,096 lines; types and settings have one length. The refusals in their order: 1,
+ * also where these two lengths differ; 2, also for more units or lines; those of the file, which alone name a
+ * line; then of the units in order, on each 15 where the T line is absent, 18 where its type has over
+ * 4,294,967,295 values, 19 where the number is not below their count; then 22 where a line of the script is of
+ * another form, lacks its line feed, or names an absent unit or iso. All of this is tested before the first
+ * visit. Table and work area are left as rulefile_check leaves them. The record must not be NULL.
+ */
+struct rulefile_play_answer rulefile_play(
+    const uint8_t *file, size_t file_length,
+    uint16_t *table, size_t table_length,
+    uint8_t *work, size_t work_length,
+    uint32_t *types, size_t types_length,
+    uint32_t *settings, size_t settings_length,
+    const uint8_t *script, size_t script_length,
+    uint32_t budget,
+    struct rulefile_tally *tally);
 
 #ifdef __cplusplus
 }

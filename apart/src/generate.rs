@@ -9,6 +9,7 @@ pub mod draft;
 pub mod ending;
 pub mod fault;
 pub mod ground;
+pub mod idle;
 pub mod life;
 pub mod listed;
 pub mod miss;
@@ -63,7 +64,10 @@ pub fn any_file(random: &mut Random) -> Vec<u8> {
     match random.below(100) {
         0..=44 => accepted(random),
         45..=74 => {
-            let number = 2 + random.below(13) as u8;
+            let number = match 2 + random.below(14) as u8 {
+                15 => 21,
+                number => number,
+            };
             miss::aimed(random, number)
         }
         75..=79 => miss::two_faults(random),

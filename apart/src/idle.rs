@@ -20,6 +20,16 @@ fn names(row: &Row) -> Vec<(u8, u16)> {
 /// What is reached is gathered from the I, C and L lines on, until nothing new
 /// comes.
 pub fn first(rows: &[Row]) -> Option<usize> {
+    all(rows).first().copied()
+}
+
+/// The last of them.
+pub fn last(rows: &[Row]) -> Option<usize> {
+    all(rows).last().copied()
+}
+
+/// All of them.
+fn all(rows: &[Row]) -> Vec<usize> {
     let place = |(letter, number): (u8, u16)| {
         let mut places = (0..rows.len()).filter(|at| rows[*at].letter == letter);
         places.nth(usize::from(number))
@@ -34,5 +44,6 @@ pub fn first(rows: &[Row]) -> Option<usize> {
             ahead.extend(names(&rows[at]).into_iter().filter_map(place));
         }
     }
-    reached.iter().position(|used| !used).map(|at| at + 1)
+    let idle = (0..rows.len()).filter(|at| !reached[*at]);
+    idle.map(|at| at + 1).collect()
 }

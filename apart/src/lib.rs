@@ -16,6 +16,7 @@ pub mod pair_lists;
 pub mod reduce;
 pub mod sheet;
 pub mod tree;
+pub mod units;
 pub mod witness;
 
 use crate::lines::{Clause, Iso, Row};

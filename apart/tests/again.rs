@@ -24,7 +24,7 @@ const ISO: usize = 20;
 const CLAUSE: usize = 21;
 
 fn file(words: &str) -> Vec<u8> {
-    lines(&format!("{HEAD} {words}"))
+    apart::generate::idle::used(&lines(&format!("{HEAD} {words}")))
 }
 
 fn checked(file: &[u8]) -> (u8, usize) {

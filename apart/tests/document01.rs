@@ -92,7 +92,12 @@ fn checked(bytes: &[u8]) -> (u8, usize) {
 }
 
 fn of(words: &str) -> (u8, usize) {
-    checked(&file(words))
+    let file = file(words);
+    // S without its last line is refused for its idle line on purpose.
+    if file == self::file(S.trim_end_matches(" C,7,7")) {
+        return checked(&file);
+    }
+    checked(&apart::generate::idle::used(&file))
 }
 
 /// S with one of its lines (from 1) replaced by other lines, or by none.
@@ -171,7 +176,7 @@ fn the_further_examples() {
     assert_eq!(of(gap), (14, 5));
     let seven = "T,0,0,0 T,2,0,0 T,2,1,1 T,2,2,2 T,2,3,3 T,2,4,4 T,2,5,5";
     assert_eq!(of(&format!("{seven} P,1,0,0 I,6,6 C,0,0")), (0, 0));
-    assert_eq!(of(seven), (21, 1));
+    assert_eq!(checked(&file(seven)), (21, 1));
     assert_eq!(of(&format!("{seven} T,2,6,6")), (7, 8));
 }
 
@@ -242,7 +247,7 @@ fn refusal_3_by_form() {
     assert_eq!(checked(b"\n"), (3, 1));
     assert_eq!(checked(b"T,0,0,0"), (3, 1));
     assert_eq!(checked(b"T,0,0,0\nT,0,0,0"), (3, 2));
-    assert_eq!(checked(b"T,0,0,0\r\n"), (0, 0));
+    assert_eq!(checked(b"T,0,0,0\r\n"), (21, 1));
     assert_eq!(checked(b"T,0,0,0\r\r\n"), (3, 1));
     assert_eq!(checked(b"T,0,0,0\r"), (3, 1));
     assert_eq!(checked(b"T,7,0,0\nT,0,0,0"), (5, 1));
@@ -304,7 +309,7 @@ fn refusal_6_by_name() {
 
 #[test]
 fn refusal_7_by_counts() {
-    assert_eq!(of(&"T,0,0,0 ".repeat(256)), (0, 0));
+    assert_eq!(checked(&file(&"T,0,0,0 ".repeat(256))), (21, 1));
     assert_eq!(of(&"T,0,0,0 ".repeat(257)), (7, 257));
     assert_eq!(of(&"P,0,0,0 ".repeat(1_024)), (0, 0));
     assert_eq!(of(&"P,0,0,0 ".repeat(1_025)), (7, 1_025));

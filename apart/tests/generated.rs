@@ -67,7 +67,7 @@ fn each_refusal_of_a_file_is_hit_when_aimed_at() {
 fn each_pair_of_faults_is_made() {
     let mut random = Random::new(17);
     let pairs = pair::all();
-    assert_eq!(pairs.len(), 168);
+    assert_eq!(pairs.len(), 186);
     for pair in pairs.iter().cycle().take(3 * pairs.len()) {
         let made = pair::make(&mut random, *pair);
         for (file, (number, line)) in made.files.iter().zip(made.answers) {

@@ -16,7 +16,7 @@ const S: &str = "T,0,0,0 T,1,0,0 T,2,1,1 P,0,0,0 P,2,0,0 P,3,0,0 P,1,0,0 P,1,1,0
 P,4,1,3 P,4,1,4 P,4,2,3 I,1,1 C,1,2 C,2,1 I,2,2 C,5,6 L,4,0,3 C,7,7";
 
 fn rules(words: &str) -> Rules {
-    check(&lines(words)).expect("accepted")
+    check(&apart::generate::idle::used(&lines(words))).expect("accepted")
 }
 
 /// Both orders, since "left against right" is right against left.

@@ -23,7 +23,7 @@ P,4,1,3 P,4,1,4 P,4,2,3 I,1,1 C,1,2 C,2,1 I,2,2 C,5,6 L,4,0,3 C,7,7";
 const TYPES: &str = "T,0,0,0 T,1,0,0 T,1,0,1 T,1,0,2 T,2,1,1 T,0,0,0 T,1,5,5";
 
 fn rules(words: &str) -> Rules {
-    check(&lines(words)).expect("accepted")
+    check(&apart::generate::idle::used(&lines(words))).expect("accepted")
 }
 
 fn list_of(rules: &Rules, iso: u32, budget: u32) -> Result<Vec<u8>, u8> {
@@ -165,9 +165,9 @@ fn one_refusal_before_the_other() {
             assert_eq!(file_of(&large, from, to, list), Err(18), "{from} {to}");
         }
     }
-    // "Over 32 lines in the list is 7", before 20; a last line without a line
+    // Over 128 lines in the list is 7, before 20; a last line without a line
     // feed counts.
-    for list in [long, vec![b'\n'; 33], [identity(32), bad.clone()].concat()] {
+    for list in [long, vec![b'\n'; 129], [identity(128), bad.clone()].concat()] {
         assert_eq!(file_of(&large, 1, 1, &list), Err(7));
         assert_eq!(file_of(&large, 12, 12, &list), Err(7));
         assert_eq!(file_of(&large, 5, 5, &list), Err(7));

@@ -20,6 +20,11 @@ const FOUR: &str = "T,0,0,0 T,1,0,0 T,1,1,1 T,2,1,1 T,1,3,0 P,0,0,0 P,1,0,0 P,2,
 /// The number, the line and the value of a file.
 fn shown(words: &str) -> (u8, usize, String) {
     let file = lines(words);
+    let file = if words == S {
+        file
+    } else {
+        apart::generate::idle::used(&file)
+    };
     let refusal = check(&file).err().expect("the file is refused");
     let letters = witness_of(&file, refusal).unwrap_or_default();
     let letters = String::from_utf8(letters).expect("letters");

@@ -81,6 +81,8 @@ impl<P: Program, S: Services> Block<P, S> {
             self.turned(random, &known, &turn_rules(rules), &trips)?;
         }
         self.calls.pair_lists(random, &mut self.tally, case, &known);
+        let often = matches!(case, Case::Counted(_));
+        self.calls.plays(random, &mut self.tally, &known, often);
         Ok(answered)
     }
 

@@ -6,7 +6,7 @@ use crate::case::Case;
 use crate::grid::Grid;
 use crate::service::{Answer, Ask, Call, Services};
 use crate::settings::{GIVEN, HERE, SHORT, THERE};
-use crate::tally::{names, Tally};
+use crate::tally::{file_number, names, Tally};
 use apart::areas::Known;
 use apart::bounds::{exact, Exact, LIMIT};
 use apart::generate::bounded::{self, DEEP, NEEDS, TOP};
@@ -74,8 +74,9 @@ impl Grids {
 
 /// The numbers that a file can be given, and 15.
 fn numbers() -> Grid {
-    let rows = (0..16).map(|number| number.to_string()).collect();
-    let needed = |number, column| (number, column) != (1, SHORT);
+    let rows = (0..22).map(|number| number.to_string()).collect();
+    let needed =
+        |number, column| (file_number(number) || number == 15) && (number, column) != (1, SHORT);
     Grid::new("rulefile_bounds", rows, GIVEN, needed)
 }
 
@@ -147,7 +148,7 @@ pub fn count(tally: &mut Tally, known: &Known, call: Call, ours: &Answer, theirs
     let Call::Bounds(iso) = call else { return };
     let grids = &mut tally.bounds;
     grids.numbers.hit(ours.number as usize, HERE);
-    if theirs.number < 16 {
+    if theirs.number < 22 {
         grids.numbers.hit(theirs.number as usize, THERE);
     }
     if ours.number == 1 {

@@ -5,6 +5,7 @@ use crate::areas::{Areas, Kind, Noise, Shape};
 use crate::bounds;
 use crate::overlaps;
 use crate::pair_lists;
+use crate::play;
 use crate::service::{expected, query, Answer, Ask, Call, Services};
 use crate::settings;
 use crate::sheets::{self, Given};
@@ -89,6 +90,11 @@ impl<S: Services> Calls<S> {
             tally.mismatch(text, input(known.file, call));
         }
         theirs
+    }
+
+    /// Plays on a file.
+    pub fn plays(&mut self, random: &mut Random, tally: &mut Tally, known: &Known, often: bool) {
+        play::plays(&mut self.services, random, tally, known, often);
     }
 
     /// What the services have written to the last call's output or result.

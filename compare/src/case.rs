@@ -2,6 +2,7 @@
 
 use crate::{bounds, pair_lists, settings, shuffle, witness};
 use apart::generate::ceiling::{self, Ceiling, CEILINGS};
+use apart::generate::idle::{self, IDLES};
 use apart::generate::life::SLIPS;
 use apart::generate::random::Random;
 use apart::generate::shown::Form;
@@ -19,6 +20,8 @@ pub enum Case {
     /// A pair of faults by its place in `pair::all`: both, the first alone,
     /// the second alone.
     Pair(usize, usize),
+    /// Accepted but for its idle lines, by where they stand.
+    Idle(usize),
     /// Accepted but for one clause that breaks rule 8 in one way.
     Slip(usize),
     /// Accepted but for one clause that uses a variable with the type of
@@ -77,13 +80,14 @@ pub fn always() -> Vec<Case> {
         cases.extend([Case::Full(over), Case::Again, Case::Crowded, Case::Mistyped]);
         cases.extend((0..SLIPS.len()).map(Case::Slip));
         cases.extend((0..CEILINGS.len()).map(|ceiling| Case::Ceiling(ceiling, over)));
-        cases.extend((2..15).map(Case::Aimed));
+        cases.extend((2..15).chain([21]).map(Case::Aimed));
+        cases.extend((0..IDLES.len()).map(Case::Idle));
     }
     cases.extend((0..=ending::S.len()).map(Case::Return));
     for over in [false, true] {
         cases.extend([Case::ReturnBytes(over), Case::Across]);
     }
-    cases.extend((3..15).map(Case::Returns));
+    cases.extend((3..15).chain([21]).map(Case::Returns));
     for pair in 0..pair::all().len() {
         cases.extend((0..3).map(|file| Case::Pair(pair, file)));
     }
@@ -100,6 +104,10 @@ pub fn file(random: &mut Random, case: Case) -> (Vec<u8>, Option<(u8, usize)>) {
         Case::Pair(place, which) => {
             let made = pair::make(random, pair::all()[place]);
             (made.files[which].clone(), Some(made.answers[which]))
+        }
+        Case::Idle(place) => {
+            let (file, line) = idle::file(random, IDLES[place]);
+            (file, Some((21, line)))
         }
         Case::Slip(place) => {
             let (file, line) = thread::slip(random, SLIPS[place]);

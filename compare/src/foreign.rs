@@ -3,6 +3,7 @@
 //! clash and pairs, and bounds on refusal too. This module has all `unsafe` of
 //! the package.
 
+use crate::play::Play;
 use crate::service::{Answer, Ask, Call, Lent};
 use std::ptr::{null, null_mut};
 
@@ -75,6 +76,14 @@ struct WrittenAnswer {
     number: u32,
     line: usize,
     length: usize,
+}
+
+/// What came of the visits of a play.
+#[repr(C)]
+struct PlayTally {
+    done: u32,
+    skipped: u32,
+    spent: u32,
 }
 
 extern "C" {
@@ -213,6 +222,23 @@ extern "C" {
         output: *mut u8,
         output_length: usize,
     ) -> WrittenAnswer;
+
+    fn rulefile_play(
+        file: *const u8,
+        file_length: usize,
+        table: *mut u16,
+        table_length: usize,
+        work: *mut u8,
+        work_length: usize,
+        types: *mut u32,
+        types_length: usize,
+        settings: *mut u32,
+        settings_length: usize,
+        script: *const u8,
+        script_length: usize,
+        budget: u32,
+        tally: *mut PlayTally,
+    ) -> CheckAnswer;
 }
 
 /// Where bytes that are only read begin; null where there are none.
@@ -530,4 +556,35 @@ fn import(file: &[u8], [from, to]: [u32; 2], list: &[u8], lent: Lent) -> Answer 
             out.len(),
         )
     })
+}
+
+pub fn play(file: &[u8], play: &mut Play) -> (u32, usize) {
+    let mut tally = PlayTally {
+        done: play.tally.done,
+        skipped: play.tally.skipped,
+        spent: play.tally.spent,
+    };
+    // SAFETY: as for `check`; the record is one struct of C's layout.
+    let given = unsafe {
+        rulefile_play(
+            begin(file),
+            file.len(),
+            start(&mut play.table),
+            play.table.len(),
+            start(&mut play.work),
+            play.work.len(),
+            start(&mut play.types),
+            play.types.len(),
+            start(&mut play.settings),
+            play.settings.len(),
+            begin(&play.script),
+            play.script.len(),
+            play.budget,
+            &mut tally,
+        )
+    };
+    play.tally.done = tally.done;
+    play.tally.skipped = tally.skipped;
+    play.tally.spent = tally.spent;
+    (given.number, given.line)
 }

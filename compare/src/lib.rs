@@ -20,6 +20,7 @@ pub mod list_faults;
 pub mod list_trips;
 pub mod overlaps;
 pub mod pair_lists;
+pub mod play;
 pub mod service;
 pub mod settings;
 pub mod sheets;

@@ -2,8 +2,10 @@
 //! each call takes one at random.
 
 use crate::foreign;
+use crate::play::Play;
 use crate::service::{Answer, Ask, Call, Lent, Services};
 use apart::generate::random::Random;
+use apart::units;
 use rulefile::{Direction, Query, Refused, Witnessed};
 
 pub struct Library {
@@ -24,6 +26,41 @@ impl Services for Library {
             foreign::call(file, call, lent)
         } else {
             wrapped(file, call, lent)
+        }
+    }
+
+    fn play(&mut self, file: &[u8], play: &mut Play) -> (u32, usize) {
+        if self.random.chance(50) {
+            return foreign::play(file, play);
+        }
+        let units::Tally {
+            done,
+            skipped,
+            spent,
+        } = play.tally;
+        let mut tally = rulefile::Tally {
+            done,
+            skipped,
+            spent,
+        };
+        let given = rulefile::play(
+            file,
+            &mut play.table,
+            &mut play.work,
+            &mut play.types,
+            &mut play.settings,
+            &play.script,
+            play.budget,
+            &mut tally,
+        );
+        play.tally = units::Tally {
+            done: tally.done,
+            skipped: tally.skipped,
+            spent: tally.spent,
+        };
+        match given {
+            Ok(()) => (0, 0),
+            Err(Refused { refusal, line }) => (refusal.number(), line),
         }
     }
 }

@@ -27,7 +27,7 @@ pub enum Slip {
     TooMany,
     /// A budget that some pair passes.
     Spent,
-    /// Over 32 lines in the list.
+    /// Over 128 lines in the list.
     ManyLines,
     BadList,
     /// Over 1,024 P lines in the file that would be written.
@@ -74,7 +74,7 @@ fn number(slip: Slip) -> &'static str {
         Absent => "15",
         TooMany => "18",
         Spent => "17",
-        ManyLines => "7 for 33 lines",
+        ManyLines => "7 for 129 lines",
         BadList => "20",
         Writing => "7 for P lines",
     }
@@ -201,7 +201,7 @@ impl Slips<'_> {
 
     fn list(&self, random: &mut Random, base: &Base) -> Vec<u8> {
         let mut count = if self.has(Writing) {
-            CLAUSES
+            listed::SUMMED
         } else {
             base.count
         };

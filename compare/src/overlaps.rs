@@ -5,8 +5,9 @@ use crate::calls::{fit, input, otherwise, short, Calls};
 use crate::grid::Grid;
 use crate::service::{Answer, Call, Services};
 use crate::settings::{GIVEN, HERE, SHORT, THERE};
-use crate::tally::{names, Tally};
+use crate::tally::{file_number, names, Tally};
 use apart::areas::Known;
+use apart::generate::idle::pruned;
 use apart::generate::random::Random;
 use apart::overlap::{clash, compared, laid};
 use apart::tree::Pattern;
@@ -49,8 +50,9 @@ impl Grids {
 
 /// The numbers that a file can be given, and 15.
 fn numbers() -> Grid {
-    let rows = (0..16).map(|number| number.to_string()).collect();
-    let needed = |number, column| (number, column) != (1, SHORT);
+    let rows = (0..22).map(|number| number.to_string()).collect();
+    let needed =
+        |number, column| (file_number(number) || number == 15) && (number, column) != (1, SHORT);
     Grid::new("rulefile_overlap", rows, GIVEN, needed)
 }
 
@@ -131,7 +133,7 @@ pub fn count(tally: &mut Tally, known: &Known, call: Call, ours: &Answer, theirs
         return;
     };
     tally.overlaps.numbers.hit(ours.number as usize, HERE);
-    if theirs.number < 16 {
+    if theirs.number < 22 {
         tally.overlaps.numbers.hit(theirs.number as usize, THERE);
     }
     if ours.number == 1 {
@@ -246,13 +248,17 @@ fn of_clauses(random: &mut Random, rules: &Rules) -> Option<(u32, u32)> {
 /// trees before and behind it, a left in one and a right in the other. They have
 /// up to 127 nodes.
 fn late_file(random: &mut Random) -> Vec<u8> {
-    let leaf = random.pick(&["P,0,0,0", "P,1,0,0"]).to_string();
-    let mut lines = vec![leaf, "P,2,0,0".to_string(), "P,3,0,0".to_string()];
+    let mut lines = ["P,0,0,0", "P,2,0,0", "P,3,0,0"].map(str::to_string).to_vec();
+    let mut types = ["T,0,0,0", "T,1,0,0"].map(str::to_string).to_vec();
+    let (mut shapes, mut whole) = (vec![0], 1);
     // Trees of 1, 3, 7, 15, 31 and 63 nodes.
     let mut trees = vec![0];
     for _ in 0..5 {
         let tree = *trees.last().expect("there is one");
         trees.push(lines.len());
+        let shape = *shapes.last().expect("there is one");
+        shapes.push(types.len());
+        types.push(format!("T,2,{shape},{shape}"));
         lines.push(format!("P,4,{tree},{tree}"));
     }
     let (mut ends, mut nodes) = ([1, 2], 2);
@@ -264,6 +270,13 @@ fn late_file(random: &mut Random) -> Vec<u8> {
         }
         nodes += more;
         let behind = random.chance(10);
+        let (one, two) = if behind {
+            (whole, shapes[place])
+        } else {
+            (shapes[place], whole)
+        };
+        whole = types.len();
+        types.push(format!("T,2,{one},{two}"));
         ends = ends.map(|end| {
             let (one, two) = if behind {
                 (end, trees[place])
@@ -274,10 +287,17 @@ fn late_file(random: &mut Random) -> Vec<u8> {
             lines.len() - 1
         });
     }
-    lines
-        .iter()
+    let [left, right] = ends;
+    let iso = [
+        format!("I,{whole},{whole}"),
+        format!("C,{left},{left}"),
+        format!("C,{right},{right}"),
+    ];
+    let lines = types.iter().chain(&lines).chain(&iso);
+    let file: Vec<u8> = lines
         .flat_map(|line| [line.as_bytes(), b"\n"].concat())
-        .collect()
+        .collect();
+    pruned(&file)
 }
 
 impl<S: Services> Calls<S> {

@@ -10,7 +10,7 @@ use crate::settings::{any_line, GIVEN, HERE, SHORT, THERE};
 use crate::tally::{names, Tally};
 use apart::areas::Known;
 use apart::bounds::exact;
-use apart::generate::listed::{self, Flaw, COUNTS, FLAWS, LINES};
+use apart::generate::listed::{self, Flaw, COUNTS, FLAWS, LINES, SUMMED};
 use apart::generate::random::Random;
 use apart::lines::{split, CLAUSES};
 use apart::numbering::values;
@@ -104,8 +104,8 @@ impl Grids {
     }
 }
 
-/// The numbers up to 20.
-const NUMBERS: usize = 21;
+/// The numbers up to 21.
+const NUMBERS: usize = 22;
 
 fn rows() -> Vec<String> {
     (0..NUMBERS).map(|number| number.to_string()).collect()
@@ -141,8 +141,8 @@ fn needed(row: usize, column: usize) -> bool {
 fn likeness() -> Grid {
     let mut rows = names(&[
         "one value",
-        "32 values",
-        "33 values",
+        "128 values",
+        "129 values",
         "4,096 values",
         "4,097 values: 18",
         "first absent line: 15",
@@ -154,7 +154,7 @@ fn likeness() -> Grid {
         "17 by one pair, not the first",
         "18 for the from-type alone",
         "18 for the to-type alone",
-        "33 lines, the last unfed: 7",
+        "129 lines, the last unfed: 7",
         "from and to one T line",
         "equal types, other T lines",
         "types that share parts",
@@ -233,8 +233,8 @@ fn of_export(rules: &Rules, iso: u32, budget: u32, number: u32) -> Rows {
     let (given, absent) = (number == 0, number == 15);
     let mut rows = vec![
         (ONE, given && count == Some(1)),
-        (FULL, given && count == Some(32)),
-        (OVER_FULL, given && count == Some(33)),
+        (FULL, given && count == Some(128)),
+        (OVER_FULL, given && count == Some(129)),
         (LARGEST, given && count == Some(VALUES)),
         (OVER_LARGEST, number == 18 && count == Some(VALUES + 1)),
         (FIRST_ABSENT, absent && iso as usize == rules.isos.len()),
@@ -275,8 +275,8 @@ fn of_import(rules: &Rules, [from, to]: [u32; 2], list: &[u8], number: u32) -> R
     let any = |line: u32| from == line || to == line;
     let mut rows = vec![
         (ONE, given && both(1)),
-        (FULL, given && both(32)),
-        (OVER_FULL, number == 7 && both(33) && lines == 33),
+        (FULL, given && both(128)),
+        (OVER_FULL, number == 7 && both(129) && lines == 129),
         (LARGEST, matches!(number, 7 | 20) && both(VALUES)),
         (OVER_LARGEST, number == 18 && counts.contains(&(VALUES + 1))),
         (FIRST_ABSENT, absent && any(rules.types.len() as u32)),
@@ -284,7 +284,7 @@ fn of_import(rules: &Rules, [from, to]: [u32; 2], list: &[u8], number: u32) -> R
         (LAST, given && any(255)),
         (MANY_FROM, number == 18 && counts[1] <= VALUES),
         (MANY_TO, number == 18 && counts[0] <= VALUES),
-        (UNFED, number == 7 && lines == 33 && !list.ends_with(b"\n")),
+        (UNFED, number == 7 && lines == 129 && !list.ends_with(b"\n")),
     ];
     if let ([Some(one), Some(other)], true) = (types, given || number == 7) {
         rows.extend(of_types([from, to], [one, other], given));
@@ -374,7 +374,7 @@ fn any_types(random: &mut Random, known: &Known) -> ([u32; 2], usize) {
         return (types, 1 + random.below(5));
     };
     let counts: Vec<u64> = rules.types.iter().map(|ty| values(ty)).collect();
-    let few = |place: &usize| counts[*place] <= 33;
+    let few = |place: &usize| counts[*place] <= CLAUSES as u64 + 1;
     let few: Vec<usize> = (0..counts.len()).filter(few).collect();
     if few.is_empty() {
         return (types, 1);
@@ -402,7 +402,7 @@ fn any_types(random: &mut Random, known: &Known) -> ([u32; 2], usize) {
 fn any_list(random: &mut Random, count: usize) -> (Option<Flaw>, Vec<u8>) {
     match random.below(20) {
         0 => {
-            let lines = 33 + random.below(3);
+            let lines = CLAUSES + 1 + random.below(3);
             (None, listed::list(random, lines))
         }
         1 => {
@@ -494,12 +494,12 @@ impl<S: Services> Calls<S> {
     /// Either way for a type of the limit that a file is made for.
     fn at_limit(&mut self, random: &mut Random, tally: &mut Tally, known: &Known, place: usize) {
         let Ok(rules) = &known.checked else { return };
-        let count = COUNTS.get(place).copied().unwrap_or(CLAUSES as u64);
+        let count = COUNTS.get(place).copied().unwrap_or(SUMMED as u64);
         let iso = limit_iso(random, rules, count);
         let budget = any_budget(random, rules, iso);
         self.fit_or_short(random, tally, known, Call::Export(iso, budget));
         let [from, to] = limit_types(random, rules, count, place >= COUNTS.len());
-        let lines = *random.pick(&[count.min(40), count.min(32)]);
+        let lines = *random.pick(&[count.min(136), count.min(128)]);
         let list = listed::list(random, lines as usize);
         let call = Call::Import(from, to, &list);
         let answer = self.fit_or_short(random, tally, known, call);

@@ -1,6 +1,7 @@
 //! The services with lent areas, as the library and the checker written apart
 //! both offer them.
 
+use crate::play::Play;
 use apart::areas::{Known, Query, RESULT, TABLE, WORK};
 use apart::bounds;
 use apart::lines::split;
@@ -8,6 +9,7 @@ use apart::numbering;
 use apart::overlap;
 use apart::pair_lists::{self, FILE, LIST};
 use apart::sheet::{self, NUMBERS};
+use apart::units;
 use apart::witness;
 
 /// What Run is asked. The library takes an iso of 32 bits.
@@ -75,6 +77,14 @@ pub struct Lent<'a> {
 
 pub trait Services {
     fn call(&mut self, file: &[u8], call: Call, lent: Lent) -> Answer;
+
+    /// Plays a script on units: the number and the line. The one written apart
+    /// where there is no other.
+    fn play(&mut self, file: &[u8], play: &mut Play) -> (u32, usize) {
+        let (lent, script, budget) = play.lend();
+        let played = units::play(&Known::of(file), script, budget, lent);
+        (played.number.into(), played.line)
+    }
 }
 
 impl Call<'_> {

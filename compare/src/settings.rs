@@ -78,13 +78,13 @@ pub fn file(random: &mut Random, place: usize) -> Vec<u8> {
 
 /// The numbers that a file can be given, and 15 to 19.
 fn rows() -> Vec<String> {
-    (0..20).map(|number| number.to_string()).collect()
+    (0..22).map(|number| number.to_string()).collect()
 }
 
 fn number_of() -> Grid {
     let needed = |number, column| match (number, column) {
         (1, SHORT) => false,
-        (17 | 19, _) => false,
+        (17 | 19 | 20, _) => false,
         _ => true,
     };
     Grid::new("rulefile_number_of", rows(), GIVEN, needed)
@@ -93,7 +93,7 @@ fn number_of() -> Grid {
 fn setting_of() -> Grid {
     let needed = |number, column| match (number, column) {
         (1, SHORT) => false,
-        (16 | 17, _) => false,
+        (16 | 17 | 20, _) => false,
         _ => true,
     };
     Grid::new("rulefile_setting_of", rows(), GIVEN, needed)
@@ -173,7 +173,7 @@ pub fn count(tally: &mut Tally, known: &Known, call: Call, ours: &Answer, theirs
         _ => return,
     };
     grid.hit(ours.number as usize, HERE);
-    if theirs.number < 20 {
+    if theirs.number < 22 {
         grid.hit(theirs.number as usize, THERE);
     }
     if ours.number == 1 {

@@ -76,6 +76,9 @@ pub fn grid() -> Grid {
 const HEAD: &str = "T,0,0,0\nT,1,0,0\nP,0,0,0\nP,2,0,0\nP,3,0,0\nP,1,0,0\nP,2,3,0\n\
 I,1,1\nC,1,2\nC,2,1\nI,1,1\n";
 
+/// The last iso, which names the patterns that the clauses may not.
+const LAST: &str = "I,1,1\nC,4,3\nC,0,0\n";
+
 /// Clauses for it with refusals 8, 9 and 10, and with 3, 6 and 7.
 const CLAUSES_OF_8: [&str; 3] = ["C,3,0\n", "C,3,3\nL,4,0,3\n", "C,0,1\n"];
 const CLAUSES_OF_3: [&str; 3] = ["C,1\n", "C,1,9\n", "C,3,3\nL,3,0,3\n"];
@@ -89,7 +92,7 @@ pub fn several(random: &mut Random, form: bool) -> Vec<u8> {
     let mut clauses = faulty[..2].to_vec();
     clauses.push("C,1,1\n");
     random.shuffle(&mut clauses);
-    let text = [HEAD, &clauses.concat()].concat();
+    let text = [HEAD, &clauses.concat(), LAST].concat();
     text.replace("L,3,0,3\n", &lets).into_bytes()
 }
 

@@ -5,6 +5,7 @@ use crate::endings;
 use crate::grid::Grid;
 use crate::overlaps;
 use crate::pair_lists;
+use crate::play;
 use crate::settings;
 use crate::sheets;
 use crate::shuffle;
@@ -72,6 +73,7 @@ pub struct Tally {
     pub bounds: bounds::Grids,
     pub witness: witness::Grids,
     pub pair_lists: pair_lists::Grids,
+    pub plays: play::Grids,
     pub ceilings: Grid,
     pub sheets: Grid,
     pub variables: Grid,
@@ -86,13 +88,19 @@ pub fn names(names: &[&str]) -> Vec<String> {
     names.iter().map(|name| name.to_string()).collect()
 }
 
+/// Whether Check can give the number: up to 14, and 21.
+pub fn file_number(number: usize) -> bool {
+    number < 15 || number == 21
+}
+
 /// Refusal 1 is given through the library alone; 15 to 17 to queries and runs;
 /// a query of another form is refused with 3, in a sheet too.
 fn number_needed(number: usize, column: usize) -> bool {
     match column {
-        FILE => number != 1 && number < 15,
+        _ if matches!(number, 18..=20) => false,
+        FILE => number != 1 && file_number(number),
         QUERY | IN_SHEET => matches!(number, 0 | 3 | 15..=17),
-        CHECK | TURN | BY_SHEET => number < 15,
+        CHECK | TURN | BY_SHEET => file_number(number),
         RUN => true,
         _ => number != 1,
     }
@@ -114,7 +122,7 @@ fn ceiling_needed(ceiling: usize, column: usize) -> bool {
 }
 
 fn numbers() -> Grid {
-    let rows = (0..18).map(|number| number.to_string()).collect();
+    let rows = (0..22).map(|number| number.to_string()).collect();
     let columns = &[
         "files", "queries", "check", "turn", "run", "sheet", "in sheet", "if short",
     ];
@@ -205,6 +213,7 @@ impl Default for Tally {
             bounds: bounds::Grids::default(),
             witness: witness::Grids::default(),
             pair_lists: pair_lists::Grids::default(),
+            plays: play::Grids::default(),
             ceilings: ceilings(),
             sheets: sheets::grid(),
             variables: variables::grid(),
@@ -236,6 +245,7 @@ impl Tally {
         self.bounds.add(&other.bounds);
         self.witness.add(&other.witness);
         self.pair_lists.add(&other.pair_lists);
+        self.plays.add(&other.plays);
         self.ceilings.add(&other.ceilings);
         self.sheets.add(&other.sheets);
         self.variables.add(&other.variables);
@@ -281,7 +291,7 @@ impl Tally {
         let others = self.settings.all().into_iter();
         let others = others.chain(self.overlaps.all()).chain(self.bounds.all());
         let others = others.chain(self.witness.all());
-        let others = others.chain(self.pair_lists.all());
+        let others = others.chain(self.pair_lists.all()).chain(self.plays.all());
         own.into_iter().chain(others).collect()
     }
 

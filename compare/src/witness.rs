@@ -6,7 +6,7 @@ use crate::case::Case;
 use crate::grid::Grid;
 use crate::service::{Answer, Call, Services};
 use crate::settings::{GIVEN, HERE, SHORT, THERE};
-use crate::tally::{names, Tally};
+use crate::tally::{file_number, names, Tally};
 use apart::areas::{Known, RESULT};
 use apart::cover::orthogonal;
 use apart::generate::random::Random;
@@ -67,8 +67,8 @@ impl Grids {
 
 /// The numbers that a file can be given.
 fn numbers() -> Grid {
-    let rows = (0..15).map(|number| number.to_string()).collect();
-    let needed = |number, column| (number, column) != (1, SHORT);
+    let rows = (0..22).map(|number| number.to_string()).collect();
+    let needed = |number, column| file_number(number) && (number, column) != (1, SHORT);
     Grid::new("rulefile_witness", rows, GIVEN, needed)
 }
 
@@ -95,7 +95,7 @@ fn kinds() -> Grid {
         "10 or more pairs overlap",
         "3 or more patterns match it",
         "no clauses",
-        "32 clauses",
+        "128 clauses",
         "127 letters",
         "types of other trees",
         "another value on the other side",
@@ -132,7 +132,7 @@ pub fn count(tally: &mut Tally, known: &Known, call: Call, ours: &Answer, theirs
     }
     let grid = &mut tally.witness.numbers;
     grid.hit(ours.number as usize, HERE);
-    if theirs.number < 15 {
+    if theirs.number < 22 {
         grid.hit(theirs.number as usize, THERE);
     }
     if ours.number == 1 {
@@ -144,7 +144,7 @@ impl<S: Services> Calls<S> {
     /// The witness of a file, with areas long enough and with a short one.
     pub fn witness(&mut self, random: &mut Random, tally: &mut Tally, known: &Known) {
         let refusal = match &known.checked {
-            Err(refusal) if refusal.number >= FIRST => Some(*refusal),
+            Err(refusal) if (FIRST..FIRST + 4).contains(&refusal.number) => Some(*refusal),
             _ => None,
         };
         if refusal.is_none() && !random.chance(OTHERS) {

@@ -75,15 +75,47 @@ pub fn base(random: &mut Random, most: usize) -> Vec<u8> {
     }
 }
 
-/// Unused lines up to the ceiling: "nothing tests it".
+/// Lines up to the ceiling, in trees of 127 nodes at most of which no two nodes
+/// share a line, each used by an iso of its own.
 fn fill(draft: &mut Draft, letter: u8, ceiling: usize, over: bool) {
-    let unit = draft.unit(letter);
-    while draft.count(letter) < ceiling + usize::from(over) {
-        if letter == b'T' {
-            draft.add(letter, [1, unit, unit]);
-        } else {
-            draft.add(letter, [3, unit, 0]);
+    let units = |draft: &mut Draft, letter, count, kind| {
+        let mut whole = draft.add(letter, [0, 0, 0]);
+        for _ in 1..count {
+            let one = draft.add(letter, [0, 0, 0]);
+            whole = draft.add(letter, [kind, one, whole]);
         }
+        whole
+    };
+    let mut ladder = vec![draft.unit(b'T')];
+    let variable = draft.add(b'P', [1, 0, 0]);
+    if letter == b'P' {
+        for _ in 1..64 {
+            let last = ladder[ladder.len() - 1];
+            ladder.push(draft.add(b'T', [2, ladder[0], last]));
+        }
+        let last = ladder[63];
+        draft.push(b'I', &[last, last]);
+        draft.push(b'C', &[variable, variable]);
+    }
+    loop {
+        let due = (ceiling + usize::from(over)).saturating_sub(draft.count(letter));
+        if due == 0 {
+            break;
+        }
+        let count = (due.min(127) + 1) / 2;
+        let count = if due % 2 == 0 && due < 127 {
+            count.min(due / 2)
+        } else {
+            count
+        };
+        let count = count.max(1);
+        let (ty, pattern) = if letter == b'T' {
+            (units(draft, b'T', count, 2), variable)
+        } else {
+            (ladder[count - 1], units(draft, b'P', count, 4))
+        };
+        draft.push(b'I', &[ty, ty]);
+        draft.push(b'C', &[pattern, pattern]);
     }
 }
 
@@ -122,6 +154,9 @@ fn one_over_type(random: &mut Random, draft: &mut Draft, over: bool) {
         let unit = draft.unit(b'T');
         draft.add(b'T', [1 + random.below(2) as u32, unit, number]);
     }
+    let variable = draft.add(b'P', [1, random.below(32) as u32, 0]);
+    draft.push(b'I', &[number, number]);
+    draft.push(b'C', &[variable, variable]);
 }
 
 /// Adds a type of 127 nodes.
@@ -145,51 +180,63 @@ fn add_type(draft: &mut Draft, ty: &Type) -> u32 {
 }
 
 fn one_over_pattern(random: &mut Random, draft: &mut Draft, over: bool) {
-    let number = wide_pattern(random, draft);
+    let (ty, number) = wide_pattern(random, draft);
+    draft.push(b'I', &[ty, ty]);
+    draft.push(b'C', &[number, number]);
     if over {
         draft.add(b'P', [2 + random.below(2) as u32, number, 0]);
     }
 }
 
-/// Adds a pattern of 63 pairs with 64 leaves: 127 nodes.
-fn wide_pattern(random: &mut Random, draft: &mut Draft) -> u32 {
-    let leaf = draft.add(b'P', [1, random.below(32) as u32, 0]);
-    let mut number = leaf;
+/// Adds a pattern of 63 pairs with 64 leaves, 127 nodes, and its type.
+fn wide_pattern(random: &mut Random, draft: &mut Draft) -> (u32, u32) {
+    let (unit, leaf) = (draft.unit(b'T'), draft.unit(b'P'));
+    let (mut ty, mut number) = (unit, leaf);
     for _ in 0..63 {
-        let (a, b) = if random.chance(50) {
-            (number, leaf)
+        if random.chance(50) {
+            ty = draft.add(b'T', [2, ty, unit]);
+            number = draft.add(b'P', [4, number, leaf]);
         } else {
-            (leaf, number)
-        };
-        number = draft.add(b'P', [4, a, b]);
+            ty = draft.add(b'T', [2, unit, ty]);
+            number = draft.add(b'P', [4, leaf, number]);
+        }
     }
-    number
+    (ty, number)
 }
 
 fn one_over_sides(random: &mut Random, draft: &mut Draft, over: bool) {
     let number = many_sides(random, draft);
-    let unit = draft.unit(b'P');
-    draft.add(b'P', [4, unit, number]);
     if over {
         draft.add(b'P', [2 + random.below(2) as u32, number, 0]);
     }
 }
 
-/// Adds a pattern of forty left and right nodes, some of them below pairs.
+/// Adds an iso on a type of 41 values, of which one is a pattern of forty left
+/// and right nodes.
 fn many_sides(random: &mut Random, draft: &mut Draft) -> u32 {
-    let unit = draft.unit(b'P');
-    let one = draft.add(b'P', [2, unit, 0]);
-    let mut number = unit;
-    for _ in 0..SIDES {
-        let kind = 2 + random.below(2) as u32;
-        number = draft.add(
-            b'P',
-            if random.chance(40) {
-                [4, one, number]
-            } else {
-                [kind, number, 0]
-            },
-        );
+    let (unit, leaf) = (draft.unit(b'T'), draft.unit(b'P'));
+    let inner = 2 + random.below(2) as u32;
+    let end = draft.add(b'P', [5 - inner, leaf, 0]);
+    let (mut ty, mut number) = (unit, leaf);
+    let mut values = vec![end];
+    for place in 0..SIDES {
+        let parts = if inner == 2 {
+            [1, ty, unit]
+        } else {
+            [1, unit, ty]
+        };
+        ty = draft.add(b'T', parts);
+        number = draft.add(b'P', [inner, number, 0]);
+        if place > 0 {
+            let last = values[place - 1];
+            values.push(draft.add(b'P', [inner, last, 0]));
+        }
+    }
+    values.push(number);
+    draft.push(b'I', &[ty, ty]);
+    random.shuffle(&mut values);
+    for value in values {
+        draft.push(b'C', &[value, value]);
     }
     number
 }
@@ -205,6 +252,9 @@ pub fn many_lines(random: &mut Random, over: bool) -> Vec<u8> {
         // The unit's last line has a number of four digits.
         fill(&mut draft, b'P', PATTERNS - 1, false);
         unit = draft.add(b'P', [0, 0, 0]);
+        let ty = draft.unit(b'T');
+        draft.push(b'I', &[ty, ty]);
+        draft.push(b'C', &[unit, unit]);
     }
     let wanted = LINES + usize::from(over);
     let mut rows = Vec::new();

@@ -33,8 +33,31 @@ fn alone(random: &mut Random, number: u8) -> Part {
             let zone = *random.pick(zones);
             line(random, number, zone)
         }
+        21 => idle(random),
         _ => iso(random, number),
     }
+}
+
+/// T or P lines that no other line names, or idle ones alone.
+fn idle(random: &mut Random) -> Part {
+    let (zone, lines): (Zone, &[&str]) = if random.chance(50) {
+        let lines = &[
+            "T,0,0,0",
+            "T,1,unit,four",
+            "T,0,0,0 T,2,type,unit",
+            "T,1,unit,unit T,2,type,type",
+        ];
+        (Zone::Types, lines)
+    } else {
+        let lines = &[
+            "P,0,0,0",
+            "P,1,31,0",
+            "P,3,u,0 P,4,pattern,pattern",
+            "P,2,l,0 P,3,pattern,0",
+        ];
+        (Zone::Patterns, lines)
+    };
+    Part::new(zone, *random.pick(lines), 0)
 }
 
 /// Lines of none of the five forms.

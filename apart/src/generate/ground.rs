@@ -81,6 +81,10 @@ const ISOS: [(u8, &str); 5] = [
     (b'C', "r,l"),
 ];
 
+/// The last iso, which names all that the others do not: its faults are found
+/// behind those of the parts.
+const LAST: [&str; 4] = ["I,four,t127", "C,llx,lr", "C,p127,s40", "C,y,y"];
+
 pub struct Ground {
     draft: Draft,
     names: HashMap<&'static str, u32>,
@@ -113,6 +117,9 @@ impl Ground {
         // Two parts add two isos at most, so that this number is never one of
         // an earlier iso.
         ground.names.insert("own", isos + 3);
+        let (types, patterns) = (ground.draft.count(b'T'), ground.draft.count(b'P'));
+        ground.names.insert("type", types as u32);
+        ground.names.insert("pattern", patterns as u32);
         ground
     }
 
@@ -158,6 +165,7 @@ impl Ground {
                 }
             }
         }
+        file.extend(LAST.iter().flat_map(|line| self.text(line).into_bytes()));
         (file, named)
     }
 }

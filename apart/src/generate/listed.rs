@@ -14,11 +14,14 @@ use std::collections::BTreeSet;
 use std::rc::Rc;
 
 /// Counts of values around the limits: one, those of a list, those of 18.
-pub const COUNTS: [u64; 9] = [1, 2, 3, 31, 32, 33, 4_095, 4_096, 4_097];
+pub const COUNTS: [u64; 12] = [1, 2, 3, 31, 32, 33, 127, 128, 129, 4_095, 4_096, 4_097];
 
 /// P lines that an import from a type of 32 values to itself takes: the first
 /// two may be written, the others pass the ceiling.
 pub const LINES: [usize; 4] = [1_023, 1_024, 1_025, 1_055];
+
+/// The values of those types.
+pub const SUMMED: usize = 32;
 
 fn unit() -> Rc<Type> {
     Rc::new(Type::Unit)
@@ -78,12 +81,12 @@ fn sum(random: &mut Random, count: usize) -> Rc<Type> {
 /// different tail of the letters of a sum, and 32 for each product with a unit.
 pub fn with_lines(random: &mut Random, lines: usize) -> Rc<Type> {
     loop {
-        let mut ty = sum(random, CLAUSES);
+        let mut ty = sum(random, SUMMED);
         let all = settings(&ty);
         let tails = |letters| (0..Vec::len(letters)).map(|start| &letters[start..]);
         let own = all.iter().flat_map(tails).collect::<BTreeSet<_>>().len();
-        let products = lines.saturating_sub(own) / CLAUSES;
-        if own + products * CLAUSES != lines || ty.nodes() + 2 * products > NODES {
+        let products = lines.saturating_sub(own) / SUMMED;
+        if own + products * SUMMED != lines || ty.nodes() + 2 * products > NODES {
             continue;
         }
         for _ in 0..products {

@@ -4,6 +4,7 @@ use super::accepted;
 use super::ceiling;
 use super::damage::damage;
 use super::draft::Draft;
+use super::idle::pruned;
 use super::life;
 use super::plan;
 use super::random::Random;
@@ -16,7 +17,7 @@ fn number_of(file: &[u8]) -> u8 {
     check(file).err().map_or(0, |refusal| refusal.number)
 }
 
-/// A file that is refused with the number wanted, 2 to 14. After many tries
+/// A file that is refused with the number wanted, 2 to 14 or 21. After many tries
 /// that are refused otherwise, the last of these is given.
 pub fn aimed(random: &mut Random, number: u8) -> Vec<u8> {
     let mut last = Vec::new();
@@ -119,6 +120,7 @@ fn changes(number: u8) -> &'static [Change] {
         12 => &[copy_side, flip_side],
         13 => &[drop_clause, bare_iso, widen],
         14 => &[widen],
+        21 => &[drop_let, drop_clause, bare_iso, flip_name, add_idle],
         _ => &[change_field, delete_row, double_row, swap_rows],
     }
 }
@@ -130,7 +132,29 @@ fn changed(random: &mut Random, base: &[u8], number: u8) -> Vec<u8> {
     if !draft.0.is_empty() {
         change(random, &mut draft);
     }
-    draft.bytes()
+    let file = draft.bytes();
+    // What a change leaves idle would hide the refusal wanted.
+    if matches!(number, 8..=14) {
+        pruned(&file)
+    } else {
+        file
+    }
+}
+
+/// A line that names another one than before.
+fn flip_name(random: &mut Random, draft: &mut Draft) -> Option<()> {
+    let letter = *random.pick(b"IC");
+    let place = draft.some_place(random, letter)?;
+    let fields = &mut draft.0[place].1;
+    fields[0] = fields[1];
+    Some(())
+}
+
+/// A T or P line that no line names.
+fn add_idle(random: &mut Random, draft: &mut Draft) -> Option<()> {
+    let letter = *random.pick(b"TP");
+    draft.add(letter, [0, 0, 0]);
+    Some(())
 }
 
 /// One line spoiled in its form.

@@ -1,4 +1,4 @@
-//! Files with two faults: each pair of refusals 3 to 14 in both orders of
+//! Files with two faults: each pair of refusals 3 to 14 and 21 in both orders of
 //! lines, and each pair that can stand on one line, in one clause or in one
 //! iso.
 
@@ -25,23 +25,24 @@ pub struct Made {
 
 /// All pairs that can be made.
 ///
-/// Apart: a line with fault 5 is a T or P line; below a clause it would be
-/// misplaced. Together: two of 3 to 7 on one line, two of 8 to 10 in one
+/// Apart: a line with fault 5 or 21 is a T or P line; below a clause it would
+/// be misplaced. Together: two of 3 to 7 on one line, two of 8 to 10 in one
 /// clause, two of 11 to 14 in one iso, or one of 8 to 10 in a clause of an iso
 /// with one of 11 to 14.
 pub fn all() -> Vec<Pair> {
     let mut pairs = Vec::new();
-    for first in 3..=14 {
-        for second in 3..=14 {
+    let numbers = || (3..=14).chain([21]);
+    for first in numbers() {
+        for second in numbers() {
             let pair = |together| Pair {
                 first,
                 second,
                 together,
             };
-            if first < 8 || second != 5 {
+            if !(8..=14).contains(&first) || !matches!(second, 5 | 21) {
                 pairs.push(pair(false));
             }
-            if first < second && (second < 8 || first > 7) {
+            if first < second && second != 21 && (second < 8 || first > 7) {
                 pairs.push(pair(true));
             }
         }
@@ -75,13 +76,18 @@ fn made_together(random: &mut Random, ground: &Ground, pair: Pair) -> Made {
 }
 
 /// "Then all lines from the first, on each the lowest of 3 to 7. Only then the
-/// isos in order".
+/// isos in order"; 21 "after 7 for the whole file and before 8".
 fn made_apart(random: &mut Random, ground: &Ground, pair: Pair) -> Made {
     let parts = fault::apart(random, pair.first, pair.second);
     let both = ground.file(&parts);
     let one = ground.file(&parts[..1]);
     let two = ground.file(&parts[1..]);
-    let answer = if pair.first > 7 && pair.second < 8 {
+    let rank = |number| match number {
+        3..=7 => 0,
+        21 => 1,
+        _ => 2,
+    };
+    let answer = if rank(pair.second) < rank(pair.first) {
         (pair.second, both.1[1])
     } else {
         (pair.first, both.1[0])

@@ -537,9 +537,31 @@ fn arranged(random: &mut Random, mut held: Held) -> (Rc<Type>, Rc<Pattern>) {
     )
 }
 
-/// A sum of 32 units, its closed values exchanged: 32 clauses.
+/// A type of 128 values, its closed values exchanged: 128 clauses.
 pub fn wide(random: &mut Random) -> Iso {
-    let mut parts: Vec<Rc<Type>> = (0..CLAUSES).map(|_| unit()).collect();
+    wide_of(random, CLAUSES)
+}
+
+/// An iso of so many clauses of closed values.
+pub fn wide_of(random: &mut Random, count: usize) -> Iso {
+    if count > 30 && count % 2 == 0 {
+        let half = wide_of(random, count / 2).from;
+        let parts = if random.chance(50) {
+            (half, two())
+        } else {
+            (two(), half)
+        };
+        let ty = Rc::new(Type::Product(parts.0, parts.1));
+        let cases = closed(&ty);
+        return permuted(random, &ty, &cases, &[]).expect("no holes");
+    }
+    if count > 30 {
+        let most = wide_of(random, count - 1).from;
+        let ty = Rc::new(Type::Sum(most, unit()));
+        let cases = closed(&ty);
+        return permuted(random, &ty, &cases, &[]).expect("no holes");
+    }
+    let mut parts: Vec<Rc<Type>> = (0..count).map(|_| unit()).collect();
     while parts.len() > 1 {
         let a = parts.remove(random.below(parts.len()));
         let b = parts.remove(random.below(parts.len()));

@@ -5,9 +5,7 @@ use super::counted;
 use super::plan::{self, closed_by_merge, open, permuted, Open};
 use super::random::Random;
 use super::scribe;
-use super::shape::{
-    closed, closed_count, longest_type, one_case, products, random_type, scattered, Sketch,
-};
+use super::shape::{longest_type, one_case, products, random_type, scattered, Sketch};
 use crate::check;
 use crate::lines::{Clause, Iso, CLAUSES, NODES};
 use crate::reduce::turned;
@@ -20,7 +18,7 @@ pub enum Form {
     One,
     /// Several do, now and then of one length.
     Several,
-    /// The iso has 32 clauses.
+    /// The iso has 128 clauses, or many.
     Full,
     /// The value has as many letters as there can be.
     Longest,
@@ -227,24 +225,32 @@ fn several(random: &mut Random, number: u8) -> Option<Iso> {
     sided(random, ty, &cases, number)
 }
 
-/// Thirty-two closed values, some of them often, or of a type that has more.
+/// As many clauses as an iso may have, or some fewer: one value twice, or a type
+/// with one value more.
 fn full(random: &mut Random, number: u8) -> Option<Iso> {
-    let ty = some_type(random);
-    if ty.nodes() > NODES || closed_count(&ty) > 200 {
-        return None;
+    let count = *random.pick(&[33, 64, 127, CLAUSES, CLAUSES, CLAUSES]);
+    let mut iso = plan::wide_of(random, count);
+    let one = random.below(count);
+    let two = (one + 1 + random.below(count - 1)) % count;
+    let more = |ty: &Rc<Type>| Rc::new(Type::Sum(Rc::clone(ty), Rc::new(Type::Unit)));
+    let below = |side: &Rc<Pattern>| Rc::new(Pattern::Left(Rc::clone(side)));
+    match number {
+        11 => iso.clauses[one].left = Rc::clone(&iso.clauses[two].left),
+        12 => iso.clauses[one].right = Rc::clone(&iso.clauses[two].right),
+        13 => {
+            iso.from = more(&iso.from);
+            for clause in &mut iso.clauses {
+                clause.left = below(&clause.left);
+            }
+        }
+        _ => {
+            iso.to = more(&iso.to);
+            for clause in &mut iso.clauses {
+                clause.right = below(&clause.right);
+            }
+        }
     }
-    let mut values = closed(&ty);
-    random.shuffle(&mut values);
-    if overlaps(number) {
-        let few = 1 + random.below(values.len().min(10));
-        let more = |place: usize| values[place % few].clone();
-        values = (0..CLAUSES).map(more).collect();
-    }
-    if values.len() < CLAUSES + usize::from(!overlaps(number)) {
-        return None;
-    }
-    values.truncate(CLAUSES);
-    sided(random, ty, &values, number)
+    Some(iso)
 }
 
 /// A value of 127 letters; of 126 where another value has to be covered.
@@ -283,7 +289,7 @@ fn sparse(random: &mut Random, number: u8) -> Option<Iso> {
             cases.push(case);
         }
     }
-    cases.truncate(CLAUSES);
+    cases.truncate(32 + random.below(CLAUSES - 31));
     permuted(random, &ty, &cases, &[])
 }
 

@@ -9,7 +9,7 @@ pub fn lines(words: &str) -> Vec<u8> {
 /// Files refused with 2 to 14.
 pub fn refused_files() -> [Vec<u8>; 13] {
     let four = "T,0,0,0 T,1,0,0 T,1,1,1 P,0,0,0 P,2,0,0 P,3,0,0 P,2,1,0 P,2,2,0 P,3,1,0 P,1,0,0";
-    let iso = |words: &str| lines(&format!("{four} {words}"));
+    let iso = |words: &str| apart::generate::idle::used(&lines(&format!("{four} {words}")));
     [
         vec![b'\n'; 4_097],
         b"T,0,0,0".to_vec(),

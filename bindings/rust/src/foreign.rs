@@ -1,6 +1,6 @@
 //! The exported functions, as `include/rulefile.h` declares them. This module has all `unsafe` of the crate.
 
-use crate::{Direction, Query};
+use crate::{Direction, Query, Tally};
 
 #[repr(C)]
 pub struct CheckAnswer {
@@ -187,6 +187,23 @@ extern "C" {
         result: *mut u8,
         result_length: usize,
     ) -> WitnessAnswer;
+
+    fn rulefile_play(
+        file: *const u8,
+        file_length: usize,
+        table: *mut u16,
+        table_length: usize,
+        work: *mut u8,
+        work_length: usize,
+        types: *mut u32,
+        types_length: usize,
+        settings: *mut u32,
+        settings_length: usize,
+        script: *const u8,
+        script_length: usize,
+        budget: u32,
+        tally: *mut Tally,
+    ) -> CheckAnswer;
 
     fn rulefile_export(
         file: *const u8,
@@ -403,6 +420,38 @@ pub fn witness(
             work.len(),
             result.as_mut_ptr(),
             result.len(),
+        )
+    }
+}
+
+#[allow(clippy::too_many_arguments)]
+pub fn play(
+    file: &[u8],
+    table: &mut [u16],
+    work: &mut [u8],
+    types: &mut [u32],
+    settings: &mut [u32],
+    script: &[u8],
+    budget: u32,
+    tally: &mut Tally,
+) -> CheckAnswer {
+    // SAFETY: as for `check`; the tally is one struct of C's layout.
+    unsafe {
+        rulefile_play(
+            file.as_ptr(),
+            file.len(),
+            table.as_mut_ptr(),
+            table.len(),
+            work.as_mut_ptr(),
+            work.len(),
+            types.as_mut_ptr(),
+            types.len(),
+            settings.as_mut_ptr(),
+            settings.len(),
+            script.as_ptr(),
+            script.len(),
+            budget,
+            tally,
         )
     }
 }

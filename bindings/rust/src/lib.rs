@@ -1,8 +1,8 @@
 //! Check, Turn, Run, whole sheets of queries, settings as numbers, the overlap of two patterns, steps known
-//! beforehand, pair lists and settings that show a fault for rule files, over the proved static library.
+//! beforehand, pair lists, settings that show a fault and units tried out for rule files, over the proved static library.
 //!
 //! Callers who keep their own areas lend them to [`check`], [`turn`], [`run`], [`sheet`], [`number_of`],
-//! [`setting_of`], [`overlap`], [`bounds`], [`export`], [`import`] and [`witness`]; areas of any length are safe, and
+//! [`setting_of`], [`overlap`], [`bounds`], [`export`], [`import`], [`witness`] and [`play`]; areas of any length are safe, and
 //! what each then holds is said in `include/rulefile.h`. Callers who do not want to make one [`Desk`], which owns the
 //! areas:
 //!
@@ -30,6 +30,10 @@
 //! let list = desk.export(file, 0, 1)?;
 //! assert_eq!(list, b"0,1\n1,0\n");
 //! assert_eq!(desk.import(file, 1, 1, &list)?, file);
+//! // Unit 0 holds setting 0 of T line 1, and is visited twice.
+//! let (mut types, mut settings) = ([1], [0]);
+//! let tally = desk.play(file, &mut types, &mut settings, b"S,0,0,0\nS,0,0,0\n", 1)?;
+//! assert_eq!((tally.done, types, settings), (2, [1], [0]));
 //! # Ok::<(), rulefile::Refused>(())
 //! ```
 
@@ -60,6 +64,8 @@ pub const MAX_FILE_LENGTH: usize = 65_536;
 pub const NUMBERS_A_QUERY: usize = 3;
 /// The most queries of a sheet.
 pub const MAX_QUERIES: usize = 600;
+/// The most units of a play.
+pub const MAX_UNITS: usize = 1_000;
 
 /// A run that was not refused, its letters in the result area.
 #[derive(Clone, Copy, Debug, PartialEq, Eq)]
@@ -100,6 +106,18 @@ pub struct Bounds {
     pub least_over: bool,
     /// Whether the greatest is.
     pub greatest_over: bool,
+}
+
+/// What came of the visits of a play, each counted from 0.
+#[repr(C)]
+#[derive(Clone, Copy, Debug, Default, PartialEq, Eq)]
+pub struct Tally {
+    /// The visits that converted their unit.
+    pub done: u32,
+    /// The visits whose type does not match the unit.
+    pub skipped: u32,
+    /// The visits over budget.
+    pub spent: u32,
 }
 
 /// Checks a file.
@@ -236,6 +254,28 @@ pub fn witness(
     let length = answer.length;
     let given = Refused::unless_0(answer.number, answer.line);
     given.map_err(|refused| Witnessed { refused, length })
+}
+
+/// Checks a file and plays a script of visits, lines `S,unit,iso,direction`, on units that each hold a T line and a
+/// setting number, each visit under the budget; the tally then says how many were done, skipped and spent.
+///
+/// Refused, in this order: what [`check`] refuses, of which 1 also for unit areas of unequal length and 2 also for
+/// over 1,000 units or 4,096 lines, for the units in order an absent T line (15), a type too big to number (18), a
+/// number too high (19), and a line of another form or that names an absent unit or iso (22). Units and tally are
+/// then as they were.
+#[allow(clippy::too_many_arguments)]
+pub fn play(
+    file: &[u8],
+    table: &mut [u16],
+    work: &mut [u8],
+    types: &mut [u32],
+    settings: &mut [u32],
+    script: &[u8],
+    budget: u32,
+    tally: &mut Tally,
+) -> Result<(), Refused> {
+    let answer = foreign::play(file, table, work, types, settings, script, budget, tally);
+    Refused::unless_0(answer.number, answer.line)
 }
 
 /// Checks a file and writes its iso number `iso` as a pair list, a line `from,to` of setting numbers for each
@@ -377,6 +417,23 @@ impl Desk {
             refused,
             letters: result[..length].to_vec(),
         })
+    }
+
+    /// Plays a script of visits on units, and gives the tally.
+    pub fn play(
+        &mut self,
+        file: &[u8],
+        types: &mut [u32],
+        settings: &mut [u32],
+        script: &[u8],
+        budget: u32,
+    ) -> Result<Tally, Refused> {
+        let mut tally = Tally::default();
+        let (table, work) = (&mut self.table, &mut self.work);
+        play(
+            file, table, work, types, settings, script, budget, &mut tally,
+        )?;
+        Ok(tally)
     }
 
     /// Iso number `iso` of the file as a pair list.

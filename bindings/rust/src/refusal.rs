@@ -51,6 +51,8 @@ pub enum Refusal {
     BadList = 20,
     /// A T or P line that no I, C or L line reaches.
     IdleLine = 21,
+    /// A line of the script is of another form, or names an absent unit or iso.
+    BadScript = 22,
     /// A number that this crate has no name for: the library that is linked is of a later version.
     Unknown(u32),
 }
@@ -80,6 +82,7 @@ const ALL: &[(Refusal, &str)] = &[
     (TooHigh, "number too high"),
     (BadList, "bad list"),
     (IdleLine, "idle line"),
+    (BadScript, "bad script"),
 ];
 
 impl Refusal {

@@ -3,7 +3,7 @@
 
 use rulefile::{
     check, number_of, overlap, run, setting_of, sheet, turn, Desk, Direction, Overlap, Query, Ran,
-    Refusal, Refused, Value, LIST_LENGTH, MAX_FILE_LENGTH, MAX_QUERIES, NUMBERS_A_QUERY,
+    Refusal, Refused, Value, LIST_LENGTH, MAX_FILE_LENGTH, MAX_QUERIES, MAX_UNITS, NUMBERS_A_QUERY,
     RESULT_LENGTH, TABLE_LENGTH, WORK_LENGTH,
 };
 use std::error::Error;
@@ -22,7 +22,7 @@ const QUERIES: &str = "Q,1,0,9,PLURU\nQ,1,1,9,PLULU\nQ,1,0,2,PRULU\nQ,1,0,2,PLUR
     Q,2,0,9,U\nQ,1,0,9,PLU\n";
 
 /// The words of documents 01 and 02, the first one for number 1.
-const WORDS: [&str; 21] = [
+const WORDS: [&str; 22] = [
     "short area",
     "too long",
     "bad line",
@@ -44,6 +44,7 @@ const WORDS: [&str; 21] = [
     "number too high",
     "bad list",
     "idle line",
+    "bad script",
 ];
 
 /// The words of which a refusal's name is made; those of two are cut.
@@ -570,7 +571,7 @@ fn refusals_by_number_and_word() {
         let name = format!("{refusal:?}").to_lowercase();
         assert_eq!(name, name_words(word).replace(' ', ""));
     }
-    for number in [0, 22, 23, 256, 257, 65_537, u32::MAX] {
+    for number in [0, 23, 24, 256, 257, 65_537, u32::MAX] {
         assert_eq!(Refusal::of(number), None);
     }
 }
@@ -1310,6 +1311,7 @@ fn header_and_wrapper_agree() {
         ("LIST_LENGTH".to_string(), LIST_LENGTH as u32),
         ("NUMBERS_A_QUERY".to_string(), NUMBERS_A_QUERY as u32),
         ("MAX_QUERIES".to_string(), MAX_QUERIES as u32),
+        ("MAX_UNITS".to_string(), MAX_UNITS as u32),
         ("MAX_FILE_LENGTH".to_string(), MAX_FILE_LENGTH as u32),
         ("MAX_LINES".to_string(), 4_096),
         ("ACCEPTED".to_string(), 0),
@@ -1321,6 +1323,6 @@ fn header_and_wrapper_agree() {
             refusal.number(),
         )
     }));
-    assert_eq!(expected.len(), 9 + WORDS.len());
+    assert_eq!(expected.len(), 10 + WORDS.len());
     assert_eq!(header_numbers(), expected);
 }

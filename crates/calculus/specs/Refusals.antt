@@ -1,4 +1,4 @@
--- The refusals of document 01 and of requests 02 (18, 19), 07 (20) and 11 (21), each with its number. A case holds the kind of
+-- The refusals of document 01 and of requests 02 (18, 19), 07 (20), 11 (21) and 12 (22), each with its number. A case holds the kind of
 -- the faulty line: any for 4 to 7, a C line for 8 to 10, an I line for 11 to 14, a T or P line for 21. Refusal 3 has none to hold, its line being of none of the
 -- five forms, and the others name no line.
 use Prim.Native.Nat.{ℕ}
@@ -17,6 +17,7 @@ pub data Refusal : Type 0 where
   tooMany tooHigh : Refusal
   badList : Refusal
   idle : Kind → Refusal
+  badScript : Refusal
 
 -- the column "number" of document 01's table
 abbrev pub number : Refusal → ℕ
@@ -41,3 +42,4 @@ number tooMany = 18
 number tooHigh = 19
 number badList = 20
 number (idle k) = 21
+number badScript = 22

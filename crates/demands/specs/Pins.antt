@@ -9,7 +9,7 @@ use lib.ListN.{replicate}
 use Rattle.limits.specs.Limits.{maxBytes, maxLines, maxTypes, maxPatterns, maxIsos, maxClauses, maxLets, maxNodes, maxTags, variables, fieldBound, budgetBound, rowWidth, tableLength, workLength, resultLength, queryLength, maxQueries, maxValues, maxPairs, exportLength, importLength}
 use Rattle.calculus.specs.Tools.{isSome}
 use Rattle.calculus.specs.Trees.{tunit, left, right, Pat, punit, pinj, vunit, vinj, vpair}
-use Rattle.calculus.specs.Refusals.{Kind, typeLine, patternLine, isoLine, clauseLine, letLine, number, shortArea, tooLong, badLine, misplaced, badField, badName, ceiling, variable, letShape, badType, overlap, gap, noIso, noValue, spent, tooMany, tooHigh, badList, idle}
+use Rattle.calculus.specs.Refusals.{Kind, typeLine, patternLine, isoLine, clauseLine, letLine, number, shortArea, tooLong, badLine, misplaced, badField, badName, ceiling, variable, letShape, badType, overlap, gap, noIso, noValue, spent, tooMany, tooHigh, badList, idle, badScript}
 use Rattle.format.specs.Lines.{Row, rowOf}
 use Rattle.format.specs.Table.{numbers, tableOf}
 use Rattle.format.specs.Judge.{Seen, start, inOrder, fieldsFit, named, withinCeilings}
@@ -19,12 +19,12 @@ use Rattle.model.specs.Desk.{queryOf, desk}
 use Rattle.model.specs.Sheet.{sheetVerdict}
 use Rattle.model.specs.Cases.{bytes}
 
--- the column "number" of the table of refusals, request 02's two, 07's and 11's
+-- the column "number" of the table of refusals, request 02's two, 07's, 11's and 12's
 numbered : (k : Kind)
     → map number
     (shortArea ∷ tooLong ∷ badLine ∷ misplaced k ∷ badField k ∷ badName k ∷ ceiling k ∷ variable k ∷ letShape k ∷ badType k ∷ overlap k left ∷ overlap k right
-    ∷ gap k left ∷ gap k right ∷ noIso ∷ noValue ∷ spent ∷ tooMany ∷ tooHigh ∷ badList ∷ idle k ∷ [])
-    ≡ 1 ∷ 2 ∷ 3 ∷ 4 ∷ 5 ∷ 6 ∷ 7 ∷ 8 ∷ 9 ∷ 10 ∷ 11 ∷ 12 ∷ 13 ∷ 14 ∷ 15 ∷ 16 ∷ 17 ∷ 18 ∷ 19 ∷ 20 ∷ 21 ∷ []
+    ∷ gap k left ∷ gap k right ∷ noIso ∷ noValue ∷ spent ∷ tooMany ∷ tooHigh ∷ badList ∷ idle k ∷ badScript ∷ [])
+    ≡ 1 ∷ 2 ∷ 3 ∷ 4 ∷ 5 ∷ 6 ∷ 7 ∷ 8 ∷ 9 ∷ 10 ∷ 11 ∷ 12 ∷ 13 ∷ 14 ∷ 15 ∷ 16 ∷ 17 ∷ 18 ∷ 19 ∷ 20 ∷ 21 ∷ 22 ∷ []
 numbered k = refl
 
 -- "Ceilings: 65,536 bytes; 4,096 lines; 256 T; 1,024 P; 32 I; 32 C in an iso (128 since request 13); 8 L in a clause; 127 nodes in an unfolded T or P; 40 left and right nodes in an unfolded P."

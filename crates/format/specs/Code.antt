@@ -10,7 +10,7 @@ use Rattle.format.specs.declared.Refusal.the-variants as refusals
 use Rattle.format.specs.declared.Row as CodeRow
 use Rattle.format.specs.declared.Answer as CodeAnswer
 use Rattle.calculus.specs.Trees.{Tag, left, right}
-use Rattle.calculus.specs.Refusals.{Kind, typeLine, patternLine, isoLine, clauseLine, letLine, Refusal, shortArea, tooLong, badLine, misplaced, badField, badName, ceiling, variable, letShape, badType, overlap, gap, noIso, noValue, spent, tooMany, tooHigh, badList, idle, number}
+use Rattle.calculus.specs.Refusals.{Kind, typeLine, patternLine, isoLine, clauseLine, letLine, Refusal, shortArea, tooLong, badLine, misplaced, badField, badName, ceiling, variable, letShape, badType, overlap, gap, noIso, noValue, spent, tooMany, tooHigh, badList, idle, badScript, number}
 use Rattle.format.specs.Lines.{Row}
 
 abbrev pub kindView : CodeKind.Kind → Kind
@@ -49,6 +49,7 @@ refusalView refusals.TooMany = some tooMany
 refusalView refusals.TooHigh = some tooHigh
 refusalView refusals.BadList = some badList
 refusalView (refusals.Idle k) = some (idle (kindView k))
+refusalView refusals.BadScript = some badScript
 
 -- document 01's number, 0 where nothing is refused
 abbrev pub numbered : Option Refusal → ℕ

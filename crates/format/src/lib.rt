@@ -52,6 +52,7 @@ pub enum Refusal {
     TooHigh,
     BadList,
     Idle(Kind),
+    BadScript,
 }
 
 // A refusal and its line, counted over the file from 1; 0 where no line is named.
@@ -113,5 +114,6 @@ pub fn number_of(r: Refusal) -> u8
         Refusal::TooHigh => 19,
         Refusal::BadList => 20,
         Refusal::Idle(_) => 21,
+        Refusal::BadScript => 22,
     }
 }

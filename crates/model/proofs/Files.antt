@@ -13,7 +13,7 @@ use borrow.Author.Tests.{lt-ltb}
 use Rattle.limits.specs.Limits.{maxBytes, maxLines}
 use Rattle.calculus.specs.Tools.{stages, orElse}
 use Rattle.calculus.specs.Trees.{left, right}
-use Rattle.calculus.specs.Refusals.{Kind, Refusal, number, shortArea, tooLong, badLine, misplaced, badField, badName, ceiling, variable, letShape, badType, overlap, gap, noIso, noValue, spent, tooMany, tooHigh, badList, idle}
+use Rattle.calculus.specs.Refusals.{Kind, Refusal, number, shortArea, tooLong, badLine, misplaced, badField, badName, ceiling, variable, letShape, badType, overlap, gap, noIso, noValue, spent, tooMany, tooHigh, badList, idle, badScript}
 use Rattle.format.specs.Lines.{Row, lines, withoutReturns, print, printRows}
 use Rattle.format.specs.Judge.{start, Reading, rows, faulty, readFrom}
 use Rattle.format.specs.Unfold.{isosOf, turnRows}
@@ -153,6 +153,7 @@ number-positive tooMany = omega arith
 number-positive tooHigh = omega arith
 number-positive badList = omega arith
 number-positive (idle k) = omega arith
+number-positive badScript = omega arith
 
 -- the number of an answer is that of its refusal
 pub number-by : (v : Verdict) → numbered (refusalBy v) ≡ answerOf v .number

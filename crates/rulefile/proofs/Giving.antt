@@ -12,11 +12,14 @@ use Rattle.runner.specs.RunSays.{RunSays}
 use Rattle.runner.specs.declared.run.Ran as Ran
 use Rattle.sheets.specs.SheetSays.{SheetSays}
 use Rattle.sheets.specs.declared.Answered as Answered
-use Rattle.rulefile.specs.Given.{CheckGiven, TurnGiven, RunGiven, SheetGiven}
+use Rattle.unit_tally.specs.declared.Tally as K
+use Rattle.planner.specs.PlaySays.{PlaySays}
+use Rattle.rulefile.specs.Given.{CheckGiven, TurnGiven, RunGiven, SheetGiven, PlayGiven}
 use Rattle.rulefile.specs.declared.CheckAnswer as C
 use Rattle.rulefile.specs.declared.TurnAnswer as T
 use Rattle.rulefile.specs.declared.RunAnswer as R
 use Rattle.rulefile.specs.declared.SheetAnswer as S
+use Rattle.rulefile.specs.declared.PlayAnswer as Y
 
 pub check-given : (file t w t′ w′ : List ℕ) (a : A.Answer) (r : C.CheckAnswer)
     → CheckSays file t w t′ w′ a → r .number ≡ numberOf (a .refusal) → r .line ≡ a .place → CheckGiven file t w t′ w′ r
@@ -47,3 +50,8 @@ sheet-given file t w queries n o t′ w′ n′ o′ a r s k l q =
       numbers = s .numbers;
       letters = s .letters;
     }
+
+pub play-given : (file t w is ns script : List ℕ) (budget : ℕ) (l : K.Tally) {t′ w′ is′ ns′ : List ℕ} {l′ : K.Tally} (a : A.Answer) (r : Y.PlayAnswer)
+    → PlaySays file t w is ns script budget l t′ w′ is′ ns′ l′ a → (r .number ≡ numberOf (a .refusal)) × (r .line ≡ a .place) → PlayGiven file t w is ns script budget l t′ w′ is′ ns′ l′ r
+play-given file t w is ns script budget l a r s e =
+    record { number = e .0 ∙ s .number; line = e .1 ∙ s .line; table = s .table; work = s .work; units = s .units; tally = s .tally }

@@ -11,6 +11,9 @@ use Rattle.check_overlap.specs.Overlap.{overlapService}
 use Rattle.law_costs.specs.Bounds.{boundsService}
 use Rattle.law_pairlists.specs.PairLists.{exportService, importService}
 use Rattle.law_witnesses.specs.Showing.{showService}
+use Rattle.law_units.specs.Units.{playService}
+use Rattle.unit_tally.specs.declared.Tally as K
+use Rattle.planner.specs.PlaySays.{tallyView}
 use Rattle.rulefile.specs.declared.CheckAnswer as C
 use Rattle.rulefile.specs.declared.TurnAnswer as T
 use Rattle.rulefile.specs.declared.RunAnswer as R
@@ -21,6 +24,7 @@ use Rattle.rulefile.specs.declared.OverlapAnswer as O
 use Rattle.rulefile.specs.declared.BoundsAnswer as B
 use Rattle.rulefile.specs.declared.TradeAnswer as P
 use Rattle.rulefile.specs.declared.WitnessAnswer as W
+use Rattle.rulefile.specs.declared.PlayAnswer as Y
 
 -- "Check gives a number and a line"
 pub record CheckGiven (file t w t′ w′ : List ℕ) (r : C.CheckAnswer) : Type 0 where
@@ -117,3 +121,12 @@ pub record WitnessGiven (file t w o t′ w′ o′ : List ℕ) (r : W.WitnessAns
   pub table : t′ ≡ showService file t w o .table
   pub work : w′ ≡ showService file t w o .work
   pub result : o′ ≡ showService file t w o .result
+
+-- request 12; is and ns are the units' areas at entry and l the record, is′, ns′ and l′ at exit
+pub record PlayGiven (file t w is ns script : List ℕ) (budget : ℕ) (l : K.Tally) (t′ w′ is′ ns′ : List ℕ) (l′ : K.Tally) (r : Y.PlayAnswer) : Type 0 where
+  pub number : r .number ≡ playService file t w (record { types = is; settings = ns }) script budget (tallyView l) .answer .number
+  pub line : r .line ≡ playService file t w (record { types = is; settings = ns }) script budget (tallyView l) .answer .line
+  pub table : t′ ≡ playService file t w (record { types = is; settings = ns }) script budget (tallyView l) .table
+  pub work : w′ ≡ playService file t w (record { types = is; settings = ns }) script budget (tallyView l) .work
+  pub units : record { types = is′; settings = ns′ } ≡ playService file t w (record { types = is; settings = ns }) script budget (tallyView l) .units
+  pub tally : tallyView l′ ≡ playService file t w (record { types = is; settings = ns }) script budget (tallyView l) .tally

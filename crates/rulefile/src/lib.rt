@@ -1,21 +1,26 @@
 // The interface for callers in C and in Rust: Check, Turn, Run, a whole sheet, settings as numbers, the
-// overlap of two P lines, steps known beforehand, pair lists in and out and a setting that shows the fault,
-// under document 01's numbers. Each slice passes as a pointer and a length, each answer as a struct;
+// overlap of two P lines, steps known beforehand, pair lists in and out, a setting that shows the fault and
+// units tried out, under document 01's numbers. Each slice passes as a pointer and a length, each answer as a struct;
 // `include/rulefile.h` declares them.
 
 use bounds::bounds;
 use checker::check;
 use exports::export;
+use format::Answer;
 use format::number_of;
 use imports::import;
 use overlaps::overlap;
+use planner::play;
 use runner::run::run;
 use settings::to_number;
 use settings::to_setting;
 use sheets::sheet;
 use turner::turn;
+use unit_tally::Tally;
 use witness::witness;
-ghost use Rattle.rulefile.specs.Given.{CheckGiven, TurnGiven, RunGiven, SheetGiven, NumberGiven, SettingGiven, OverlapGiven, BoundsGiven, ExportGiven, ImportGiven, WitnessGiven};
+ghost use mathlib.Core.Path.{_≡_};
+ghost use Rattle.format.specs.Code.{numberOf};
+ghost use Rattle.rulefile.specs.Given.{CheckGiven, TurnGiven, RunGiven, SheetGiven, NumberGiven, SettingGiven, OverlapGiven, BoundsGiven, ExportGiven, ImportGiven, WitnessGiven, PlayGiven};
 
 // Check's number and line.
 #[repr(C)]
@@ -354,4 +359,45 @@ pub extern "C" fn rulefile_witness(
         line: judged.place,
         length: shown.length,
     }
+}
+
+// The number and line of a play.
+#[repr(C)]
+pub struct PlayAnswer {
+    pub number: u32,
+    pub line: usize,
+}
+
+// An answer, under document 01's numbers.
+fn told(answer: Answer) -> PlayAnswer
+    ensures { λ r. ⌜ (r .number ≡ numberOf (answer .refusal)) × (r .line ≡ answer .place) ⌝ }
+{
+    let f = answer.refusal;
+    PlayAnswer {
+        number: number_of(f) as u32,
+        line: answer.place,
+    }
+}
+
+// Checks a file and plays a script of visits on units that each hold a T line and a setting number; the record
+// counts the visits done, skipped and spent.
+#[no_mangle]
+pub extern "C" fn rulefile_play(
+    file: &[u8],
+    table: &mut [u16],
+    work: &mut [u8],
+    types: &mut [u32],
+    settings: &mut [u32],
+    script: &[u8],
+    budget: u32,
+    tally: &mut Tally,
+) -> PlayAnswer
+    ensures { λ r. ⌜
+        PlayGiven (now (file .entry)) (now (table .entry)) (now (work .entry)) (now (types .entry))
+        (now (settings .entry)) (now (script .entry)) budget (now (tally .entry)) (now (table .exit))
+        (now (work .exit)) (now (types .exit)) (now (settings .exit)) (now (tally .exit)) r
+        ⌝ }
+{
+    let a = play(file, table, work, types, settings, script, budget, tally);
+    told(a)
 }

@@ -71,6 +71,9 @@ enum-told-17 c = search needs
 enum-told-18 : tie.Need-enum-told-18
 enum-told-18 c = search needs
 
+enum-told-19 : tie.Need-enum-told-19
+enum-told-19 c = search needs
+
 returns : tie.Need-returns
 returns c = sym (ap numberOf (c .enum-told .given .1))
 
@@ -131,6 +134,9 @@ returns-19 c = sym (ap numberOf (c .enum-told17 .given .1))
 returns-20 : tie.Need-returns-20
 returns-20 c = sym (ap numberOf (c .enum-told18 .given .1))
 
+returns-21 : tie.Need-returns-21
+returns-21 c = sym (ap numberOf (c .enum-told19 .given .1))
+
 pub number-of-spec : {M : Type 1} → statement M
 number-of-spec =
     tie.close
@@ -157,6 +163,7 @@ number-of-spec =
     enum-told-16
     enum-told-17
     enum-told-18
+    enum-told-19
     returns
     returns-2
     returns-3
@@ -176,4 +183,5 @@ number-of-spec =
     returns-17
     returns-18
     returns-19
-    returns-20)
+    returns-20
+    returns-21)

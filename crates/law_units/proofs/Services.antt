@@ -1,0 +1,329 @@
+-- Request 12, said of the service: what a play that is not refused comes to, what a refusal leaves, the counts, and the way back.
+use Prim.Native.Nat.{ℕ, zero, suc, _+_, _≤_, _<_}
+use native.Mathlib.Nat.{zero-add}
+use native.Mathlib.Omega.{arith}
+use mathlib.Core.Path.{_≡_, refl, sym, ap, ap₂, _∙_, subst}
+use mathlib.Core.Bool.{Bool, true, false, cond, not, _&&_, _||_, or-false}
+use mathlib.Core.Option.{Option, none, some}
+use mathlib.Core.List.{List, [], _∷_, _++_, map, reverse, reverse-cons, List·Memᴰ, List·Memᴰ·head, List·Memᴰ·tail, List·Memᴰ·not-nil}
+use lib.Dec.{ltb, eqb}
+use lib.ListN.{length, getD, getElem?, drop, length-map, length-set, length-reverse}
+use Rattle.limits.specs.Limits.{tableLength, workLength, maxLines}
+use Rattle.calculus.specs.Tools.{_>>=_, guard}
+use Rattle.calculus.specs.Trees.{Iso}
+use Rattle.calculus.specs.Refusals.{Refusal, tooLong, spent as overBudget, badScript}
+use Rattle.format.specs.Lines.{Row, lines}
+use Rattle.format.specs.Unfold.{isosOf}
+use Rattle.model.specs.Services.{Verdict, accepted, refused, verdict, short, unless, check, tableAfter, workAfter, Outcome, gives, fails, goOn, refusalNumber, served, serve, run}
+use Rattle.model.specs.Answers.{GoodRows}
+use Rattle.calculus.proofs.Basic.{some-inj, none≢some, bool-cases, neither, ltb-false, not-ltb, lt-ltb, true-guard, true-and, eqb-eq, eq-eqb, not-both, map-reverse, mem-reverse, each-map}
+use Rattle.model.proofs.Outcomes.{fails≢gives, gives-inj, given, past-short, given-accepted}
+use Rattle.model.proofs.Runs.{accepted-good, run-accepted}
+use Rattle.model.proofs.Sheets.{long-enough}
+use Rattle.law_ranking.specs.Numbering.{numberOn, settingOn}
+use Rattle.law_units.specs.Units.{maxUnits, Planned, plannedOf, names, plannedFor, scriptOf, Units, unitsFault, Visited, done, skipped, spent, otherEnd, visitTo, moved, unitsAfter, outcomes, Tally, nothingYet, counted, Played, played, onScript, onUnits, playRows, unequal, playVerdict, unitsFrom, tallyFrom, Play, playBy, playServed, playService}
+use Rattle.law_units.specs.Backward.{opposite, backward, Backward, Alike}
+use Rattle.law_units.proofs.Playing.{VisitIs, AllHold, all-hold, hold-all, visit-keeps, by-iso, unit-is, script-first}
+use Rattle.law_units.proofs.Counts.{script-length, outcomes-length, total, counted-total, AllDone, all-done, done-counts}
+use Rattle.law_units.proofs.Restoring.{Named, restores}
+
+nil≢cons : {A : Type 0} {x : A} {xs : List A} → _≡_ {A = List A} [] (x ∷ xs) → ⊥
+nil≢cons e = zero≢suc (ap length e)
+  where
+    zero≢suc : {n : ℕ} → 0 ≡ suc n → ⊥
+    zero≢suc q = absurd (omega (arith, q))
+
+cons-head : {A : Type 0} {x y : A} {xs ys : List A} → _≡_ {A = List A} (x ∷ xs) (y ∷ ys) → x ≡ y
+cons-head {x = x} e = ap (λ l. getD l 0 x) e
+
+cons-tail : {A : Type 0} {x y : A} {xs ys : List A} → _≡_ {A = List A} (x ∷ xs) (y ∷ ys) → xs ≡ ys
+cons-tail e = ap (drop 1) e
+
+refused≢accepted : {f : Refusal} {n : ℕ} {rs : List Row} → refused f n ≡ accepted rs → ⊥
+refused≢accepted e = fails≢gives {A = ℕ} {y = 0} (ap (λ v. goOn {A = ℕ} v (λ _. gives 0)) e)
+
+-- ---- a play that is not refused
+
+pub record PlayedOf (rs : List Row) (us : Units) (script : List ℕ) (budget : ℕ) (x : Played) : Type 0 where
+  pub visits : List Planned
+  pub units : unitsFault rs (us .types) (us .settings) ≡ none
+  pub reads : scriptOf (length (us .types)) (length (isosOf rs)) (lines script) ≡ some visits
+  pub gives-it : x ≡ played rs budget us visits
+
+played-of : (rs : List Row) (us : Units) (script : List ℕ) (budget : ℕ) {x : Played} → playRows us script budget rs ≡ gives x → PlayedOf rs us script budget x
+unfolding playRows
+played-of rs us script budget {x} e = on (unitsFault rs (us .types) (us .settings)) refl e
+  where
+    next : unitsFault rs (us .types) (us .settings) ≡ none → (y : Option (List Planned)) → scriptOf (length (us .types)) (length (isosOf rs)) (lines script) ≡ y
+        → onScript rs budget us y ≡ gives x → PlayedOf rs us script budget x
+    next u none s f = absurd (fails≢gives f)
+    next u (some ps) s f = record { visits = ps; units = u; reads = s; gives-it = sym (gives-inj f) }
+
+    on : (y : Option Refusal) → unitsFault rs (us .types) (us .settings) ≡ y → onUnits rs budget us (lines script) y ≡ gives x → PlayedOf rs us script budget x
+    on none u f = next u (scriptOf (length (us .types)) (length (isosOf rs)) (lines script)) refl f
+    on (some z) u f = absurd (fails≢gives f)
+
+-- the other way round
+plays : (rs : List Row) (us : Units) (script : List ℕ) (budget : ℕ) (ps : List Planned) → unitsFault rs (us .types) (us .settings) ≡ none
+    → scriptOf (length (us .types)) (length (isosOf rs)) (lines script) ≡ some ps → playRows us script budget rs ≡ gives (played rs budget us ps)
+unfolding playRows
+plays rs us script budget ps u s = ap (onUnits rs budget us (lines script)) u ∙ ap (onScript rs budget us) s
+
+-- ---- the script's names
+
+script-named : (rs : List Row) (units : ℕ) (ls : List (List ℕ)) (ps : List Planned) → (file : List ℕ) (acc : verdict file ≡ accepted rs) (budget : ℕ)
+    → scriptOf units (length (isosOf rs)) ls ≡ some ps → Named file rs acc budget units ps
+script-named rs units [] ps file acc budget e = subst (Named file rs acc budget units) (some-inj e) tt
+script-named rs units (l ∷ ls) ps file acc budget e =
+    let f = script-first units (length (isosOf rs)) l ls ps e in
+    subst (Named file rs acc budget units) (sym (f .2)) (f .4, f .5, script-named rs units ls (f .1) file acc budget (f .6))
+
+-- ---- the service
+
+module _ (file t w : List ℕ) (us : Units) (script : List ℕ) (budget : ℕ) (tl : Tally) where
+  abbrev answered : Play
+  answered = playService file t w us script budget tl
+
+  abbrev outcomeOf : Bool → Outcome Played
+  outcomeOf b = goOn (unless b (playVerdict us script (verdict file))) (playRows us script budget)
+
+  -- "a refusal leaves units and record unchanged"
+  pub play-refused : 0 < answered .answer .number → (answered .units ≡ us) × (answered .tally ≡ tl)
+  unfolding playService
+  play-refused h = go (outcomeOf (short t w || unequal us)) h
+    where
+      go : (x : Outcome Played) → 0 < refusalNumber x → (unitsFrom x us ≡ us) × (tallyFrom x tl ≡ tl)
+      go (gives y) k = absurd (omega arith)
+      go (fails f) k = (refl, refl)
+
+  -- table and work area are as after Check, whatever is answered, where the units' areas are equal and neither they nor the script too long
+  pub play-areas : unequal us ≡ false → length (us .types) ≤ maxUnits → length (lines script) ≤ maxLines
+      → (answered .table ≡ check file t w .table) × (answered .work ≡ check file t w .work)
+  unfolding check playService
+  play-areas e few short-enough =
+      let b : (short t w || unequal us) ≡ short t w = ap (λ c. short t w || c) e ∙ or-false (short t w) in
+      let v : playVerdict us script (verdict file) ≡ verdict file =
+      ap₂ (λ c d. cond (c || d) (refused tooLong 0) (verdict file)) (not-ltb few) (not-ltb short-enough) in
+      (ap₂ (λ c z. tableAfter (unless c z) t) b v, ap₂ (λ c z. workAfter (unless c z) w) b v)
+
+  module _ (ok : answered .answer .number ≡ 0) where
+    pub found : (x : Played) × (outcomeOf (short t w || unequal us) ≡ gives x)
+    unfolding playService
+    found = given (outcomeOf (short t w || unequal us)) ok
+
+    past : goOn (playVerdict us script (verdict file)) (playRows us script budget) ≡ gives (found .0)
+    past = past-short (short t w || unequal us) (playVerdict us script (verdict file)) (playRows us script budget) (found .1)
+
+    not-short : (short t w || unequal us) ≡ false
+    not-short = go (short t w || unequal us) (found .1)
+      where
+        go : (b : Bool) → outcomeOf b ≡ gives (found .0) → b ≡ false
+        go true e = absurd (fails≢gives e)
+        go false e = refl
+
+    -- the areas of the units are equally long
+    pub equal-areas : length (us .types) ≡ length (us .settings)
+    equal-areas = go (eqb (length (us .types)) (length (us .settings))) refl (neither (short t w) (unequal us) not-short .1)
+      where
+        go : (b : Bool) → eqb (length (us .types)) (length (us .settings)) ≡ b → not b ≡ false → length (us .types) ≡ length (us .settings)
+        go true e f = eqb-eq (length (us .types)) (length (us .settings)) e
+        go false e f = absurd (not-both refl f)
+
+    -- and neither they nor the script are too long
+    not-over : (ltb maxUnits (length (us .types)) || ltb maxLines (length (lines script))) ≡ false
+    not-over = go (ltb maxUnits (length (us .types)) || ltb maxLines (length (lines script))) past
+      where
+        go : (b : Bool) → goOn (cond b (refused tooLong 0) (verdict file)) (playRows us script budget) ≡ gives (found .0) → b ≡ false
+        go true e = absurd (fails≢gives e)
+        go false e = refl
+
+    -- an accepted file
+    pub rows : (rs : List Row) × (verdict file ≡ accepted rs) × (playRows us script budget rs ≡ gives (found .0))
+    rows =
+        let (rs, e, f) = given-accepted (playVerdict us script (verdict file)) (playRows us script budget) past in
+        (rs, go (ltb maxUnits (length (us .types)) || ltb maxLines (length (lines script))) e, f)
+      where
+        go : {rs : List Row} (b : Bool) → cond b (refused tooLong 0) (verdict file) ≡ accepted rs → verdict file ≡ accepted rs
+        go true e = absurd (refused≢accepted e)
+        go false e = e
+
+    abbrev pub fileRows : List Row
+    fileRows = rows .0
+
+    pub accepts : verdict file ≡ accepted fileRows
+    accepts = rows .1
+
+    pub play-of : PlayedOf fileRows us script budget (found .0)
+    play-of = played-of fileRows us script budget (rows .2)
+
+    -- the visits of the script's lines
+    abbrev pub visitsOf : List Planned
+    visitsOf = play-of .visits
+
+    pub visits-read : scriptOf (length (us .types)) (length (isosOf fileRows)) (lines script) ≡ some visitsOf
+    visits-read = play-of .reads
+
+    -- the units are those after all visits, and the record counts what came of each
+    pub play-gives : (answered .units ≡ unitsAfter fileRows budget visitsOf us) × (answered .tally ≡ counted (outcomes fileRows budget visitsOf us) nothingYet)
+    unfolding playService
+    play-gives =
+        let e : outcomeOf (short t w || unequal us) ≡ gives (played fileRows budget us visitsOf) = found .1 ∙ ap gives (play-of .gives-it) in
+        (ap (λ x. unitsFrom x us) e, ap (λ x. tallyFrom x tl) e)
+
+    -- the three counts are as many as the script's lines
+    pub play-counts : total (answered .tally) ≡ length (lines script)
+    play-counts =
+        let c = counted-total (outcomes fileRows budget visitsOf us) nothingYet in
+        let l = outcomes-length fileRows budget visitsOf us in
+        let s = script-length (length (us .types)) (length (isosOf fileRows)) (lines script) visitsOf visits-read in
+        ap total (play-gives .1) ∙ c ∙ zero-add (length (outcomes fileRows budget visitsOf us)) ∙ l ∙ s
+
+    holds : AllHold fileRows us
+    holds = all-hold fileRows us equal-areas (play-of .units)
+
+    named : Named file fileRows accepts budget (length (us .types)) visitsOf
+    named = script-named fileRows (length (us .types)) (lines script) visitsOf file accepts budget visits-read
+
+    goodRows : GoodRows fileRows
+    goodRows = accepted-good file fileRows accepts
+
+    -- every unit stays good
+    after-holds : (ps : List Planned) (vs : Units) → AllHold fileRows vs → Named file fileRows accepts budget (length (vs .types)) ps → AllHold fileRows (unitsAfter fileRows budget ps vs)
+    after-holds [] vs a n = a
+    after-holds (p ∷ ps) vs a n =
+        after-holds ps (moved (visitTo fileRows budget vs p) (p .unit) vs) (visit-keeps fileRows vs a goodRows budget p (n .0) (n .1))
+        (subst (λ k. Named file fileRows accepts budget k ps) (sym (kept (visitTo fileRows budget vs p))) (n .2))
+      where
+        kept : (v : Visited) → length (moved v (p .unit) vs .types) ≡ length (vs .types)
+        kept (done j m) = length-set (vs .types) (p .unit) j
+        kept skipped = refl
+        kept spent = refl
+
+    -- "the unit then holds …": at the end every unit passes the tests that precede a play
+    pub play-good : unitsFault fileRows (answered .units .types) (answered .units .settings) ≡ none
+    play-good =
+        let a = after-holds visitsOf us holds named in
+        ap (λ (z : Units). unitsFault fileRows (z .types) (z .settings)) (play-gives .0) ∙ hold-all fileRows (unitsAfter fileRows budget visitsOf us) a
+
+-- ---- a visit, as the services tell it
+
+-- of a unit that passes the tests: skipped where the types differ, spent where the lone run is, and else what number to letters, run, and letters to number give
+pub data VisitServed (file : List ℕ) (rs : List Row) (budget : ℕ) (p : Planned) (i n : ℕ) : Visited → Type 0 where
+  skips : VisitServed file rs budget p i n skipped
+  spends : (ls : List ℕ) → settingOn (verdict file) i n ≡ gives ls → run file (p .iso) (p .back) budget ls ≡ fails overBudget → VisitServed file rs budget p i n spent
+  does : (ls us : List ℕ) (k j m : ℕ) → settingOn (verdict file) i n ≡ gives ls → run file (p .iso) (p .back) budget ls ≡ gives (k, us) → numberOn (verdict file) j us ≡ gives m
+      → VisitServed file rs budget p i n (done j m)
+
+pub visit-served : (file : List ℕ) (rs : List Row) → verdict file ≡ accepted rs → (budget : ℕ) (p : Planned) {i n : ℕ} {o : Iso} {v : Visited} → VisitIs rs budget p i n o v → VisitServed file rs budget p i n v
+visit-served file rs acc budget p (VisitIs.skips h d) = VisitServed.skips
+visit-served file rs acc budget p {i} {n} (VisitIs.spends h ls s x y) =
+    VisitServed.spends ls (ap (λ v. settingOn v i n) acc ∙ x) (run-accepted file rs acc (p .iso) (p .back) budget ls ∙ y)
+visit-served file rs acc budget p {i} {n} {o} (VisitIs.does h ls us k m s x y z new t) =
+    VisitServed.does ls us k (otherEnd rs (p .back) (some o)) m (ap (λ v. settingOn v i n) acc ∙ x) (run-accepted file rs acc (p .iso) (p .back) budget ls ∙ y)
+    (ap (λ v. numberOn v (otherEnd rs (p .back) (some o)) us) acc ∙ z)
+
+-- ---- the way back
+
+-- lines that read as visits that name units and isos are a script
+reads-script : (units isos : ℕ) (ls : List (List ℕ)) (ps : List Planned) → map plannedOf ls ≡ map some ps → ((p : Planned) → List·Memᴰ p ps → names units isos p ≡ true)
+    → scriptOf units isos ls ≡ some ps
+reads-script units isos [] [] e n = refl
+reads-script units isos [] (p ∷ ps) e n = absurd (nil≢cons e)
+reads-script units isos (l ∷ ls) [] e n = absurd (nil≢cons (sym e))
+reads-script units isos (l ∷ ls) (p ∷ ps) e n =
+    let one : plannedFor units isos l ≡ some p =
+    ap (λ x. x >>= λ q. guard (names units isos q) >>= λ _. some q) (cons-head e) ∙ ap (λ b. guard b >>= λ _. some p) (n p (List·Memᴰ·head refl)) in
+    ap (λ x. x >>= λ q. scriptOf units isos ls >>= λ qs. some (q ∷ qs)) one
+    ∙ ap (λ x. x >>= λ qs. some (p ∷ qs)) (reads-script units isos ls ps (cons-tail e) (λ q m. n q (List·Memᴰ·tail m)))
+
+-- what a script's lines read as
+planned-all : (units isos : ℕ) (ls : List (List ℕ)) (ps : List Planned) → scriptOf units isos ls ≡ some ps
+    → map (λ l. plannedOf l >>= λ p. some (opposite p)) ls ≡ map some (map opposite ps)
+planned-all units isos [] ps e = ap (λ qs. map some (map opposite qs)) (some-inj e)
+planned-all units isos (l ∷ ls) ps e =
+    let f = script-first units isos l ls ps e in
+    ap₂ _∷_ (ap (λ x. x >>= λ p. some (opposite p)) (f .3)) (planned-all units isos ls (f .1) (f .6)) ∙ ap (λ qs. map some (map opposite qs)) (sym (f .2))
+
+module _ (file : List ℕ) (rs : List Row) (acc : verdict file ≡ accepted rs) (budget units : ℕ) where
+  named-each : (ps : List Planned) → Named file rs acc budget units ps → (p : Planned) → List·Memᴰ p ps → names units (length (isosOf rs)) p ≡ true
+  named-each [] n p m = absurd (List·Memᴰ·not-nil m)
+  named-each (q ∷ ps) n p (List·Memᴰ·head e) = ap (names units (length (isosOf rs))) e ∙ true-and (lt-ltb (n .0)) (lt-ltb (n .1))
+  named-each (q ∷ ps) n p (List·Memᴰ·tail m) = named-each ps (n .2) p m
+
+  -- such a script, backward
+  backward-script : (script other : List ℕ) (ps : List Planned) → scriptOf units (length (isosOf rs)) (lines script) ≡ some ps → Named file rs acc budget units ps → Backward script other
+      → scriptOf units (length (isosOf rs)) (lines other) ≡ some (backward ps)
+  backward-script script other ps e n b =
+      reads-script units (length (isosOf rs)) (lines other) (backward ps)
+      (b .reads ∙ ap reverse (planned-all units (length (isosOf rs)) (lines script) ps e) ∙ sym (map-reverse some (map opposite ps)))
+      (λ q m. each-map (λ x. names units (length (isosOf rs)) x ≡ true) opposite ps (λ x k. named-each ps n x k) q (mem-reverse (map opposite ps) m))
+
+after-length : (rs : List Row) (budget : ℕ) (ps : List Planned) (us : Units) → length (unitsAfter rs budget ps us .types) ≡ length (us .types)
+after-length rs budget [] us = refl
+after-length rs budget (p ∷ ps) us = after-length rs budget ps (moved (visitTo rs budget us p) (p .unit) us) ∙ kept (visitTo rs budget us p)
+  where
+    kept : (v : Visited) → length (moved v (p .unit) us .types) ≡ length (us .types)
+    kept (done j m) = length-set (us .types) (p .unit) j
+    kept skipped = refl
+    kept spent = refl
+
+-- an accepted file, areas of the stated lengths, units that pass and a script: the play
+goes : (file t w : List ℕ) (us : Units) (script : List ℕ) (budget : ℕ) (tl : Tally) (rs : List Row) → verdict file ≡ accepted rs → tableLength ≤ length t → workLength ≤ length w
+    → AllHold rs us → length (us .types) ≤ maxUnits → length (lines script) ≤ maxLines → (ps : List Planned) → scriptOf (length (us .types)) (length (isosOf rs)) (lines script) ≡ some ps
+    → playService file t w us script budget tl ≡ playBy us tl (served (accepted rs) (gives (played rs budget us ps)) t w)
+unfolding playService
+goes file t w us script budget tl rs acc long wide a few short-enough ps e =
+    let b : (short t w || unequal us) ≡ false = ap₂ _||_ (long-enough t w long wide) (ap not (eq-eqb (a .long))) in
+    let v : playVerdict us script (verdict file) ≡ accepted rs =
+    ap₂ (λ c d. cond (c || d) (refused tooLong 0) (verdict file)) (not-ltb few) (not-ltb short-enough) ∙ acc in
+    ap₂ (λ c z. playBy us tl (serve c z (playRows us script budget) t w)) b v
+    ∙ ap (λ x. playBy us tl (served (accepted rs) x t w)) (plays rs us script budget ps (hold-all rs us a) e)
+
+-- "If none was skipped or spent, playing the script last line first with directions exchanged, under the same budget, restores each type tree and number"
+module _ (file t w : List ℕ) (us : Units) (script : List ℕ) (budget : ℕ) (tl : Tally) (ok : playService file t w us script budget tl .answer .number ≡ 0)
+    (none-skipped : playService file t w us script budget tl .tally .skipped ≡ 0) (none-spent : playService file t w us script budget tl .tally .spent ≡ 0)
+    (other : List ℕ) (b : Backward script other) (t₂ w₂ : List ℕ) (tl₂ : Tally) (long : tableLength ≤ length t₂) (wide : workLength ≤ length w₂) where
+  abbrev first : Play
+  first = playService file t w us script budget tl
+
+  abbrev second : Play
+  second = playService file t₂ w₂ (first .units) other budget tl₂
+
+  abbrev rs : List Row
+  rs = fileRows file t w us script budget tl ok
+
+  abbrev ps : List Planned
+  ps = visitsOf file t w us script budget tl ok
+
+  us₁ : Units
+  us₁ = unitsAfter rs budget ps us
+
+  pub play-restores : (second .answer ≡ record { number = 0; line = 0 }) × Alike rs us (second .units)
+      × (second .tally ≡ record { done = length (lines script); skipped = 0; spent = 0 })
+  unfolding us₁
+  play-restores =
+      let acc = accepts file t w us script budget tl ok in
+      let g = play-gives file t w us script budget tl ok in
+      let reads = visits-read file t w us script budget tl ok in
+      let n = named file t w us script budget tl ok in
+      let hold = after-holds file t w us script budget tl ok ps us (holds file t w us script budget tl ok) n in
+      let over = neither (ltb maxUnits (length (us .types))) (ltb maxLines (length (lines script))) (not-over file t w us script budget tl ok) in
+      let few = ltb-false maxUnits (length (us .types)) (over .0) in
+      let short-enough = ltb-false maxLines (length (lines script)) (over .1) in
+      let size = after-length rs budget ps us in
+      let dones = all-done (outcomes rs budget ps us) nothingYet (ap (λ (z : Tally). z .skipped) (sym (g .1)) ∙ none-skipped) (ap (λ (z : Tally). z .spent) (sym (g .1)) ∙ none-spent) in
+      let r = restores file rs acc budget ps us (holds file t w us script budget tl ok) n dones us₁ (record { trees = refl; settings = refl }) in
+      let script₂ : scriptOf (length (us₁ .types)) (length (isosOf rs)) (lines other) ≡ some (backward ps) =
+      ap (λ k. scriptOf k (length (isosOf rs)) (lines other)) size ∙ backward-script file rs acc budget (length (us .types)) script other ps reads n b in
+      let l₂ = script-length (length (us₁ .types)) (length (isosOf rs)) (lines other) (backward ps) script₂ in
+      let l₁ = script-length (length (us .types)) (length (isosOf rs)) (lines script) ps reads in
+      let lr : length (backward ps) ≡ length ps = length-reverse (map opposite ps) ∙ length-map ps opposite in
+      let play : second ≡ playBy us₁ tl₂ (served (accepted rs) (gives (played rs budget us₁ (backward ps))) t₂ w₂) =
+      ap (λ z. playService file t₂ w₂ z other budget tl₂) (g .0)
+      ∙ goes file t₂ w₂ us₁ other budget tl₂ rs acc long wide hold (omega (arith, size, few)) (omega (arith, l₂, l₁, lr, short-enough)) (backward ps) script₂ in
+      let ol = outcomes-length rs budget (backward ps) us₁ in
+      let number : 0 + length (outcomes rs budget (backward ps) us₁) ≡ length (lines script) = omega (arith, ol, lr, l₁) in (
+        ap (λ (z : Play). z .answer) play,
+        subst (Alike rs us) (sym (ap (λ (z : Play). z .units) play)) (r .0),
+        ap (λ (z : Play). z .tally) play ∙ done-counts (outcomes rs budget (backward ps) us₁) nothingYet (r .1) ∙ ap (λ k. record { done = k; skipped = 0; spent = 0 }) number,
+      )

@@ -1,0 +1,1 @@
+// Definitions and laws only: specs/ says what playing a script on units comes to.

@@ -1,0 +1,63 @@
+use mathlib.Core.Path.{refl}
+use native.Mathlib.Omega.{arith}
+use Rattle.unit_plays.proofs.Whole.{into-refused, read, into-played}
+use borrow.Author.Needs.{needs}
+use Rattle.unit_plays.proofs.play_accepted.Statement.{statement}
+use Rattle.unit_plays.proofs.play_accepted.Tie as tie
+
+tested-requires : tie.Need-tested-requires
+tested-requires c κs = search needs
+
+is-refused-requires : tie.Need-is-refused-requires
+is-refused-requires c κs = search needs
+
+same-length : tie.Need-same-length
+same-length c = search needs
+
+same-length-2 : tie.Need-same-length-2
+same-length-2 c = search needs
+
+returns : tie.Need-returns
+returns c = let q = c .before .before .before .before .before .before .before .before .before .before .args in λ s a e few z. into-refused a (q .script .now) (q .budget) (q .lines .now) (q .settings .now) e few (q .work .now) (c .before .before .tested .ensures s a e) (c .before .is-refused .ensures) (c .if1 .taken)
+
+play-all-requires : tie.Need-play-all-requires
+play-all-requires c κs = search needs
+
+clear-bytes-requires : tie.Need-clear-bytes-requires
+clear-bytes-requires c κs = search needs
+
+same-length-3 : tie.Need-same-length-3
+same-length-3 c = search needs
+
+same-length-4 : tie.Need-same-length-4
+same-length-4 c = search needs
+
+same-length-5 : tie.Need-same-length-5
+same-length-5 c = search needs
+
+returns-2 : tie.Need-returns-2
+returns-2 c = let st = c .before .before .before .before .before .before .before .before .before .before .before .before .before .before .before .before .before .before .before .before .before .before .before .before in
+    let q = st .args in
+    let long = st .pre in
+    let k = c .before .before .before .before .before .before .before .before .before .before .play-all .kept .1 .1 .1 .1 .0 in
+    λ s a e few z.
+    let y = c .before .before .before .before .before .before .before .before .before .before .before .before .before .before .before .before .tested .ensures s a e in
+    let d = read a (q .script .now) (q .budget) (q .lines .now) (q .settings .now) e few (c .before .before .before .before .before .before .before .before .before .before .before .before .before .before .before .before .tested .result) y (c .before .before .before .before .before .before .before .before .before .before .before .before .before .before .before .is-refused .ensures) (c .before .before .before .before .before .before .before .before .before .before .before .before .before .before .if1 .left) in
+    into-played a (q .script .now) (q .budget) (q .lines .now) (q .settings .now) e few (c .before .before .before .before .before .before .before .before .before .before .before .before .before .before .before .before .tested .result) y (c .before .before .before .before .before .before .before .before .before .before .before .before .before .before .before .is-refused .ensures) (c .before .before .before .before .before .before .before .before .before .before .before .before .before .before .if1 .left) (q .work .now) (c .before .before .before .before .before .before .before .before .before .before .play-all .last .1 .1 .1 .1 .0) refl (omega (arith, long, k)) z
+    (c .before .before .before .before .before .before .before .before .before .before .play-all .ensures s a (d .0) (d .1) (omega arith) (omega arith)) (c .before .before .clear-bytes .ensures)
+
+pub play-accepted-spec : {M : Type 1} → statement M
+play-accepted-spec =
+    tie.close
+    (tie.spec
+    tested-requires
+    is-refused-requires
+    same-length
+    same-length-2
+    returns
+    play-all-requires
+    clear-bytes-requires
+    same-length-3
+    same-length-4
+    same-length-5
+    returns-2)

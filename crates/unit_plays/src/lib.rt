@@ -1,0 +1,155 @@
+// The visits of a script, played on an accepted file's table: the tests of units and script, then line after line.
+
+use area_parts::clear_bytes;
+use checker::Checked;
+use format::Refusal;
+use format::is_refused;
+use limits::INDEX_LENGTH;
+use limits::WORK_LENGTH;
+use read_fields::Cursor;
+use runner::run::prepare;
+use unit_script::Plan;
+use unit_script::is_script;
+use unit_script::planned_of;
+use unit_settings::units_fault;
+use unit_visits::play_visit;
+ghost use Prim.Native.Nat.{_≤_};
+ghost use lib.ListN.{length};
+ghost use Rattle.unit_plays.specs.Playing.{LinePlayed, LinesPlayed, AllPlayed, Tested, PlayedInto};
+
+// The frames of a run, at the front of the work area.
+const RUN_ROOM: usize = 40960;
+
+// Plays line k of a script.
+fn play_line(
+    t: &[u16],
+    types: usize,
+    index: &[u16],
+    isos: usize,
+    line: &[u8],
+    k: usize,
+    budget: u32,
+    work: &mut [u8],
+    lines: &mut [u32],
+    settings: &mut [u32],
+)
+    ensures { λ z. ⌜
+        LinePlayed (now (t .entry)) types (now (index .entry)) isos (now (line .entry)) k budget (now (work .entry))
+        (now (lines .entry)) (now (settings .entry)) (now (work .exit)) (now (lines .exit)) (now (settings .exit))
+        ⌝ }
+{
+    match planned_of(line) {
+        Plan::Of(p) => play_visit(t, types, index, isos, p, k, budget, work, lines, settings),
+        Plan::Bad => {}
+    }
+}
+
+// Plays the lines of a script, one after the other.
+fn play_lines(
+    t: &[u16],
+    types: usize,
+    index: &[u16],
+    isos: usize,
+    script: &[u8],
+    budget: u32,
+    work: &mut [u8],
+    lines: &mut [u32],
+    settings: &mut [u32],
+)
+    ensures { λ z. ⌜
+        LinesPlayed (now (t .entry)) types (now (index .entry)) isos (now (script .entry)) budget (now (work .entry))
+        (now (lines .entry)) (now (settings .entry)) (now (work .exit)) (now (lines .exit)) (now (settings .exit))
+        ⌝ }
+{
+    let mut at: usize = 0;
+    let mut k: usize = 0;
+    while at < script.len() {
+        let end = Cursor { at: at }.line_end(script).at;
+        play_line(
+            t,
+            types,
+            index,
+            isos,
+            &script[at..end],
+            k,
+            budget,
+            work,
+            lines,
+            settings,
+        );
+        k += 1;
+        at = end;
+    }
+}
+
+// Indexes the isos of an accepted file and plays the lines, in the first `room` bytes of the work area.
+fn play_all(
+    table: &[u16],
+    c: Checked,
+    script: &[u8],
+    budget: u32,
+    work: &mut [u8],
+    room: usize,
+    lines: &mut [u32],
+    settings: &mut [u32],
+)
+    requires { ⌜ room ≤ length (now work) ⌝ }
+    ensures { λ z. ⌜
+        AllPlayed (now (table .entry)) c (now (script .entry)) budget room (now (work .entry)) (now (lines .entry))
+        (now (settings .entry)) (now (work .exit)) (now (lines .exit)) (now (settings .exit))
+        ⌝ }
+{
+    let mut index = [0u16; INDEX_LENGTH];
+    prepare(table, c, &mut index);
+    play_lines(
+        table,
+        c.types,
+        &index,
+        c.isos,
+        script,
+        budget,
+        &mut work[0..room],
+        lines,
+        settings,
+    );
+}
+
+// The refusal of an accepted file's units, in order, and then of the script.
+fn tested(table: &[u16], c: Checked, script: &[u8], lines: &[u32], settings: &[u32]) -> Refusal
+    ensures { λ r. ⌜ Tested (now (table .entry)) c (now (script .entry)) (now (lines .entry)) (now (settings .entry)) r ⌝ }
+{
+    let f = units_fault(table, c.types, lines, settings);
+    if is_refused(f) {
+        return f;
+    }
+    if !is_script(script, lines.len(), c.isos) {
+        return Refusal::BadScript;
+    }
+    Refusal::Nothing
+}
+
+// Tests the units and the script on an accepted file, and plays; the marks of the visits are left behind the
+// frames of a run, which are cleared.
+pub fn play_accepted(
+    table: &[u16],
+    c: Checked,
+    script: &[u8],
+    budget: u32,
+    work: &mut [u8],
+    lines: &mut [u32],
+    settings: &mut [u32],
+) -> Refusal
+    requires { ⌜ 65536 ≤ length (now work) ⌝ }
+    ensures { λ r. ⌜
+        PlayedInto (now (table .entry)) c (now (script .entry)) budget (now (work .entry)) (now (lines .entry))
+        (now (settings .entry)) (now (work .exit)) (now (lines .exit)) (now (settings .exit)) r
+        ⌝ }
+{
+    let f = tested(table, c, script, lines, settings);
+    if is_refused(f) {
+        return f;
+    }
+    play_all(table, c, script, budget, work, WORK_LENGTH, lines, settings);
+    clear_bytes(work, RUN_ROOM);
+    Refusal::Nothing
+}

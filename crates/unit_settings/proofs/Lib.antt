@@ -1,0 +1,2 @@
+-- the units, one after the other
+pub mod Testing

@@ -1,0 +1,2 @@
+-- a lent slice that is lent again for a call
+pub mod Again
