@@ -1,6 +1,6 @@
 // The codes of the format by name: bytes of the text, letters of values, letters and fields of table rows, kinds of T and P lines.
 
-// Bytes between and behind the fields, and the letter of a query.
+// Bytes between and behind the fields, and the letters of a query and of a script's line.
 pub const LINE_FEED: u8 = 10;
 
 pub const CARRIAGE_RETURN: u8 = 13;
@@ -10,6 +10,8 @@ pub const COMMA: u8 = 44;
 pub const DIGIT_ZERO: u8 = 48;
 
 pub const LETTER_Q: u8 = 81;
+
+pub const LETTER_S: u8 = 83;
 
 // The letters of a closed value.
 pub const LETTER_UNIT: u8 = 85;
@@ -39,6 +41,9 @@ pub const KIND: usize = 1;
 pub const FIRST: usize = 2;
 
 pub const SECOND: usize = 3;
+
+// The fifth number of a T or P row: the nodes that it unfolds to.
+pub const SIZE: usize = 4;
 
 // The kinds of T lines.
 pub const TYPE_UNIT: usize = 0;

@@ -8,6 +8,7 @@ use mathlib.Core.Option.{Option, none, some}
 use mathlib.Core.List.{List, [], _∷_}
 use lib.Dec.{ltb}
 use lib.ListN.{length}
+use Rattle.limits.specs.Limits.{maxBytes, maxLines, tableLength, workLength}
 use Rattle.calculus.specs.Tools.{firstFailing, orElse}
 use Rattle.calculus.specs.Refusals.{Kind, typeLine, patternLine, isoLine, clauseLine, letLine, Refusal, number, tooLong, misplaced, badField, badName, ceiling, idle}
 use Rattle.format.specs.Lines.{Row, lines, rowOf}
@@ -247,11 +248,11 @@ abbrev said : ℕ → ℕ → Answer
 said n m = record { number = n; line = m }
 
 -- "over 65,536 bytes or 4,096 lines"
-over-iff : (file : List ℕ) → (over file ≡ true) ↔ ((65536 < length file) ⊎ (4096 < length (lines file)))
+over-iff : (file : List ℕ) → (over file ≡ true) ↔ ((maxBytes < length file) ⊎ (maxLines < length (lines file)))
 unfolding over
 over-iff file = (
-  (λ e. ⊎-elim (λ a. inl (ltb-lt 65536 (length file) a)) (λ b. inr (ltb-lt 4096 (length (lines file)) b)) (or-true (ltb 65536 (length file)) (ltb 4096 (length (lines file))) e)),
-  ⊎-elim (λ a. true-or-left (ltb 4096 (length (lines file))) (lt-ltb a)) (λ b. true-or-right (ltb 65536 (length file)) (lt-ltb b)),
+  (λ e. ⊎-elim (λ a. inl (ltb-lt maxBytes (length file) a)) (λ b. inr (ltb-lt maxLines (length (lines file)) b)) (or-true (ltb maxBytes (length file)) (ltb maxLines (length (lines file))) e)),
+  ⊎-elim (λ a. true-or-left (ltb maxLines (length (lines file))) (lt-ltb a)) (λ b. true-or-right (ltb maxBytes (length file)) (lt-ltb b)),
 )
 
 -- a verdict is refused with 2, a line's number or an iso's
@@ -277,8 +278,8 @@ no-one file (refused f m) e z = ⊎-elim (λ (o, p, q). let y = ap number p in o
 
 long-areas : (t w : List ℕ) → short t w ≡ false → Areas t w
 long-areas t w b =
-    let (p, q) = neither (ltb (length t) 20480) (ltb (length w) 65536) b in
-    record { long = ltb-false (length t) 20480 p; wide = ltb-false (length w) 65536 q }
+    let (p, q) = neither (ltb (length t) tableLength) (ltb (length w) workLength) b in
+    record { long = ltb-false (length t) tableLength p; wide = ltb-false (length w) workLength q }
 
 pub short-exactly : ShortExactly
 unfolding check

@@ -123,13 +123,13 @@ module _ (file t w : List ℕ) (narrow : Bool) (room : narrow ≡ false → (tab
       record {
         rows = λ x qs f ok.
             let same = accepted-inj (sym v ∙ accepted-iff file qs .1 (f, ok)) in
-            subst (λ z. take 20480 (filled 20480 (tableOf rs) t) ≡ tableOf z ++ replicate (20480 - length (tableOf z)) 0) same
-            (filled-front 20480 (tableOf rs) t fit);
+            subst (λ z. take tableLength (filled tableLength (tableOf rs) t) ≡ tableOf z ++ replicate (tableLength - length (tableOf z)) 0) same
+            (filled-front tableLength (tableOf rs) t fit);
         zeros = λ a. absurd (high a);
-        cleared = λ x. filled-front 65536 [] w (omega arith);
+        cleared = λ x. filled-front workLength [] w (omega arith);
         unchanged = λ x. absurd (low x);
-        beyond = (filled-behind 20480 (tableOf rs) t fit, filled-behind 65536 [] w (omega arith));
-        lengths = (filled-length 20480 (tableOf rs) t fit long, filled-length 65536 [] w (omega arith) wide);
+        beyond = (filled-behind tableLength (tableOf rs) t fit, filled-behind workLength [] w (omega arith));
+        lengths = (filled-length tableLength (tableOf rs) t fit long, filled-length workLength [] w (omega arith) wide);
       }
 
   -- 1 and 2 change nothing
@@ -145,17 +145,17 @@ module _ (file t w : List ℕ) (narrow : Bool) (room : narrow ≡ false → (tab
       }
 
   -- another refusal leaves zeros
-  left-high : (f : Refusal) (m : ℕ) → refused f m ≡ unless narrow (verdict file) → 3 ≤ number f → Left (number f) file t w (filled 20480 [] t) (filled 65536 [] w)
+  left-high : (f : Refusal) (m : ℕ) → refused f m ≡ unless narrow (verdict file) → 3 ≤ number f → Left (number f) file t w (filled tableLength [] t) (filled workLength [] w)
   left-high f m e h =
       let (enough, v) = turned-down e h in
       let (long, wide) = room enough in
       record {
         rows = λ x rs a ok. absurd (refused≢accepted (sym v ∙ accepted-iff file rs .1 (a, ok)));
-        zeros = λ c. filled-front 20480 [] t (omega arith);
-        cleared = λ x. filled-front 65536 [] w (omega arith);
+        zeros = λ c. filled-front tableLength [] t (omega arith);
+        cleared = λ x. filled-front workLength [] w (omega arith);
         unchanged = λ x. absurd (not-low (number f) h x);
-        beyond = (filled-behind 20480 [] t (omega arith), filled-behind 65536 [] w (omega arith));
-        lengths = (filled-length 20480 [] t (omega arith) long, filled-length 65536 [] w (omega arith) wide);
+        beyond = (filled-behind tableLength [] t (omega arith), filled-behind workLength [] w (omega arith));
+        lengths = (filled-length tableLength [] t (omega arith) long, filled-length workLength [] w (omega arith) wide);
       }
 
   left : (n : ℕ) (v : Verdict) → v ≡ unless narrow (verdict file) → Tells n v → Left n file t w (tableAfter v t) (workAfter v w)

@@ -7,13 +7,13 @@ use codes::PAIR;
 use codes::PRODUCT;
 use codes::RIGHT;
 use codes::SECOND;
+use codes::SIZE;
 use codes::SUM;
 use codes::VARIABLE;
 use limits::LENGTHS;
 use limits::MAX_NODES;
 use table_parts::pattern_part;
 use table_parts::type_part;
-use table_sizes::type_size;
 use table_trees::cell;
 use table_trees::pattern_cell;
 ghost use mathlib.Core.Path.{_≡_};
@@ -74,7 +74,7 @@ pub fn copy(k: &[u64], o: &mut [u64])
     }
 }
 
-// The two parts of a T line: the one with fewer nodes, and the other.
+// The two parts of a T line: the one with fewer nodes, by the table's sizes, and the other.
 struct Parts {
     few: usize,
     many: usize,
@@ -85,7 +85,7 @@ fn halves(t: &[u16], i: usize) -> Parts
 {
     let a = type_part(t, i, FIRST);
     let b = type_part(t, i, SECOND);
-    if type_size(t, a) < type_size(t, b) {
+    if cell(t, a, SIZE) < cell(t, b, SIZE) {
         return Parts { few: a, many: b };
     }
     Parts { few: b, many: a }

@@ -174,14 +174,14 @@ ended-some [] e = refl
 ended-some (b ∷ bs) e = absurd (none≢some e)
 
 -- what a row shows is read as the row
-row-shown : (k : Kind) (x y z : ℕ) → (fieldCount k ≡ 2 → z ≡ 0) → toRow k (take (fieldCount k) (x ∷ y ∷ z ∷ [])) ≡ record { kind = k; x = x; y = y; z = z }
+pub row-shown : (k : Kind) (x y z : ℕ) → (fieldCount k ≡ 2 → z ≡ 0) → toRow k (take (fieldCount k) (x ∷ y ∷ z ∷ [])) ≡ record { kind = k; x = x; y = y; z = z }
 row-shown typeLine x y z m = refl
 row-shown patternLine x y z m = refl
 row-shown isoLine x y z m = ap {B = Row} (λ n. record { kind = isoLine; x = x; y = y; z = n }) (sym (m refl))
 row-shown clauseLine x y z m = ap {B = Row} (λ n. record { kind = clauseLine; x = x; y = y; z = n }) (sym (m refl))
 row-shown letLine x y z m = refl
 
-shown-below : (k : Kind) {x y z : ℕ} → x < fieldBound → y < fieldBound → z < fieldBound → FieldsBelow (fieldBounds k) (take (fieldCount k) (x ∷ y ∷ z ∷ []))
+pub shown-below : (k : Kind) {x y z : ℕ} → x < fieldBound → y < fieldBound → z < fieldBound → FieldsBelow (fieldBounds k) (take (fieldCount k) (x ∷ y ∷ z ∷ []))
 shown-below typeLine a b c = (a, (b, (c, tt)))
 shown-below patternLine a b c = (a, (b, (c, tt)))
 shown-below isoLine a b c = (a, (b, tt))
@@ -251,7 +251,7 @@ body-of b bs k s p t q =
     (ap₂ _∷_ p numbers, w)
 
 -- a text that reads is its row's text
-read-body : (t : List ℕ) {r : Row} → rowIn t ≡ some r → (t ≡ body r) × WellFormed r
+pub read-body : (t : List ℕ) {r : Row} → rowIn t ≡ some r → (t ≡ body r) × WellFormed r
 read-body [] e = absurd (none≢some e)
 read-body (b ∷ bs) e =
     let onEnd : Kind → List ℕ × List ℕ → Option Row = λ j s. ended (s .1) >>= λ _. some (toRow j (s .0)) in

@@ -95,6 +95,10 @@ exportLength = 40960
 abbrev pub importLength : ℕ
 importLength = maxBytes
 
+-- request 12: "Up to 1,000 units"
+abbrev pub maxUnits : ℕ
+maxUnits = 1000
+
 abbrev pub lineFeed : ℕ
 lineFeed = 10
 
@@ -111,3 +115,7 @@ digitZero = 48
 
 abbrev pub letterQ : ℕ
 letterQ = 81
+
+-- request 12: the letter of a script's lines
+abbrev pub letterS : ℕ
+letterS = 83

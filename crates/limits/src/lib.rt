@@ -33,6 +33,9 @@ pub const FIELD_BOUND: usize = 65536;
 
 pub const BUDGET_BOUND: usize = 4294967296;
 
+// The greatest number of a line, below `FIELD_BOUND`.
+pub const MAX_FIELD: u32 = 65535;
+
 // The greatest budget; pair lists read their numbers with the same bound.
 pub const MAX_BUDGET: u32 = 4294967295;
 
@@ -48,6 +51,12 @@ pub const RESULT_LENGTH: usize = MAX_NODES;
 // A value has fewer letters than this.
 pub const LENGTHS: usize = MAX_NODES + 1;
 
+// The letters that one application keeps: its argument, the results of its let steps and its own result; and the part of the work area that
+// the frames of a run fill, one for each iso.
+pub const FRAME: usize = (MAX_LETS + 2) * LENGTHS;
+
+pub const RUN_ROOM: usize = MAX_ISOS * FRAME;
+
 // A query's bytes, its ending included, and the most queries in one call.
 pub const QUERY_LENGTH: usize = 200;
 
@@ -62,6 +71,9 @@ pub const MAX_PAIRS: usize = 4096;
 pub const EXPORT_LENGTH: usize = 40960;
 
 pub const IMPORT_LENGTH: usize = MAX_BYTES;
+
+// The most units that a script is played on.
+pub const MAX_UNITS: usize = 1000;
 
 // An index (crate `run_index`): a place for each iso and one behind the last, the rows of the I and C lines, and the number of rows.
 pub const INDEX_END: usize = MAX_ISOS + 1 + MAX_ISOS * (MAX_CLAUSES + 1);

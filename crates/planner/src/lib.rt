@@ -6,6 +6,7 @@ use format::Answer;
 use format::Refusal;
 use format::is_refused;
 use limits::MAX_LINES;
+use limits::MAX_UNITS;
 use limits::TABLE_LENGTH;
 use limits::WORK_LENGTH;
 use read_split::count_lines;
@@ -21,9 +22,6 @@ ghost use Rattle.format.specs.Code.{refusalView};
 ghost use Rattle.model.specs.Services.{short};
 ghost use Rattle.law_units.specs.Units.{maxUnits, unequal};
 ghost use Rattle.planner.specs.PlaySays.{VisitsSay, PlaySays};
-
-// The most units.
-const MAX_UNITS: usize = 1000;
 
 // An answer, how many visits are marked in the work area, and whether the script was played.
 pub struct Visits {
@@ -125,7 +123,7 @@ fn play_marked(
 }
 
 // Checks a file, tests the units and the script, and plays the script's visits, under one budget a visit. The
-// table needs 16,384 numbers, the work area 65,536 bytes, and the two areas of the units one length. The
+// table needs 20,480 numbers, the work area 65,536 bytes, and the two areas of the units one length. The
 // record counts the visits done, skipped and spent, from 0; a refusal leaves units and record as they were.
 pub fn play(
     file: &[u8],

@@ -7,6 +7,7 @@ use codes::COMMA;
 use codes::LETTER_Q;
 use codes::LINE_FEED;
 use limits::MAX_BUDGET;
+use limits::MAX_FIELD;
 use limits::QUERY_LENGTH;
 use print_text::put_field;
 use print_text::put_number;
@@ -65,7 +66,7 @@ fn with_letters(iso: usize, direction: usize, budget: usize, c: Cursor, s: &[u8]
 fn after_letter(c: Cursor, s: &[u8]) -> Asked
     ensures { λ r. ⌜ (asQuery (now (s .entry)) r ≡ behindLetter (drop (c .at) (now (s .entry)))) × Within (now (s .entry)) r ⌝ }
 {
-    let Number::Value(iso, d) = c.field(s, 65535) else {
+    let Number::Value(iso, d) = c.field(s, MAX_FIELD) else {
         return Asked::Bad;
     };
     let Number::Value(direction, e) = d.field(s, 1) else {

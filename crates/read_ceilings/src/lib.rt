@@ -1,9 +1,13 @@
-// The ceilings of a row whose names stand, by the rows above it.
+// The ceilings of a row whose names stand, by the rows above it: their sizes stand in the table, the left and right nodes of P line j in
+// byte j of an area.
 
+use area_cells::byte_at;
+use area_cells::put_byte;
 use codes::LEFT;
 use codes::PAIR;
 use codes::PRODUCT;
 use codes::RIGHT;
+use codes::SIZE;
 use codes::SUM;
 use format::Kind;
 use format::Row;
@@ -15,52 +19,57 @@ use limits::MAX_PATTERNS;
 use limits::MAX_TAGS;
 use limits::MAX_TYPES;
 use read_seen::Seen;
-use table_sizes::above;
-use table_sizes::pattern_size;
-use table_sizes::pattern_tags;
-use table_sizes::together;
-use table_sizes::type_size;
-ghost use Rattle.limits.specs.Limits.{manyTags, manyNodes};
-ghost use Rattle.calculus.specs.Trees.{typeNodes, nodes, tags};
+use table_trees::cell;
+use table_trees::pattern_cell;
+ghost use mathlib.Core.Path.{_≡_};
+ghost use Prim.Native.Nat.{_%_, _<_};
+ghost use lib.ListN.{getD};
 ghost use Rattle.calculus.specs.Refusals.{typeLine, patternLine};
 ghost use Rattle.format.specs.Code.{kindView};
-ghost use Rattle.read_ceilings.specs.Reckoned.{TypeReckoned, PatternReckoned, CeilingsTold, SizeTold};
+ghost use Rattle.read_ceilings.specs.Reckoned.{TypeReckoned, PatternReckoned, TagsReckoned, CeilingsTold, SizeTold, TagsKept};
 
 // The nodes of a T line that stands next, over the lines that it names.
 fn type_nodes(t: &[u16], kind: usize, a: usize, b: usize) -> usize
-    ensures { λ r. ⌜ TypeReckoned typeNodes manyNodes (now (t .entry)) kind a b r ⌝ }
+    ensures { λ r. ⌜ TypeReckoned (now (t .entry)) kind a b r ⌝ }
 {
     match kind {
-        SUM | PRODUCT => above(type_size(t, a), type_size(t, b)),
+        SUM | PRODUCT => 1 + cell(t, a, SIZE) + cell(t, b, SIZE),
         _ => 1,
     }
 }
 
 // The nodes of a P line that stands next.
 fn pattern_nodes(t: &[u16], base: usize, kind: usize, a: usize, b: usize) -> usize
-    ensures { λ r. ⌜ PatternReckoned nodes manyNodes (now (t .entry)) base kind a b r ⌝ }
+    ensures { λ r. ⌜ PatternReckoned (now (t .entry)) base kind a b r ⌝ }
 {
     match kind {
-        LEFT | RIGHT => above(pattern_size(t, base, a), 0),
-        PAIR => above(pattern_size(t, base, a), pattern_size(t, base, b)),
+        LEFT | RIGHT => 1 + pattern_cell(t, base, a, SIZE),
+        PAIR => 1 + pattern_cell(t, base, a, SIZE) + pattern_cell(t, base, b, SIZE),
         _ => 1,
     }
 }
 
+// The left and right nodes of P line j.
+fn tags_of(g: &[u8], j: usize) -> usize
+    ensures { λ r. ⌜ (r ≡ getD (now (g .entry)) j 0) × (r < 256) ⌝ }
+{
+    byte_at(g, j) as usize
+}
+
 // The left and right nodes of a P line that stands next.
-fn next_tags(t: &[u16], base: usize, kind: usize, a: usize, b: usize) -> usize
-    ensures { λ r. ⌜ PatternReckoned tags manyTags (now (t .entry)) base kind a b r ⌝ }
+fn next_tags(g: &[u8], kind: usize, a: usize, b: usize) -> usize
+    ensures { λ r. ⌜ TagsReckoned (now (g .entry)) kind a b r ⌝ }
 {
     match kind {
-        LEFT | RIGHT => together(1, pattern_tags(t, base, a)),
-        PAIR => together(pattern_tags(t, base, a), pattern_tags(t, base, b)),
+        LEFT | RIGHT => 1 + tags_of(g, a),
+        PAIR => tags_of(g, a) + tags_of(g, b),
         _ => 0,
     }
 }
 
 // A T line whose names stand: how many there are, and its nodes.
-fn type_within(c: Seen, t: &[u16], r: Row) -> bool
-    ensures { λ b. ⌜ CeilingsTold typeLine (now (t .entry)) c r b ⌝ }
+fn type_within(c: Seen, t: &[u16], g: &[u8], r: Row) -> bool
+    ensures { λ b. ⌜ CeilingsTold typeLine (now (t .entry)) (now (g .entry)) c r b ⌝ }
 {
     if c.types < MAX_TYPES {
         return type_nodes(t, r.x, r.y, r.z) <= MAX_NODES;
@@ -69,13 +78,12 @@ fn type_within(c: Seen, t: &[u16], r: Row) -> bool
 }
 
 // A P line whose names stand: how many there are, its nodes, its left and right nodes.
-fn pattern_within(c: Seen, t: &[u16], r: Row) -> bool
-    ensures { λ b. ⌜ CeilingsTold patternLine (now (t .entry)) c r b ⌝ }
+fn pattern_within(c: Seen, t: &[u16], g: &[u8], r: Row) -> bool
+    ensures { λ b. ⌜ CeilingsTold patternLine (now (t .entry)) (now (g .entry)) c r b ⌝ }
 {
     if c.patterns < MAX_PATTERNS {
-        let base = c.types;
-        if pattern_nodes(t, base, r.x, r.y, r.z) <= MAX_NODES {
-            return next_tags(t, base, r.x, r.y, r.z) <= MAX_TAGS;
+        if pattern_nodes(t, c.types, r.x, r.y, r.z) <= MAX_NODES {
+            return next_tags(g, r.x, r.y, r.z) <= MAX_TAGS;
         }
         return false;
     }
@@ -83,13 +91,13 @@ fn pattern_within(c: Seen, t: &[u16], r: Row) -> bool
 }
 
 // Whether a row whose names stand keeps the ceilings.
-pub fn within_ceilings(c: Seen, t: &[u16], r: Row) -> bool
-    ensures { λ b. ⌜ CeilingsTold (kindView (r .kind)) (now (t .entry)) c r b ⌝ }
+pub fn within_ceilings(c: Seen, t: &[u16], g: &[u8], r: Row) -> bool
+    ensures { λ b. ⌜ CeilingsTold (kindView (r .kind)) (now (t .entry)) (now (g .entry)) c r b ⌝ }
 {
     let k = r.kind;
     match k {
-        Kind::Type => type_within(c, t, r),
-        Kind::Pattern => pattern_within(c, t, r),
+        Kind::Type => type_within(c, t, g, r),
+        Kind::Pattern => pattern_within(c, t, g, r),
         Kind::Iso => c.isos < MAX_ISOS,
         Kind::Clause => c.clauses < MAX_CLAUSES,
         Kind::Let => c.lets < MAX_LETS,
@@ -107,5 +115,29 @@ pub fn row_size(c: Seen, t: &[u16], r: Row) -> usize
         Kind::Iso => 0,
         Kind::Clause => 0,
         Kind::Let => 0,
+    }
+}
+
+// The low byte of a number.
+fn low(n: usize) -> u8
+    ensures { λ r. ⌜ r ≡ n % 256 ⌝ }
+{
+    (n % 256) as u8
+}
+
+// Keeps the left and right nodes of a row that passed, where it is a P line.
+pub fn keep_tags(c: Seen, g: &mut [u8], r: Row)
+    ensures { λ u. ⌜ TagsKept (kindView (r .kind)) (now (g .entry)) (now (g .exit)) c r ⌝ }
+{
+    let k = r.kind;
+    match k {
+        Kind::Pattern => {
+            let n = next_tags(g, r.x, r.y, r.z);
+            put_byte(g, c.patterns, low(n));
+        }
+        Kind::Type => {}
+        Kind::Iso => {}
+        Kind::Clause => {}
+        Kind::Let => {}
     }
 }

@@ -16,7 +16,7 @@ use Rattle.format.proofs.Endings.{text-none, text-last}
 use Rattle.read_fields.specs.declared.Cursor as C
 use Rattle.read_fields.specs.declared.Skipped as S
 use Rattle.read_fields.specs.declared.Skipped.the-variants as skips
-use Rattle.read_fields.specs.Views.{asSkipped, asText, asEnd}
+use Rattle.read_fields.specs.Views.{asSkipped, asText, asEnd, pastEnding}
 
 pub skip-past : (c : ℕ) (s : List ℕ) (at : ℕ) → at < length s → getD s at 0 ≡ c → some (drop (at + 1) s) ≡ skip c (drop at s)
 skip-past c s at h e = rw (from-byte s at h, eq-eqb (getD s at 0) c e)
@@ -26,6 +26,20 @@ skip-other c s at h e = rw (from-byte s at h, ne-eqb (getD s at 0) c e)
 
 pub skip-end : (c : ℕ) (s : List ℕ) (at : ℕ) → length s ≤ at → none ≡ skip c (drop at s)
 skip-end c s at h = rw (drop-of-length-le s h)
+
+-- a line's ending here
+pub ending-feed : (s : List ℕ) (at : ℕ) → at < length s → getD s at 0 ≡ lineFeed → some (drop (at + 1) s) ≡ pastEnding (drop at s)
+ending-feed s at h e = rw (from-byte s at h, eq-eqb (getD s at 0) lineFeed e)
+
+pub ending-both : (s : List ℕ) (at : ℕ) {o : Option (List ℕ)} → at < length s → (getD s at 0 ≡ lineFeed → ⊥) → getD s at 0 ≡ carriageReturn
+    → o ≡ skip lineFeed (drop (at + 1) s) → o ≡ pastEnding (drop at s)
+ending-both s at h n e k = rw (from-byte s at h, ne-eqb (getD s at 0) lineFeed n, eq-eqb (getD s at 0) carriageReturn e) k
+
+pub ending-other : (s : List ℕ) (at : ℕ) → at < length s → (getD s at 0 ≡ lineFeed → ⊥) → (getD s at 0 ≡ carriageReturn → ⊥) → none ≡ pastEnding (drop at s)
+ending-other s at h n e = rw (from-byte s at h, ne-eqb (getD s at 0) lineFeed n, ne-eqb (getD s at 0) carriageReturn e)
+
+pub ending-none : (s : List ℕ) (at : ℕ) → length s ≤ at → none ≡ pastEnding (drop at s)
+ending-none s at h = rw (drop-of-length-le s h)
 
 -- what a skipped byte, or another one, says of the definition
 pub past : (s : List ℕ) {o : Option (List ℕ)} (r : S.Skipped) (c : C.Cursor) → r ≡ skips.Past c → asSkipped s r ≡ o → some (drop (c .at) s) ≡ o

@@ -1,7 +1,7 @@
 -- The digits of a number: one step of reading them, and where they stop.
 use Prim.Native.Nat.{ℕ, _+_, _*_, _-_, _<_, _≤_}
 use native.Mathlib.Omega.{arith}
-use mathlib.Core.Path.{_≡_, refl, sym, ap, _∙_}
+use mathlib.Core.Path.{_≡_, refl, sym, ap, _∙_, subst}
 use mathlib.Core.Logic.{_⊎_, inl, inr}
 use mathlib.Core.Bool.{true, false}
 use mathlib.Core.Option.{none, some}
@@ -131,6 +131,21 @@ module _ {most : ℕ} {s : List ℕ} {from at n d : ℕ} (i : Carried most s fro
           ahead = ahead;
           holds = ap (λ x. digits (most + 1) x (drop (at + 1) s)) same ∙ sym (goes-on (most + 1) n s at inside is-digit below) ∙ i .holds;
         }
+
+-- the first digit is told
+module _ (most : ℕ) (s : List ℕ) (from : ℕ) {d : ℕ} (e : d ≡ digitOf (getD s from 0)) (h : d < 10) where
+  none-before : 0 * 10 + d ≡ d
+  none-before = omega arith
+
+  pub first-inside : from < length s
+  first-inside = digit-within s from e h
+
+  pub first-over : most < d → none ≡ digits (most + 1) 0 (drop from s)
+  first-over l = carried-over (carried-start most s from e) h (let z = none-before in omega arith)
+
+  pub carried-first : d ≤ most → {f : ℕ} → f ≡ digitOf (getD s (from + 1) 0) → Carried most s from (from + 1) d f
+  carried-first l {f} g =
+      subst (λ x. Carried most s from (from + 1) x f) none-before (carried-step (carried-start most s from e) h (let z = none-before in omega arith) g)
 
 -- ---- a number at a place
 

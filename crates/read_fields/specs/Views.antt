@@ -4,10 +4,11 @@ use Prim.Native.Nat.{ℕ, _-_, _≤_, _<_}
 use mathlib.Core.Path.{_≡_}
 use mathlib.Core.Bool.{cond}
 use mathlib.Core.Option.{Option, none, some}
-use mathlib.Core.List.{List, _∷_}
+use mathlib.Core.List.{List, [], _∷_}
+use lib.Dec.{eqb}
 use lib.ListN.{length, take, drop}
-use Rattle.limits.specs.Limits.{comma, digitZero}
-use Rattle.calculus.specs.Tools.{_>>=_}
+use Rattle.limits.specs.Limits.{lineFeed, carriageReturn, comma, digitZero}
+use Rattle.calculus.specs.Tools.{_>>=_, guard}
 use Rattle.format.specs.Lines.{lines, isDigit, skip, numeral, ended}
 use Rattle.read_fields.specs.declared.Skipped as S
 use Rattle.read_fields.specs.declared.Skipped.the-variants as skips
@@ -38,6 +39,11 @@ asField bound bs = skip comma bs >>= λ cs. numeral bound cs
 -- nothing is left, and the cursor stays
 abbrev pub asEnd : List ℕ → Option (List ℕ)
 asEnd bs = ended bs >>= λ _. some bs
+
+-- the bytes behind a line's ending that stands here, "carriage return and line feed" or a line feed alone
+abbrev pub pastEnding : List ℕ → Option (List ℕ)
+pastEnding [] = none
+pastEnding (b ∷ bs) = cond (eqb b lineFeed) (some bs) (guard (eqb b carriageReturn) >>= λ _. skip lineFeed bs)
 
 -- `end` is where the line that begins at `from` ends: the lines from `from` on are the bytes up to `end` and the lines from `end` on;
 -- where no line begins, it is `from`

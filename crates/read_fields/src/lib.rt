@@ -5,10 +5,10 @@ use codes::CARRIAGE_RETURN;
 use codes::COMMA;
 use codes::LINE_FEED;
 ghost use mathlib.Core.Path.{_≡_};
-ghost use Prim.Native.Nat.{_+_};
+ghost use Prim.Native.Nat.{_+_, _<_};
 ghost use lib.ListN.{getD, drop};
 ghost use Rattle.format.specs.Lines.{text, skip, digits, numeral};
-ghost use Rattle.read_fields.specs.Views.{asText, asSkipped, asNumber, digitOf, asField, asEnd, LineEnd};
+ghost use Rattle.read_fields.specs.Views.{asText, asSkipped, asNumber, digitOf, asField, asEnd, pastEnding, LineEnd};
 
 pub struct Cursor {
     pub at: usize,
@@ -35,13 +35,17 @@ fn digit_at(s: &[u8], at: usize) -> usize
     }
 }
 
-// The number that the digits from a place on make, at most `most`.
-fn digits_at(s: &[u8], from: usize, most: u32) -> Number
+// The number that the digits from a place on make, at most `most`; `first` is the digit there.
+fn digits_at(s: &[u8], from: usize, first: usize, most: u32) -> Number
+    requires { ⌜ (first ≡ digitOf (getD (now s) from 0)) × (first < 10) ⌝ }
     ensures { λ r. ⌜ asNumber (now (s .entry)) r ≡ digits (most + 1) 0 (drop from (now (s .entry))) ⌝ }
 {
     let limit = most as usize;
-    let mut at = from;
-    let mut n: usize = 0;
+    if limit < first {
+        return Number::Wrong;
+    }
+    let mut at = from + 1;
+    let mut n = first;
     let mut d = digit_at(s, at);
     while d < 10 {
         n = n * 10 + d;
@@ -74,9 +78,10 @@ impl Cursor {
         ensures { λ r. ⌜ asNumber (now (s .entry)) r ≡ numeral (most + 1) (drop (self .at) (now (s .entry))) ⌝ }
     {
         let at = self.at;
-        match digit_at(s, at) {
+        let d = digit_at(s, at);
+        match d {
             0 => Number::Value(0, Cursor { at: at + 1 }),
-            1..=9 => digits_at(s, at, most),
+            1..=9 => digits_at(s, at, d, most),
             _ => Number::Wrong,
         }
     }
@@ -98,6 +103,24 @@ impl Cursor {
         let at = self.at;
         if s.len() <= at {
             return Skipped::Past(Cursor { at: at });
+        }
+        Skipped::Other
+    }
+
+    // A line's ending, a line feed or a carriage return and a line feed, that stands here.
+    pub fn ending(self, s: &[u8]) -> Skipped
+        ensures { λ r. ⌜ asSkipped (now (s .entry)) r ≡ pastEnding (drop (self .at) (now (s .entry))) ⌝ }
+    {
+        let at = self.at;
+        if at < s.len() {
+            let b = s[at];
+            let next = at + 1;
+            if b == LINE_FEED {
+                return Skipped::Past(Cursor { at: next });
+            }
+            if b == CARRIAGE_RETURN {
+                return Cursor { at: next }.skip(s, LINE_FEED);
+            }
         }
         Skipped::Other
     }

@@ -10,7 +10,7 @@ use Rattle.format.specs.Judge.{Seen, stage, inOrder, fieldsFit, named, withinCe
 use Rattle.format.specs.declared.Row as R
 use Rattle.format.specs.Code.{kindView, rowView}
 use Rattle.read_seen.specs.declared.Seen as C
-use Rattle.read_seen.specs.Told.{Counts, Told}
+use Rattle.read_seen.specs.Told.{Counts, Weighed}
 use Rattle.read_ceilings.specs.Reckoned.{CeilingsTold}
 
 -- ---- a row
@@ -24,25 +24,25 @@ unfolding judge
 judge-open s r = refl
 
 -- o, f, n and w are the answers of the tests on order, fields, names and ceilings
-module _ (t : List ℕ) (c : C.Seen) (r : R.Row) {o : Bool}
+module _ (t g : List ℕ) (c : C.Seen) (r : R.Row) {o : Bool}
     (order : (a : Option Kind) → c .stage ≡ stage a → o ≡ inOrder a (kindView (r .kind))) where
-  pub out-of-order : o ≡ false → (s : Seen) → Told t c s → some (misplaced (kindView (r .kind))) ≡ judge s (rowView r)
+  pub out-of-order : o ≡ false → (s : Seen) → Weighed t g c s → some (misplaced (kindView (r .kind))) ≡ judge s (rowView r)
   out-of-order e s told = rw (judge-open s (rowView r), ← order (s .above) (told .counts .stage), e)
 
   module _ (a : o ≡ true) {f : Bool} (fields : f ≡ fieldsFit (kindView (r .kind)) (rowView r)) where
-    pub bad-field : f ≡ false → (s : Seen) → Told t c s → some (badField (kindView (r .kind))) ≡ judge s (rowView r)
+    pub bad-field : f ≡ false → (s : Seen) → Weighed t g c s → some (badField (kindView (r .kind))) ≡ judge s (rowView r)
     bad-field e s told = rw (judge-open s (rowView r), ← order (s .above) (told .counts .stage), a, ← fields, e)
 
     module _ (b : f ≡ true) {n : Bool} (names : (s : Seen) → Counts c s → n ≡ named s (kindView (r .kind)) (rowView r)) where
-      pub bad-name : n ≡ false → (s : Seen) → Told t c s → some (badName (kindView (r .kind))) ≡ judge s (rowView r)
+      pub bad-name : n ≡ false → (s : Seen) → Weighed t g c s → some (badName (kindView (r .kind))) ≡ judge s (rowView r)
       bad-name e s told =
           rw (judge-open s (rowView r), ← order (s .above) (told .counts .stage), a, ← fields, b, ← names s (told .counts), e)
 
-      module _ (d : n ≡ true) {w : Bool} (within : CeilingsTold (kindView (r .kind)) t c r w) where
-        stands : (s : Seen) → Told t c s → named s (kindView (r .kind)) (rowView r) ≡ true
+      module _ (d : n ≡ true) {w : Bool} (within : CeilingsTold (kindView (r .kind)) t g c r w) where
+        stands : (s : Seen) → Weighed t g c s → named s (kindView (r .kind)) (rowView r) ≡ true
         stands s told = sym (names s (told .counts)) ∙ d
 
-        pub past-ceiling : w ≡ false → (s : Seen) → Told t c s → some (ceiling (kindView (r .kind))) ≡ judge s (rowView r)
+        pub past-ceiling : w ≡ false → (s : Seen) → Weighed t g c s → some (ceiling (kindView (r .kind))) ≡ judge s (rowView r)
         past-ceiling e s told =
             rw (
               judge-open s (rowView r),
@@ -55,7 +55,7 @@ module _ (t : List ℕ) (c : C.Seen) (r : R.Row) {o : Bool}
               e,
             )
 
-        pub no-refusal : w ≡ true → (s : Seen) → Told t c s → none ≡ judge s (rowView r)
+        pub no-refusal : w ≡ true → (s : Seen) → Weighed t g c s → none ≡ judge s (rowView r)
         no-refusal e s told =
             rw (
               judge-open s (rowView r),

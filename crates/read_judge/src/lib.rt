@@ -23,7 +23,7 @@ ghost use Rattle.limits.specs.Limits.{variables};
 ghost use Rattle.calculus.specs.Refusals.{Kind as KindOf};
 ghost use Rattle.format.specs.Judge.{Seen as SeenOf, stage as stageOf, inOrder, typeFields, patternFields, fieldsFit, typeNames, patternNames, named, judge as judgeOf};
 ghost use Rattle.format.specs.Code.{kindView, rowView, refusalView};
-ghost use Rattle.read_seen.specs.Told.{Counts, Told};
+ghost use Rattle.read_seen.specs.Told.{Counts, Weighed};
 
 // All T lines, then all P lines, then the isos: I, its C lines, under each its L lines.
 fn in_order(stage: usize, k: Kind) -> bool
@@ -153,14 +153,14 @@ fn names_stand(c: Seen, r: Row) -> bool
 }
 
 // The lowest of 4 to 7, or nothing.
-pub fn judge(c: Seen, t: &[u16], r: Row) -> Refusal
-    ensures { λ f. ⌜ ((s : SeenOf) → Told (now (t .entry)) c s → refusalView f ≡ judgeOf s (rowView r)) ⌝ }
+pub fn judge(c: Seen, t: &[u16], g: &[u8], r: Row) -> Refusal
+    ensures { λ f. ⌜ ((s : SeenOf) → Weighed (now (t .entry)) (now (g .entry)) c s → refusalView f ≡ judgeOf s (rowView r)) ⌝ }
 {
     let k = r.kind;
     if in_order(c.stage, k) {
         if fields_fit(r) {
             if names_stand(c, r) {
-                if within_ceilings(c, t, r) {
+                if within_ceilings(c, t, g, r) {
                     return Refusal::Nothing;
                 }
                 return Refusal::Ceiling(k);

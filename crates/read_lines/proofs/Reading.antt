@@ -1,13 +1,14 @@
 -- A whole file, line by line: the rows so far in front of what the rest reads as, the table that holds them, and what they tell.
-use Prim.Native.Nat.{ℕ, suc, _+_, _-_, _*_, _<_, _≤_}
+use Prim.Native.Nat.{ℕ, suc, _+_, _*_, _<_, _≤_}
 use native.Mathlib.Numerals.{add-one}
 use native.Mathlib.Omega.{arith}
 use mathlib.Core.Path.{_≡_, refl, sym, ap, ap₂, _∙_, subst}
 use mathlib.Core.Option.{Option, none, some}
 use mathlib.Core.List.{List, [], _∷_, _++_, append-nil, append-assoc}
-use lib.ListN.{length, take, drop, length-append, drop-of-length-le}
+use lib.Dec.{lit<}
+use lib.ListN.{length, getD, take, drop, length-append, drop-of-length-le}
 use lib.Seq.{sets, sets-eq, length-sets, take-at, drop-append-add, drop-drop}
-use Rattle.limits.specs.Limits.{tableLength, maxLines, maxNodes, rowWidth}
+use Rattle.limits.specs.Limits.{tableLength, maxLines, maxPatterns, maxNodes, rowWidth}
 use Rattle.calculus.specs.Refusals.{Refusal, badLine}
 use Rattle.format.specs.Lines.{Row, rowOf, lines}
 use Rattle.format.specs.Table.{numbers, rowSize, tableOf}
@@ -16,17 +17,19 @@ use Rattle.format.specs.declared.Row as R
 use Rattle.format.specs.declared.Refusal as F
 use Rattle.format.specs.declared.Refusal.the-variants as refusals
 use Rattle.format.specs.Code.{kindView, rowView, refusalView}
-use Rattle.format.proofs.Passing.{judge-fit}
+use Rattle.format.proofs.Passing.{Passes, done, judge-fit, passes-append}
+use Rattle.format.specs.Judge.{next as one-more}
 use Rattle.format.proofs.Printing.{WellFormed, read-print}
-use Rattle.format.proofs.Sizes.{Stands, stands-start, stands-kept}
+use Rattle.format.proofs.Sizes.{Stands, stands-start, stands-kept, type-size-at, pattern-size-at}
 use Rattle.format.proofs.Tables.{length-table, table-snoc, size-fits}
-use Rattle.read_ceilings.specs.Reckoned.{SizeTold}
+use Rattle.read_fields.specs.declared.Cursor as P
+use Rattle.table_trees.proofs.Unfolding.{cell-within}
+use Rattle.read_ceilings.specs.Reckoned.{SizeTold, TagsKept}
 use Rattle.read_seen.specs.declared.Seen as C
 use Rattle.read_lines.specs.declared.read.Judged as J
 use Rattle.read_lines.specs.declared.read.Judged.the-variants as judged
-use Rattle.read_fields.specs.Views.{LineEnd}
-use Rattle.read_seen.specs.Told.{startSeen, seenAfter, SmallCounts, Told}
-use Rattle.read_lines.specs.Reads.{passes, refused, asJudged, judgedRow, judgedForm, judgedLine, ahead, passing, refusalIn, lineIn, rowsOver, ReadSays}
+use Rattle.read_seen.specs.Told.{startSeen, seenAfter, SmallCounts, TagsAt, Told, Weighed}
+use Rattle.read_lines.specs.Reads.{passes, refused, asJudged, judgedRow, judgedForm, judgedLine, ahead, passing, refusalIn, lineIn, rowsOver, Behind, JudgedAt, LineSays, ReadSays}
 use Rattle.read_lines.proofs.Keeping.{counts-small, told-start, told-kept}
 
 -- ---- one row more at the end
@@ -107,11 +110,10 @@ passing-bad m x l ls e = ap (λ v. ahead v (λ q. passing (after m q) ls)) (sym 
 
 -- ---- the rows so far
 
--- t₀ is the table at first, t the table now; n rows are read, the next line begins at `at`
-pub record SoFar (s t₀ t : List ℕ) (at n : ℕ) (c : C.Seen) : Type 0 where
+-- t₀ is the table at first, t the table now, g keeps left and right nodes; n rows are read, the next line begins at `at`
+pub record SoFar (s t₀ t g : List ℕ) (at n : ℕ) (c : C.Seen) : Type 0 where
   pub file : List Row
   pub count : n ≡ length file
-  pub within : at ≤ length s
   pub reads : readFrom start 1 (lines s) ≡ inFront file (readFrom (afterAll start file) (suc n) (lines (drop at s)))
   pub front : passing start (lines s) ≡ file ++ passing (afterAll start file) (lines (drop at s))
   pub left : n + length (lines (drop at s)) ≤ maxLines
@@ -119,13 +121,16 @@ pub record SoFar (s t₀ t : List ℕ) (at n : ℕ) (c : C.Seen) : Type 0 where
   pub wide : length t ≡ length t₀
   pub told : Told t c (afterAll start file)
   pub stands : Stands n (afterAll start file)
+  pub passed : Passes start file
+  pub tags : TagsAt g (afterAll start file .patterns)
+  pub held : maxPatterns ≤ length g
 
-pub so-far-start : (s t₀ : List ℕ) {c : C.Seen} → c ≡ startSeen → length (lines s) ≤ maxLines → SoFar s t₀ t₀ 0 0 c
-so-far-start s t₀ {c} e h =
+pub so-far-start : (s t₀ g : List ℕ) {c : C.Seen} → c ≡ startSeen → length (lines s) ≤ maxLines → maxPatterns ≤ length g → SoFar s t₀ t₀ g 0 0 c
+unfolding start
+so-far-start s t₀ g {c} e h w =
     record {
       file = [];
       count = refl;
-      within = omega arith;
       reads = refl;
       front = refl;
       left = omega arith;
@@ -133,11 +138,30 @@ so-far-start s t₀ {c} e h =
       wide = refl;
       told = subst (λ x. Told t₀ x start) (sym e) (told-start t₀);
       stands = stands-start;
+      passed = done;
+      tags = λ j l. absurd (omega arith);
+      held = w;
     }
 
-module _ {s t₀ t : List ℕ} {at n : ℕ} {c : C.Seen} (d : SoFar s t₀ t at n c) where
+module _ {s t₀ t g : List ℕ} {at n : ℕ} {c : C.Seen} (d : SoFar s t₀ t g at n c) where
   filled : length (tableOf (d .file)) ≡ n * rowWidth
   filled = length-table (d .file) ∙ ap (λ k. k * rowWidth) (sym (d .count))
+
+  -- what the rows so far weigh
+  weighed : Weighed t g c (afterAll start (d .file))
+  weighed =
+      record {
+        counts = d .told .counts;
+        types = λ i h.
+            cell-within t i 4 (omega (arith, d .left, d .stands .behind)) (lit< tt)
+            ∙ ap (λ l. getD l (i * rowWidth + 4) 0) (d .table)
+            ∙ type-size-at (d .passed) (drop (n * rowWidth) t₀) i h;
+        patterns = λ j h.
+            cell-within t (length (afterAll start (d .file) .types) + j) 4 (omega (arith, d .left, d .stands .behind)) (lit< tt)
+            ∙ ap (λ l. getD l ((length (afterAll start (d .file) .types) + j) * rowWidth + 4) 0) (d .table)
+            ∙ pattern-size-at (d .passed) (drop (n * rowWidth) t₀) j h;
+        tags = d .tags;
+      }
 
   -- where the rows so far are all that pass
   ends-here : passing (afterAll start (d .file)) (lines (drop at s)) ≡ [] → (x : F.Refusal) (p : ℕ) → refusalView x ≡ refusalIn (readFrom start 1 (lines s))
@@ -160,27 +184,36 @@ module _ {s t₀ t : List ℕ} {at n : ℕ} {c : C.Seen} (d : SoFar s t₀ t at 
       d .reads ∙ ap (λ bs. inFront (d .file) (readFrom (afterAll start (d .file)) (suc n) (lines bs))) none-left ∙ front-rows (d .file) in
       ends-here (ap (λ bs. passing (afterAll start (d .file)) (lines bs)) none-left) refusals.Nothing 0 (ap refusalIn (sym r)) (ap lineIn (sym r))
 
-  -- a line more, from `at` to `end`, with the verdict j
-  module _ (inside : at < length s) {end : ℕ} (ends : LineEnd s at end) (j : J.Judged)
-      (says : (m : Seen) → Told t c m → asJudged j ≡ judgedLine m (take (end - at) (drop at s))) where
-    line : List ℕ
-    line = take (end - at) (drop at s)
-
+  -- a line more, with the verdict j
+  module _ (inside : at < length s) (j : J.Judged) (says : LineSays t g c s at j) where
     now-told : Seen
     now-told = afterAll start (d .file)
 
+    here : JudgedAt s at now-told j
+    unfolding now-told
+    here = says (afterAll start (d .file)) weighed inside
+
     -- there is room for its row
     pub room : n < maxLines
-    room = omega (arith, d .left, ap length (ends .splits inside))
+    room = let e = ap length (here .splits) in omega (arith, d .left)
 
-    next-reads : readFrom start 1 (lines s) ≡ inFront (d .file) (readFrom now-told (suc n) (line ∷ lines (drop end s)))
-    unfolding line now-told
-    next-reads = d .reads ∙ ap (λ ls. inFront (d .file) (readFrom (afterAll start (d .file)) (suc n) ls)) (ends .splits inside)
+    next-reads : readFrom start 1 (lines s) ≡ inFront (d .file) (readFrom now-told (suc n) (here .line ∷ here .others))
+    unfolding now-told
+    next-reads = d .reads ∙ ap (λ ls. inFront (d .file) (readFrom (afterAll start (d .file)) (suc n) ls)) (here .splits)
 
-    module _ (r : R.Row) (good : j ≡ judged.Good r) where
-      good-line : (rowOf line ≡ some (rowView r)) × (judge now-told (rowView r) ≡ none)
-      unfolding line now-told
-      good-line = good-form (afterAll start (d .file)) (rowView r) (rowOf line) (sym (ap asJudged good) ∙ says (afterAll start (d .file)) (d .told))
+    module _ (r : R.Row) (next : P.Cursor) (good : j ≡ judged.Good r next) where
+      others-are : here .others ≡ lines (drop (next .at) s)
+      others-are = subst (λ k. Behind s k (here .others)) good (here .behind)
+
+      splits-are : lines (drop at s) ≡ here .line ∷ lines (drop (next .at) s)
+      splits-are = here .splits ∙ ap (λ ls. here .line ∷ ls) others-are
+
+      -- fewer lines are left
+      pub fewer : length (lines (drop (next .at) s)) < length (lines (drop at s))
+      fewer = let e = ap length splits-are in omega arith
+
+      good-line : (rowOf (here .line) ≡ some (rowView r)) × (judge now-told (rowView r) ≡ none)
+      good-line = good-form now-told (rowView r) (rowOf (here .line)) (sym (ap asJudged good) ∙ here .says)
 
       -- the size that is reckoned for its row is the row's
       sized : {size : ℕ} → SizeTold (kindView (r .kind)) t c r size → (size ≡ rowSize now-told (rowView r)) × (size ≤ maxNodes)
@@ -188,16 +221,16 @@ module _ {s t₀ t : List ℕ} {at n : ℕ} {c : C.Seen} (d : SoFar s t₀ t at 
       sized e =
           let m : Seen = afterAll start (d .file) in
           let f = judge-fit m (rowView r) (good-line .1) in
-          let g = size-fits m (kindView (r .kind)) (rowView r) f in
-          let h = e m (d .told) (f .names) in
-          (omega arith, omega arith)
+          let k = size-fits m (kindView (r .kind)) (rowView r) f in
+          let h = e g m weighed (f .names) in
+          (h, omega arith)
 
-      pub fields-small : {size : ℕ} → SizeTold (kindView (r .kind)) t c r size
-          → (n < maxLines) × (r .x < 65536) × (r .y < 65536) × (r .z < 65536) × (size < 65536)
-      fields-small e =
-          let f : WellFormed (rowView r) = read-print line (good-line .0) .1 in
-          let g = sized e .1 in
-          (room, f .x, f .y, f .z, omega arith)
+      pub fields-small : tableLength ≤ length t₀ → {size : ℕ} → SizeTold (kindView (r .kind)) t c r size
+          → (tableLength ≤ length t) × (n < maxLines) × (r .x < 65536) × (r .y < 65536) × (r .z < 65536) × (size < 65536)
+      fields-small enough e =
+          let f : WellFormed (rowView r) = read-print (here .line) (good-line .0) .1 in
+          let k = sized e .1 in
+          (omega (arith, d .wide), room, f .x, f .y, f .z, omega arith)
 
       pub small-counts : SmallCounts c
       small-counts = counts-small room (d .told .counts) (d .stands)
@@ -206,31 +239,33 @@ module _ {s t₀ t : List ℕ} {at n : ℕ} {c : C.Seen} (d : SoFar s t₀ t at 
           tableLength ≤ length t₀ →
           {size : ℕ} →
           SizeTold (kindView (r .kind)) t c r size →
-          {t′ : List ℕ} {c′ : C.Seen} →
+          {t′ g′ : List ℕ} {c′ : C.Seen} →
           t′ ≡ sets t (n * rowWidth) (numbers (rowView r) size) →
+          TagsKept (kindView (r .kind)) g g′ c r →
           c′ ≡ seenAfter (kindView (r .kind)) c →
-          SoFar s t₀ t′ end (n + 1) c′
-      unfolding line now-told
-      so-far-more enough {size} e {t′} {c′} p q =
+          SoFar s t₀ t′ g′ (next .at) (n + 1) c′
+      unfolding now-told
+      so-far-more enough {size} e {t′} {g′} {c′} p kept q =
           let row : Row = rowView r in
           let m : Seen = afterAll start (d .file) in
-          let rest : length (lines (drop at s)) ≡ suc (length (lines (drop end s))) = ap length (ends .splits inside) in
+          let fit = judge-fit m row (good-line .1) in
+          let rest : length (lines (drop at s)) ≡ suc (length (lines (drop (next .at) s))) = ap length splits-are in
           let w : n * rowWidth + rowWidth ≤ length t = omega (arith, room, d .wide) in
           record {
             file = d .file ++ (row ∷ []);
             count = ap (λ k. k + 1) (d .count) ∙ sym (length-snoc (d .file) row);
-            within = ends .within inside;
             reads =
                 next-reads
-                ∙ ap (inFront (d .file)) (read-good m (suc n) row line (lines (drop end s)) (good-line .0) (good-line .1))
-                ∙ front-snoc (d .file) row (readFrom (after m row) (suc (suc n)) (lines (drop end s)))
-                ∙ ap₂ (λ u k. inFront (d .file ++ (row ∷ [])) (readFrom u (suc k) (lines (drop end s)))) (sym (after-snoc start (d .file) row)) (sym (add-one n));
+                ∙ ap (λ ls. inFront (d .file) (readFrom m (suc n) (here .line ∷ ls))) others-are
+                ∙ ap (inFront (d .file)) (read-good m (suc n) row (here .line) (lines (drop (next .at) s)) (good-line .0) (good-line .1))
+                ∙ front-snoc (d .file) row (readFrom (after m row) (suc (suc n)) (lines (drop (next .at) s)))
+                ∙ ap₂ (λ u k. inFront (d .file ++ (row ∷ [])) (readFrom u (suc k) (lines (drop (next .at) s)))) (sym (after-snoc start (d .file) row)) (sym (add-one n));
             front =
                 d .front
-                ∙ ap (λ ls. d .file ++ passing m ls) (ends .splits inside)
-                ∙ ap (λ rs. d .file ++ rs) (passing-good m row line (lines (drop end s)) (sym (ap asJudged good) ∙ says m (d .told)))
-                ∙ sym (append-assoc (d .file) (row ∷ []) (passing (after m row) (lines (drop end s))))
-                ∙ ap (λ u. (d .file ++ (row ∷ [])) ++ passing u (lines (drop end s))) (sym (after-snoc start (d .file) row));
+                ∙ ap (λ ls. d .file ++ passing m ls) splits-are
+                ∙ ap (λ rs. d .file ++ rs) (passing-good m row (here .line) (lines (drop (next .at) s)) (sym (ap asJudged good) ∙ here .says))
+                ∙ sym (append-assoc (d .file) (row ∷ []) (passing (after m row) (lines (drop (next .at) s))))
+                ∙ ap (λ u. (d .file ++ (row ∷ [])) ++ passing u (lines (drop (next .at) s))) (sym (after-snoc start (d .file) row));
             left = omega (arith, d .left);
             table =
                 table-more (tableOf (d .file)) t₀ n filled row size (d .table) w p
@@ -243,15 +278,18 @@ module _ {s t₀ t : List ℕ} {at n : ℕ} {c : C.Seen} (d : SoFar s t₀ t at 
             stands =
                 subst (λ u. Stands (n + 1) u) (sym (after-snoc start (d .file) row))
                 (subst (λ k. Stands k (after m row)) (sym (add-one n)) (stands-kept n m row (good-line .1) (d .stands)));
+            passed = passes-append (d .passed) (one-more (good-line .1) done);
+            tags = subst (λ u. TagsAt g′ (u .patterns)) (sym (after-snoc start (d .file) row)) (kept .kept t m weighed (fit .names) (fit .ceilings) (d .held));
+            held = let l = kept .long in omega (arith, d .held);
           }
 
     -- the line is refused
     pub so-far-refused : (f : F.Refusal) → j ≡ judged.Bad f → ReadSays s t₀ t (record { refusal = f; place = n + 1; seen = c; lines = n })
-    unfolding line now-told
+    unfolding now-told
     so-far-refused f bad =
         let m : Seen = afterAll start (d .file) in
-        let v = sym (ap asJudged bad) ∙ says m (d .told) in
-        let (g, p, q) = read-bad m (suc n) (refusalView f) line (lines (drop end s)) v in
-        let r : readFrom start 1 (lines s) ≡ faulty g (suc n) = next-reads ∙ ap (inFront (d .file)) q ∙ front-faulty (d .file) g (suc n) in
-        ends-here (ap (passing m) (ends .splits inside) ∙ passing-bad m (refusalView f) line (lines (drop end s)) v) f (n + 1)
+        let v = sym (ap asJudged bad) ∙ here .says in
+        let (k, p, q) = read-bad m (suc n) (refusalView f) (here .line) (here .others) v in
+        let r : readFrom start 1 (lines s) ≡ faulty k (suc n) = next-reads ∙ ap (inFront (d .file)) q ∙ front-faulty (d .file) k (suc n) in
+        ends-here (ap (passing m) (here .splits) ∙ passing-bad m (refusalView f) (here .line) (here .others) v) f (n + 1)
         (p ∙ ap refusalIn (sym r)) (add-one n ∙ ap lineIn (sym r))

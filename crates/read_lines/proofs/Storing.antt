@@ -11,7 +11,7 @@ use lib.Dec.{ltb}
 use lib.ListN.{length, getD, set, length-set}
 use lib.Seq.{sets, getD-set-same, getD-set-other}
 use borrow.Author.Tests.{ltb-true}
-use Rattle.limits.specs.Limits.{maxLines, rowWidth}
+use Rattle.limits.specs.Limits.{maxLines, tableLength, rowWidth}
 use Rattle.format.specs.Lines.{Row}
 use Rattle.format.specs.Table.{numbers}
 use Rattle.calculus.proofs.Basic.{bool-cases}
@@ -19,6 +19,10 @@ use Rattle.table_trees.specs.Unfolding.{cellOf}
 use Rattle.table_trees.proofs.Unfolding.{cell-within}
 
 -- ---- five stores
+
+-- each is within a table that is long enough
+pub in-row : (t : List ℕ) (n k : ℕ) → tableLength ≤ length t → n < maxLines → k < rowWidth → n * rowWidth + k < length t
+in-row t n k w h l = omega arith
 
 pub stored :
     (t : List ℕ) (b : ℕ) {t₁ t₂ t₃ t₄ t₅ : List ℕ} {w x y z v l p q r m : ℕ} →

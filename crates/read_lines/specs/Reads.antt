@@ -1,5 +1,5 @@
 -- What reading a line and reading a file give, as the model's `readFrom` has it.
-use Prim.Native.Nat.{ℕ, _*_}
+use Prim.Native.Nat.{ℕ, _*_, _<_}
 use mathlib.Core.Path.{_≡_}
 use mathlib.Core.Option.{Option, none, some}
 use mathlib.Core.List.{List, [], _∷_, _++_}
@@ -10,7 +10,8 @@ use Rattle.format.specs.Lines.{Row, rowOf, lines}
 use Rattle.format.specs.Table.{tableOf}
 use Rattle.format.specs.Judge.{Seen, start, judge, after, afterAll, Reading, rows, faulty, readFrom}
 use Rattle.format.specs.Code.{rowView, refusalView}
-use Rattle.read_seen.specs.Told.{Told}
+use Rattle.read_seen.specs.declared.Seen as C
+use Rattle.read_seen.specs.Told.{Told, Weighed}
 use Rattle.read_lines.specs.declared.read.Judged as J
 use Rattle.read_lines.specs.declared.read.Judged.the-variants as judged
 use Rattle.read_lines.specs.declared.read.Read as R
@@ -21,7 +22,7 @@ pub data Verdict : Type 0 where
   refused : Option Refusal → Verdict
 
 abbrev pub asJudged : J.Judged → Verdict
-asJudged (judged.Good r) = passes (rowView r)
+asJudged (judged.Good r c) = passes (rowView r)
 asJudged (judged.Bad f) = refused (refusalView f)
 
 abbrev pub judgedRow : Row → Option Refusal → Verdict
@@ -35,6 +36,22 @@ judgedForm s (some r) = judgedRow r (judge s r)
 -- the lowest of 3 to 7 of a line
 abbrev pub judgedLine : Seen → List ℕ → Verdict
 judgedLine s l = judgedForm s (rowOf l)
+
+-- the lines behind one that passes are those from the place that is given
+abbrev pub Behind : List ℕ → J.Judged → List (List ℕ) → Type 0
+Behind s (judged.Good r c) ls = ls ≡ lines (drop (c .at) s)
+Behind s (judged.Bad f) ls = Unit {0}
+
+-- the line that begins at a place, below the rows that m tells of
+pub record JudgedAt (s : List ℕ) (at : ℕ) (m : Seen) (j : J.Judged) : Type 0 where
+  pub line : List ℕ
+  pub others : List (List ℕ)
+  pub splits : lines (drop at s) ≡ line ∷ others
+  pub says : asJudged j ≡ judgedLine m line
+  pub behind : Behind s j others
+
+abbrev pub LineSays : List ℕ → List ℕ → C.Seen → List ℕ → ℕ → J.Judged → Type 0
+LineSays t g c s at j = (m : Seen) → Weighed t g c m → at < length s → JudgedAt s at m j
 
 -- the rows of the lines before the first that is refused; of all lines where none is
 abbrev pub ahead : Verdict → (Row → List Row) → List Row

@@ -1,2 +1,3 @@
 -- The row of a line.
 pub mod Rows
+pub mod Ahead

@@ -1,32 +1,37 @@
--- The row of a line: its fields one by one, its end, its letter, and its ending.
-use Prim.Native.Nat.{ℕ}
+-- The row of a line where it stands: its fields one by one, its ending, its letter.
+use Prim.Native.Nat.{ℕ, _+_, _<_, _≤_}
 use native.Mathlib.Omega.{arith}
 use mathlib.Core.Path.{_≡_, refl, sym, ap, _∙_}
 use mathlib.Core.Option.{Option, none, some}
 use mathlib.Core.List.{List, [], _∷_}
-use lib.ListN.{getD, drop}
+use lib.ListN.{length, getD, drop, drop-of-length-le}
 use Rattle.limits.specs.Limits.{fieldBound}
 use Rattle.calculus.specs.Tools.{_>>=_}
 use Rattle.calculus.specs.Refusals.{Kind, typeLine, patternLine, isoLine, clauseLine, letLine}
-use Rattle.format.specs.Lines.{Row, fieldCount, kindOf, fields, fieldBounds, text, ended, toRow, rowIn, rowOf}
+use Rattle.format.specs.Lines.{Row, fieldCount, kindOf, fields, fieldBounds, toRow}
 use Rattle.format.specs.declared.Kind as K
 use Rattle.format.specs.Code.{kindView}
-use Rattle.calculus.proofs.Basic.{none≢some, some-bind}
+use Rattle.calculus.proofs.Basic.{from-byte}
 use Rattle.read_forms.specs.declared.Letter as L
 use Rattle.read_forms.specs.declared.Letter.the-variants as letters
 use Rattle.read_forms.specs.Views.{asLetter}
-use Rattle.read_fields.specs.Views.{asField}
+use Rattle.read_fields.specs.Views.{asField, pastEnding}
 use Rattle.read_fields.proofs.Fields.{onto, fields-some, fields-none}
-use Rattle.read_rows.specs.Views.{closed, behindLetter}
+use Rattle.read_rows.specs.Views.{closed, behindLetter, rowFrom}
 
 -- ---- the end of a line
 
 module _ (k : Kind) (x y z : ℕ) (bs : List ℕ) where
-  pub closed-here : ended bs ≡ some tt → some (record { kind = k; x = x; y = y; z = z }) ≡ closed k x y z bs
-  closed-here e = sym (ap (λ o. o >>= λ _. some (record { kind = k; x = x; y = y; z = z })) e)
+  with-rest : List ℕ → Option (Row × List ℕ)
+  with-rest rest = some (record { kind = k; x = x; y = y; z = z }, rest)
 
-  pub not-closed : ended bs ≡ none → none ≡ closed k x y z bs
-  not-closed e = sym (ap (λ o. o >>= λ _. some (record { kind = k; x = x; y = y; z = z })) e)
+  pub closed-here : {rest : List ℕ} → some rest ≡ pastEnding bs → some (record { kind = k; x = x; y = y; z = z }, rest) ≡ closed k x y z bs
+  unfolding with-rest
+  closed-here e = ap (λ o. o >>= with-rest) e
+
+  pub not-closed : none ≡ pastEnding bs → none ≡ closed k x y z bs
+  unfolding with-rest
+  not-closed e = ap (λ o. o >>= with-rest) e
 
 -- ---- the fields
 
@@ -56,8 +61,8 @@ one-more clauseLine h = absurd (h refl)
 one-more letLine h = refl
 
 -- what follows the fields of a line
-abbrev finish : Kind → Option (List ℕ × List ℕ) → Option Row
-finish k o = o >>= λ r. ended (r .1) >>= λ _. some (toRow k (r .0))
+abbrev finish : Kind → Option (List ℕ × List ℕ) → Option (Row × List ℕ)
+finish k o = o >>= λ r. pastEnding (r .1) >>= λ rest. some (toRow k (r .0), rest)
 
 module _ (k : Kind) (bs : List ℕ) where
   by-first : behindLetter k bs ≡ finish k (fields (fieldBound ∷ fieldBound ∷ third k) bs)
@@ -92,26 +97,16 @@ module _ (k : Kind) (bs : List ℕ) where
 
 -- ---- the letter
 
-known-row : (s : List ℕ) (k : Kind) → some k ≡ kindOf (getD s 0 0) → behindLetter k (drop 1 s) ≡ rowIn s
-known-row [] k e = absurd (none≢some (sym e))
-known-row (b ∷ bs) k e = ap (λ o. o >>= λ j. behindLetter j bs) e
+module _ (s : List ℕ) (at : ℕ) (h : at < length s) {r : L.Letter} (e : asLetter r ≡ kindOf (getD s at 0)) where
+  pub row-known : (k : K.Kind) → r ≡ letters.Of k → behindLetter (kindView k) (drop (at + 1) s) ≡ rowFrom (drop at s)
+  row-known k p =
+      ap (λ o. o >>= λ j. behindLetter j (drop (at + 1) s)) (sym (ap asLetter p) ∙ e)
+      ∙ ap rowFrom (sym (from-byte s at h))
 
-unknown-row : (s : List ℕ) → none ≡ kindOf (getD s 0 0) → none ≡ rowIn s
-unknown-row [] e = refl
-unknown-row (b ∷ bs) e = ap (λ o. o >>= λ j. behindLetter j bs) e
+  pub row-unknown : r ≡ letters.Unknown → none ≡ rowFrom (drop at s)
+  row-unknown p =
+      ap (λ o. o >>= λ j. behindLetter j (drop (at + 1) s)) (sym (ap asLetter p) ∙ e)
+      ∙ ap rowFrom (sym (from-byte s at h))
 
-module _ (s : List ℕ) {b : ℕ} (first : b ≡ getD s 0 0) {r : L.Letter} (e : asLetter r ≡ kindOf b) where
-  pub row-known : (k : K.Kind) → r ≡ letters.Of k → behindLetter (kindView k) (drop 1 s) ≡ rowIn s
-  row-known k p = known-row s (kindView k) (sym (ap asLetter p) ∙ e ∙ ap kindOf first)
-
-  pub row-unknown : r ≡ letters.Unknown → none ≡ rowIn s
-  row-unknown p = unknown-row s (sym (ap asLetter p) ∙ e ∙ ap kindOf first)
-
--- ---- the ending
-
--- the text of a line and its row, or none
-pub text-row : (s : List ℕ) {t : List ℕ} {o : Option Row} → text s ≡ some t → o ≡ rowIn t → o ≡ rowOf s
-text-row s e p = p ∙ sym (some-bind rowIn e)
-
-pub no-text-row : (s : List ℕ) → text s ≡ none → none ≡ rowOf s
-no-text-row s e = sym (ap (λ o. o >>= rowIn) e)
+pub no-bytes : (s : List ℕ) (at : ℕ) → length s ≤ at → none ≡ rowFrom (drop at s)
+no-bytes s at h = ap rowFrom (sym (drop-of-length-le s h))

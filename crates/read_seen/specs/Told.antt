@@ -3,10 +3,10 @@ use Prim.Native.Nat.{ℕ, _+_, _<_}
 use mathlib.Core.Path.{_≡_}
 use mathlib.Core.List.{List}
 use lib.ListN.{length, getD}
-use Rattle.calculus.specs.Trees.{Ty, tunit, Pat, punit}
+use Rattle.calculus.specs.Trees.{Ty, tunit, Pat, punit, typeNodes, nodes, tags}
 use Rattle.calculus.specs.Refusals.{Kind, typeLine, patternLine, isoLine, clauseLine, letLine}
 use Rattle.format.specs.Judge.{Seen, stage, typeNode, patternNode}
-use Rattle.table_trees.specs.Unfolding.{typeOf, patternOf}
+use Rattle.table_trees.specs.Unfolding.{cellOf, typeOf, patternOf}
 use Rattle.read_seen.specs.declared.Seen as C
 
 abbrev pub startSeen : C.Seen
@@ -56,3 +56,20 @@ pub record Told (t : List ℕ) (c : C.Seen) (s : Seen) : Type 0 where
   pub counts : Counts c s
   pub types : TypesAt t (s .types)
   pub patterns : PatternsAt t (length (s .types)) (s .patterns)
+
+-- the sizes that the table holds of its T lines, and of its P lines from a row on; the left and right nodes that an area holds of the P lines
+abbrev pub TypeSizes : List ℕ → List Ty → Type 0
+TypeSizes t ts = (i : ℕ) → i < length ts → cellOf t i 4 ≡ typeNodes (getD ts i tunit)
+
+abbrev pub PatternSizes : List ℕ → ℕ → List Pat → Type 0
+PatternSizes t base ps = (j : ℕ) → j < length ps → cellOf t (base + j) 4 ≡ nodes (getD ps j punit)
+
+abbrev pub TagsAt : List ℕ → List Pat → Type 0
+TagsAt g ps = (j : ℕ) → j < length ps → getD g j 0 ≡ tags (getD ps j punit)
+
+-- what a row is judged by: the counts of the rows above, and what their trees weigh
+pub record Weighed (t g : List ℕ) (c : C.Seen) (s : Seen) : Type 0 where
+  pub counts : Counts c s
+  pub types : TypeSizes t (s .types)
+  pub patterns : PatternSizes t (length (s .types)) (s .patterns)
+  pub tags : TagsAt g (s .patterns)

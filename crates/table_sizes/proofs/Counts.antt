@@ -3,7 +3,7 @@ use Prim.Native.Nat.{ℕ, suc, _+_, _<_, _≤_, min, max}
 use native.Mathlib.Omega.{arith}
 use mathlib.Core.Path.{_≡_, refl, sym, ap, _∙_, subst}
 use mathlib.Core.List.{List}
-use Rattle.limits.specs.Limits.{manyTags, manyNodes}
+use Rattle.limits.specs.Limits.{manyTags}
 use Rattle.calculus.specs.Trees.{Ty, typeNodes, Pat, nodes, tags, mostTags}
 use mathlib.Core.Bool.{cond}
 use Rattle.calculus.proofs.Basic.{not-eqb}
@@ -48,13 +48,6 @@ pair-tags n p q e = ap (λ k. tags (patternNode k n p q)) e
 
 -- ---- counts that stop at a ceiling
 
--- one node above two trees
-pub above-two : {m n r : ℕ} (x y z : ℕ) → m ≡ min manyNodes x → n ≡ min manyNodes y → r ≡ min manyNodes (1 + m + n) → z ≡ 1 + x + y → r ≡ min manyNodes z
-above-two x y z p q e f = omega arith
-
-pub above-one : {m r : ℕ} (x z : ℕ) → m ≡ min manyNodes x → r ≡ min manyNodes (1 + m + 0) → z ≡ 1 + x → r ≡ min manyNodes z
-above-one x z p e f = omega arith
-
 pub both : {m n r : ℕ} (x y z : ℕ) → m ≡ min manyTags x → n ≡ min manyTags y → r ≡ min manyTags (m + n) → z ≡ x + y → r ≡ min manyTags z
 both x y z p q e f = omega arith
 
@@ -79,28 +72,6 @@ joined-both k m n h e = e ∙ sym (ap (λ b. min manyTags (cond b (suc (max m n)
 -- ---- T lines: k is the kind, a and b are the lines that line i names, m and n what was counted there
 
 module _ (t : List ℕ) (i : ℕ) where
-  pub type-size-whole : {k : ℕ} → k ≡ cellOf t i 1 → Whole k → 1 ≡ min manyNodes (typeNodes (typeOf t i))
-  type-size-whole e h = sym (ap (min manyNodes) (ap typeNodes (type-node t i) ∙ whole-count _ _ (subst Whole e h)))
-
-  pub type-size-node :
-      {k u v a b m n r : ℕ} →
-      k ≡ cellOf t i 1 →
-      Parted k →
-      u ≡ cellOf t i 2 →
-      a ≡ smallerOf u i →
-      v ≡ cellOf t i 3 →
-      b ≡ smallerOf v i →
-      m ≡ min manyNodes (typeNodes (typeOf t a)) →
-      n ≡ min manyNodes (typeNodes (typeOf t b)) →
-      r ≡ min manyNodes (1 + m + n) →
-      r ≡ min manyNodes (typeNodes (typeOf t i))
-  type-size-node e h f s g w p q r =
-      above-two _ _ _
-      (p ∙ ap (λ x. min manyNodes (typeNodes (typeOf t x))) (s ∙ ap (λ x. smallerOf x i) f))
-      (q ∙ ap (λ x. min manyNodes (typeNodes (typeOf t x))) (w ∙ ap (λ x. smallerOf x i) g))
-      r
-      (ap typeNodes (type-node t i) ∙ type-count _ _ (subst Parted e h))
-
   pub type-tags-whole : {k : ℕ} → k ≡ cellOf t i 1 → Whole k → 0 ≡ min manyTags (mostTags (typeOf t i))
   type-tags-whole e h = sym (ap (min manyTags) (ap mostTags (type-node t i ∙ node-whole _ _ (subst Whole e h))))
 
@@ -126,44 +97,6 @@ module _ (t : List ℕ) (i : ℕ) where
 -- ---- P lines, likewise
 
 module _ (t : List ℕ) (base j : ℕ) where
-  pub pattern-size-leaf : {k : ℕ} → k ≡ cellOf t (base + j) 1 → Leaf k → 1 ≡ min manyNodes (nodes (patternOf t base j))
-  pattern-size-leaf e h =
-      sym (ap (min manyNodes) (ap nodes (pattern-node t base j) ∙ leaf-count _ _ _ (subst Leaf e h)))
-
-  pub pattern-size-inj :
-      {k u a m r : ℕ} →
-      k ≡ cellOf t (base + j) 1 →
-      Injects k →
-      u ≡ cellOf t (base + j) 2 →
-      a ≡ smallerOf u j →
-      m ≡ min manyNodes (nodes (patternOf t base a)) →
-      r ≡ min manyNodes (1 + m + 0) →
-      r ≡ min manyNodes (nodes (patternOf t base j))
-  pattern-size-inj e h f s p r =
-      above-one _ _
-      (p ∙ ap (λ x. min manyNodes (nodes (patternOf t base x))) (s ∙ ap (λ x. smallerOf x j) f))
-      r
-      (ap nodes (pattern-node t base j) ∙ inj-count _ _ _ (subst Injects e h))
-
-  pub pattern-size-pair :
-      {k u v a b m n r : ℕ} →
-      k ≡ cellOf t (base + j) 1 →
-      k ≡ 4 →
-      u ≡ cellOf t (base + j) 2 →
-      a ≡ smallerOf u j →
-      v ≡ cellOf t (base + j) 3 →
-      b ≡ smallerOf v j →
-      m ≡ min manyNodes (nodes (patternOf t base a)) →
-      n ≡ min manyNodes (nodes (patternOf t base b)) →
-      r ≡ min manyNodes (1 + m + n) →
-      r ≡ min manyNodes (nodes (patternOf t base j))
-  pattern-size-pair e h f s g w p q r =
-      above-two _ _ _
-      (p ∙ ap (λ x. min manyNodes (nodes (patternOf t base x))) (s ∙ ap (λ x. smallerOf x j) f))
-      (q ∙ ap (λ x. min manyNodes (nodes (patternOf t base x))) (w ∙ ap (λ x. smallerOf x j) g))
-      r
-      (ap nodes (pattern-node t base j) ∙ pair-count _ _ _ (sym e ∙ h))
-
   pub pattern-tags-leaf : {k : ℕ} → k ≡ cellOf t (base + j) 1 → Leaf k → 0 ≡ min manyTags (tags (patternOf t base j))
   pattern-tags-leaf e h =
       sym (ap (min manyTags) (ap tags (pattern-node t base j) ∙ leaf-tags _ _ _ (subst Leaf e h)))

@@ -1,5 +1,5 @@
-// The trees that the table's T and P lines unfold to: unfolded size and left/right count, by recursion over
-// lines whose numbers fall.
+// The left and right nodes of the trees that the table's T and P lines unfold to, by recursion over lines whose
+// numbers fall. Their nodes stand in the table.
 
 use codes::FIRST;
 use codes::KIND;
@@ -18,7 +18,7 @@ use table_trees::smaller;
 ghost use mathlib.Core.Path.{_≡_};
 ghost use Prim.Native.Nat.{_+_, min};
 ghost use Rattle.limits.specs.Limits.{manyTags, manyNodes};
-ghost use Rattle.calculus.specs.Trees.{typeNodes, nodes, tags, mostTags};
+ghost use Rattle.calculus.specs.Trees.{tags, mostTags};
 ghost use Rattle.table_sizes.specs.Joined.{joinTags};
 ghost use Rattle.table_trees.specs.Unfolding.{typeOf, patternOf};
 
@@ -32,38 +32,6 @@ pub fn above(m: usize, n: usize) -> usize
         }
     }
     MANY_NODES
-}
-
-// The nodes of T line i, unfolded; 128 stands for more than 127.
-pub fn type_size(t: &[u16], i: usize) -> usize
-    ensures { λ r. ⌜ r ≡ min manyNodes (typeNodes (typeOf (now (t .entry)) i)) ⌝ }
-{
-    match cell(t, i, KIND) {
-        SUM | PRODUCT => {
-            let a = smaller(cell(t, i, FIRST), i);
-            let b = smaller(cell(t, i, SECOND), i);
-            above(type_size(t, a), type_size(t, b))
-        }
-        _ => 1,
-    }
-}
-
-// The nodes of P line j, unfolded; 128 stands for more than 127.
-pub fn pattern_size(t: &[u16], base: usize, j: usize) -> usize
-    ensures { λ r. ⌜ r ≡ min manyNodes (nodes (patternOf (now (t .entry)) base j)) ⌝ }
-{
-    match pattern_cell(t, base, j, KIND) {
-        LEFT | RIGHT => {
-            let a = smaller(pattern_cell(t, base, j, FIRST), j);
-            above(pattern_size(t, base, a), 0)
-        }
-        PAIR => {
-            let a = smaller(pattern_cell(t, base, j, FIRST), j);
-            let b = smaller(pattern_cell(t, base, j, SECOND), j);
-            above(pattern_size(t, base, a), pattern_size(t, base, b))
-        }
-        _ => 1,
-    }
 }
 
 // Two counts together, at most 41 told apart.

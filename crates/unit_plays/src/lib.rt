@@ -5,6 +5,7 @@ use checker::Checked;
 use format::Refusal;
 use format::is_refused;
 use limits::INDEX_LENGTH;
+use limits::RUN_ROOM;
 use limits::WORK_LENGTH;
 use read_fields::Cursor;
 use runner::run::prepare;
@@ -15,10 +16,8 @@ use unit_settings::units_fault;
 use unit_visits::play_visit;
 ghost use Prim.Native.Nat.{_≤_};
 ghost use lib.ListN.{length};
+ghost use Rattle.limits.specs.Limits.{workLength};
 ghost use Rattle.unit_plays.specs.Playing.{LinePlayed, LinesPlayed, AllPlayed, Tested, PlayedInto};
-
-// The frames of a run, at the front of the work area.
-const RUN_ROOM: usize = 40960;
 
 // Plays line k of a script.
 fn play_line(
@@ -139,7 +138,7 @@ pub fn play_accepted(
     lines: &mut [u32],
     settings: &mut [u32],
 ) -> Refusal
-    requires { ⌜ 65536 ≤ length (now work) ⌝ }
+    requires { ⌜ workLength ≤ length (now work) ⌝ }
     ensures { λ r. ⌜
         PlayedInto (now (table .entry)) c (now (script .entry)) budget (now (work .entry)) (now (lines .entry))
         (now (settings .entry)) (now (work .exit)) (now (lines .exit)) (now (settings .exit)) r

@@ -1,6 +1,8 @@
 // A script of visits, line by line: `S,unit,iso,direction`.
 
 use area_parts::front;
+use codes::LETTER_S;
+use limits::MAX_FIELD;
 use read_fields::Cursor;
 use read_fields::Number;
 use read_fields::Skipped;
@@ -10,9 +12,6 @@ ghost use Rattle.calculus.specs.Tools.{isSome};
 ghost use Rattle.format.specs.Lines.{lines};
 ghost use Rattle.law_units.specs.Units.{plannedIn, plannedOf, plannedFor, scriptOf};
 ghost use Rattle.unit_script.specs.Views.{asPlanned, behindLetter};
-
-// The letter of a script's lines.
-const LETTER_S: u8 = 83;
 
 // A planned visit.
 pub struct Planned {
@@ -31,10 +30,10 @@ pub enum Plan {
 fn after_letter(c: Cursor, s: &[u8]) -> Plan
     ensures { λ r. ⌜ asPlanned r ≡ behindLetter (drop (c .at) (now (s .entry))) ⌝ }
 {
-    let Number::Value(unit, d) = c.field(s, 65535) else {
+    let Number::Value(unit, d) = c.field(s, MAX_FIELD) else {
         return Plan::Bad;
     };
-    let Number::Value(iso, e) = d.field(s, 65535) else {
+    let Number::Value(iso, e) = d.field(s, MAX_FIELD) else {
         return Plan::Bad;
     };
     let Number::Value(direction, f) = e.field(s, 1) else {

@@ -4,6 +4,7 @@
 use area_cells::byte_at;
 use area_cells::put_byte;
 use limits::MAX_LINES;
+use limits::RUN_ROOM;
 ghost use mathlib.Core.Path.{_≡_};
 ghost use lib.ListN.{getD, set};
 ghost use Rattle.unit_tally.specs.Count.{upOf, addedOf, begunOf, placeOf, markOf, visitOf, tallied, emptied};
@@ -86,9 +87,9 @@ fn mark_place(k: usize) -> usize
     ensures { λ r. ⌜ r ≡ placeOf k ⌝ }
 {
     if k < MAX_LINES {
-        return 40960 + k;
+        return RUN_ROOM + k;
     }
-    40960 + MAX_LINES
+    RUN_ROOM + MAX_LINES
 }
 
 // The byte that marks a visit.

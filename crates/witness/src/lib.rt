@@ -10,6 +10,7 @@ use format::Answer;
 use format::Refusal;
 use format::is_refused;
 use format::number_of;
+use limits::WORK_LENGTH;
 ghost use mathlib.Core.Path.{_≡_};
 ghost use Prim.Native.Nat.{_≤_};
 ghost use lib.ListN.{length};
@@ -68,6 +69,6 @@ pub fn witness(file: &[u8], table: &mut [u16], work: &mut [u8], result: &mut [u8
     if is_refused(f) {
         return refused(f);
     }
-    clear_bytes(work, 65536);
+    clear_bytes(work, WORK_LENGTH);
     searched(file, table, result)
 }

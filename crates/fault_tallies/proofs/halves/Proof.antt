@@ -5,7 +5,7 @@ use Rattle.fault_tallies.proofs.halves.Tie as tie
 use Rattle.fault_tallies.proofs.halves.Reads as reads
 use Rattle.fault_tallies.proofs.halves.Lts as lts
 use Rattle.table_parts.proofs.type_part.Reads as type-part-reads
-use Rattle.table_sizes.proofs.type_size.Reads as type-size-reads
+use Rattle.table_trees.proofs.cell.Reads as cell-reads
 
 -- src/lib.rt:73:9
 type-part-requires : tie.Need-type-part-requires
@@ -16,12 +16,12 @@ type-part-requires-2 : tie.Need-type-part-requires-2
 type-part-requires-2 c κs = search needs
 
 -- src/lib.rt:75:8
-type-size-requires : tie.Need-type-size-requires
-type-size-requires c κs = search needs
+cell-requires : tie.Need-cell-requires
+cell-requires c κs = search needs
 
 -- src/lib.rt:75:26
-type-size-requires-2 : tie.Need-type-size-requires-2
-type-size-requires-2 c κs = search needs
+cell-requires-2 : tie.Need-cell-requires-2
+cell-requires-2 c κs = search needs
 
 -- src/lib.rt:76:9
 returns : tie.Need-returns
@@ -37,7 +37,7 @@ halves-spec =
     (tie.spec
     type-part-requires
     type-part-requires-2
-    type-size-requires
-    type-size-requires-2
+    cell-requires
+    cell-requires-2
     returns
     returns-2)

@@ -1,6 +1,5 @@
--- `read_ceilings::row_size` meets its contract, kind by kind.
-use borrow.Author.Needs.{needs}
 use Rattle.read_ceilings.proofs.Ceilings.{size-type, size-pattern, size-iso, size-clause, size-let}
+use borrow.Author.Needs.{needs}
 use Rattle.read_ceilings.proofs.row_size.Statement.{statement}
 use Rattle.read_ceilings.proofs.row_size.Tie as tie
 

@@ -19,7 +19,7 @@ enum-told c = search needs
 returns : tie.Need-returns
 returns c =
     let a = c .before .before .before .before .args in
-    no-first (kindView (a .k)) (drop 1 (a .s .now)) (wrong (a .s .now) (c .enum-told .given .1) (c .before .before .field .ensures))
+    no-first (kindView (a .k)) (drop (a .b .at) (a .s .now)) (wrong (a .s .now) (c .enum-told .given .1) (c .before .before .field .ensures))
 
 field-requires-2 : tie.Need-field-requires-2
 field-requires-2 c κs = search needs
@@ -36,7 +36,7 @@ returns-2 c =
     let a = x .before .before .before .before .args in
     no-second
     (kindView (a .k))
-    (drop 1 (a .s .now))
+    (drop (a .b .at) (a .s .now))
     (value (a .s .now) (x .x .given .1) (x .before .before .field .ensures))
     (wrong (a .s .now) (c .enum-told2 .given .1) (c .before .before .field2 .ensures))
 
@@ -54,7 +54,7 @@ returns-3 c =
     c .finished .ensures
     ∙ two-fields
     (kindView (a .k))
-    (drop 1 (a .s .now))
+    (drop (a .b .at) (a .s .now))
     (value (a .s .now) (x .x .given .1) (x .before .before .field .ensures))
     (value (a .s .now) (y .y .given .1) (y .before .before .field2 .ensures))
     (sym (c .before .before .fields-of .ensures) ∙ c .before .if1 .taken)
@@ -76,7 +76,7 @@ returns-4 c =
     let a = x .before .before .before .before .args in
     no-third
     (kindView (a .k))
-    (drop 1 (a .s .now))
+    (drop (a .b .at) (a .s .now))
     (value (a .s .now) (x .x .given .1) (x .before .before .field .ensures))
     (value (a .s .now) (y .y .given .1) (y .before .before .field2 .ensures))
     (λ e. three .if1 .left (three .before .fields-of .ensures ∙ e))
@@ -95,7 +95,7 @@ returns-5 c =
     c .finished2 .ensures
     ∙ three-fields
     (kindView (a .k))
-    (drop 1 (a .s .now))
+    (drop (a .b .at) (a .s .now))
     (value (a .s .now) (x .x .given .1) (x .before .before .field .ensures))
     (value (a .s .now) (y .y .given .1) (y .before .before .field2 .ensures))
     (λ e. three .if1 .left (three .before .fields-of .ensures ∙ e))

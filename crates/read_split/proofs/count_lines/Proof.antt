@@ -1,38 +1,41 @@
--- `read_split::count_lines` meets its contract. The loop's invariant: the lines counted and those behind the cursor are all. The measure is
--- what is left of the bytes.
-use Prim.Native.Nat.{_-_}
+-- `read_split::count_lines` meets its contract: the line feeds, and one more where the last byte is another.
 use native.Mathlib.Omega.{arith}
-use lib.ListN.{length}
-use Rattle.read_split.proofs.Splitting.{Counted, counted-start, counted-few, counted-step, counted-end}
+use Rattle.read_split.proofs.Splitting.{no-lines, counted-closed, counted-open}
 use borrow.Author.Needs.{needs}
 use Rattle.read_split.proofs.count_lines.Statement.{statement}
 use Rattle.read_split.proofs.count_lines.Tie as tie
 
-abbrev Inv-loop : tie.InvT-loop
-Inv-loop s c₀ n₀ c n = Counted s (c .at) n
+count-feeds-requires : tie.Need-count-feeds-requires
+count-feeds-requires c κs = search needs
 
-abbrev μ-loop : tie.MeasureT-loop
-μ-loop s c₀ n₀ c n = length s - c .at
+returns : tie.Need-returns
+returns c = no-lines (c .before .before .before .args .s .now) (c .if1 .taken)
 
-loop-holds : tie.Need-loop-holds Inv-loop μ-loop
-loop-holds c = counted-start _
+sub-if2 : tie.Need-sub-if2
+sub-if2 c = search needs
 
-line-end-requires : tie.Need-line-end-requires Inv-loop μ-loop
-line-end-requires c κs = search needs
+shared-slice-read-if2 : tie.Need-shared-slice-read-if2
+shared-slice-read-if2 c = search needs
 
-add-n : tie.Need-add-n Inv-loop μ-loop
-add-n c = omega (arith, counted-few (c .before .before .before .loop .inv) (c .before .if1 .taken) (c .line-end .ensures))
+returns-2 : tie.Need-returns-2
+returns-2 c = counted-closed (c .before .before .before .before .before .args .s .now) (c .before .before .if1 .left) (c .before .before .before .count-feeds .ensures) (c .if2 .taken)
 
-loop-less : tie.Need-loop-less Inv-loop μ-loop
-loop-less c = omega (arith, c .line-end .ensures .further (c .before .if1 .taken))
+add-result : tie.Need-add-result
+add-result c =
+    let l = counted-open (c .before .before .before .before .before .args .s .now) (c .before .before .if1 .left) (c .before .before .before .count-feeds .ensures) (c .if2 .left) .1 in
+    omega arith
 
-loop-again : tie.Need-loop-again Inv-loop μ-loop
-loop-again c = counted-step (c .before .before .before .loop .inv) (c .before .if1 .taken) (c .line-end .ensures)
-
-returns : tie.Need-returns Inv-loop μ-loop
-returns c = counted-end (c .before .before .loop .inv) (c .if1 .left)
+returns-3 : tie.Need-returns-3
+returns-3 c = counted-open (c .before .before .before .before .before .args .s .now) (c .before .before .if1 .left) (c .before .before .before .count-feeds .ensures) (c .if2 .left) .0
 
 pub count-lines-spec : {M : Type 1} → statement M
 count-lines-spec =
     tie.close
-    (tie.spec Inv-loop μ-loop loop-holds line-end-requires add-n loop-less loop-again returns)
+    (tie.spec
+    count-feeds-requires
+    returns
+    sub-if2
+    shared-slice-read-if2
+    returns-2
+    add-result
+    returns-3)

@@ -15,7 +15,7 @@ add-t7 c =
     omega (arith, zero-within (a .s .now) (a .self .at) (c .before .digit-at .ensures) (c .match .keys1))
 
 digits-at-requires : tie.Need-digits-at-requires
-digits-at-requires c κs = search needs
+digits-at-requires c κs = (c .before .before .digit-at .ensures, c .if1 .taken)
 
 returns : tie.Need-returns
 returns c =

@@ -1,11 +1,11 @@
 -- `read_lines::read::judge_line` meets its contract: a line of no form is refused, a row is judged.
 use borrow.Author.Needs.{needs}
-use Rattle.read_lines.proofs.Forms.{form-judged, bad-judged}
+use Rattle.read_lines.proofs.Forms.{form-refused, form-passed, no-form}
 use Rattle.read_lines.proofs.read.judge_line.Statement.{statement}
 use Rattle.read_lines.proofs.read.judge_line.Tie as tie
 
-row-of-requires : tie.Need-row-of-requires
-row-of-requires c κs = search needs
+row-at-requires : tie.Need-row-at-requires
+row-at-requires c κs = search needs
 
 enum-known-r : tie.Need-enum-known-r
 enum-known-r c = search needs
@@ -13,26 +13,41 @@ enum-known-r c = search needs
 judge-requires : tie.Need-judge-requires
 judge-requires c κs = search needs
 
-passed-requires : tie.Need-passed-requires
-passed-requires c κs = search needs
+is-refused-requires : tie.Need-is-refused-requires
+is-refused-requires c κs = search needs
+
+returns : tie.Need-returns
+returns c =
+    let judged = c .before .before in
+    let read = judged .before .before .before .before in
+    let a = read .before .before .before .before .args in
+    form-refused (a .t .now) (a .g .now) (a .c) (a .s .now) (a .at) (read .row-at .result) (read .row-at .ensures) _ _ (judged .before .before .r .given .1) (judged .judge .result) (judged .judge .ensures) (c .before .is-refused .ensures) (c .if1 .taken)
 
 enum-told : tie.Need-enum-told
 enum-told c = search needs
 
-returns : tie.Need-returns
-returns c = let a = c .before .before .before .before .before .before .before .before .args in form-judged (a .t .now) (a .c) (a .s .now) (c .before .before .before .before .before .row-of .result) (c .before .before .before .before .before .row-of .ensures) _ (c .before .before .before .r .given .1) (c .before .judge .result) (c .before .judge .ensures) (c .passed .ensures)
-
 returns-2 : tie.Need-returns-2
-returns-2 c = let a = c .before .before .before .before .before .args in bad-judged (a .t .now) (a .c) (a .s .now) (c .before .before .row-of .result) (c .before .before .row-of .ensures) (c .enum-told .given .1)
+returns-2 c =
+    let judged = c .before .before in
+    let read = judged .before .before .before .before in
+    let a = read .before .before .before .before .args in
+    form-passed (a .t .now) (a .g .now) (a .c) (a .s .now) (a .at) (read .row-at .result) (read .row-at .ensures) _ _ (judged .before .before .r .given .1) (judged .judge .result) (judged .judge .ensures) (c .before .is-refused .ensures) (c .if1 .left)
+
+returns-3 : tie.Need-returns-3
+returns-3 c =
+    let read = c .before .before in
+    let a = read .before .before .before .before .args in
+    no-form (a .t .now) (a .g .now) (a .c) (a .s .now) (a .at) (read .row-at .result) (read .row-at .ensures) (c .enum-told .given .1)
 
 pub judge-line-spec : {M : Type 1} → statement M
 judge-line-spec =
     tie.close
     (tie.spec
-    row-of-requires
+    row-at-requires
     enum-known-r
     judge-requires
-    passed-requires
-    enum-told
+    is-refused-requires
     returns
-    returns-2)
+    enum-told
+    returns-2
+    returns-3)

@@ -1,9 +1,11 @@
 -- `read_lines::read::put_row` meets its contract: five stores, one behind the other.
-use Prim.Native.Nat.{_*_}
-use mathlib.Core.Path.{_∙_}
-use borrow.Author.Needs.{needs}
+use Prim.Native.Nat.{ℕ, _+_, _*_}
+use mathlib.Core.Path.{refl, _∙_}
+use lib.Dec.{lit<}
+use lib.ListN.{set}
 use Rattle.limits.specs.Limits.{rowWidth}
-use Rattle.read_lines.proofs.Storing.{stored}
+use Rattle.read_lines.proofs.Storing.{stored, in-row}
+use borrow.Author.Needs.{needs, below-set}
 use Rattle.read_lines.proofs.read.put_row.Statement.{statement}
 use Rattle.read_lines.proofs.read.put_row.Tie as tie
 
@@ -16,50 +18,81 @@ letter-of-requires c κs = search needs
 widen-requires : tie.Need-widen-requires
 widen-requires c κs = search needs
 
-store-word-requires : tie.Need-store-word-requires
-store-word-requires c κs = search needs
+mul-t : tie.Need-mul-t
+mul-t c = search needs
 
-add-store-word : tie.Need-add-store-word
-add-store-word c = search needs
+slice-write-t : tie.Need-slice-write-t
+slice-write-t c = search needs
 
 narrow-requires : tie.Need-narrow-requires
 narrow-requires c κs = search needs
 
-store-word-requires-2 : tie.Need-store-word-requires-2
-store-word-requires-2 c κs = search needs
+add-t : tie.Need-add-t
+add-t c = search needs
 
-add-store-word-2 : tie.Need-add-store-word-2
-add-store-word-2 c = search needs
+mul-t-2 : tie.Need-mul-t-2
+mul-t-2 c = search needs
+
+slice-write-t-2 : tie.Need-slice-write-t-2
+slice-write-t-2 c =
+    let s = c .before .before .before .before in
+    let t = s .args .t .now in
+    let n = s .args .n in
+    below-set ℕ t (n * rowWidth + 1) (n * rowWidth) (c .before .widen .result) (in-row t n 1 (s .pre .0) (s .pre .1) (lit< tt))
 
 narrow-requires-2 : tie.Need-narrow-requires-2
 narrow-requires-2 c κs = search needs
 
-store-word-requires-3 : tie.Need-store-word-requires-3
-store-word-requires-3 c κs = search needs
+add-t-2 : tie.Need-add-t-2
+add-t-2 c = search needs
 
-add-store-word-3 : tie.Need-add-store-word-3
-add-store-word-3 c = search needs
+mul-t-3 : tie.Need-mul-t-3
+mul-t-3 c = search needs
+
+slice-write-t-3 : tie.Need-slice-write-t-3
+slice-write-t-3 c =
+    let s = c .before .before .before .before .before in
+    let t = s .args .t .now in
+    let n = s .args .n in
+    below-set ℕ (set t (n * rowWidth) (c .before .before .widen .result)) (n * rowWidth + 2) (n * rowWidth + 1) (c .before .narrow .result) (below-set ℕ t (n * rowWidth + 2) (n * rowWidth) (c .before .before .widen .result) (in-row t n 2 (s .pre .0) (s .pre .1) (lit< tt)))
 
 narrow-requires-3 : tie.Need-narrow-requires-3
 narrow-requires-3 c κs = search needs
 
-store-word-requires-4 : tie.Need-store-word-requires-4
-store-word-requires-4 c κs = search needs
+add-t-3 : tie.Need-add-t-3
+add-t-3 c = search needs
 
-add-store-word-4 : tie.Need-add-store-word-4
-add-store-word-4 c = search needs
+mul-t-4 : tie.Need-mul-t-4
+mul-t-4 c = search needs
+
+slice-write-t-4 : tie.Need-slice-write-t-4
+slice-write-t-4 c =
+    let s = c .before .before .before .before .before .before in
+    let t = s .args .t .now in
+    let n = s .args .n in
+    below-set ℕ (set (set t (n * rowWidth) (c .before .before .before .widen .result)) (n * rowWidth + 1) (c .before .before .narrow .result)) (n * rowWidth + 3) (n * rowWidth + 2) (c .before .narrow2 .result) (below-set ℕ (set t (n * rowWidth) (c .before .before .before .widen .result)) (n * rowWidth + 3) (n * rowWidth + 1) (c .before .before .narrow .result) (below-set ℕ t (n * rowWidth + 3) (n * rowWidth) (c .before .before .before .widen .result) (in-row t n 3 (s .pre .0) (s .pre .1) (lit< tt))))
 
 narrow-requires-4 : tie.Need-narrow-requires-4
 narrow-requires-4 c κs = search needs
 
-store-word-requires-5 : tie.Need-store-word-requires-5
-store-word-requires-5 c κs = search needs
+add-t-4 : tie.Need-add-t-4
+add-t-4 c = search needs
+
+mul-t-5 : tie.Need-mul-t-5
+mul-t-5 c = search needs
+
+slice-write-t-5 : tie.Need-slice-write-t-5
+slice-write-t-5 c =
+    let s = c .before .before .before .before .before .before .before in
+    let t = s .args .t .now in
+    let n = s .args .n in
+    below-set ℕ (set (set (set t (n * rowWidth) (c .before .before .before .before .widen .result)) (n * rowWidth + 1) (c .before .before .before .narrow .result)) (n * rowWidth + 2) (c .before .before .narrow2 .result)) (n * rowWidth + 4) (n * rowWidth + 3) (c .before .narrow3 .result) (below-set ℕ (set (set t (n * rowWidth) (c .before .before .before .before .widen .result)) (n * rowWidth + 1) (c .before .before .before .narrow .result)) (n * rowWidth + 4) (n * rowWidth + 2) (c .before .before .narrow2 .result) (below-set ℕ (set t (n * rowWidth) (c .before .before .before .before .widen .result)) (n * rowWidth + 4) (n * rowWidth + 1) (c .before .before .before .narrow .result) (below-set ℕ t (n * rowWidth + 4) (n * rowWidth) (c .before .before .before .before .widen .result) (in-row t n 4 (s .pre .0) (s .pre .1) (lit< tt)))))
 
 same-length : tie.Need-same-length
 same-length c = search needs
 
 returns : tie.Need-returns
-returns c = let a = c .before .before .before .before .before .before .before .before .before .before .before .before .before .before .before .before .before .before .before .before .before .before .before .before .before .before .before .args in stored (a .t .now) (a .n * rowWidth) (c .before .before .before .before .before .before .before .before .before .before .before .before .before .before .before .before .before .before .before .before .before .before .store-word .ensures) (c .before .before .before .before .before .before .before .before .before .before .before .before .before .before .before .before .before .before .before .before .before .before .before .widen .ensures ∙ c .before .before .before .before .before .before .before .before .before .before .before .before .before .before .before .before .before .before .before .before .before .before .before .before .letter-of .ensures) (c .before .before .before .before .before .before .before .before .before .before .before .before .before .before .before .before .before .store-word2 .ensures) (c .before .before .before .before .before .before .before .before .before .before .before .before .before .before .before .before .before .before .narrow .ensures) (c .before .before .before .before .before .before .before .before .before .before .before .before .store-word3 .ensures) (c .before .before .before .before .before .before .before .before .before .before .before .before .before .narrow2 .ensures) (c .before .before .before .before .before .before .before .store-word4 .ensures) (c .before .before .before .before .before .before .before .before .narrow3 .ensures) (c .before .before .store-word5 .ensures) (c .before .before .before .narrow4 .ensures)
+returns c = let a = c .before .before .before .before .before .before .before .args in stored (a .t .now) (a .n * rowWidth) refl (c .before .before .before .before .widen .ensures ∙ c .before .before .before .before .before .letter-of .ensures) refl (c .before .before .before .narrow .ensures) refl (c .before .before .narrow2 .ensures) refl (c .before .narrow3 .ensures) refl (c .narrow4 .ensures)
 
 pub put-row-spec : {M : Type 1} → statement M
 put-row-spec =
@@ -68,18 +101,23 @@ put-row-spec =
     mul-b
     letter-of-requires
     widen-requires
-    store-word-requires
-    add-store-word
+    mul-t
+    slice-write-t
     narrow-requires
-    store-word-requires-2
-    add-store-word-2
+    add-t
+    mul-t-2
+    slice-write-t-2
     narrow-requires-2
-    store-word-requires-3
-    add-store-word-3
+    add-t-2
+    mul-t-3
+    slice-write-t-3
     narrow-requires-3
-    store-word-requires-4
-    add-store-word-4
+    add-t-3
+    mul-t-4
+    slice-write-t-4
     narrow-requires-4
-    store-word-requires-5
+    add-t-4
+    mul-t-5
+    slice-write-t-5
     same-length
     returns)
