@@ -39,16 +39,16 @@ lets-none t base n to h =
 
 -- ---- the variables rule
 
-events-append : (vs ws : List Event) (m : List ℕ) → markEvents (vs ++ ws) m ≡ markEvents ws (markEvents vs m)
+pub events-append : (vs ws : List Event) (m : List ℕ) → markEvents (vs ++ ws) m ≡ markEvents ws (markEvents vs m)
 events-append [] ws m = refl
 events-append (v ∷ vs) ws m = events-append vs ws (markOne (v .deed) (v .name) m)
 
-numbers-marked : (d : Deed) (ns m : List ℕ) → markEvents (map (λ n. record { deed = d; name = n }) ns) m ≡ markAll d ns m
+pub numbers-marked : (d : Deed) (ns m : List ℕ) → markEvents (map (λ n. record { deed = d; name = n }) ns) m ≡ markAll d ns m
 numbers-marked d [] m = refl
 numbers-marked d (n ∷ ns) m = numbers-marked d ns (markOne d n m)
 
 -- the deeds of a pattern, and then some
-deeds-first : (d : Deed) (p : Pat) (vs : List Event) (m : List ℕ) {k : List ℕ} → k ≡ markAll d (vars p) m
+pub deeds-first : (d : Deed) (p : Pat) (vs : List Event) (m : List ℕ) {k : List ℕ} → k ≡ markAll d (vars p) m
     → markEvents (deeds d p ++ vs) m ≡ markEvents vs k
 deeds-first d p vs m e = events-append (deeds d p) vs m ∙ ap (markEvents vs) (numbers-marked d (vars p) m ∙ sym e)
 

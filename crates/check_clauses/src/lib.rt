@@ -2,6 +2,7 @@
 // lines. A C row past the table's 4096 rows has no refusal.
 
 use area_words::wide;
+use check_facts::number;
 use check_shapes::is_plain;
 use check_typing::Env;
 use check_typing::all_used;
@@ -29,8 +30,10 @@ ghost use Prim.Native.Nat.{ℕ, _-_, _<_};
 ghost use lib.ListN.{getElem?, replicate};
 ghost use Rattle.limits.specs.Limits.{maxLines, variables};
 ghost use Rattle.format.specs.Code.{refusalView};
-ghost use Rattle.calculus.specs.Clauses.{letEvents};
-ghost use Rattle.table_trees.specs.Unfolding.{cellOf, typeOf};
+ghost use Rattle.calculus.specs.Clauses.{letEvents, plain};
+ghost use Rattle.check_facts.specs.Facts.{Facts};
+ghost use Rattle.check_bare.specs.Bare.{Bares};
+ghost use Rattle.table_trees.specs.Unfolding.{cellOf, typeOf, patternOf};
 ghost use Rattle.check_variables.specs.Marks.{markEvents};
 ghost use Rattle.check_typing.specs.Fitting.{envView};
 ghost use Rattle.check_typing.specs.Rules.{marked, shaped, fitLet, fittedLets, fitted};
@@ -72,14 +75,28 @@ fn variables_kept(t: &[u16], base: usize, row: usize, end: usize) -> bool
     true
 }
 
+// Whether P line p holds only unit, variables and pairs: by its fact, or walked where there is none.
+fn plainly(t: &[u16], f: &[u8], base: usize, p: usize) -> bool
+    requires { ⌜ Facts (now t) base (now f) ⌝ }
+    ensures { λ r. ⌜ r ≡ plain (patternOf (now (t .entry)) base p) ⌝ }
+{
+    if base <= f.len() {
+        if p < f.len() - base {
+            return number(f[base + p]) == 0;
+        }
+    }
+    is_plain(t, base, p)
+}
+
 // Whether the L rows from `from` up to `to` hold only unit, variables and pairs.
-fn shapes_kept(t: &[u16], base: usize, from: usize, to: usize) -> bool
+fn shapes_kept(t: &[u16], f: &[u8], base: usize, from: usize, to: usize) -> bool
+    requires { ⌜ Facts (now t) base (now f) ⌝ }
     ensures { λ r. ⌜ r ≡ shaped (letsIn (now (t .entry)) base from (to - from)) ⌝ }
 {
     let mut n = from;
     while n < to {
-        if is_plain(t, base, cell(t, n, LET_P)) {
-            if is_plain(t, base, cell(t, n, LET_Q)) {
+        if plainly(t, f, base, cell(t, n, LET_P)) {
+            if plainly(t, f, base, cell(t, n, LET_Q)) {
                 n += 1;
             } else {
                 return false;
@@ -101,7 +118,8 @@ fn misfit(e: Env) -> Env
 }
 
 // The types after the L row n: q fits the from-type of its iso, p the to-type.
-fn fit_let(t: &[u16], base: usize, starts: &[u16], n: usize, e: Env) -> Env
+fn fit_let(t: &[u16], g: &[u16], base: usize, starts: &[u16], n: usize, e: Env) -> Env
+    requires { ⌜ Bares (now t) base (now g) ⌝ }
     ensures { λ r. ⌜
         envView (now (t .entry)) r ≡ fitLet
         (getElem? (sigsIn (now (t .entry)) (now (starts .entry))) (cellOf (now (t .entry)) n 2))
@@ -113,6 +131,7 @@ fn fit_let(t: &[u16], base: usize, starts: &[u16], n: usize, e: Env) -> Env
         let head = wide(starts[i]);
         let used = fit(
             t,
+            g,
             base,
             cell(t, n, LET_Q),
             cell(t, head, ISO_FROM),
@@ -121,6 +140,7 @@ fn fit_let(t: &[u16], base: usize, starts: &[u16], n: usize, e: Env) -> Env
         );
         return fit(
             t,
+            g,
             base,
             cell(t, n, LET_P),
             cell(t, head, ISO_TO),
@@ -132,7 +152,16 @@ fn fit_let(t: &[u16], base: usize, starts: &[u16], n: usize, e: Env) -> Env
 }
 
 // The types after the L rows from `from` up to `to`.
-fn fit_lets(t: &[u16], base: usize, starts: &[u16], from: usize, to: usize, e: Env) -> Env
+fn fit_lets(
+    t: &[u16],
+    g: &[u16],
+    base: usize,
+    starts: &[u16],
+    from: usize,
+    to: usize,
+    e: Env,
+) -> Env
+    requires { ⌜ Bares (now t) base (now g) ⌝ }
     ensures { λ r. ⌜
         envView (now (t .entry)) r ≡ fittedLets (sigsIn (now (t .entry)) (now (starts .entry)))
         (letsIn (now (t .entry)) base from (to - from)) (envView (now (t .entry)) e)
@@ -141,7 +170,7 @@ fn fit_lets(t: &[u16], base: usize, starts: &[u16], from: usize, to: usize, e: E
     let mut n = from;
     let mut env = e;
     while n < to {
-        env = fit_let(t, base, starts, n, env);
+        env = fit_let(t, g, base, starts, n, env);
         n += 1;
     }
     env
@@ -150,6 +179,7 @@ fn fit_lets(t: &[u16], base: usize, starts: &[u16], from: usize, to: usize, e: E
 // Whether some types of the variables fit the clause of an iso from T line a to T line b.
 fn types_fit(
     t: &[u16],
+    g: &[u16],
     base: usize,
     starts: &[u16],
     a: usize,
@@ -157,6 +187,7 @@ fn types_fit(
     row: usize,
     end: usize,
 ) -> bool
+    requires { ⌜ Bares (now t) base (now g) ⌝ }
     ensures { λ r. ⌜
         (row < maxLines
         → r ≡ fitted (sigsIn (now (t .entry)) (now (starts .entry))) (typeOf (now (t .entry)) a)
@@ -164,18 +195,20 @@ fn types_fit(
         ⌝ }
 {
     if row < MAX_LINES {
-        let bound = fit(t, base, cell(t, row, CLAUSE_LEFT), a, true, no_types());
-        let stepped = fit_lets(t, base, starts, row + 1, end, bound);
-        let done = fit(t, base, cell(t, row, CLAUSE_RIGHT), b, false, stepped);
+        let bound = fit(t, g, base, cell(t, row, CLAUSE_LEFT), a, true, no_types());
+        let stepped = fit_lets(t, g, base, starts, row + 1, end, bound);
+        let done = fit(t, g, base, cell(t, row, CLAUSE_RIGHT), b, false, stepped);
         return all_used(done);
     }
     false
 }
 
 // The lowest of 8 to 10, or nothing: that of the model where no variable is above 31, and else that of the
-// code's tests.
+// code's tests. A clause that types keeps the variables rule.
 pub fn clause_fault(
     t: &[u16],
+    f: &[u8],
+    g: &[u16],
     base: usize,
     starts: &[u16],
     a: usize,
@@ -183,18 +216,22 @@ pub fn clause_fault(
     row: usize,
     end: usize,
 ) -> Refusal
+    requires { ⌜ Facts (now t) base (now f) × Bares (now t) base (now g) ⌝ }
     ensures { λ r. ⌜ ClauseTold (now (t .entry)) base (now (starts .entry)) a b row end (refusalView r) ⌝ }
 {
     if MAX_LINES <= row {
         return Refusal::Nothing;
     }
-    if variables_kept(t, base, row, end) {
-        if shapes_kept(t, base, row + 1, end) {
-            if types_fit(t, base, starts, a, b, row, end) {
-                return Refusal::Nothing;
-            }
+    if shapes_kept(t, f, base, row + 1, end) {
+        if types_fit(t, g, base, starts, a, b, row, end) {
+            return Refusal::Nothing;
+        }
+        if variables_kept(t, base, row, end) {
             return Refusal::BadType(Kind::Clause);
         }
+        return Refusal::Variable(Kind::Clause);
+    }
+    if variables_kept(t, base, row, end) {
         return Refusal::LetShape(Kind::Clause);
     }
     Refusal::Variable(Kind::Clause)

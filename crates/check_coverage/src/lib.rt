@@ -2,7 +2,9 @@
 // field 2 its right one.
 
 use area_words::wide;
+use check_facts::number;
 use check_overlap::compare;
+use check_places::separate;
 use format::Kind;
 use format::Refusal;
 use format::Side;
@@ -10,10 +12,12 @@ use limits::MANY_TAGS;
 use table_sizes::pattern_tags;
 use table_trees::cell;
 ghost use mathlib.Core.Path.{_≡_};
-ghost use Prim.Native.Nat.{_≤_};
+ghost use Prim.Native.Nat.{_≤_, min};
 ghost use mathlib.Core.List.{map};
 ghost use lib.ListN.{length, drop};
-ghost use Rattle.limits.specs.Limits.{tableLength, maxClauses};
+ghost use Rattle.limits.specs.Limits.{tableLength, maxClauses, maxLines, manyTags};
+ghost use Rattle.calculus.specs.Trees.{tags};
+ghost use Rattle.check_facts.specs.Facts.{Facts};
 ghost use Rattle.calculus.specs.Tools.{all, total};
 ghost use Rattle.format.specs.Code.{refusalView};
 ghost use Rattle.calculus.specs.Clauses.{clash as clashes, apart as apartAll, weight as weightOf};
@@ -41,8 +45,8 @@ fn clashes_with(t: &[u16], base: usize, p: usize, k: usize, rows: &[u16], from: 
     true
 }
 
-// Whether the patterns in field k of the clause rows are orthogonal, two by two.
-pub fn apart(t: &[u16], base: usize, k: usize, rows: &[u16]) -> bool
+// Whether the patterns in field k of the clause rows are orthogonal, two by two, each compared with each.
+fn apart(t: &[u16], base: usize, k: usize, rows: &[u16]) -> bool
     requires { ⌜ tableLength ≤ length (now t) ⌝ }
     ensures { λ r. ⌜ r ≡ apartAll (patternsAt (now (t .entry)) base k (now (rows .entry))) ⌝ }
 {
@@ -56,6 +60,39 @@ pub fn apart(t: &[u16], base: usize, k: usize, rows: &[u16]) -> bool
         }
     }
     true
+}
+
+// So many clauses are compared two by two.
+const FEW: usize = 3;
+
+// The same, by the places of the type that field k of the I row n names, where those tell.
+fn orthogonal(t: &[u16], f: &[u8], base: usize, k: usize, rows: &[u16], n: usize) -> bool
+    requires { ⌜ (tableLength ≤ length (now t)) × (length (now rows) ≤ maxClauses) × Facts (now t) base (now f) × (length (now f) ≤ maxLines) ⌝ }
+    ensures { λ r. ⌜ r ≡ apartAll (patternsAt (now (t .entry)) base k (now (rows .entry))) ⌝ }
+{
+    if FEW < rows.len() {
+        let v = separate(t, f, base, k, rows, cell(t, n, k));
+        if v == 1 {
+            return true;
+        }
+        if v == 2 {
+            return false;
+        }
+    }
+    apart(t, base, k, rows)
+}
+
+// The left and right nodes of P line p, 41 for more than 40: a fact, or counted where there is none.
+fn tags_at(t: &[u16], f: &[u8], base: usize, p: usize) -> usize
+    requires { ⌜ Facts (now t) base (now f) ⌝ }
+    ensures { λ r. ⌜ r ≡ min manyTags (tags (patternOf (now (t .entry)) base p)) ⌝ }
+{
+    if base <= f.len() {
+        if p < f.len() - base {
+            return number(f[base + p]);
+        }
+    }
+    pattern_tags(t, base, p)
 }
 
 // 2 to the power of 40 - k for k left and right nodes.
@@ -116,8 +153,8 @@ fn weight(k: usize) -> u64
 const FULL: u64 = 1099511627776;
 
 // What the patterns in field k of at most as many clause rows as an iso has weigh together.
-pub fn weigh(t: &[u16], base: usize, k: usize, rows: &[u16]) -> u64
-    requires { ⌜ length (now rows) ≤ maxClauses ⌝ }
+pub fn weigh(t: &[u16], f: &[u8], base: usize, k: usize, rows: &[u16]) -> u64
+    requires { ⌜ (length (now rows) ≤ maxClauses) × Facts (now t) base (now f) ⌝ }
     ensures { λ r. ⌜ r ≡ total (map weightOf (patternsAt (now (t .entry)) base k (now (rows .entry)))) ⌝ }
 {
     let mut i = rows.len();
@@ -125,23 +162,23 @@ pub fn weigh(t: &[u16], base: usize, k: usize, rows: &[u16]) -> u64
     while 0 < i {
         i -= 1;
         let p = cell(t, wide(rows[i]), k);
-        sum += weight(pattern_tags(t, base, p));
+        sum += weight(tags_at(t, f, base, p));
     }
     sum
 }
 
-// The lowest of 11 to 14, or nothing.
-pub fn side_fault(t: &[u16], base: usize, rows: &[u16]) -> Refusal
-    requires { ⌜ (tableLength ≤ length (now t)) × (length (now rows) ≤ maxClauses) ⌝ }
+// The lowest of 11 to 14, or nothing, of the iso whose I row is n.
+pub fn side_fault(t: &[u16], f: &[u8], base: usize, rows: &[u16], n: usize) -> Refusal
+    requires { ⌜ (tableLength ≤ length (now t)) × (length (now rows) ≤ maxClauses) × Facts (now t) base (now f) × (length (now f) ≤ maxLines) ⌝ }
     ensures { λ r. ⌜
         refusalView r ≡ sidesFault (patternsAt (now (t .entry)) base 1 (now (rows .entry)))
         (patternsAt (now (t .entry)) base 2 (now (rows .entry)))
         ⌝ }
 {
-    if apart(t, base, 1, rows) {
-        if apart(t, base, 2, rows) {
-            if weigh(t, base, 1, rows) == FULL {
-                if weigh(t, base, 2, rows) == FULL {
+    if orthogonal(t, f, base, 1, rows, n) {
+        if orthogonal(t, f, base, 2, rows, n) {
+            if weigh(t, f, base, 1, rows) == FULL {
+                if weigh(t, f, base, 2, rows) == FULL {
                     return Refusal::Nothing;
                 }
                 return Refusal::Gap(Kind::Iso, Side::Right);

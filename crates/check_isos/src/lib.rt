@@ -4,8 +4,11 @@
 use area_words::narrow;
 use area_words::wide;
 use area_words::word_at;
+use check_bare::find_bares;
 use check_clauses::clause_fault;
 use check_coverage::side_fault;
+use check_facts::FACTS;
+use check_facts::find_facts;
 use codes::CLAUSE_LINE;
 use codes::ISO_FROM;
 use codes::ISO_LINE;
@@ -24,6 +27,8 @@ ghost use mathlib.Core.List.{List};
 ghost use mathlib.Core.Option.{none as nothing};
 ghost use Prim.Native.Nat.{suc, _+_, _≤_, _<_};
 ghost use lib.ListN.{length, set};
+ghost use Rattle.check_facts.specs.Facts.{Facts, factsLength};
+ghost use Rattle.check_bare.specs.Bare.{Bares};
 ghost use Rattle.limits.specs.Limits.{tableLength, maxIsos, maxClauses, maxLines};
 ghost use Rattle.format.specs.Lines.{Row as RowOf, letter};
 ghost use Rattle.calculus.specs.Tools.{orElse};
@@ -128,13 +133,23 @@ fn sooner(f: Refusal, place: usize, later: Answer) -> Answer
 }
 
 // The refusal of the clause with its C row at n and its L rows up to `below`, in the iso of place `own`.
-fn own_fault(t: &[u16], base: usize, starts: &[u16], own: usize, n: usize, below: usize) -> Refusal
+fn own_fault(
+    t: &[u16],
+    f: &[u8],
+    g: &[u16],
+    base: usize,
+    starts: &[u16],
+    own: usize,
+    n: usize,
+    below: usize,
+) -> Refusal
+    requires { ⌜ Facts (now t) base (now f) × Bares (now t) base (now g) ⌝ }
     ensures { λ r. ⌜ OwnFault (now (t .entry)) base (now (starts .entry)) own n below (refusalView r) ⌝ }
 {
     let head = wide(word_at(starts, own));
     let a = cell(t, head, ISO_FROM);
     let b = cell(t, head, ISO_TO);
-    clause_fault(t, base, starts, a, b, n, below)
+    clause_fault(t, f, g, base, starts, a, b, n, below)
 }
 
 // Whether an I line stands above row n of the table, and place `first` is one of the clauses' or their end.
@@ -154,14 +169,23 @@ fn is_inside(i: usize, first: usize, n: usize) -> bool
 }
 
 // The walk with the C row n.
-fn with_clause(t: &[u16], base: usize, starts: &[u16], w: Walk, n: usize) -> Walk
+fn with_clause(
+    t: &[u16],
+    f: &[u8],
+    g: &[u16],
+    base: usize,
+    starts: &[u16],
+    w: Walk,
+    n: usize,
+) -> Walk
+    requires { ⌜ Facts (now t) base (now f) × Bares (now t) base (now g) ⌝ }
     ensures { λ r. ⌜ ClauseWalked clauseLine (now (t .entry)) base (now (starts .entry)) n w r ⌝ }
 {
     let i = w.iso;
     let first = w.first;
     if is_inside(i, first, n) {
         if 0 < first {
-            let f = own_fault(t, base, starts, i - 1, n, w.below);
+            let fault = own_fault(t, f, g, base, starts, i - 1, n, w.below);
             let slot = first - 1;
             let mut clauses = w.clauses;
             clauses[slot] = narrow(n);
@@ -172,7 +196,7 @@ fn with_clause(t: &[u16], base: usize, starts: &[u16], w: Walk, n: usize) -> Wal
                 first: slot,
                 below: n,
                 iso: i,
-                pending: sooner(f, n + 1, pending),
+                pending: sooner(fault, n + 1, pending),
                 found: found,
             };
         }
@@ -184,29 +208,33 @@ fn with_clause(t: &[u16], base: usize, starts: &[u16], w: Walk, n: usize) -> Wal
 // what was found further down.
 fn iso_found(
     t: &[u16],
+    f: &[u8],
     base: usize,
     rows: &[u16],
     n: usize,
     pending: Answer,
     found: Answer,
 ) -> Answer
-    requires { ⌜ (tableLength ≤ length (now t)) × (length (now rows) ≤ maxClauses) × (n < maxLines) ⌝ }
+    requires { ⌜
+        (tableLength ≤ length (now t)) × (length (now rows) ≤ maxClauses) × (n < maxLines)
+        × Facts (now t) base (now f) × (length (now f) ≤ maxLines)
+        ⌝ }
     ensures { λ r. ⌜
         asFault r ≡ orElse
         (orElse (asFault pending) (at (suc n) (sidesFault (patternsAt (now (t .entry)) base 1 (now (rows .entry))) (patternsAt (now (t .entry)) base 2 (now (rows .entry))))))
         (asFault found)
         ⌝ }
 {
-    let f = pending.refusal;
-    if is_refused(f) {
+    let early = pending.refusal;
+    if is_refused(early) {
         return pending;
     }
-    sooner(side_fault(t, base, rows), n + 1, found)
+    sooner(side_fault(t, f, base, rows, n), n + 1, found)
 }
 
 // The walk with the I row n.
-fn with_iso(t: &[u16], base: usize, w: Walk, n: usize) -> Walk
-    requires { ⌜ tableLength ≤ length (now t) ⌝ }
+fn with_iso(t: &[u16], f: &[u8], base: usize, w: Walk, n: usize) -> Walk
+    requires { ⌜ (tableLength ≤ length (now t)) × Facts (now t) base (now f) × (length (now f) ≤ maxLines) ⌝ }
     ensures { λ r. ⌜ KindWalked isoLine (now (t .entry)) base n w r ⌝ }
 {
     let i = w.iso;
@@ -223,23 +251,23 @@ fn with_iso(t: &[u16], base: usize, w: Walk, n: usize) -> Walk
             below: n,
             iso: above,
             pending: clear,
-            found: iso_found(t, base, &clauses[first..MAX_CLAUSES], n, pending, found),
+            found: iso_found(t, f, base, &clauses[first..MAX_CLAUSES], n, pending, found),
         };
     }
     w
 }
 
 // The walk with row n. An L row leaves it as it is.
-fn with_row(t: &[u16], base: usize, starts: &[u16], w: Walk, n: usize) -> Walk
-    requires { ⌜ tableLength ≤ length (now t) ⌝ }
+fn with_row(t: &[u16], f: &[u8], g: &[u16], base: usize, starts: &[u16], w: Walk, n: usize) -> Walk
+    requires { ⌜ (tableLength ≤ length (now t)) × Facts (now t) base (now f) × (length (now f) ≤ maxLines) × Bares (now t) base (now g) ⌝ }
     ensures { λ r. ⌜ RowWalked (now (t .entry)) base (now (starts .entry)) n w r ⌝ }
 {
     let letter = cell(t, n, ROW_LETTER);
     if letter == CLAUSE_LINE {
-        return with_clause(t, base, starts, w, n);
+        return with_clause(t, f, g, base, starts, w, n);
     }
     if letter == ISO_LINE {
-        return with_iso(t, base, w, n);
+        return with_iso(t, f, base, w, n);
     }
     w
 }
@@ -266,12 +294,21 @@ pub fn isos_fault(t: &[u16], types: usize, patterns: usize, lines: usize) -> Ans
     if MAX_ISOS < count {
         return none();
     }
-    told(walk_up(t, types, &rows[0..count], stop, lines, count))
+    told(walk_lines(t, types, &rows[0..count], stop, lines, count))
 }
 
 // The first refusal that the walk from the last row up to row `stop` finds.
-fn walk_up(t: &[u16], base: usize, starts: &[u16], stop: usize, lines: usize, isos: usize) -> Answer
-    requires { ⌜ tableLength ≤ length (now t) ⌝ }
+fn walk_up(
+    t: &[u16],
+    f: &[u8],
+    g: &[u16],
+    base: usize,
+    starts: &[u16],
+    stop: usize,
+    lines: usize,
+    isos: usize,
+) -> Answer
+    requires { ⌜ (tableLength ≤ length (now t)) × Facts (now t) base (now f) × (length (now f) ≤ maxLines) × Bares (now t) base (now g) ⌝ }
     ensures { λ r. ⌜ AllWalked (now (t .entry)) base (now (starts .entry)) stop lines isos r ⌝ }
 {
     let clean = none();
@@ -286,7 +323,62 @@ fn walk_up(t: &[u16], base: usize, starts: &[u16], stop: usize, lines: usize, is
     };
     while stop < n {
         n -= 1;
-        w = with_row(t, base, starts, w, n);
+        w = with_row(t, f, g, base, starts, w, n);
     }
     w.found
+}
+
+// The same, once what the T and P lines tell is found.
+fn walk_with(
+    t: &[u16],
+    f: &mut [u8],
+    g: &mut [u16],
+    base: usize,
+    starts: &[u16],
+    stop: usize,
+    lines: usize,
+    isos: usize,
+) -> Answer
+    requires { ⌜ (tableLength ≤ length (now t)) × (length (now f) ≤ maxLines) × (length (now g) ≤ maxLines) ⌝ }
+    ensures { λ r. ⌜ AllWalked (now (t .entry)) base (now (starts .entry)) stop lines isos r ⌝ }
+{
+    find_facts(t, f, base);
+    find_bares(t, g, base);
+    walk_up(t, f, g, base, starts, stop, lines, isos)
+}
+
+// As many lines as facts have a place for, or none.
+fn known(stop: usize) -> usize
+    ensures { λ r. ⌜ r ≤ factsLength ⌝ }
+{
+    if FACTS < stop {
+        return 0;
+    }
+    stop
+}
+
+fn walk_lines(
+    t: &[u16],
+    base: usize,
+    starts: &[u16],
+    stop: usize,
+    lines: usize,
+    isos: usize,
+) -> Answer
+    requires { ⌜ tableLength ≤ length (now t) ⌝ }
+    ensures { λ r. ⌜ AllWalked (now (t .entry)) base (now (starts .entry)) stop lines isos r ⌝ }
+{
+    let mut f = [0u8; FACTS];
+    let mut g = [0u16; FACTS];
+    let most = known(stop);
+    walk_with(
+        t,
+        &mut f[0..most],
+        &mut g[0..most],
+        base,
+        starts,
+        stop,
+        lines,
+        isos,
+    )
 }

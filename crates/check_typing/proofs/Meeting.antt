@@ -13,12 +13,13 @@ use Rattle.calculus.specs.Trees.{Ty, tunit, tsum, tprod, Pat, punit, pvar, ppai
 use Rattle.calculus.specs.Slots.{Slots, put, get, allEmpty}
 use Rattle.format.specs.Judge.{typeNode, patternNode}
 use Rattle.calculus.specs.Clauses.{learn, spend, used}
-use Rattle.calculus.proofs.Basic.{some-bind, bind-assoc, none≢some, not-eqb, same-bind}
+use Rattle.calculus.proofs.Basic.{sameType-refl, some-bind, bind-assoc, none≢some, not-eqb, same-bind}
 use Rattle.table_trees.specs.Unfolding.{cellOf, smallerOf, typeOf, patternOf}
 use Rattle.table_trees.proofs.Cases.{Parted, sums, products, Whole, node-whole, Injects, lefts, rights, Leaf, unit, var, other}
 use Rattle.table_trees.proofs.Unfolding.{rank, type-past, type-node, type-sum, type-prod, pattern-var, pattern-pair, pattern-call, opened}
 use Rattle.check_variables.specs.Marks.{settledAll}
 use Rattle.check_typing.specs.declared.Env.{Env}
+use Rattle.check_bare.specs.Bare.{Bare, unit, pair}
 use Rattle.check_typing.specs.Fitting.{fitting, fitAll, entryView, EntryOf, viewIf, envView, HasParts, ofLeft, ofRight, ofPair}
 
 -- ---- entries
@@ -310,6 +311,30 @@ part-call t base p i r e h s = twice (pattern-call t base p i refl e (parts-no-u
 -- what has failed stays failed
 pub fit-stopped : (t : List ℕ) (base p a : ℕ) (c : Bool) (e : Env) → e .fits ≡ false → envView t e ≡ fitAll c (patternOf t base p) (typeOf t a) (envView t e)
 fit-stopped t base p a c e h = failed-view t e h ∙ sym (ap (fitAll c (patternOf t base p) (typeOf t a)) (failed-view t e h))
+
+-- ---- a line is the same as itself
+
+pub same-self : (t : List ℕ) (b a : ℕ) → b ≡ a → true ≡ sameType (typeOf t b) (typeOf t a)
+same-self t b a e = sym (ap (λ x. sameType (typeOf t x) (typeOf t a)) e ∙ sameType-refl (typeOf t a))
+
+-- ---- a line of units and pairs
+
+bare-learn : {p : Pat} {a : Ty} → Bare p a → (e : Slots Ty) → learn p a e ≡ some e
+bare-learn unit e = refl
+bare-learn (pair {q = q} {b = b} x y) e = ap (λ z. z >>= λ d. learn q b d) (bare-learn x e) ∙ bare-learn y e
+
+bare-spend : {p : Pat} {a : Ty} → Bare p a → (e : Slots Ty) → spend p a e ≡ some e
+bare-spend unit e = refl
+bare-spend (pair {p = p} {a = a} x y) e = ap (λ z. z >>= λ d. spend p a d) (bare-spend y e) ∙ bare-spend x e
+
+-- it fits its type, whatever has fitted so far
+pub bare-fitted : (t : List ℕ) (c : Bool) (e : Env) (p : Pat) (a : Ty) → Bare p a → envView t e ≡ fitAll c p a (envView t e)
+bare-fitted t c e p a h = go c (e .fits)
+  where
+    go : (d b : Bool) → viewIf b (map (entryView t) (e .line)) ≡ fitAll d p a (viewIf b (map (entryView t) (e .line)))
+    go d false = refl
+    go true true = sym (bare-learn h (map (entryView t) (e .line)))
+    go false true = sym (bare-spend h (map (entryView t) (e .line)))
 
 -- ---- once all is fitted
 

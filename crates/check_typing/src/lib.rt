@@ -1,6 +1,7 @@
 // The fit of a pattern of the table to a type, and the types that its variables take.
 
 use area_words::wide;
+use check_bare::is_bare;
 use check_shapes::names_nothing;
 use check_shapes::same_type;
 use codes::FIRST;
@@ -19,8 +20,9 @@ use table_trees::cell;
 use table_trees::pattern_cell;
 ghost use mathlib.Core.Path.{_≡_};
 ghost use mathlib.Core.Bool.{true, false, cond, _&&_};
-ghost use Rattle.calculus.specs.Trees.{pvar};
+ghost use Rattle.calculus.specs.Trees.{pvar, sameType};
 ghost use Rattle.check_variables.specs.Marks.{settledAll};
+ghost use Rattle.check_bare.specs.Bare.{Bares};
 ghost use Rattle.table_trees.specs.Unfolding.{typeOf, patternOf};
 ghost use Rattle.check_typing.specs.Fitting.{envView, EntryOf, fitAll, freshEnv, Parted};
 
@@ -57,6 +59,16 @@ fn entry_of(a: usize) -> u16
     4097
 }
 
+// Whether T lines b and a unfold to the same tree.
+fn same_line(t: &[u16], b: usize, a: usize) -> bool
+    ensures { λ r. ⌜ r ≡ sameType (typeOf (now (t .entry)) b) (typeOf (now (t .entry)) a) ⌝ }
+{
+    if b == a {
+        return true;
+    }
+    same_type(t, b, a)
+}
+
 // Variable n is bound to the type of T line a, and must not be live; or it is used with that type, and is live no more.
 fn assign(t: &[u16], n: usize, a: usize, binds: bool, e: Env) -> Env
     requires { ⌜ e .fits ≡ true ⌝ }
@@ -77,7 +89,7 @@ fn assign(t: &[u16], n: usize, a: usize, binds: bool, e: Env) -> Env
     if known == 0 {
         return failed(e);
     }
-    if same_type(t, known - 1, a) {
+    if same_line(t, known - 1, a) {
         let mut r = e;
         r.line[n] = 0;
         return r;
@@ -85,13 +97,17 @@ fn assign(t: &[u16], n: usize, a: usize, binds: bool, e: Env) -> Env
     failed(e)
 }
 
-// The types of the live variables once P line p, bound or used, fits T line a.
-pub fn fit(t: &[u16], base: usize, p: usize, a: usize, binds: bool, e: Env) -> Env
+// The types of the live variables once P line p, bound or used, fits T line a. A line of units and pairs is told by its mark.
+pub fn fit(t: &[u16], g: &[u16], base: usize, p: usize, a: usize, binds: bool, e: Env) -> Env
+    requires { ⌜ Bares (now t) base (now g) ⌝ }
     ensures { λ r. ⌜
         envView (now (t .entry)) r ≡ fitAll binds (patternOf (now (t .entry)) base p)
         (typeOf (now (t .entry)) a) (envView (now (t .entry)) e)
         ⌝ }
 {
+    if is_bare(g, base, p, a) {
+        return e;
+    }
     if e.fits {
         let kp = pattern_cell(t, base, p, KIND);
         let ka = cell(t, a, KIND);
@@ -100,7 +116,7 @@ pub fn fit(t: &[u16], base: usize, p: usize, a: usize, binds: bool, e: Env) -> E
                 return assign(t, pattern_cell(t, base, p, FIRST), a, binds, e);
             }
             LEFT | RIGHT | PAIR => {
-                return fit_parts(t, base, p, a, kp, ka, binds, e);
+                return fit_parts(t, g, base, p, a, kp, ka, binds, e);
             }
             _ => {
                 if names_nothing(ka) {
@@ -116,6 +132,7 @@ pub fn fit(t: &[u16], base: usize, p: usize, a: usize, binds: bool, e: Env) -> E
 // The same for a P line of kind kp, left, right or pair, and a T line of kind ka. The second part of a pair is used first.
 fn fit_parts(
     t: &[u16],
+    g: &[u16],
     base: usize,
     p: usize,
     a: usize,
@@ -124,7 +141,7 @@ fn fit_parts(
     binds: bool,
     e: Env,
 ) -> Env
-    requires { ⌜ Parted (now t) base p a kp ka ⌝ }
+    requires { ⌜ Parted (now t) base p a kp ka × Bares (now t) base (now g) ⌝ }
     ensures { λ r. ⌜
         envView (now (t .entry)) r ≡ fitAll binds (patternOf (now (t .entry)) base p)
         (typeOf (now (t .entry)) a) (envView (now (t .entry)) e)
@@ -134,7 +151,7 @@ fn fit_parts(
         let only = pattern_part(t, base, p, FIRST);
         if ka == SUM {
             let part = type_part(t, a, kp);
-            return fit(t, base, only, part, binds, e);
+            return fit(t, g, base, only, part, binds, e);
         }
         return failed(e);
     }
@@ -145,10 +162,10 @@ fn fit_parts(
     let l = later(binds);
     let first = pattern_part(t, base, p, k);
     let b = type_part(t, a, k);
-    let f = fit(t, base, first, b, binds, e);
+    let f = fit(t, g, base, first, b, binds, e);
     let second = pattern_part(t, base, p, l);
     let c = type_part(t, a, l);
-    fit(t, base, second, c, binds, f)
+    fit(t, g, base, second, c, binds, f)
 }
 
 // The field of the part that comes first, and of the one that comes second.

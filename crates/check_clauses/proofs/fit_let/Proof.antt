@@ -38,7 +38,7 @@ fit-requires-2 c κs = search needs
 returns : tie.Need-returns
 returns c =
     let w = c .before .before .before .before .before .before in
-    let s = w .before .before .before .before .before .before in
+    let s = w .before .before .before .before .before .before .before in
     let-known
     (s .args .t .now)
     (s .args .base)
@@ -60,7 +60,7 @@ misfit-requires c κs = search needs
 
 returns-2 : tie.Need-returns-2
 returns-2 c =
-    let s = c .before .before .before .before .before in
+    let s = c .before .before .before .before .before .before in
     let-unknown
     (s .args .t .now)
     (s .args .base)

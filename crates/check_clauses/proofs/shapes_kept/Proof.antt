@@ -7,10 +7,10 @@ use Rattle.check_clauses.proofs.shapes_kept.Statement.{statement}
 use Rattle.check_clauses.proofs.shapes_kept.Tie as tie
 
 abbrev Inv-loop : tie.InvT-loop
-Inv-loop t base from to n₀ n = ShapesLeft t base from to n
+Inv-loop t f base from to n₀ n = ShapesLeft t base from to n
 
 abbrev μ-loop : tie.MeasureT-loop
-μ-loop t base from to n₀ n = to - n
+μ-loop t f base from to n₀ n = to - n
 
 loop-holds : tie.Need-loop-holds Inv-loop μ-loop
 loop-holds c = record { same = refl }
@@ -18,14 +18,14 @@ loop-holds c = record { same = refl }
 cell-requires : tie.Need-cell-requires Inv-loop μ-loop
 cell-requires c κs = search needs
 
-is-plain-requires : tie.Need-is-plain-requires Inv-loop μ-loop
-is-plain-requires c κs = search needs
+plainly-requires : tie.Need-plainly-requires Inv-loop μ-loop
+plainly-requires c κs = search needs
 
 cell-requires-2 : tie.Need-cell-requires-2 Inv-loop μ-loop
 cell-requires-2 c κs = search needs
 
-is-plain-requires-2 : tie.Need-is-plain-requires-2 Inv-loop μ-loop
-is-plain-requires-2 c κs = search needs
+plainly-requires-2 : tie.Need-plainly-requires-2 Inv-loop μ-loop
+plainly-requires-2 c κs = search needs
 
 add-n : tie.Need-add-n Inv-loop μ-loop
 add-n c = search needs
@@ -39,10 +39,10 @@ loop-again c =
     (c .before .before .before .before .before .before .before .loop .inv)
     (c .before .before .before .before .before .before .loop-test .taken)
     (c .before .before .before .before .before .cell .ensures .0)
-    (c .before .before .before .before .is-plain .ensures)
+    (c .before .before .before .before .plainly .ensures)
     (c .before .before .before .if1 .taken)
     (c .before .before .cell2 .ensures .0)
-    (c .before .is-plain2 .ensures)
+    (c .before .plainly2 .ensures)
     (c .if2 .taken)
 
 returns : tie.Need-returns Inv-loop μ-loop
@@ -51,10 +51,10 @@ returns c =
     (c .before .before .before .before .before .before .before .loop .inv)
     (c .before .before .before .before .before .before .loop-test .taken)
     (c .before .before .before .before .before .cell .ensures .0)
-    (c .before .before .before .before .is-plain .ensures)
+    (c .before .before .before .before .plainly .ensures)
     (c .before .before .before .if1 .taken)
     (c .before .before .cell2 .ensures .0)
-    (c .before .is-plain2 .ensures)
+    (c .before .plainly2 .ensures)
     (c .if2 .left)
 
 returns-2 : tie.Need-returns-2 Inv-loop μ-loop
@@ -63,7 +63,7 @@ returns-2 c =
     (c .before .before .before .before .loop .inv)
     (c .before .before .before .loop-test .taken)
     (c .before .before .cell .ensures .0)
-    (c .before .is-plain .ensures)
+    (c .before .plainly .ensures)
     (c .if1 .left)
 
 returns-3 : tie.Need-returns-3 Inv-loop μ-loop
@@ -77,9 +77,9 @@ shapes-kept-spec =
     μ-loop
     loop-holds
     cell-requires
-    is-plain-requires
+    plainly-requires
     cell-requires-2
-    is-plain-requires-2
+    plainly-requires-2
     add-n
     loop-less
     loop-again

@@ -32,7 +32,7 @@ all-used-requires c κs = search needs
 returns : tie.Need-returns
 returns c h =
     let w = c .before .before .before in
-    let s = w .before .before .before .before .before .before .before in
+    let s = w .before .before .before .before .before .before .before .before in
     clause-fitted
     (s .args .t .now)
     (s .args .starts .now)

@@ -1,15 +1,15 @@
 -- `check_coverage::weigh` meets its contract. The loop's invariant: the sum is that of the patterns from i on. The measure is i.
--- The sum fits, as 32 weights are at most 2 ^ 45 together.
+-- The sum fits, as 128 weights are at most 2 ^ 47 together.
 use Rattle.check_coverage.proofs.SideLaws.{Weighed, weighed-start, weighed-step, weighed-fits, weighed-all}
 use borrow.Author.Needs.{needs}
 use Rattle.check_coverage.proofs.weigh.Statement.{statement}
 use Rattle.check_coverage.proofs.weigh.Tie as tie
 
 abbrev Inv-loop : tie.InvT-loop
-Inv-loop t base k rows i₀ sum₀ i sum = Weighed t base k rows i sum
+Inv-loop t f base k rows i₀ sum₀ i sum = Weighed t base k rows i sum
 
 abbrev μ-loop : tie.MeasureT-loop
-μ-loop t base k rows i₀ sum₀ i sum = i
+μ-loop t f base k rows i₀ sum₀ i sum = i
 
 loop-holds : tie.Need-loop-holds Inv-loop μ-loop
 loop-holds c = weighed-start _ _ _ _
@@ -29,20 +29,20 @@ wide-requires c κs = search needs
 cell-requires : tie.Need-cell-requires Inv-loop μ-loop
 cell-requires c κs = search needs
 
-pattern-tags-requires : tie.Need-pattern-tags-requires Inv-loop μ-loop
-pattern-tags-requires c κs = search needs
+tags-at-requires : tie.Need-tags-at-requires Inv-loop μ-loop
+tags-at-requires c κs = c .before .before .before .before .before .before .before .before .pre .1
 
 weight-requires : tie.Need-weight-requires Inv-loop μ-loop
 weight-requires c κs = search needs
 
 add-sum : tie.Need-add-sum Inv-loop μ-loop
-add-sum c = record { fits = weighed-fits _ _ _ _ _ _ (c .before .before .before .before .before .before .loop .inv) (c .before .before .before .before .before .loop-test .taken) (c .before .before .before .wide .ensures .0) (c .before .before .cell .ensures .0) (c .before .pattern-tags .ensures) (c .weight .ensures) (c .before .before .before .before .before .before .before .before .before .pre) }
+add-sum c = record { fits = weighed-fits _ _ _ _ _ _ (c .before .before .before .before .before .before .loop .inv) (c .before .before .before .before .before .loop-test .taken) (c .before .before .before .wide .ensures .0) (c .before .before .cell .ensures .0) (c .before .tags-at .ensures) (c .weight .ensures) (c .before .before .before .before .before .before .before .before .before .before .pre .0) }
 
 loop-less : tie.Need-loop-less Inv-loop μ-loop
 loop-less c = search needs
 
 loop-again : tie.Need-loop-again Inv-loop μ-loop
-loop-again c = weighed-step _ _ _ _ _ _ (c .before .before .before .before .before .before .loop .inv) (c .before .before .before .before .before .loop-test .taken) (c .before .before .before .wide .ensures .0) (c .before .before .cell .ensures .0) (c .before .pattern-tags .ensures) (c .weight .ensures)
+loop-again c = weighed-step _ _ _ _ _ _ (c .before .before .before .before .before .before .loop .inv) (c .before .before .before .before .before .loop-test .taken) (c .before .before .before .wide .ensures .0) (c .before .before .cell .ensures .0) (c .before .tags-at .ensures) (c .weight .ensures)
 
 returns : tie.Need-returns Inv-loop μ-loop
 returns c = weighed-all _ _ _ _ _ _ (c .before .loop .inv) (c .loop-test .left)
@@ -59,7 +59,7 @@ weigh-spec =
     shared-slice-read-wide
     wide-requires
     cell-requires
-    pattern-tags-requires
+    tags-at-requires
     weight-requires
     add-sum
     loop-less

@@ -10,7 +10,7 @@ is-refused-requires c κs = search needs
 
 returns : tie.Need-returns
 returns c =
-    let a = c .before .before .before .before .args .pending in
+    let a = c .before .before .before .before .before .args .pending in
     stays-first (a .place) _ _ (refusalView (a .refusal)) (c .before .is-refused .ensures) (c .if1 .taken)
 
 side-fault-requires : tie.Need-side-fault-requires
@@ -24,7 +24,7 @@ sooner-requires c κs = search needs
 
 returns-2 : tie.Need-returns-2
 returns-2 c =
-    let a = c .before .before .before .before .before .before .args in
+    let a = c .before .before .before .before .before .before .before .args in
     by-sides (a .pending .place) (a .n) (refusalView (a .pending .refusal)) _ (c .before .before .before .is-refused .ensures) (c .before .before .if1 .left) (c .before .side-fault .ensures) (c .sooner .ensures)
 
 pub iso-found-spec : {M : Type 1} → statement M

@@ -31,17 +31,17 @@ none-requires-3 c κs = search needs
 returns-3 : tie.Need-returns-3
 returns-3 c = ((λ rs f. absurd (omega (arith, starts-few f (c .before .before .before .iso-rows .ensures rs _ _ f refl)))), (λ e. c .none3 .ensures .1))
 
-sub-walk-up : tie.Need-sub-walk-up
-sub-walk-up c = search needs
+sub-walk-lines : tie.Need-sub-walk-lines
+sub-walk-lines c = search needs
 
-part-walk-up-start : tie.Need-part-walk-up-start
-part-walk-up-start c = search needs
+part-walk-lines-start : tie.Need-part-walk-lines-start
+part-walk-lines-start c = search needs
 
-part-walk-up-end : tie.Need-part-walk-up-end
-part-walk-up-end c = let k = c .before .before .before .iso-rows in omega (arith, array-length (k .result .rows) (k .ok .1 .1 .0 .1 .0 .1))
+part-walk-lines-end : tie.Need-part-walk-lines-end
+part-walk-lines-end c = let k = c .before .before .before .iso-rows in omega (arith, array-length (k .result .rows) (k .ok .1 .1 .0 .1 .0 .1))
 
-walk-up-requires : tie.Need-walk-up-requires
-walk-up-requires c κs = search needs
+walk-lines-requires : tie.Need-walk-lines-requires
+walk-lines-requires c κs = search needs
 
 told-requires : tie.Need-told-requires
 told-requires c κs = search needs
@@ -51,7 +51,7 @@ returns-4 c =
     let w = c .before in (
       (λ rs f.
           let s = w .before .before .before .before .before .iso-rows .ensures rs _ _ f refl in
-          c .told .ensures .0 ∙ w .walk-up .ensures rs _ f (front-part s) (s .number) refl),
+          c .told .ensures .0 ∙ w .walk-lines .ensures rs _ f (front-part s) (s .number) refl),
       c .told .ensures .1,
     )
 
@@ -67,9 +67,9 @@ isos-fault-spec =
     iso-rows-requires
     none-requires-3
     returns-3
-    sub-walk-up
-    part-walk-up-start
-    part-walk-up-end
-    walk-up-requires
+    sub-walk-lines
+    part-walk-lines-start
+    part-walk-lines-end
+    walk-lines-requires
     told-requires
     returns-4)

@@ -27,12 +27,13 @@ part-iso-found-start : tie.Need-part-iso-found-start
 part-iso-found-start c = let k = c .before .before .before .before .before .before .is-inside .ensures .0 (c .before .before .before .before .before .if1 .taken) in omega (arith, k .0, k .1, k .2)
 
 part-iso-found-end : tie.Need-part-iso-found-end
-part-iso-found-end c = let s = c .before .before .before .before .before .before .before .before in omega (arith, array-length (s .args .w .clauses) (s .good .1 .1 .0 .1 .1 .0 .1 .0 .1))
+part-iso-found-end c = let s = c .before .before .before .before .before .before .before .before .before in omega (arith, array-length (s .args .w .clauses) (s .good .1 .1 .1 .0 .1 .1 .0 .1 .0 .1))
 
 iso-found-requires : tie.Need-iso-found-requires
 iso-found-requires c κs =
     let k = c .before .before .before .before .before .before .before .is-inside .ensures .0 (c .before .before .before .before .before .before .if1 .taken) in
-    (search needs, search needs, k .2)
+    let s = c .before .before .before .before .before .before .before .before .before .before in
+    (search needs, search needs, k .2, s .pre .1, s .pre .2)
 
 returns : tie.Need-returns
 returns c rs patterns lines f h e s = let w = c .before .before .before in walked-iso f h s e (w .none .result) (c .iso-found .result) (w .none .ensures .0) (c .iso-found .ensures)

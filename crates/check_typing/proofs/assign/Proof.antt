@@ -34,13 +34,13 @@ returns-5 : tie.Need-returns-5
 returns-5 c =
     let s = c .before .before .before .before .before .before .before .before in
     let full = array-length (s .args .t5 .line) (s .good .1 .1 .1 .1 .0 .1 .1 .1 .0 .1 .0 .1) in
-    assign-same (s .args .t .now) (s .args .n) (s .args .a) (s .args .t5) full (s .pre) (s .args .binds) _ (c .before .before .before .if2 .left) (c .before .before .before .before .wide .ensures .0) (c .before .before .if4 .left) (c .before .same-type .ensures) (c .if5 .taken) (s .pre) refl
+    assign-same (s .args .t .now) (s .args .n) (s .args .a) (s .args .t5) full (s .pre) (s .args .binds) _ (c .before .before .before .if2 .left) (c .before .before .before .before .wide .ensures .0) (c .before .before .if4 .left) (c .before .same-line .ensures) (c .if5 .taken) (s .pre) refl
 
 returns-6 : tie.Need-returns-6
 returns-6 c =
     let s = c .before .before .before .before .before .before .before .before .before in
     let full = array-length (s .args .t5 .line) (s .good .1 .1 .1 .1 .0 .1 .1 .1 .0 .1 .0 .1) in
-    assign-other (s .args .t .now) (s .args .n) (s .args .a) (s .args .t5) full (s .pre) (s .args .binds) (c .failed4 .result) (c .before .before .before .before .if2 .left) (c .before .before .before .before .before .wide .ensures .0) (c .before .before .before .if4 .left) (c .before .before .same-type .ensures) (c .before .if5 .left) (c .failed4 .ensures)
+    assign-other (s .args .t .now) (s .args .n) (s .args .a) (s .args .t5) full (s .pre) (s .args .binds) (c .failed4 .result) (c .before .before .before .before .if2 .left) (c .before .before .before .before .before .wide .ensures .0) (c .before .before .before .if4 .left) (c .before .before .same-line .ensures) (c .before .if5 .left) (c .failed4 .ensures)
 
 pub assign-spec : {M : Type 1} → statement M
 assign-spec =

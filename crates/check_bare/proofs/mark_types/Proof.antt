@@ -1,0 +1,61 @@
+-- `check_bare::mark_types` meets its contract.
+use Rattle.check_bare.proofs.Marking.{Typing, types-start, typing-step, typing-all}
+use mathlib.Core.Path.{refl}
+use native.Mathlib.Omega.{arith}
+use Prim.Native.Nat.{_-_}
+use borrow.Author.Needs.{needs}
+use Rattle.check_bare.proofs.mark_types.Statement.{statement}
+use Rattle.check_bare.proofs.mark_types.Tie as tie
+
+abbrev Inv-loop : tie.InvT-loop
+Inv-loop t g₀ n i₀ g i = Typing t g₀ g n i
+
+abbrev μ-loop : tie.MeasureT-loop
+μ-loop t g₀ n i₀ g i = n - i
+
+loop-holds : tie.Need-loop-holds Inv-loop μ-loop
+loop-holds c = record { long = refl; within = (c .before .before .pre .0); found = types-start _ _ }
+
+type-mark-requires : tie.Need-type-mark-requires Inv-loop μ-loop
+type-mark-requires c κs = (omega (arith, (c .before .before .loop .inv .within), (c .before .loop-test .taken)), (c .before .before .loop .inv .found), omega (arith, (c .before .loop-test .taken), (c .before .before .before .before .before .pre .1)))
+
+narrow-requires : tie.Need-narrow-requires Inv-loop μ-loop
+narrow-requires c κs = search needs
+
+mul-g : tie.Need-mul-g Inv-loop μ-loop
+mul-g c = search needs
+
+slice-write-g : tie.Need-slice-write-g Inv-loop μ-loop
+slice-write-g c = omega (arith, (c .before .before .before .before .loop .inv .within), (c .before .before .before .loop-test .taken))
+
+add-i : tie.Need-add-i Inv-loop μ-loop
+add-i c = search needs
+
+loop-less : tie.Need-loop-less Inv-loop μ-loop
+loop-less c = omega arith
+
+loop-again : tie.Need-loop-again Inv-loop μ-loop
+loop-again c = typing-step _ _ _ _ _ (c .before .before .before .before .loop .inv) (c .before .before .before .loop-test .taken) (c .before .type-mark .ensures .0) (c .before .type-mark .ensures .1) (c .narrow .ensures)
+
+same-length : tie.Need-same-length Inv-loop μ-loop
+same-length c = (c .before .loop .inv .long)
+
+returns : tie.Need-returns Inv-loop μ-loop
+returns c = ((c .before .loop .inv .long), typing-all (c .before .loop .inv) (c .loop-test .left))
+
+pub mark-types-spec : {M : Type 1} → statement M
+mark-types-spec =
+    tie.close
+    (tie.spec
+    Inv-loop
+    μ-loop
+    loop-holds
+    type-mark-requires
+    narrow-requires
+    mul-g
+    slice-write-g
+    add-i
+    loop-less
+    loop-again
+    same-length
+    returns)

@@ -1,0 +1,2 @@
+-- The facts of a line from those of the lines that it names, and the loops that find them.
+pub mod Finding

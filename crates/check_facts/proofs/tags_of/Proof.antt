@@ -1,0 +1,64 @@
+-- `check_facts::tags_of` meets its contract.
+use Rattle.table_sizes.proofs.Counts.{pattern-tags-leaf}
+use Rattle.table_trees.proofs.Cases.{injects, leaf-below, leaf-beyond}
+use Rattle.check_facts.proofs.Finding.{tags-pair, tags-inj}
+use borrow.Author.Needs.{needs}
+use Rattle.check_facts.proofs.tags_of.Statement.{statement}
+use Rattle.check_facts.proofs.tags_of.Tie as tie
+
+pattern-cell-requires : tie.Need-pattern-cell-requires
+pattern-cell-requires c κs = search needs
+
+pattern-cell-requires-2 : tie.Need-pattern-cell-requires-2
+pattern-cell-requires-2 c κs = search needs
+
+told-requires : tie.Need-told-requires
+told-requires c κs = search needs
+
+pattern-cell-requires-3 : tie.Need-pattern-cell-requires-3
+pattern-cell-requires-3 c κs = search needs
+
+told-requires-2 : tie.Need-told-requires-2
+told-requires-2 c κs = search needs
+
+together-requires : tie.Need-together-requires
+together-requires c κs = search needs
+
+pattern-cell-requires-4 : tie.Need-pattern-cell-requires-4
+pattern-cell-requires-4 c κs = search needs
+
+told-requires-3 : tie.Need-told-requires-3
+told-requires-3 c κs = search needs
+
+together-requires-2 : tie.Need-together-requires-2
+together-requires-2 c κs = search needs
+
+returns : tie.Need-returns
+returns c = tags-pair _ _ _ _ (c .before .before .before .before .before .before .before .before .before .pre .1) (c .before .before .before .before .before .before .pattern-cell .ensures .0) (c .before .before .before .before .pattern-cell2 .ensures .0) (c .before .before .before .told .ensures) (c .before .before .before .before .before .match .keys1) (c .before .before .pattern-cell3 .ensures .0) (c .before .told2 .ensures) (c .together .ensures)
+
+returns-2 : tie.Need-returns-2
+returns-2 c = tags-inj _ _ _ _ (c .before .before .before .before .before .before .before .before .before .pre .1) (c .before .before .before .before .before .before .pattern-cell .ensures .0) (c .before .before .pattern-cell4 .ensures .0) (c .before .told3 .ensures) (injects _ (c .before .before .before .before .if1 .left) (c .before .before .before .if2 .taken)) (c .together2 .ensures)
+
+returns-3 : tie.Need-returns-3
+returns-3 c = pattern-tags-leaf _ _ _ (c .before .before .pattern-cell .ensures .0) (leaf-below _ (c .if1 .taken))
+
+returns-4 : tie.Need-returns-4
+returns-4 c = pattern-tags-leaf _ _ _ (c .before .before .before .pattern-cell .ensures .0) (leaf-beyond _ (c .if2 .left) (c .before .before .match .rest .1))
+
+pub tags-of-spec : {M : Type 1} → statement M
+tags-of-spec =
+    tie.close
+    (tie.spec
+    pattern-cell-requires
+    pattern-cell-requires-2
+    told-requires
+    pattern-cell-requires-3
+    told-requires-2
+    together-requires
+    pattern-cell-requires-4
+    told-requires-3
+    together-requires-2
+    returns
+    returns-2
+    returns-3
+    returns-4)

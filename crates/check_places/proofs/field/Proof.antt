@@ -1,0 +1,28 @@
+-- `check_places::field` meets its contract.
+use mathlib.Core.Path.{_∙_}
+use Rattle.check_places.proofs.Walking.{field-is}
+use borrow.Author.Needs.{needs}
+use Rattle.check_places.proofs.field.Statement.{statement}
+use Rattle.check_places.proofs.field.Tie as tie
+
+mul-wide : tie.Need-mul-wide
+mul-wide c = search needs
+
+add-wide : tie.Need-add-wide
+add-wide c = search needs
+
+mul-wide-2 : tie.Need-mul-wide-2
+mul-wide-2 c = search needs
+
+shared-slice-read-wide : tie.Need-shared-slice-read-wide
+shared-slice-read-wide c = search needs
+
+wide-requires : tie.Need-wide-requires
+wide-requires c κs = search needs
+
+returns : tie.Need-returns
+returns c = (c .wide .ensures .0) ∙ field-is (c .before .before .before .args .t .now) (c .before .before .before .args .row) (c .before .before .before .args .k) (c .before .before .before .pre .1) (c .before .before .before .pre .2)
+
+pub field-spec : {M : Type 1} → statement M
+field-spec =
+    tie.close (tie.spec mul-wide add-wide mul-wide-2 shared-slice-read-wide wide-requires returns)

@@ -1,0 +1,3 @@
+-- The digits of words, and the sets that they make up.
+pub mod Digits
+pub mod Sets
