@@ -30,7 +30,7 @@
  * count both bytes. What Turn, an export and an import write ends with line feeds alone.
  *
  * A call needs at most 53,248 bytes of stack. Measured by painting it, over the deepest files (32 nested isos, types and
- * patterns of 127 nodes): an import 49 KB, an export 44 KB, rulefile_run, rulefile_sheet and rulefile_bounds 35 KB, Check,
+ * patterns of 127 nodes): an export 50 KB, an import 49 KB, rulefile_run and rulefile_sheet 41 KB, rulefile_bounds 35 KB, Check,
  * Turn, a witness, an overlap and settings as numbers 32 KB (1,000 bytes each).
  *
  * docs/REFUSALS.md says what each refusal means and what to ask the supplier.

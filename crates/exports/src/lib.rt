@@ -11,7 +11,6 @@ use format::Answer;
 use format::Refusal;
 use format::is_refused;
 use limits::EXPORT_LENGTH;
-use limits::INDEX_LENGTH;
 use limits::MAX_PAIRS;
 use limits::WORK_LENGTH;
 use list_targets::find_tos;
@@ -19,6 +18,7 @@ use list_targets::iso_cell;
 use number_values::count_values;
 use print_text::put_field;
 use print_text::put_number;
+use run_coding::SHORT_AREA_LENGTH;
 use runner::run::prepare;
 ghost use mathlib.Core.Path.{_≡_};
 ghost use Prim.Native.Nat.{_≤_, _<_};
@@ -126,7 +126,7 @@ fn export_accepted(
         (λ rs. ListedInto rs i budget (now (output .entry)) (now (output .exit)) r)
         ⌝ }
 {
-    let mut index = [0u16; INDEX_LENGTH];
+    let mut index = [0u16; SHORT_AREA_LENGTH];
     prepare(table, c, &mut index);
     export_checked(
         table,

@@ -9,9 +9,9 @@ use desk::feed;
 use desk::finished;
 use desk::opened;
 use desk::settled;
-use limits::INDEX_LENGTH;
 use limits::TABLE_LENGTH;
 use limits::WORK_LENGTH;
+use run_coding::AREA_LENGTH;
 use stdio::Input;
 use stdio::endless;
 use stdio::read_some;
@@ -149,7 +149,7 @@ fn main() {
     let mut line = [0u8; 201];
     let mut table = [0u16; TABLE_LENGTH];
     let mut work = [0u8; WORK_LENGTH];
-    let mut index = [0u16; INDEX_LENGTH];
+    let mut index = [0u16; AREA_LENGTH];
     let mut out = [0u8; 8192];
     answer_all(
         &mut file,

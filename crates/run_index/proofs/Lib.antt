@@ -3,3 +3,5 @@ pub mod Counting
 pub mod Agreeing
 pub mod Adding
 pub mod Indexing
+-- Behind the index.
+pub mod Tails

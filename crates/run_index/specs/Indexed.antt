@@ -2,7 +2,7 @@
 use Prim.Native.Nat.{ℕ, suc, _+_, _-_, _≤_, _<_}
 use mathlib.Core.Path.{_≡_}
 use mathlib.Core.List.{List, [], _∷_}
-use lib.ListN.{length, take}
+use lib.ListN.{length, take, drop}
 use Rattle.limits.specs.Limits.{maxIsos}
 use Rattle.calculus.specs.Refusals.{Kind, typeLine, patternLine, isoLine, clauseLine, letLine}
 use Rattle.format.specs.Lines.{Row, letter}
@@ -58,3 +58,8 @@ abbrev pub IsosIndexed : List ℕ → ℕ → ℕ → ℕ → List ℕ → List 
 IsosIndexed t above lines isos index index′ =
     (rs : List Row) (types patterns : ℕ) → FileIn t types patterns lines rs → above ≡ types + patterns → isos ≡ length (isosOf rs)
     → indexLength ≤ length index → isosOf rs ≡ isosAt t types index′ 0 isos
+
+-- behind the index's numbers the area is as it was
+abbrev pub TailKept : List ℕ → L.Left → List ℕ → L.Left → Type 0
+TailKept index l index′ r =
+    l .first < indexLength → l .isos ≤ indexLength → (drop indexLength index′ ≡ drop indexLength index) × (r .first < indexLength) × (r .isos ≤ indexLength)

@@ -10,7 +10,10 @@ use codes::ROW_LETTER;
 use limits::INDEX_END;
 use table_trees::cell;
 ghost use Prim.Native.Nat.{_<_};
-ghost use Rattle.run_index.specs.Indexed.{KindIndexed, RowIndexed, IsosIndexed};
+ghost use Rattle.run_index.specs.Indexed.{KindIndexed, RowIndexed, IsosIndexed, TailKept};
+ghost use Rattle.run_index.specs.Index.{indexLength};
+ghost use mathlib.Core.Path.{_≡_};
+ghost use lib.ListN.{drop};
 ghost use Rattle.calculus.specs.Refusals.{isoLine, clauseLine};
 
 // Where the next row up goes, and how many isos are still to come.
@@ -22,6 +25,7 @@ pub struct Left {
 // The index with the C row n.
 fn with_clause(index: &mut [u16], l: Left, n: usize) -> Left
     ensures { λ r. ⌜ KindIndexed clauseLine n (now (index .entry)) l (now (index .exit)) r ⌝ }
+    ensures { λ r. ⌜ TailKept (now (index .entry)) l (now (index .exit)) r ⌝ }
 {
     let first = l.first;
     let isos = l.isos;
@@ -39,6 +43,7 @@ fn with_clause(index: &mut [u16], l: Left, n: usize) -> Left
 // The index with the I row n.
 fn with_iso(index: &mut [u16], l: Left, n: usize) -> Left
     ensures { λ r. ⌜ KindIndexed isoLine n (now (index .entry)) l (now (index .exit)) r ⌝ }
+    ensures { λ r. ⌜ TailKept (now (index .entry)) l (now (index .exit)) r ⌝ }
 {
     let first = l.first;
     let isos = l.isos;
@@ -61,6 +66,7 @@ fn with_iso(index: &mut [u16], l: Left, n: usize) -> Left
 // The index with row n. An L row leaves it as it is.
 fn with_row(t: &[u16], index: &mut [u16], l: Left, n: usize) -> Left
     ensures { λ r. ⌜ RowIndexed (now (t .entry)) n (now (index .entry)) l (now (index .exit)) r ⌝ }
+    ensures { λ r. ⌜ TailKept (now (index .entry)) l (now (index .exit)) r ⌝ }
 {
     let letter = cell(t, n, ROW_LETTER);
     if letter == CLAUSE_LINE {
@@ -75,6 +81,7 @@ fn with_row(t: &[u16], index: &mut [u16], l: Left, n: usize) -> Left
 // Indexes the isos of a table of `lines` rows, of which the first `above` are T and P lines.
 pub fn index_isos(t: &[u16], above: usize, lines: usize, isos: usize, index: &mut [u16])
     ensures { λ r. ⌜ IsosIndexed (now (t .entry)) above lines isos (now (index .entry)) (now (index .exit)) ⌝ }
+    ensures { λ r. ⌜ (isos < indexLength → drop indexLength (now (index .exit)) ≡ drop indexLength (now (index .entry))) ⌝ }
 {
     store_word(index, INDEX_END, narrow(lines));
     store_word(index, isos, INDEX_END as u16);

@@ -8,9 +8,9 @@ use mathlib.Core.Option.{some}
 use mathlib.Core.Logic.{_⊎_, inl, inr}
 use mathlib.Core.List.{List, [], _∷_, _++_, append-assoc}
 use lib.ListN.{length, getD, getElem?, take, drop, replicate, length-append, drop-of-length-le, take-append-drop}
-use lib.Seq.{sets, slice, sets-eq, length-take-le, take-at, drop-at, take-take, drop-drop}
+use lib.Seq.{sets, slice, sets-eq, length-take-le, length-slice, drop-at, take-take, drop-drop, drop-append-le}
 use Rattle.limits.specs.Limits.{variables, maxLets, resultLength, workLength, frame}
-use Rattle.calculus.specs.Trees.{Pat, Val, Let, Clause, Iso}
+use Rattle.calculus.specs.Trees.{Pat, pvar, Val, vunit, vinj, vpair, Let, Clause, Iso}
 use Rattle.calculus.specs.Slots.{Slots, empty}
 use Rattle.calculus.specs.Letters.{letters}
 use Rattle.calculus.specs.Reduction.{bind, build}
@@ -20,17 +20,17 @@ use Rattle.area_cells.specs.Areas.{Writes}
 use Rattle.table_trees.specs.Unfolding.{cellOf, patternOf}
 use Rattle.table_walks.specs.InTable.{letAt, clauseIn}
 use Rattle.run_index.specs.Index.{placeAt, isoAt}
-use Rattle.run_values.specs.declared.Upto as U
-use Rattle.run_values.specs.declared.Upto.the-variants as upto
-use Rattle.run_values.specs.Texts.{At, Ends, alike, matched, Below, ranges, built}
+use Rattle.run_values.specs.Texts.{At, alike, Below, ranges, built}
 use Rattle.run_values.specs.Agrees.{Agrees}
 use Rattle.run_values.specs.Traces.{Small, LetsTrace, done, step, Runs}
-use Rattle.run_patterns.proofs.Matching.{place-alike, nothing-alike}
 use Rattle.run_values.proofs.Agreeing.{at-within, at-take, at-sets, take-sets, bind-alike, length-ranges, below-ranges, below-more, agrees-empty, agrees-more, agrees-bind, built-build, at-slice}
+use Rattle.run_reduction.specs.declared.Given as G
+use Rattle.run_reduction.specs.declared.Given.the-variants as given
+use Rattle.run_reduction.specs.declared.Place as P
 use Rattle.run_reduction.specs.declared.Reduced as R
 use Rattle.run_reduction.specs.declared.Reduced.the-variants as reduced
 use Rattle.run_values.proofs.Tracing.{runs-least}
-use Rattle.run_reduction.specs.Frames.{EnvAt, Moved, sided, sidedClause, sidedLet, sidedLets, sideAt, Laid, Chosen, Spares, Applied, Stepped, LetsRan, ChoiceSays, StepSays, LetsSay, ApplySays}
+use Rattle.run_reduction.specs.Frames.{EnvAt, Gave, Argued, GiveSays, ArgueSays, sided, sidedClause, sidedLet, sidedLets, sideAt, Laid, Chosen, Spares, Applied, Stepped, LetsRan, ChoiceSays, StepSays, LetsSay, ApplySays}
 use Rattle.run_reduction.proofs.Laying.{inside, clause-at, lhs-at, rhs-at, lets-at, length-sided, let-at, let-q, let-p, let-iso}
 
 -- ---- answers
@@ -55,6 +55,34 @@ done≢spent e = true≢false (ap isDone e)
     isDone : R.Reduced → Bool
     isDone (reduced.Done x y) = true
     isDone reduced.Spent = false
+
+pub range-begin : {a b c d e f : ℕ} → given.Range a b c ≡ given.Range d e f → a ≡ d
+range-begin {a} e = ap first e
+  where
+    first : G.Given → ℕ
+    first (given.Range x y z) = x
+    first given.Spent = a
+
+pub range-end : {a b c d e f : ℕ} → given.Range a b c ≡ given.Range d e f → b ≡ e
+range-end {b = b} e = ap second e
+  where
+    second : G.Given → ℕ
+    second (given.Range x y z) = y
+    second given.Spent = b
+
+pub range-left : {a b c d e f : ℕ} → given.Range a b c ≡ given.Range d e f → c ≡ f
+range-left {c = c} e = ap third e
+  where
+    third : G.Given → ℕ
+    third (given.Range x y z) = z
+    third given.Spent = c
+
+pub range≢spent : {a b c : ℕ} → given.Range a b c ≡ given.Spent → ⊥
+range≢spent e = true≢false (ap isRange e)
+  where
+    isRange : G.Given → Bool
+    isRange (given.Range x y z) = true
+    isRange given.Spent = false
 
 -- ---- what is left alone
 
@@ -101,9 +129,9 @@ choosing-start S work at end from stop vars =
     record { onward = omega arith; wide = refl; notYet = λ v n a z b h hit miss. (omega arith, b) }
 
 pub choosing-next : {S : ℕ → Pat} {work : List ℕ} {at end from stop : ℕ} {vars₀ vars vars′ : List ℕ} {m : ℕ} (q : Pat) → Choosing S work at end from stop vars₀ vars m
-    → q ≡ S m → length vars′ ≡ length vars → ((v : Val) → At work at v → Ends end at v → upto.Nothing ≡ matched (alike q v) (at + length (letters v)))
-    → ((v : Val) → At work at v → Ends end at v → vars′ ≡ ranges q v at vars) → Choosing S work at end from stop vars₀ vars′ (m + 1)
-choosing-next {S} {work} {at} {end} {from} {stop} {vars₀} {vars} {vars′} {m} q c e wide missed range =
+    → q ≡ S m → length vars′ ≡ length vars → ((v : Val) → At work at v → end ≡ at + length (letters v) → (false ≡ alike q v) × (vars′ ≡ ranges q v at vars))
+    → Choosing S work at end from stop vars₀ vars′ (m + 1)
+choosing-next {S} {work} {at} {end} {from} {stop} {vars₀} {vars} {vars′} {m} q c e wide says =
     let o = c .onward in
     record {
       onward = omega (arith, o);
@@ -111,10 +139,10 @@ choosing-next {S} {work} {at} {end} {from} {stop} {vars₀} {vars} {vars′} {m}
       notYet = λ v n a z b h hit miss.
           let r = c .notYet v n a z b h hit miss in
           let r₀ = r .0 in
-          let f : alike (S m) v ≡ false = subst (λ p. alike p v ≡ false) e (nothing-alike _ _ (missed v a (λ _. z))) in
+          let f : alike (S m) v ≡ false = subst (λ p. alike p v ≡ false) e (sym (says v a z .0)) in
           let other : m ≡ from + n → ⊥ = λ k. not-both hit (subst (λ x. alike (S x) v ≡ false) k f) in
           let later : m < from + n = further m (from + n) r₀ other in
-          (omega (arith, later), subst (λ u. Below u (at + length (letters v))) (sym (range v a (λ _. z))) (below-ranges q v at vars _ (r .1) (omega arith)));
+          (omega (arith, later), subst (λ u. Below u (at + length (letters v))) (sym (says v a z .1)) (below-ranges q v at vars _ (r .1) (omega arith)));
     }
   where
     further : (x y : ℕ) → x ≤ y → (x ≡ y → ⊥) → x < y
@@ -124,21 +152,20 @@ choosing-next {S} {work} {at} {end} {from} {stop} {vars₀} {vars} {vars′} {m}
         go (inl b) = absurd (k (omega arith))
         go (inr b) = b
 
-pub choosing-found : {S : ℕ → Pat} {work : List ℕ} {at end from stop : ℕ} {vars₀ vars vars′ : List ℕ} {m : ℕ} {x : ℕ} (q : Pat) → Choosing S work at end from stop vars₀ vars m
-    → q ≡ S m → ((v : Val) → At work at v → Ends end at v → upto.Place x ≡ matched (alike q v) (at + length (letters v)))
-    → ((v : Val) → At work at v → Ends end at v → vars′ ≡ ranges q v at vars)
+pub choosing-found : {S : ℕ → Pat} {work : List ℕ} {at end from stop : ℕ} {vars₀ vars vars′ : List ℕ} {m : ℕ} (q : Pat) → Choosing S work at end from stop vars₀ vars m
+    → q ≡ S m → ((v : Val) → At work at v → end ≡ at + length (letters v) → (true ≡ alike q v) × (vars′ ≡ ranges q v at vars))
     → (v : Val) (n : ℕ) → At work at v → end ≡ at + length (letters v) → Below vars₀ (at + length (letters v)) → from + n < stop → alike (S (from + n)) v ≡ true
     → ((k : ℕ) → k < n → alike (S (from + k)) v ≡ false) → Chosen (S (from + n)) v at vars₀ vars′ (from + n) m
-choosing-found {S} {work} {at} {end} {from} {stop} {vars₀} {vars} {vars′} {m} q c e took range v n a z b h hit miss =
+choosing-found {S} {work} {at} {end} {from} {stop} {vars₀} {vars} {vars′} {m} q c e says v n a z b h hit miss =
     let r = c .notYet v n a z b h hit miss in
-    let hits : alike (S m) v ≡ true = subst (λ p. alike p v ≡ true) e (place-alike _ _ _ (took v a (λ _. z)) .0) in
+    let hits : alike (S m) v ≡ true = subst (λ p. alike p v ≡ true) e (sym (says v a z .0)) in
     let same : m ≡ from + n = here (le-or-lt (from + n) m) (r .0) (c .onward) hits in
     record {
       place = same;
       earlier = vars;
       below = r .1;
       wide = c .wide;
-      matched = range v a (λ _. z) ∙ ap (λ p. ranges p v at vars) (e ∙ ap S same);
+      matched = says v a z .1 ∙ ap (λ p. ranges p v at vars) (e ∙ ap S same);
     }
   where
     here : (from + n ≤ m) ⊎ (m < from + n) → m ≤ from + n → from ≤ m → alike (S m) v ≡ true → m ≡ from + n
@@ -178,24 +205,165 @@ ready {w₀} {w₁} {vars} {top} {end} q {e} {f} {u} env b room writes =
       rest = record { agrees = same .1; below = env .below; wide = env .wide; slots = build-length q e b ∙ env .slots };
     }
 
--- ---- a let step
+-- ---- a variable's letters
 
--- the result of an application, seen from below it
-below-result : (w w′ : List ℕ) (at : ℕ) (bs : List ℕ) → at ≤ length w → take (at + length bs) w′ ≡ take at w ++ bs → take at w′ ≡ take at w
-below-result w w′ at bs h e =
-    let n : length (take at w) ≡ at = length-take-le at w h in
-    sym (take-take at (at + length bs) w′ (omega arith)) ∙ ap (take at) e ∙ take-at (take at w) bs at n
+letters-some : (v : Val) → 0 < length (letters v)
+letters-some vunit = omega arith
+letters-some (vinj t v) = omega arith
+letters-some (vpair v w) = omega arith
 
-at-result : (w w′ : List ℕ) (at : ℕ) (v : Val) → at ≤ length w → at + length (letters v) ≤ length w′ → take (at + length (letters v)) w′ ≡ take at w ++ letters v → At w′ at v
-at-result w w′ at v h k e =
-    let n : length (take at w) ≡ at = length-take-le at w h in
-    let whole : w′ ≡ take at w ++ letters v ++ drop (at + length (letters v)) w′ =
-    sym (take-append-drop (at + length (letters v)) w′) ∙ ap (λ l. l ++ drop (at + length (letters v)) w′) e in
+-- letters between two places
+pub range-at : (w : List ℕ) (from to : ℕ) (u : Val) → to ≤ length w → slice from to w ≡ letters u → At w from u × (to ≡ from + length (letters u))
+range-at w from to u h e =
+    let n = length-slice from to w h in
+    let m = ap length e in
+    let some′ = letters-some u in
+    let place : to ≡ from + length (letters u) = omega (arith, n, m, some′) in
+    let front = length-take-le to w h in (
+      record {
+        rest = drop to w;
+        spells = ap (drop from) (sym (take-append-drop to w)) ∙ drop-append-le from (take to w) (drop to w) (omega (arith, front, place)) ∙ ap (λ x. x ++ drop to w) e;
+      },
+      place,
+    )
+
+-- the slots, seen from further on
+env-more : {w vars : List ℕ} {top : ℕ} {e : Slots Val} (next : ℕ) → EnvAt w top vars e → top ≤ next → EnvAt w next vars e
+env-more {w} {vars} {top} {e} next env h =
+    record { agrees = agrees-more w vars e top next (env .agrees) (env .below) h; below = below-more vars top next (env .below) h; wide = env .wide; slots = env .slots }
+
+record Ranged (w vars : List ℕ) (top n : ℕ) (u : Val) (f : Slots Val) : Type 0 where
+  pub stands : At w (getD vars n 0) u
+  pub ends : getD vars (32 + n) 0 ≡ getD vars n 0 + length (letters u)
+  pub low : getD vars (32 + n) 0 ≤ top
+  pub bytes : slice (getD vars n 0) (getD vars (32 + n) 0) w ≡ letters u
+  pub rest : EnvAt w top vars f
+
+ranged : {w vars : List ℕ} {top : ℕ} (p : Pat) (n : ℕ) {e f : Slots Val} {u : Val} → p ≡ pvar n → EnvAt w top vars e → build p e ≡ some (u, f) → top ≤ length w → Ranged w vars top n u f
+ranged {w} {vars} {top} p n {e} {f} {u} is env b room =
+    let b′ : build (pvar n) e ≡ some (u, f) = subst (λ q. build q e ≡ some (u, f)) is b in
+    let same = built-build (pvar n) e (take top w) vars b′ (env .agrees) in
+    let low = env .below .ends n in
+    let bytes : slice (getD vars n 0) (getD vars (32 + n) 0) w ≡ letters u = ap (drop (getD vars n 0)) (sym (take-take (getD vars (32 + n) 0) top w low)) ∙ same .0 in
+    let r = range-at w (getD vars n 0) (getD vars (32 + n) 0) u (omega (arith, low, room)) bytes in
     record {
-      rest = drop (at + length (letters v)) w′;
-      spells = ap (drop at) (whole ∙ append-assoc (take at w) (letters v) (drop (at + length (letters v)) w′))
-          ∙ drop-at (take at w) (letters v ++ drop (at + length (letters v)) w′) at n;
+      stands = r .0;
+      ends = r .1;
+      low = low;
+      bytes = bytes;
+      rest = record { agrees = same .1; below = env .below; wide = env .wide; slots = build-length (pvar n) e b′ ∙ env .slots };
     }
+
+-- ---- the argument of a let step
+
+pub argue-var : (p : Pat) (n : ℕ) {vars work : List ℕ} {top : ℕ} (a : P.Place) → p ≡ pvar n → a .at ≡ getD vars n 0 → a .end ≡ getD vars (32 + n) 0 → a .free ≡ top
+    → ArgueSays p vars work work top a
+argue-var p n {vars} {work} {top} a is ea ez ef e f u b small env room =
+    let r = ranged p n is env b (omega arith) in
+    let ends = r .ends in
+    let low = r .low in
+    record {
+      stands = subst (λ k. At work k u) (sym ea) (r .stands);
+      ends = ez ∙ ends ∙ ap (λ k. k + length (letters u)) (sym ea);
+      low = omega (arith, ez, ef, low);
+      over = omega (arith, ef);
+      near = omega (arith, ef);
+      spares = spares-none work top (top + length (letters u));
+      rest = r .rest;
+    }
+
+pub argue-built : (p : Pat) {vars w₀ w₁ : List ℕ} {top end : ℕ} (a : P.Place) → a .at ≡ top → a .end ≡ end → a .free ≡ end
+    → ((n : ℕ) → Below vars n → n ≤ top → Writes w₀ w₁ top end (built p (take n w₀) vars)) → ArgueSays p vars w₀ w₁ top a
+argue-built p {vars} {w₀} {w₁} {top} {end} a ea ez ef writes e f u b small env room =
+    let rd = ready p env b (omega (arith, small, room)) writes in
+    let ends = rd .ends in
+    record {
+      stands = subst (λ k. At w₁ k u) (sym ea) (rd .spelled);
+      ends = ez ∙ ends ∙ ap (λ k. k + length (letters u)) (sym ea);
+      low = omega (arith, ez, ef);
+      over = omega (arith, ef, ends);
+      near = omega (arith, ef, ends, small);
+      spares = rd .spares;
+      rest = rd .rest;
+    }
+
+-- ---- the result of a clause
+
+-- a variable's letters where they stand
+pub give-place : (p : Pat) (n : ℕ) {vars work : List ℕ} {top dest left from to : ℕ} → p ≡ pvar n → from ≡ getD vars n 0 → to ≡ getD vars (32 + n) 0 → to ≤ dest
+    → GiveSays p vars work work top dest left (given.Range from to left)
+give-place p n {vars} {work} {top} {dest} {left} {from} {to} is ea ez h e f w b small env low room =
+    let r = ranged p n is env b (omega (arith, room)) in
+    let ends = r .ends in
+    record {
+      begin = from;
+      gives = ap (λ k. given.Range from k left) (ez ∙ ends ∙ ap (λ k. k + length (letters w)) (sym ea));
+      stands = subst (λ k. At work k w) (sym ea) (r .stands);
+      near = omega (arith, ends, ea, ez, h);
+      spares = spares-none work dest (top + resultLength);
+    }
+
+-- copied to `dest`
+pub give-copied : (p : Pat) (n : ℕ) {vars work work′ : List ℕ} {top dest left from to end : ℕ} → p ≡ pvar n → from ≡ getD vars n 0 → to ≡ getD vars (32 + n) 0 → dest ≤ from
+    → (dest ≤ from → to ≤ length work → Writes work work′ dest end (slice from to work)) → GiveSays p vars work work′ top dest left (given.Range dest end left)
+give-copied p n {vars} {work} {work′} {top} {dest} {left} {from} {to} {end} is ea ez h copy e f w b small env low room =
+    let r = ranged p n is env b (omega (arith, room)) in
+    let ends = r .ends in
+    let under = r .low in
+    let bytes : slice from to work ≡ letters w = ap₂ (λ x y. slice x y work) ea ez ∙ r .bytes in
+    let c = copy h (omega (arith, under, ez, room)) in
+    let far : dest + length (letters w) ≤ top = omega (arith, ends, ea, ez, h, under) in
+    let fits : dest + length (slice from to work) ≤ length work = subst (λ bs. dest + length bs ≤ length work) (sym bytes) (omega (arith, far, room)) in
+    let final : work′ ≡ sets work dest (letters w) = c .area fits ∙ ap (sets work dest) bytes in
+    let stops : end ≡ dest + length (letters w) = c .place fits ∙ ap (λ bs. dest + length bs) bytes in
+    let room′ : dest + length (letters w) ≤ length work = omega (arith, far, room) in
+    record {
+      begin = dest;
+      gives = ap (λ k. given.Range dest k left) stops;
+      stands = subst (λ l. At l dest w) (sym final) (at-sets work (letters w) dest w refl room′);
+      near = omega (arith, small);
+      spares = subst (λ z. Spares work z dest (top + resultLength)) (sym final)
+          (spares-more dest (dest + length (letters w)) dest (top + resultLength) (spares-sets work (letters w) dest room′) (omega arith) (omega (arith, far)));
+    }
+
+-- built at `dest`
+pub give-built : (p : Pat) {vars work work′ : List ℕ} {top dest left last : ℕ} → top ≡ dest
+    → ((n : ℕ) → Below vars n → n ≤ top → Writes work work′ top last (built p (take n work) vars)) → GiveSays p vars work work′ top dest left (given.Range dest last left)
+give-built p {vars} {work} {work′} {top} {dest} {left} {last} here writes e f w b small env low room =
+    let rd = ready p env b (omega (arith, small, room)) writes in
+    let ends = rd .ends in
+    record {
+      begin = dest;
+      gives = ap (λ k. given.Range dest k left) (ends ∙ ap (λ k. k + length (letters w)) here);
+      stands = subst (λ k. At work′ k w) here (rd .spelled);
+      near = omega (arith, small);
+      spares = spares-more top (top + length (letters w)) dest (top + resultLength) (rd .spares) (omega (arith, here)) (omega (arith, small));
+    }
+
+-- built at `top`, and copied to `dest`
+pub give-moved : (p : Pat) {vars work w₁ work′ : List ℕ} {top dest left last end : ℕ} → ((n : ℕ) → Below vars n → n ≤ top → Writes work w₁ top last (built p (take n work) vars))
+    → (dest ≤ top → last ≤ length w₁ → Writes w₁ work′ dest end (slice top last w₁)) → GiveSays p vars work work′ top dest left (given.Range dest end left)
+give-moved p {vars} {work} {w₁} {work′} {top} {dest} {left} {last} {end} writes copy e f w b small env low room =
+    let rd = ready p env b (omega (arith, small, room)) writes in
+    let stop = rd .ends in
+    let long = rd .wide in
+    let c = copy low (omega (arith, stop, small, room, long)) in
+    let bytes : slice top last w₁ ≡ letters w = ap (λ k. slice top k w₁) stop ∙ at-slice (rd .spelled) in
+    let room′ : dest + length (letters w) ≤ length w₁ = omega (arith, low, small, room, long) in
+    let fits : dest + length (slice top last w₁) ≤ length w₁ = subst (λ bs. dest + length bs ≤ length w₁) (sym bytes) room′ in
+    let final : work′ ≡ sets w₁ dest (letters w) = c .area fits ∙ ap (sets w₁ dest) bytes in
+    let stops : end ≡ dest + length (letters w) = c .place fits ∙ ap (λ bs. dest + length bs) bytes in
+    record {
+      begin = dest;
+      gives = ap (λ k. given.Range dest k left) stops;
+      stands = subst (λ l. At l dest w) (sym final) (at-sets w₁ (letters w) dest w refl room′);
+      near = omega (arith, small);
+      spares = spares-both (spares-more top (top + length (letters w)) dest (top + resultLength) (rd .spares) low (omega (arith, small)))
+          (subst (λ z. Spares w₁ z dest (top + resultLength)) (sym final)
+          (spares-more dest (dest + length (letters w)) dest (top + resultLength) (spares-sets w₁ (letters w) dest room′) (omega arith) (omega (arith, low, small))));
+    }
+
+-- ---- a let step
 
 -- q's letters and an earlier iso's frames are within the frames of the isos below i
 step-spares : {w₀ w₁ w₂ : List ℕ} (top i j : ℕ) (u : Val) → Small u → j < i → Spares w₀ w₁ top (top + length (letters u)) → Spares w₁ w₂ top (top + suc j * frame)
@@ -205,93 +373,98 @@ step-spares top i j u small less a b =
     (spares-more top (top + length (letters u)) top (top + i * frame) a (omega arith) (omega (arith, small, less)))
     (spares-more top (top + suc j * frame) top (top + i * frame) b (omega arith) (omega (arith, less)))
 
--- the letters up to the result's end, and the environment with the result matched
-pub stepped-done : {w₀ w₁ w₂ vars vars′ : List ℕ} {top end left i j : ℕ} {u w : Val} {f g : Slots Val} {m x y : ℕ} {r : R.Reduced} (p : Pat) → Ready w₀ w₁ vars top end u f
-    → Small u → j < i → Applied w₁ w₂ top j left w m r → r ≡ reduced.Done x y → length w₂ ≡ length w₁ → bind p w f ≡ some g → top + length (letters w) ≤ length w₀ → top + length (letters w) < 65536
-    → ((v : Val) → At w₂ top v → Ends x top v → vars′ ≡ ranges p v top vars) → Stepped w₀ w₂ vars′ top i left w g m (reduced.Done x y)
-stepped-done {w₀} {w₁} {w₂} {vars} {vars′} {top} {end} {left} {i} {j} {u} {w} {f} {g} {m} {x} {y} {r} p rd little less ap′ is wide b room small range =
-    record {
-      done = λ h. sym is ∙ ap′ .done h;
-      env = env;
-      spent = λ h. absurd (done≢spent (sym is ∙ ap′ .spent h));
-      spares = step-spares top i j u little less (rd .spares) (ap′ .spares);
-    }
-  where
-    top≤ : top ≤ length w₁
-    top≤ = let k = rd .wide in omega (arith, k)
-
-    env : m ≤ left → EnvAt w₂ (top + length (letters w)) vars′ g
-    env h =
-        let k = rd .wide in
-        let a : At w₂ top w = at-result w₁ w₂ top w top≤ (omega (arith, k, wide)) (ap′ .result h) in
-        let e = range w a (λ _. done-place (sym is ∙ ap′ .done h)) in
-        let same : take top w₀ ≡ take top w₂ = sym (ap′ .spares .before ∙ rd .spares .before) in
-        let next : ℕ = top + length (letters w) in
-        let older : Agrees (take next w₂) vars f =
-        agrees-more w₂ vars f top next (subst (λ l. Agrees l vars f) same (rd .rest .agrees)) (rd .rest .below) (omega arith) in
-        let n = length-take-le next w₂ (omega (arith, k, wide)) in
-        record {
-          agrees = subst (λ l. Agrees (take next w₂) l g) (sym e)
-              (agrees-bind p w f (take next w₂) vars top (rd .rest .wide) (rd .rest .slots) (omega (arith, n)) (at-take w₂ top next w a (omega arith)) b older);
-          below = subst (λ l. Below l next) (sym e) (below-ranges p w top vars next (below-more vars top next (rd .rest .below) (omega arith)) (omega arith));
-          wide = ap length e ∙ length-ranges p w top vars ∙ rd .rest .wide;
-          slots = bind-length p w f b ∙ rd .rest .slots;
-        }
-
-pub stepped-spent : {w₀ w₁ w₂ vars vars′ : List ℕ} {top end left i j : ℕ} {u w : Val} {f g : Slots Val} {m : ℕ} {r : R.Reduced} → Ready w₀ w₁ vars top end u f → Small u → j < i
-    → Applied w₁ w₂ top j left w m r → r ≡ reduced.Spent → Stepped w₀ w₂ vars′ top i left w g m reduced.Spent
-stepped-spent {top = top} {i = i} {j = j} {u = u} rd little less a is =
-    record {
-      done = λ h. absurd (done≢spent (sym (a .done h) ∙ is));
-      env = λ h. absurd (done≢spent (sym (a .done h) ∙ is));
-      spent = λ h. refl;
-      spares = step-spares top i j u little less (rd .spares) (a .spares);
-    }
-
 -- a let step that names no earlier iso is in no trace
 pub stepped-late : {P : Type 0} (t : List ℕ) (base : ℕ) (back : Bool) (i j row : ℕ) (l : Let) → l ≡ sidedLet back (letAt t base row) → l .iso < i → j ≡ cellOf t row 2 → i ≤ j → P
 stepped-late t base back i j row l is less e late =
     let same : l .iso ≡ j = ap (λ x. x .iso) is ∙ let-iso t base back row ∙ sym e in absurd (omega (arith, same))
 
--- q is built, and the iso applied to it
-step-ready : (t : List ℕ) (base : ℕ) (back : Bool) (row i : ℕ) {jq : ℕ} {w₀ w₁ vars : List ℕ} {top end : ℕ} (l : Let) (e : Slots Val) {f : Slots Val} {u : Val}
-    → l ≡ sidedLet back (letAt t base row) → l .iso < i → build (l .q) e ≡ some (u, f) → Small u → EnvAt w₀ top vars e → top + i * frame ≤ length w₀
-    → jq ≡ cellOf t row (cond back 1 3)
-    → ((n : ℕ) → Below vars n → n ≤ top → Writes w₀ w₁ top end (built (patternOf t base jq) (take n w₀) vars)) → Ready w₀ w₁ vars top end u f
-step-ready t base back row i {jq} {w₀} {w₁} {vars} {top} {end} l e {f} {u} is less b small env room cell writes =
-    let same : l .q ≡ patternOf t base jq = ap (λ x. x .q) is ∙ let-q t base back row ∙ ap (patternOf t base) (sym cell) in
-    ready (patternOf t base jq) env (subst (λ p. build p e ≡ some (u, f)) same b) (omega (arith, small, room, less)) writes
+-- its argument, and the iso applied to it
+record Called (w₀ w₁ w₂ vars : List ℕ) (top i j left : ℕ) (u w : Val) (f : Slots Val) (m : ℕ) (a : P.Place) (r : G.Given) : Type 0 where
+  pub below : j < i
+  pub argued : Argued w₀ w₁ vars top u f a
+  pub applied : Applied w₁ w₂ top j left w m r
 
-step-applied : (t : List ℕ) (base : ℕ) (index : List ℕ) (back : Bool) (row i j : ℕ) {w₀ w₁ w₂ vars : List ℕ} {top end left : ℕ} {r : R.Reduced} (os : List Iso) (d : ℕ) (l : Let) {f : Slots Val} {u : Val} (w : Val) (m : ℕ)
-    → Laid t base index back os → l ≡ sidedLet back (letAt t base row) → l .iso < i → Small u → Runs d os (l .iso) u w m → top + i * frame ≤ length w₀ → length w₀ ≤ workLength
-    → j ≡ cellOf t row 2 → Ready w₀ w₁ vars top end u f → ApplySays t base index back j w₁ w₂ top end left r → Applied w₁ w₂ top j left w m r
-step-applied t base index back row i j os d l {f} {u} w m laid is less small run room most cell rd says =
+called : (t : List ℕ) (base : ℕ) (index : List ℕ) (back : Bool) (row i j : ℕ) {jq : ℕ} {w₀ w₁ w₂ vars : List ℕ} {top left : ℕ} {a : P.Place} {r : G.Given} → j ≡ cellOf t row 2
+    → jq ≡ cellOf t row (cond back 1 3) → ArgueSays (patternOf t base jq) vars w₀ w₁ top a → length w₁ ≡ length w₀
+    → ApplySays t base index back j w₁ w₂ (a .at) (a .end) top (a .free) left r
+    → (os : List Iso) (d : ℕ) (l : Let) (e f : Slots Val) (u w : Val) (m : ℕ) → Laid t base index back os → l ≡ sidedLet back (letAt t base row) → l .iso < i
+    → build (l .q) e ≡ some (u, f) → Small u → Runs d os (l .iso) u w m → EnvAt w₀ top vars e → top + i * frame ≤ length w₀ → length w₀ ≤ workLength
+    → Called w₀ w₁ w₂ vars top i j left u w f m a r
+called t base index back row i j {jq} {top = top} cell cellq argues wide says os d l e f u w m laid is less b small run env room most =
     let same : l .iso ≡ j = ap (λ x. x .iso) is ∙ let-iso t base back row ∙ sym cell in
-    let wide = rd .wide in
-    says os d u w m laid (subst (λ k. Runs d os k u w m) same run) (rd .spelled) small (rd .ends) (omega (arith, room, wide, same, less)) (omega (arith, wide, most))
+    let q : l .q ≡ patternOf t base jq = ap (λ x. x .q) is ∙ let-q t base back row ∙ ap (patternOf t base) (sym cellq) in
+    let a = argues e f u (subst (λ p. build p e ≡ some (u, f)) q b) small env (omega (arith, room, less)) in
+    record {
+      below = omega (arith, same, less);
+      argued = a;
+      applied = says os d u w m laid (subst (λ k. Runs d os k u w m) same run) (a .stands) (a .ends) (a .low) (a .over) (a .near) (omega (arith, room, wide, same, less)) (omega (arith, wide, most));
+    }
 
--- the iso that it names is an earlier one
-step-below : (t : List ℕ) (base : ℕ) (back : Bool) (row i j : ℕ) (l : Let) → l ≡ sidedLet back (letAt t base row) → l .iso < i → j ≡ cellOf t row 2 → j < i
-step-below t base back row i j l is less cell = let same : l .iso ≡ j = ap (λ x. x .iso) is ∙ let-iso t base back row ∙ sym cell in omega (arith, same)
+pub step-done : (t : List ℕ) (base : ℕ) (index : List ℕ) (back : Bool) (row i j : ℕ) {jq jp : ℕ} {w₀ w₁ w₂ vars vars′ : List ℕ} {top left b x y next : ℕ} {a : P.Place} {r : G.Given} → j ≡ cellOf t row 2
+    → jq ≡ cellOf t row (cond back 1 3) → ArgueSays (patternOf t base jq) vars w₀ w₁ top a → length w₁ ≡ length w₀
+    → ApplySays t base index back j w₁ w₂ (a .at) (a .end) top (a .free) left r → length w₂ ≡ length w₁ → r ≡ given.Range b x y → jp ≡ cellOf t row (cond back 3 1)
+    → ((v : Val) → At w₂ b v → x ≡ b + length (letters v) → vars′ ≡ ranges (patternOf t base jp) v b vars) → (top ≤ next) × (x ≤ next) × ((next ≡ top) ⊎ (next ≡ x))
+    → StepSays t base index back i row w₀ w₂ top vars vars′ left (reduced.Done next y)
+step-done t base index back row i j {jq} {jp} {w₀} {w₁} {w₂} {vars} {vars′} {top} {left} {b} {x} {y} {next} {a} {r} cell cellq argues wide says kept told cellp range far os d l e f g u w m laid is less bu small run little bound env room most =
+    let c = called t base index back row i j cell cellq argues wide says os d l e f u w m laid is less bu small run env room most in
+    go c (le-or-lt m left)
+  where
+    go : Called w₀ w₁ w₂ vars top i j left u w f m a r → (m ≤ left) ⊎ (left < m) → Stepped w₀ w₂ vars′ top i left g m (reduced.Done next y)
+    go c (inr h) = absurd (range≢spent (sym told ∙ c .applied .spent h))
+    go c (inl h) =
+        let p : Pat = patternOf t base jp in
+        let same : l .p ≡ p = ap (λ z. z .p) is ∙ let-p t base back row ∙ ap (patternOf t base) (sym cellp) in
+        let done = sym told ∙ c .applied .done h in
+        let eb = range-begin done in
+        let ex = range-end done in
+        let ey = range-left done in
+        let near = c .applied .near h in
+        let place : x ≡ b + length (letters w) = ex ∙ ap (λ k. k + length (letters w)) (sym eb) in
+        let at : At w₂ b w = subst (λ k. At w₂ k w) (sym eb) (c .applied .stands h) in
+        let ranged′ = range w at place in
+        let low = far .0 in
+        let over = far .1 in
+        let rest = c .argued .rest in
+        let alone : take top w₀ ≡ take top w₂ = sym (c .applied .spares .before ∙ c .argued .spares .before) in
+        let older : Agrees (take next w₂) vars f = agrees-more w₂ vars f top next (subst (λ z. Agrees z vars f) alone (rest .agrees)) (rest .below) low in
+        let top′ : next ≤ top + resultLength = bounded (far .2) (omega (arith, ex, near)) in
+        let long = length-take-le next w₂ (omega (arith, top′, room, kept, wide, less)) in
+        record {
+          next = next;
+          further = low;
+          near = top′;
+          done = λ _. ap (reduced.Done next) ey;
+          env = λ _.
+              record {
+                agrees = subst (λ z. Agrees (take next w₂) z g) (sym ranged′)
+                    (agrees-bind p w f (take next w₂) vars b (rest .wide) (rest .slots) (omega (arith, long, top′, room, most, less)) (at-take w₂ b next w at (omega (arith, place, over)))
+                    (subst (λ z. bind z w f ≡ some g) same bound) older);
+                below = subst (λ z. Below z next) (sym ranged′) (below-ranges p w b vars next (below-more vars top next (rest .below) low) (omega (arith, place, over)));
+                wide = ap length ranged′ ∙ length-ranges p w b vars ∙ rest .wide;
+                slots = bind-length p w f (subst (λ z. bind z w f ≡ some g) same bound) ∙ rest .slots;
+              };
+          spent = λ k. absurd (omega (arith, h, k));
+          spares = step-spares top i j u small (c .below) (c .argued .spares) (c .applied .spares);
+        }
+      where
+        bounded : (next ≡ top) ⊎ (next ≡ x) → x ≤ top + resultLength → next ≤ top + resultLength
+        bounded (inl z) k = omega (arith, z)
+        bounded (inr z) k = omega (arith, z, k)
 
-pub step-done : (t : List ℕ) (base : ℕ) (index : List ℕ) (back : Bool) (row i j : ℕ) {jq jp : ℕ} {w₀ w₁ w₂ vars vars′ : List ℕ} {top end left x y : ℕ} {r : R.Reduced} → j ≡ cellOf t row 2
-    → jq ≡ cellOf t row (cond back 1 3)
-    → ((n : ℕ) → Below vars n → n ≤ top → Writes w₀ w₁ top end (built (patternOf t base jq) (take n w₀) vars))
-    → ApplySays t base index back j w₁ w₂ top end left r → length w₂ ≡ length w₁ → r ≡ reduced.Done x y → jp ≡ cellOf t row (cond back 3 1)
-    → ((v : Val) → At w₂ top v → Ends x top v → vars′ ≡ ranges (patternOf t base jp) v top vars) → StepSays t base index back i row w₀ w₂ top vars vars′ left (reduced.Done x y)
-step-done t base index back row i j {jq} {jp} cell cellq writes says wide told cellp range os d l e f g u w m laid is less b small run little bound env room most =
-    let rd = step-ready t base back row i l e is less b small env room cellq writes in
-    let same : l .p ≡ patternOf t base jp = ap (λ x. x .p) is ∙ let-p t base back row ∙ ap (patternOf t base) (sym cellp) in
-    stepped-done (patternOf t base jp) rd small (step-below t base back row i j l is less cell) (step-applied t base index back row i j os d l w m laid is less small run room most cell rd says) told wide
-    (subst (λ p. bind p w f ≡ some g) same bound) (omega (arith, little, room, less)) (omega (arith, little, room, most, less)) range
-
-pub step-spent : (t : List ℕ) (base : ℕ) (index : List ℕ) (back : Bool) (row i j : ℕ) {jq : ℕ} {w₀ w₁ w₂ vars vars′ : List ℕ} {top end left : ℕ} {r : R.Reduced} → j ≡ cellOf t row 2
-    → jq ≡ cellOf t row (cond back 1 3)
-    → ((n : ℕ) → Below vars n → n ≤ top → Writes w₀ w₁ top end (built (patternOf t base jq) (take n w₀) vars))
-    → ApplySays t base index back j w₁ w₂ top end left r → r ≡ reduced.Spent → StepSays t base index back i row w₀ w₂ top vars vars′ left reduced.Spent
-step-spent t base index back row i j cell cellq writes says told os d l e f g u w m laid is less b small run little bound env room most =
-    let rd = step-ready t base back row i l e is less b small env room cellq writes in
-    stepped-spent rd small (step-below t base back row i j l is less cell) (step-applied t base index back row i j os d l w m laid is less small run room most cell rd says) told
+pub step-spent : (t : List ℕ) (base : ℕ) (index : List ℕ) (back : Bool) (row i j : ℕ) {jq : ℕ} {w₀ w₁ w₂ vars vars′ : List ℕ} {top left : ℕ} {a : P.Place} {r : G.Given} → j ≡ cellOf t row 2
+    → jq ≡ cellOf t row (cond back 1 3) → ArgueSays (patternOf t base jq) vars w₀ w₁ top a → length w₁ ≡ length w₀
+    → ApplySays t base index back j w₁ w₂ (a .at) (a .end) top (a .free) left r → r ≡ given.Spent → StepSays t base index back i row w₀ w₂ top vars vars′ left reduced.Spent
+step-spent t base index back row i j {top = top} cell cellq argues wide says told os d l e f g u w m laid is less b small run little bound env room most =
+    let c = called t base index back row i j cell cellq argues wide says os d l e f u w m laid is less b small run env room most in
+    record {
+      next = top;
+      further = omega arith;
+      near = omega arith;
+      done = λ h. absurd (range≢spent (sym (c .applied .done h) ∙ told));
+      env = λ h. absurd (range≢spent (sym (c .applied .done h) ∙ told));
+      spent = λ h. refl;
+      spares = step-spares top i j u small (c .below) (c .argued .spares) (c .applied .spares);
+    }
 
 -- ---- the let steps of a clause
 
@@ -382,7 +555,7 @@ record OneStep (call : ℕ → Val → Val → ℕ → Type 0) (i : ℕ) (ls : L
   pub before : LetsAt call i ls g m budget end w₀ k top left work vars
   pub l : Let
   pub first : FirstLet call i l (drop (suc k) ls) (before .now) g (before .rest)
-  pub says : Stepped work work′ vars′ top i left (first .gives) (first .next) (first .count) r
+  pub says : Stepped work work′ vars′ top i left (first .next) (first .count) r
   pub spares : Spares w₀ work′ end (end + length ls * resultLength + i * frame)
 
 one-step : {t : List ℕ} {base : ℕ} {index : List ℕ} {back : Bool} {i from n end budget : ℕ} {w₀ vars₀ : List ℕ} {k top left row : ℕ} {work work′ vars vars′ : List ℕ} {r : R.Reduced}
@@ -438,7 +611,8 @@ letting-next {t} {base} {index} {back} {i} {from} {n} {end} {budget} {w₀} {var
             let split = o .first .counts in
             let near = b .near in
             let further = b .further in
-            let less = o .first .less in
+            let on = o .says .further in
+            let close = o .says .near in
             let up : suc k ≡ k + 1 = omega arith in
             record {
               now = o .first .next;
@@ -449,8 +623,8 @@ letting-next {t} {base} {index} {back} {i} {from} {n} {end} {budget} {w₀} {var
               trace = subst (λ q. LetsTrace (Runs d os) i (drop q ls) (o .first .next) g (o .first .after)) up (o .first .follows);
               env = subst (λ q. EnvAt work′ q vars′ (o .first .next)) (sym place) (o .says .env h);
               spares = o .spares;
-              further = omega (arith, further, place);
-              near = omega (arith, near, place, less);
+              further = omega (arith, further, place, on);
+              near = omega (arith, near, place, close);
             }
 
 pub lets-spent : {t : List ℕ} {base : ℕ} {index : List ℕ} {back : Bool} {i from n end budget : ℕ} {w₀ vars₀ : List ℕ} {k top left row : ℕ} {work work′ vars vars′ : List ℕ} {r : R.Reduced} → r ≡ reduced.Spent
@@ -615,91 +789,77 @@ picked {t} {base} {index} {back} {i} {first} {stop} {r} {row} {below} {at} {end}
     )
 
 -- no budget
-pub applied-none : {work : List ℕ} {at left : ℕ} {w : Val} → left ≡ 0 → (os : List Iso) (d i : ℕ) (v : Val) (m : ℕ) → Runs d os i v w m → Applied work work at i left w m reduced.Spent
-applied-none {work} {at} z os d i v m run =
+pub applied-none : {work : List ℕ} {dest left : ℕ} {w : Val} → left ≡ 0 → (os : List Iso) (d i : ℕ) (v : Val) (m : ℕ) → Runs d os i v w m → Applied work work dest i left w m given.Spent
+applied-none {work} {dest} z os d i v m run =
     let least = runs-least d os i v _ m run in
-    record { done = λ h. absurd (omega (arith, z, least)); result = λ h. absurd (omega (arith, z, least)); spent = λ h. refl; spares = spares-none work at (at + suc i * frame) }
+    record {
+      begin = 0;
+      done = λ h. absurd (omega (arith, z, least));
+      stands = λ h. absurd (omega (arith, z, least));
+      near = λ h. absurd (omega (arith, z, least));
+      spent = λ h. refl;
+      spares = spares-none work dest (dest + suc i * frame);
+    }
 
 -- the let steps of the picked clause
-ran : {t : List ℕ} {base : ℕ} {index : List ℕ} {back : Bool} {os : List Iso} {i row below end left : ℕ} {w₀ w₁ vars vars′ : List ℕ} {w : Val} {m : ℕ} {r : R.Reduced} (at : ℕ) (v : Val)
-    → Laid t base index back os → LetsSay t base index back i (row + 1) below w₀ w₁ end vars vars′ left r → (p : Picked t base back os i row below w₀ end vars w m) → Small v
-    → end ≡ at + length (letters v) → at + suc i * frame ≤ length w₀ → length w₀ ≤ workLength → LetsRan w₀ w₁ vars′ end i left (length (p .lets)) (p .last) (p .count) r
-ran {i = i} at v laid says p small e room most =
+ran : {t : List ℕ} {base : ℕ} {index : List ℕ} {back : Bool} {os : List Iso} {i row below end free left : ℕ} {w₀ w₁ vars vars′ : List ℕ} {w : Val} {m : ℕ} {r : R.Reduced} (dest : ℕ)
+    → Laid t base index back os → LetsSay t base index back i (row + 1) below w₀ w₁ free vars vars′ left r → (p : Picked t base back os i row below w₀ end vars w m)
+    → end ≤ free → free ≤ dest + resultLength → dest + suc i * frame ≤ length w₀ → length w₀ ≤ workLength → LetsRan w₀ w₁ vars′ free i left (length (p .lets)) (p .last) (p .count) r
+ran {i = i} {free = free} dest laid says p low near room most =
     let few = p .few in
     let more : suc i * frame ≡ frame + i * frame = suc-mul-frame i in
-    says _ (p .depth) (p .lets) (p .first) (p .last) (p .count) laid (p .rows) (p .trace) (p .env) (omega (arith, few, small, e, room, more)) most
+    says _ (p .depth) (p .lets) (p .first) (p .last) (p .count) laid (p .rows) (p .trace) (env-more free (p .env) low) (omega (arith, few, near, room, more)) most
   where
     suc-mul-frame : (n : ℕ) → suc n * frame ≡ frame + n * frame
     suc-mul-frame n = omega arith
 
--- argument, let results and the frames below are within the frames of an application
-within-frames : {w₀ w₁ : List ℕ} (at end i n : ℕ) (v : Val) → n ≤ maxLets → Small v → end ≡ at + length (letters v)
-    → Spares w₀ w₁ end (end + n * resultLength + i * frame) → Spares w₀ w₁ at (at + suc i * frame)
-within-frames at end i n v few small e k =
-    spares-more end (end + n * resultLength + i * frame) at (at + suc i * frame) k (omega (arith, e)) (omega (arith, few, small, e))
+-- let results and the frames below are within the frames of an application
+within-frames : {w₀ w₁ : List ℕ} (dest free i n : ℕ) → n ≤ maxLets → dest ≤ free → free ≤ dest + resultLength
+    → Spares w₀ w₁ free (free + n * resultLength + i * frame) → Spares w₀ w₁ dest (dest + suc i * frame)
+within-frames dest free i n few low near k =
+    spares-more free (free + n * resultLength + i * frame) dest (dest + suc i * frame) k low (omega (arith, few, near))
 
-applied-spent : {t : List ℕ} {base : ℕ} {back : Bool} {os : List Iso} {i row below at end left rest : ℕ} {w₀ w₁ vars vars′ : List ℕ} {w : Val} {m n : ℕ} {r : R.Reduced} (v : Val)
-    → (p : Picked t base back os i row below w₀ end vars w m) → LetsRan w₀ w₁ vars′ end i rest n (p .last) (p .count) r → r ≡ reduced.Spent → rest + 1 ≡ left
-    → n ≤ maxLets → Small v → end ≡ at + length (letters v) → Applied w₀ w₁ at i left w m reduced.Spent
-applied-spent {i = i} {at = at} {end = end} {left = left} {m = m} {n = n} v p l is e few small ends =
+applied-spent : {t : List ℕ} {base : ℕ} {back : Bool} {os : List Iso} {i row below end free left rest : ℕ} {w₀ w₁ vars vars′ : List ℕ} {w : Val} {m n : ℕ} {r : R.Reduced} (dest : ℕ)
+    → (p : Picked t base back os i row below w₀ end vars w m) → LetsRan w₀ w₁ vars′ free i rest n (p .last) (p .count) r → r ≡ reduced.Spent → rest + 1 ≡ left
+    → n ≤ maxLets → dest ≤ free → free ≤ dest + resultLength → Applied w₀ w₁ dest i left w m given.Spent
+applied-spent {i = i} {free = free} {left = left} {m = m} {n = n} dest p l is e few low near =
     let counts = p .counts in
     let not : m ≤ left → ⊥ = λ h. done≢spent (sym (l .done (omega (arith, counts, e))) ∙ is) in
-    record { done = λ h. absurd (not h); result = λ h. absurd (not h); spent = λ h. refl; spares = within-frames at end i n v few small ends (l .spares) }
+    record {
+      begin = 0;
+      done = λ h. absurd (not h);
+      stands = λ h. absurd (not h);
+      near = λ h. absurd (not h);
+      spent = λ h. refl;
+      spares = within-frames dest free i n few low near (l .spares);
+    }
 
-applied-done : {t : List ℕ} {base : ℕ} {back : Bool} {os : List Iso} {i row below end left rest top after last x : ℕ} {w₀ w₁ w₂ w₃ vars vars′ : List ℕ} {w : Val} {m n : ℕ} {r : R.Reduced} (at : ℕ) (v : Val) (q : Pat)
-    → (p : Picked t base back os i row below w₀ end vars w m) → LetsRan w₀ w₁ vars′ end i rest n (p .last) (p .count) r → r ≡ reduced.Done top x → rest + 1 ≡ left
-    → n ≤ maxLets → Small v → end ≡ at + length (letters v) → at + suc i * frame ≤ length w₀ → length w₁ ≡ length w₀
-    → q ≡ patternOf t base (cellOf t row (cond back 1 2))
-    → ((k : ℕ) → Below vars′ k → k ≤ top → Writes w₁ w₂ top last (built q (take k w₁) vars′))
-    → (at ≤ top → last ≤ length w₂ → Writes w₂ w₃ at after (slice top last w₂))
-    → Applied w₀ w₃ at i left w m (reduced.Done after x)
-applied-done {i = i} {end = end} {left = left} {rest = rest} {top = top} {after = after} {last = last} {x = x} {w₀ = w₀} {w₁ = w₁} {w₂ = w₂} {w₃ = w₃} {vars′ = vars′} {w = w} {m = m} {n = n} at v q p l is e few small ends room wide same build′ copy = go (le-or-lt (p .count) rest)
+applied-done : {t : List ℕ} {base : ℕ} {back : Bool} {os : List Iso} {i row below end free left rest top x : ℕ} {w₀ w₁ w₂ vars vars′ : List ℕ} {w : Val} {m n : ℕ} {r : R.Reduced} {z : G.Given} (dest : ℕ)
+    → (p : Picked t base back os i row below w₀ end vars w m) → LetsRan w₀ w₁ vars′ free i rest n (p .last) (p .count) r → r ≡ reduced.Done top x → rest + 1 ≡ left
+    → n ≤ maxLets → dest ≤ free → free ≤ dest + resultLength → dest + suc i * frame ≤ length w₀ → length w₁ ≡ length w₀
+    → GiveSays (patternOf t base (cellOf t row (cond back 1 2))) vars′ w₁ w₂ top dest x z → Applied w₀ w₂ dest i left w m z
+applied-done {i = i} {free = free} {left = left} {rest = rest} {top = top} {x = x} {w₀ = w₀} {w₁ = w₁} {w₂ = w₂} {vars′ = vars′} {w = w} {m = m} {n = n} {z = z} dest p l is e few low near room wide gives = go (le-or-lt (p .count) rest)
   where
-    go : (p .count ≤ rest) ⊎ (rest < p .count) → Applied w₀ w₃ at i left w m (reduced.Done after x)
+    go : (p .count ≤ rest) ⊎ (rest < p .count) → Applied w₀ w₂ dest i left w m z
     go (inr h) = absurd (done≢spent (sym is ∙ l .spent h))
     go (inl h) =
         let place = done-place (sym is ∙ l .done h) in
         let paid = done-left (sym is ∙ l .done h) in
         let counts = p .counts in
-        let near = l .near in
+        let close = l .near in
         let further = l .further in
-        let little = p .small in
         let env : EnvAt w₁ top vars′ (p .last) = subst (λ k. EnvAt w₁ k vars′ (p .last)) (sym place) (l .env h) in
-        let r = ready q env (subst (λ z. build z (p .last) ≡ some (w, p .rest)) (sym same) (p .built)) (omega (arith, near, place, few, little, small, ends, room, wide)) build′ in
-        let long = r .wide in
-        let stop = r .ends in
-        let fits = at-within (r .spelled) in
-        let c = copy (omega (arith, place, further, ends)) (omega (arith, stop, fits)) in
-        let bytes : slice top last w₂ ≡ letters w = ap (λ k. slice top k w₂) stop ∙ at-slice (r .spelled) in
-        let room′ : at + length (slice top last w₂) ≤ length w₂ = subst (λ bs. at + length bs ≤ length w₂) (sym bytes) (omega (arith, place, further, ends, fits)) in
-        let final : w₃ ≡ sets w₂ at (letters w) = c .area room′ ∙ ap (sets w₂ at) bytes in
-        let stands : after ≡ at + length (letters w) = c .place room′ ∙ ap (λ bs. at + length bs) bytes in
-        let up : at ≤ top = omega (arith, place, further, ends) in
-        let first = within-frames at end i n v few small ends (l .spares) in
-        let second = spares-more top (top + length (letters w)) at (at + suc i * frame) (r .spares) up (omega (arith, near, place, few, little, small, ends)) in
-        let low : take at w₂ ≡ take at w₀ = second .before ∙ first .before in
-        let fit : at + length (letters w) ≤ length w₂ = subst (λ bs. at + length bs ≤ length w₂) bytes room′ in
+        let g = gives (p .last) (p .rest) w (p .built) (p .small) env (omega (arith, place, further, low)) (omega (arith, close, place, few, near, room, wide)) in
+        let left′ : x ≡ left - m = omega (arith, paid, counts, e) in
         record {
-          done = λ k. ap₂ reduced.Done stands (omega (arith, paid, counts, e));
-          result = λ k. ap (take (at + length (letters w))) final ∙ taken w₂ at (letters w) fit ∙ ap (λ z. z ++ letters w) low;
-          spent = λ k. absurd (omega (arith, counts, e));
-          spares = spares-both (spares-both first second)
-              (subst (λ z. Spares w₂ z at (at + suc i * frame)) (sym final)
-              (spares-more at (at + length (letters w)) at (at + suc i * frame) (spares-sets w₂ (letters w) at fit) (omega arith) (omega (arith, little))));
+          begin = g .begin;
+          done = λ _. g .gives ∙ ap (given.Range (g .begin) (g .begin + length (letters w))) left′;
+          stands = λ _. g .stands;
+          near = λ _. g .near;
+          spent = λ k. absurd (omega (arith, counts, e, h, k));
+          spares = spares-both (within-frames dest free i n few low near (l .spares))
+              (spares-more dest (top + resultLength) dest (dest + suc i * frame) (g .spares) (omega arith) (omega (arith, close, place, few, near)));
         }
-      where
-        taken : (l : List ℕ) (a : ℕ) (bs : List ℕ) → a + length bs ≤ length l → take (a + length bs) (sets l a bs) ≡ take a l ++ bs
-        taken l a bs h =
-            let t = length-take-le a l (omega arith) in
-            let both = length-append (take a l) bs in
-            ap (take (a + length bs)) (sets-eq bs l a h) ∙ take-at (take a l ++ bs) (drop (a + length bs) l) (a + length bs) (omega (arith, t, both))
-
--- the result, built and copied
-pub moved : (t : List ℕ) (base row : ℕ) (back : Bool) {vars w₀ w₁ w₂ : List ℕ} {top at jr last end : ℕ} → jr ≡ cellOf t row (cond back 1 2)
-    → ((k : ℕ) → Below vars k → k ≤ top → Writes w₀ w₁ top last (built (patternOf t base jr) (take k w₀) vars))
-    → (at ≤ top → last ≤ length w₁ → Writes w₁ w₂ at end (slice top last w₁)) → Moved (patternOf t base (cellOf t row (cond back 1 2))) vars w₀ w₂ top at end
-moved t base row back {vars} {w₀} {w₁} {w₂} {top} {at} {jr} {last} {end} e writes copies =
-    subst (λ j. Moved (patternOf t base j) vars w₀ w₂ top at end) e record { area = w₁; last = last; writes = writes; copies = copies }
 
 -- a budget that is not spent, less one and one more
 one-left : (n : ℕ) → (n ≡ 0 → ⊥) → n - 1 + 1 ≡ n
@@ -707,37 +867,37 @@ one-left zero h = absurd (h refl)
 one-left (suc n) h = omega arith
 
 -- the choice in an application: its clause, by the places read
-pub choice : (t : List ℕ) (base : ℕ) (index : List ℕ) (back : Bool) (i r row below at end : ℕ) {h stop : ℕ} {w₀ vars′ : List ℕ}
+choice : (t : List ℕ) (base : ℕ) (index : List ℕ) (back : Bool) (i r row below at end dest free : ℕ) {h stop : ℕ} {w₀ vars′ : List ℕ}
     → ChoiceSays t base index back (h + 1) stop w₀ at end (replicate 64 0) vars′ r → h ≡ placeAt index i → stop ≡ placeAt index (i + 1)
     → row ≡ placeAt index r → below ≡ placeAt index (r + 1)
-    → (os : List Iso) (d : ℕ) (v w : Val) (m : ℕ) → Laid t base index back os → Runs d os i v w m → At w₀ at v → Small v → end ≡ at + length (letters v)
-    → at + suc i * frame ≤ length w₀ → length w₀ ≤ workLength → (r < stop) × Picked t base back os i row below w₀ end vars′ w m
-choice t base index back i r row below at end says h s row′ below′ os d v w m laid run a small e room most =
-    picked says (ap (λ x. x + 1) h) s row′ below′ os d v w m laid run a e (omega (arith, small, e, room, most))
+    → (os : List Iso) (d : ℕ) (v w : Val) (m : ℕ) → Laid t base index back os → Runs d os i v w m → At w₀ at v → end ≡ at + length (letters v) → end ≤ free → free ≤ dest + resultLength
+    → dest + suc i * frame ≤ length w₀ → length w₀ ≤ workLength → (r < stop) × Picked t base back os i row below w₀ end vars′ w m
+choice t base index back i r row below at end dest free says h s row′ below′ os d v w m laid run a e low near room most =
+    picked says (ap (λ x. x + 1) h) s row′ below′ os d v w m laid run a e (omega (arith, low, near, room, most))
 
-pub unmatched : (t : List ℕ) (base : ℕ) (index : List ℕ) (back : Bool) (i r at end left : ℕ) {h stop : ℕ} {w₀ vars′ : List ℕ}
+pub unmatched : (t : List ℕ) (base : ℕ) (index : List ℕ) (back : Bool) (i r at end dest free left : ℕ) {h stop : ℕ} {w₀ vars′ : List ℕ}
     → ChoiceSays t base index back (h + 1) stop w₀ at end (replicate 64 0) vars′ r → h ≡ placeAt index i → stop ≡ placeAt index (i + 1) → stop ≤ r
-    → ApplySays t base index back i w₀ w₀ at end left reduced.Spent
-unmatched t base index back i r at end left says h s past os d v w m laid run a small e room most =
-    let c = choice t base index back i r (placeAt index r) (placeAt index (r + 1)) at end says h s refl refl os d v w m laid run a small e room most in let c₀ = c .0 in absurd (omega (arith, c₀))
+    → ApplySays t base index back i w₀ w₀ at end dest free left given.Spent
+unmatched t base index back i r at end dest free left says h s past os d v w m laid run a e low over near room most =
+    let c = choice t base index back i r (placeAt index r) (placeAt index (r + 1)) at end dest free says h s refl refl os d v w m laid run a e low near room most in let c₀ = c .0 in absurd (omega (arith, c₀))
 
-pub apply-spent : (t : List ℕ) (base : ℕ) (index : List ℕ) (back : Bool) (i r row below at end left : ℕ) {h stop : ℕ} {w₀ w₁ vars vars′ : List ℕ} {z : R.Reduced}
+pub apply-spent : (t : List ℕ) (base : ℕ) (index : List ℕ) (back : Bool) (i r row below at end dest free left : ℕ) {h stop : ℕ} {w₀ w₁ vars vars′ : List ℕ} {z : R.Reduced}
     → ChoiceSays t base index back (h + 1) stop w₀ at end (replicate 64 0) vars r → h ≡ placeAt index i → stop ≡ placeAt index (i + 1)
     → row ≡ placeAt index r → below ≡ placeAt index (r + 1) → (left ≡ 0 → ⊥)
-    → LetsSay t base index back i (row + 1) below w₀ w₁ end vars vars′ (left - 1) z → z ≡ reduced.Spent → ApplySays t base index back i w₀ w₁ at end left reduced.Spent
-apply-spent t base index back i r row below at end left says h s row′ below′ some′ lets told os d v w m laid run a small e room most =
-    let p = choice t base index back i r row below at end says h s row′ below′ os d v w m laid run a small e room most .1 in
-    applied-spent v p (ran at v laid lets p small e room most) told (one-left left some′) (p .few) small e
+    → LetsSay t base index back i (row + 1) below w₀ w₁ free vars vars′ (left - 1) z → z ≡ reduced.Spent → ApplySays t base index back i w₀ w₁ at end dest free left given.Spent
+apply-spent t base index back i r row below at end dest free left says h s row′ below′ some′ lets told os d v w m laid run a e low over near room most =
+    let p = choice t base index back i r row below at end dest free says h s row′ below′ os d v w m laid run a e low near room most .1 in
+    applied-spent dest p (ran dest laid lets p low near room most) told (one-left left some′) (p .few) over near
 
-pub apply-done : (t : List ℕ) (base : ℕ) (index : List ℕ) (back : Bool) (i r row below at end left : ℕ) {h stop top x after : ℕ} {w₀ w₁ w₃ vars vars′ : List ℕ} {z : R.Reduced}
+pub apply-done : (t : List ℕ) (base : ℕ) (index : List ℕ) (back : Bool) (i r row below at end dest free left : ℕ) {h stop top x jr : ℕ} {w₀ w₁ w₂ vars vars′ : List ℕ} {z : R.Reduced} {g : G.Given}
     → ChoiceSays t base index back (h + 1) stop w₀ at end (replicate 64 0) vars r → h ≡ placeAt index i → stop ≡ placeAt index (i + 1)
     → row ≡ placeAt index r → below ≡ placeAt index (r + 1) → (left ≡ 0 → ⊥)
-    → LetsSay t base index back i (row + 1) below w₀ w₁ end vars vars′ (left - 1) z → z ≡ reduced.Done top x → length w₁ ≡ length w₀
-    → Moved (patternOf t base (cellOf t row (cond back 1 2))) vars′ w₁ w₃ top at after → ApplySays t base index back i w₀ w₃ at end left (reduced.Done after x)
-apply-done t base index back i r row below at end left says h s row′ below′ some′ lets told wide moved os d v w m laid run a small e room most =
-    let p = choice t base index back i r row below at end says h s row′ below′ os d v w m laid run a small e room most .1 in
-    applied-done at v (patternOf t base _) p (ran at v laid lets p small e room most) told (one-left left some′) (p .few) small e room wide
-    refl (moved .writes) (moved .copies)
+    → LetsSay t base index back i (row + 1) below w₀ w₁ free vars vars′ (left - 1) z → z ≡ reduced.Done top x → length w₁ ≡ length w₀
+    → jr ≡ cellOf t row (cond back 1 2) → GiveSays (patternOf t base jr) vars′ w₁ w₂ top dest x g → ApplySays t base index back i w₀ w₂ at end dest free left g
+apply-done t base index back i r row below at end dest free left {top = top} {x = x} {w₁ = w₁} {w₂ = w₂} {vars′ = vars′} {g = g} says h s row′ below′ some′ lets told wide er gives os d v w m laid run a e low over near room most =
+    let p = choice t base index back i r row below at end dest free says h s row′ below′ os d v w m laid run a e low near room most .1 in
+    applied-done dest p (ran dest laid lets p low near room most) told (one-left left some′) (p .few) over near room wide
+    (subst (λ j. GiveSays (patternOf t base j) vars′ w₁ w₂ top dest x g) er gives)
 
 -- ---- the measures of the cycle, three for each iso
 

@@ -1,29 +1,50 @@
 // The reduction over a checked table. Letters made on the way live in the work area, each
 // application's behind those of the one that called it; its result takes the place of its argument.
 
+use area_words::wide;
+use area_words::word_at;
 use codes::CLAUSE_LEFT;
 use codes::CLAUSE_RIGHT;
 use codes::LET_ISO;
 use codes::LET_P;
 use codes::LET_Q;
+use limits::VARIABLES;
+use run_coding::build_again;
+use run_coding::build_line;
+use run_coding::match_again;
+use run_coding::match_line;
+use run_coding::variable;
 use run_direction::place;
 use run_direction::side;
-use run_patterns::build_at;
-use run_patterns::match_at;
-use run_values::Upto;
 use run_values::copy_range;
 use table_trees::cell;
 ghost use mathlib.Core.Path.{_≡_};
 ghost use mathlib.Core.Bool.{cond};
-ghost use Prim.Native.Nat.{suc, _+_, _-_, _<_};
+ghost use Prim.Native.Nat.{suc, _+_, _-_, _≤_, _<_};
 ghost use Rattle.table_trees.specs.Unfolding.{cellOf, patternOf};
+ghost use Rattle.run_coding.specs.Coded.{Coded};
 ghost use Rattle.run_index.specs.Index.{placeAt};
-ghost use Rattle.run_reduction.specs.Frames.{Moved, ChoiceSays, StepSays, LetsSay, ApplySays};
+ghost use Rattle.run_reduction.specs.Frames.{GiveSays, ArgueSays, ChoiceSays, StepSays, LetsSay, ApplySays};
+ghost use mathlib.Core.Logic.{_⊎_};
+ghost use lib.ListN.{getD};
 
-// Where a result ends and what is left of the budget.
+// Where a result begins and ends, and what is left of the budget.
+pub enum Given {
+    Range(usize, usize, u32),
+    Spent,
+}
+
+// Where the letters that let steps leave end, and what is left of the budget.
 pub enum Reduced {
     Done(usize, u32),
     Spent,
+}
+
+// Where an argument begins and ends, and where the area is free behind it.
+pub struct Place {
+    pub at: usize,
+    pub end: usize,
+    pub free: usize,
 }
 
 // Number m + 1 of the index.
@@ -70,6 +91,7 @@ fn choose(
     t: &[u16],
     base: usize,
     index: &[u16],
+    code: &[u16],
     back: bool,
     from: usize,
     stop: usize,
@@ -79,58 +101,116 @@ fn choose(
     vars: &mut [u16],
 ) -> usize
     ensures { λ r. ⌜
-        ChoiceSays (now (t .entry)) base (now (index .entry)) back from stop (now (work .entry)) at end
-        (now (vars .entry)) (now (vars .exit)) r
+        (Coded (now (t .entry)) base (now (code .entry)) → ChoiceSays (now (t .entry)) base (now (index .entry)) back from stop (now (work .entry)) at end
+        (now (vars .entry)) (now (vars .exit)) r)
         ⌝ }
 {
     let field = side(back, 1, 2);
     let mut m = from;
     while m < stop {
-        match match_at(
-            t,
-            base,
-            cell(t, place(index, m), field),
-            work,
-            at,
-            end,
-            vars,
-        ) {
-            Upto::Place(_) => {
-                return m;
-            }
-            Upto::Nothing => {
-                m += 1;
-            }
+        let j = cell(t, place(index, m), field);
+        if match_line(t, base, code, j, work, at, end, vars) {
+            return m;
         }
+        m += 1;
     }
     stop
 }
 
-// Builds the result of a clause at `top` and copies it to a place before; gives where it then ends.
-fn put_result(
+// Where variable n's letters begin.
+fn range_from(vars: &[u16], n: usize) -> usize
+    ensures { λ r. ⌜ r ≡ getD (now (vars .entry)) n 0 ⌝ }
+{
+    wide(word_at(vars, n))
+}
+
+// Where they end.
+fn range_to(vars: &[u16], n: usize) -> usize
+    requires { ⌜ n < 65536 ⌝ }
+    ensures { λ r. ⌜ r ≡ getD (now (vars .entry)) (32 + n) 0 ⌝ }
+{
+    wide(word_at(vars, VARIABLES + n))
+}
+
+// The result of a clause: a variable's letters where they stand, if that is before `dest`, or copied to
+// `dest`; or else built at `top` and copied.
+fn give(
     t: &[u16],
     base: usize,
-    row: usize,
-    back: bool,
+    code: &[u16],
+    j: usize,
     vars: &[u16],
     work: &mut [u8],
     top: usize,
-    at: usize,
-) -> usize
+    dest: usize,
+    left: u32,
+) -> Given
     ensures { λ r. ⌜
-        Moved (patternOf (now (t .entry)) base (cellOf (now (t .entry)) row (cond back 1 2)))
-        (now (vars .entry)) (now (work .entry)) (now (work .exit)) top at r
+        (Coded (now (t .entry)) base (now (code .entry)) → GiveSays (patternOf (now (t .entry)) base j)
+        (now (vars .entry)) (now (work .entry)) (now (work .exit)) top dest left r)
         ⌝ }
 {
-    let last = build_at(
-        t,
-        base,
-        line(t, row, back, CLAUSE_RIGHT, CLAUSE_LEFT),
-        vars,
-        work,
-        top,
-    );
-    copy_range(work, top, last, at)
+    let n = variable(code, j);
+    if n < VARIABLES {
+        let from = range_from(vars, n);
+        let to = range_to(vars, n);
+        if to <= dest {
+            return Given::Range(from, to, left);
+        }
+        if dest <= from {
+            let end = copy_range(work, from, to, dest);
+            return Given::Range(dest, end, left);
+        }
+    }
+    let last = build_again(t, base, code, j, vars, work, top);
+    if top == dest {
+        return Given::Range(dest, last, left);
+    }
+    let end = copy_range(work, top, last, dest);
+    Given::Range(dest, end, left)
+}
+
+// The argument of a let step: a variable's letters where they stand, or q built at `top`.
+fn argument(
+    t: &[u16],
+    base: usize,
+    code: &[u16],
+    j: usize,
+    vars: &[u16],
+    work: &mut [u8],
+    top: usize,
+) -> Place
+    ensures { λ r. ⌜
+        (Coded (now (t .entry)) base (now (code .entry)) → ArgueSays (patternOf (now (t .entry)) base j)
+        (now (vars .entry)) (now (work .entry)) (now (work .exit)) top r)
+        ⌝ }
+{
+    let n = variable(code, j);
+    if n < VARIABLES {
+        let from = range_from(vars, n);
+        let to = range_to(vars, n);
+        return Place {
+            at: from,
+            end: to,
+            free: top,
+        };
+    }
+    let end = build_line(t, base, code, j, vars, work, top);
+    Place {
+        at: top,
+        end: end,
+        free: end,
+    }
+}
+
+// The further one of two places.
+fn further(a: usize, b: usize) -> usize
+    ensures { λ r. ⌜ (a ≤ r) × (b ≤ r) × ((r ≡ a) ⊎ (r ≡ b)) ⌝ }
+{
+    if a < b {
+        return b;
+    }
+    a
 }
 
 // One let step: builds q at `top`, applies the iso to it, and matches what comes out with p.
@@ -138,6 +218,7 @@ fn let_step(
     t: &[u16],
     base: usize,
     index: &[u16],
+    code: &[u16],
     back: bool,
     i: usize,
     row: usize,
@@ -147,29 +228,36 @@ fn let_step(
     left: u32,
 ) -> Reduced
     ensures { λ r. ⌜
-        StepSays (now (t .entry)) base (now (index .entry)) back i row (now (work .entry))
-        (now (work .exit)) top (now (vars .entry)) (now (vars .exit)) left r
+        (Coded (now (t .entry)) base (now (code .entry)) → StepSays (now (t .entry)) base (now (index .entry)) back i row (now (work .entry))
+        (now (work .exit)) top (now (vars .entry)) (now (vars .exit)) left r)
         ⌝ }
 {
     let j = cell(t, row, LET_ISO);
     if i <= j {
         return Reduced::Spent;
     }
-    let end = build_at(t, base, line(t, row, back, LET_Q, LET_P), vars, work, top);
-    match apply(t, base, index, back, j, work, top, end, left) {
-        Reduced::Done(e, l) => {
-            match_at(
-                t,
-                base,
-                line(t, row, back, LET_P, LET_Q),
-                work,
-                top,
-                e,
-                vars,
-            );
-            Reduced::Done(e, l)
+    let q = line(t, row, back, LET_Q, LET_P);
+    let a = argument(t, base, code, q, vars, work, top);
+    match apply(
+        t,
+        base,
+        index,
+        code,
+        back,
+        j,
+        work,
+        a.at,
+        a.end,
+        top,
+        a.free,
+        left,
+    ) {
+        Given::Range(b, e, l) => {
+            let p = line(t, row, back, LET_P, LET_Q);
+            match_again(t, base, code, p, work, b, e, vars);
+            Reduced::Done(further(top, e), l)
         }
-        Reduced::Spent => Reduced::Spent,
+        Given::Spent => Reduced::Spent,
     }
 }
 
@@ -178,6 +266,7 @@ fn run_lets(
     t: &[u16],
     base: usize,
     index: &[u16],
+    code: &[u16],
     back: bool,
     i: usize,
     from: usize,
@@ -189,8 +278,8 @@ fn run_lets(
 ) -> Reduced
     requires { ⌜ (from < 65537) × (to < 65536) ⌝ }
     ensures { λ r. ⌜
-        LetsSay (now (t .entry)) base (now (index .entry)) back i from to (now (work .entry))
-        (now (work .exit)) end (now (vars .entry)) (now (vars .exit)) budget r
+        (Coded (now (t .entry)) base (now (code .entry)) → LetsSay (now (t .entry)) base (now (index .entry)) back i from to (now (work .entry))
+        (now (work .exit)) end (now (vars .entry)) (now (vars .exit)) budget r)
         ⌝ }
 {
     let n = span(from, to);
@@ -202,6 +291,7 @@ fn run_lets(
             t,
             base,
             index,
+            code,
             back,
             i,
             let_row(back, from, n, k),
@@ -223,33 +313,36 @@ fn run_lets(
     Reduced::Done(top, left)
 }
 
-// Applies iso i to the value from `at` up to `end`; its result then begins at `at`. The area before `at`
-// and behind i + 1 frames is left alone; what stands between, but for the result, is left open.
+// Applies iso i to the value from `at` up to `end`, which lies before `free`. Its result stands before `dest`
+// or begins there; the area before `dest` and behind i + 1 frames from there on is left alone.
 pub fn apply(
     t: &[u16],
     base: usize,
     index: &[u16],
+    code: &[u16],
     back: bool,
     i: usize,
     work: &mut [u8],
     at: usize,
     end: usize,
+    dest: usize,
+    free: usize,
     left: u32,
-) -> Reduced
+) -> Given
     ensures { λ r. ⌜
-        ApplySays (now (t .entry)) base (now (index .entry)) back i (now (work .entry))
-        (now (work .exit)) at end left r
+        (Coded (now (t .entry)) base (now (code .entry)) → ApplySays (now (t .entry)) base
+        (now (index .entry)) back i (now (work .entry)) (now (work .exit)) at end dest free left r)
         ⌝ }
 {
     if left == 0 {
-        return Reduced::Spent;
+        return Given::Spent;
     }
-    let mut vars = [0u16; 64];
-    let first = place(index, i) + 1;
+    let mut v = [0u16; 64];
+    let low = place(index, i) + 1;
     let stop = next_place(index, i);
-    let m = choose(t, base, index, back, first, stop, work, at, end, &mut vars);
+    let m = choose(t, base, index, code, back, low, stop, work, at, end, &mut v);
     if stop <= m {
-        return Reduced::Spent;
+        return Given::Spent;
     }
     let row = place(index, m);
     let below = next_place(index, m);
@@ -257,19 +350,20 @@ pub fn apply(
         t,
         base,
         index,
+        code,
         back,
         i,
         row + 1,
         below,
         work,
-        end,
-        &mut vars,
+        free,
+        &mut v,
         left - 1,
     ) {
         Reduced::Done(top, l) => {
-            let after = put_result(t, base, row, back, &vars, work, top, at);
-            Reduced::Done(after, l)
+            let p = line(t, row, back, CLAUSE_RIGHT, CLAUSE_LEFT);
+            give(t, base, code, p, &v, work, top, dest, l)
         }
-        Reduced::Spent => Reduced::Spent,
+        Reduced::Spent => Given::Spent,
     }
 }

@@ -4,3 +4,5 @@ pub mod Copying
 pub mod Running
 -- Run, case by case.
 pub mod Answering
+-- The numbers behind an index.
+pub mod Parting

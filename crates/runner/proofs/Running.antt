@@ -25,7 +25,8 @@ use Rattle.model.proofs.Runs.{good-toward, accepted-good}
 use Rattle.table_trees.specs.Unfolding.{cellOf, typeOf}
 use Rattle.table_walks.proofs.Tails.{isos-few}
 use Rattle.table_walks.proofs.Rows.{isos-told, past-row}
-use Rattle.run_index.specs.Index.{placeAt, isosAt}
+use Rattle.run_coding.specs.Coded.{Coded}
+use Rattle.run_index.specs.Index.{placeAt, isosAt, indexLength}
 use Rattle.check_isos.proofs.Collecting.{head-small}
 use Rattle.checker.specs.CheckSays.{Accepted}
 use Rattle.checker.specs.declared.Checked as C
@@ -33,13 +34,13 @@ use Rattle.checker.proofs.Checks.{isos-counted}
 use Rattle.run_values.specs.Texts.{behind, alone}
 use Rattle.run_values.specs.Traces.{Small, Runs}
 use Rattle.run_values.proofs.Alone.{alone-true, alone-false}
-use Rattle.run_values.proofs.Agreeing.{value-some, value-none}
+use Rattle.run_values.proofs.Agreeing.{value-some, value-none, at-slice}
 use Rattle.run_values.proofs.Tracing.{traced}
-use Rattle.run_reduction.specs.declared.Reduced as D
-use Rattle.run_reduction.specs.declared.Reduced.the-variants as reduced
+use Rattle.run_reduction.specs.declared.Given as D
+use Rattle.run_reduction.specs.declared.Given.the-variants as given
 use Rattle.run_reduction.specs.Frames.{Laid, Spares, Applied, ApplySays}
 use Rattle.run_reduction.proofs.Laying.{inside, laid, from-at}
-use Rattle.run_reduction.proofs.Framing.{done-place, done-left, done≢spent, spares-more}
+use Rattle.run_reduction.proofs.Framing.{range-begin, range-end, range-left, range≢spent, spares-more}
 use Rattle.runner.specs.declared.run.Ran as R
 use Rattle.runner.specs.RunSays.{Prepared, answerFor, RanAs}
 use Rattle.runner.proofs.Copying.{value-front, paste-front}
@@ -69,9 +70,14 @@ on-some rs i budget value e = ap (onIso (isosOf rs) i budget value) e
 
 -- ---- a file that is prepared
 
-pub prepared : {s t index : List ℕ} {c : C.Checked} (a : Accepted s t c) → isosOf (a .file) ≡ isosAt t (c .types) index 0 (c .isos)
+pub prepared : {s t index : List ℕ} {c : C.Checked} (a : Accepted s t c) → isosOf (a .file) ≡ isosAt t (c .types) index 0 (c .isos) → Coded t (c .types) (drop indexLength index)
     → Prepared t (c .types) index (c .isos) (a .file)
-prepared {s} a e = record { good = accepted-good s (a .file) (a .accepts); indexed = e; count = a .isos }
+prepared {s} a e f = record { good = accepted-good s (a .file) (a .accepts); indexed = e; count = a .isos; coded = f }
+
+-- an accepted file has few isos
+pub isos-within : {s t : List ℕ} {c : C.Checked} (a : Accepted s t c) → c .isos < indexLength
+isos-within {s} a =
+    let n = isos-small (a .file) (accepted-good s (a .file) (a .accepts) .passes) in let m = a .isos in omega (arith, n, m)
 
 pub unprepared : {P : Type 0} {s t : List ℕ} {c : C.Checked} → Accepted s t c → (4096 < c .types) ⊎ (4096 < c .patterns) → P
 unprepared a (inl h) = let small = head-small (a .table) in absurd (omega (arith, small))
@@ -172,17 +178,17 @@ begun t base index isos i back budget value j row h f b less ej er eh ef eb yes�
     }
 
 -- the application in the work area
-applied : {t : List ℕ} {base : ℕ} {index : List ℕ} {i : ℕ} {back : Bool} {budget : ℕ} {value : List ℕ} {rs : List Row} (work : List ℕ) {work₁ work₂ : List ℕ} {r : D.Reduced}
+applied : {t : List ℕ} {base : ℕ} {index : List ℕ} {i : ℕ} {back : Bool} {budget : ℕ} {value : List ℕ} {rs : List Row} (work : List ℕ) {work₁ work₂ : List ℕ} {r : D.Given}
     → (g : Begun t base index i back budget value rs) → runRoom ≤ length work → length work ≤ workLength → length work₁ ≡ length work
     → (length value ≤ length value → length value ≤ length work → work₁ ≡ paste work 0 value (length value))
-    → ApplySays t base index back i work₁ work₂ 0 (length value) budget r → Applied work₁ work₂ 0 i budget (g .w) (g .m) r
+    → ApplySays t base index back i work₁ work₂ 0 (length value) 0 (length value) budget r → Applied work₁ work₂ 0 i budget (g .w) (g .m) r
 applied {i = i} {value = value} work g long most wide copy says =
     let small = g .small in
     let few = g .few in
     let n : length value ≡ length (letters (g .v)) = ap length (g .spelled) in
     let front = copy (omega arith) (omega (arith, n, small, long)) in
-    says _ (g .depth) (g .v) (g .w) (g .m) (g .lay) (g .runs) (value-front work value (g .v) (g .spelled) front) small (n ∙ sym (zero-add (length (letters (g .v)))))
-    (omega (arith, few, long, wide)) (omega (arith, wide, most))
+    says _ (g .depth) (g .v) (g .w) (g .m) (g .lay) (g .runs) (value-front work value (g .v) (g .spelled) front) (n ∙ sym (zero-add (length (letters (g .v)))))
+    (omega arith) (omega arith) (omega (arith, n, small)) (omega (arith, few, long, wide)) (omega (arith, wide, most))
 
 within-gives : (budget m : ℕ) (w : Val) → m ≤ budget → within budget (some (w, m)) ≡ gives (m, letters w)
 within-gives budget m w h = ap (λ b. cond b (gives (m, letters w)) (fails spent)) (le-leb h)
@@ -191,54 +197,56 @@ within-spent : (budget m : ℕ) (w : Val) → budget < m → within budget (some
 within-spent budget m w h = ap (λ b. cond b (gives (m, letters w)) (fails spent)) (not-leb h)
 
 -- a result within the budget
-ran-done : {t : List ℕ} {base : ℕ} {index : List ℕ} {i : ℕ} {back : Bool} {budget : ℕ} {value : List ℕ} {rs : List Row} (work₁ work₂ o o′ : List ℕ) (n left : ℕ) {z : D.Reduced} (r : R.Ran)
-    → (g : Begun t base index i back budget value rs) → Applied work₁ work₂ 0 i budget (g .w) (g .m) z → z ≡ reduced.Done n left → resultLength ≤ length o → runRoom ≤ length work₂
-    → (n ≤ length work₂ → n ≤ length o → o′ ≡ paste o 0 work₂ n) → refusalView (r .refusal) ≡ none → r .count ≡ budget - left → r .length ≡ n
+ran-done : {t : List ℕ} {base : ℕ} {index : List ℕ} {i : ℕ} {back : Bool} {budget : ℕ} {value : List ℕ} {rs : List Row} (work₁ work₂ part o o′ : List ℕ) (b x left : ℕ) {z : D.Given} (r : R.Ran)
+    → (g : Begun t base index i back budget value rs) → Applied work₁ work₂ 0 i budget (g .w) (g .m) z → z ≡ given.Range b x left → resultLength ≤ length o → part ≡ drop b (take x work₂)
+    → (length part ≤ length part → length part ≤ length o → o′ ≡ paste o 0 part (length part)) → refusalView (r .refusal) ≡ none → r .count ≡ budget - left → r .length ≡ length part
     → RanAs (answerFor rs i back budget value) o o′ r
-ran-done {i = i} {back = back} {budget = budget} {value = value} {rs = rs} work₁ work₂ o o′ n left {z} r g a told long room copy e k l = go (le-or-lt (g .m) budget)
+ran-done {i = i} {back = back} {budget = budget} {value = value} {rs = rs} work₁ work₂ part o o′ b x left {z} r g a told long ep copy e k l = go (le-or-lt (g .m) budget)
   where
     go : (g .m ≤ budget) ⊎ (budget < g .m) → RanAs (answerFor rs i back budget value) o o′ r
-    go (inr h) = absurd (done≢spent (sym told ∙ a .spent h))
+    go (inr h) = absurd (range≢spent (sym told ∙ a .spent h))
     go (inl h) =
         let bs : List ℕ = letters (g .w) in
         let less = g .less in
-        let place : n ≡ length bs = done-place (sym told ∙ a .done h) ∙ zero-add (length bs) in
-        let rest = done-left (sym told ∙ a .done h) in
+        let done = sym told ∙ a .done h in
+        let rest = range-left done in
+        let bytes : part ≡ bs = ep ∙ ap₂ (λ p q. drop p (take q work₂)) (range-begin done) (range-end done) ∙ at-slice (a .stands h) in
+        let place : length part ≡ length bs = ap length bytes in
         let answer = g .answer ∙ ap answerOfRun (within-gives budget (g .m) (g .w) h) in
-        let front : take n work₂ ≡ bs = ap (λ x. take x work₂) (place ∙ sym (zero-add (length bs))) ∙ a .result h in
+        let front : take (length part) part ≡ bs = take-length part ∙ bytes in
         record {
           refusal = e ∙ sym (ap (λ x. x .refusal) answer);
           number = ap numbered e ∙ sym (ap (λ x. x .number) answer);
           count = k ∙ omega (arith, rest) ∙ sym (ap (λ x. x .count) answer);
           bytes = l ∙ place ∙ sym (ap (λ x. length (x .letters)) answer);
-          result = copy (omega (arith, place, less, room)) (omega (arith, place, less, long)) ∙ paste-front o work₂ n ∙ ap₂ (λ x y. x ++ drop y o) front place
+          result = copy (omega arith) (omega (arith, place, less, long)) ∙ paste-front o part (length part) ∙ ap₂ (λ x y. x ++ drop y o) front place
               ∙ sym (ap (λ x. written (x .letters) o) answer);
         }
 
 -- 17
-ran-spent : {t : List ℕ} {base : ℕ} {index : List ℕ} {i : ℕ} {back : Bool} {budget : ℕ} {value : List ℕ} {rs : List Row} (work₁ work₂ o : List ℕ) {z : D.Reduced} (r : R.Ran)
-    → (g : Begun t base index i back budget value rs) → Applied work₁ work₂ 0 i budget (g .w) (g .m) z → z ≡ reduced.Spent
+ran-spent : {t : List ℕ} {base : ℕ} {index : List ℕ} {i : ℕ} {back : Bool} {budget : ℕ} {value : List ℕ} {rs : List Row} (work₁ work₂ o : List ℕ) {z : D.Given} (r : R.Ran)
+    → (g : Begun t base index i back budget value rs) → Applied work₁ work₂ 0 i budget (g .w) (g .m) z → z ≡ given.Spent
     → refusalView (r .refusal) ≡ some spent → r .count ≡ 0 → r .length ≡ 0 → RanAs (answerFor rs i back budget value) o o r
 ran-spent {i = i} {back = back} {budget = budget} {value = value} {rs = rs} work₁ work₂ o {z} r g a told e k l = go (le-or-lt (g .m) budget)
   where
     go : (g .m ≤ budget) ⊎ (budget < g .m) → RanAs (answerFor rs i back budget value) o o r
-    go (inl h) = absurd (done≢spent (sym (a .done h) ∙ told))
+    go (inl h) = absurd (range≢spent (sym (a .done h) ∙ told))
     go (inr h) = ran-refused _ o r spent (g .answer ∙ ap answerOfRun (within-spent budget (g .m) (g .w) h)) e k l
 
-pub run-done : (t : List ℕ) (base : ℕ) (index : List ℕ) (isos i : ℕ) (back : Bool) (budget : ℕ) (value work work₁ work₂ o o′ : List ℕ) (n left : ℕ) {z : D.Reduced} (r : R.Ran) (j row h f : ℕ) (b : Bool)
+pub run-done : (t : List ℕ) (base : ℕ) (index : List ℕ) (isos i : ℕ) (back : Bool) (budget : ℕ) (value work work₁ work₂ mid part o o′ : List ℕ) (c x left : ℕ) {z : D.Given} (r : R.Ran) (j row h f : ℕ) (b : Bool)
     → i < isos → j ≡ cellOf t row f → row ≡ placeAt index h → h ≡ placeAt index i → f ≡ cond back 2 1 → b ≡ alone (behind (typeOf t j) value) → b ≡ true
     → length work₁ ≡ length work → (length value ≤ length value → length value ≤ length work → work₁ ≡ paste work 0 value (length value))
-    → ApplySays t base index back i work₁ work₂ 0 (length value) budget z → length work₂ ≡ length work₁ → z ≡ reduced.Done n left
-    → (n ≤ length work₂ → n ≤ length o → o′ ≡ paste o 0 work₂ n) → refusalView (r .refusal) ≡ none → r .count ≡ budget - left → r .length ≡ n
+    → ApplySays t base index back i work₁ work₂ 0 (length value) 0 (length value) budget z → z ≡ given.Range c x left → mid ≡ take x work₂ → part ≡ drop c mid
+    → (length part ≤ length part → length part ≤ length o → o′ ≡ paste o 0 part (length part)) → refusalView (r .refusal) ≡ none → r .count ≡ budget - left → r .length ≡ length part
     → (rs : List Row) → Prepared t base index isos rs → runRoom ≤ length work → length work ≤ workLength → resultLength ≤ length o → RanAs (answerFor rs i back budget value) o o′ r
-run-done t base index isos i back budget value work work₁ work₂ o o′ n left r j row h f b less ej er eh ef eb yes′ wide copy says kept told copy′ e k l rs p long most room =
+run-done t base index isos i back budget value work work₁ work₂ mid part o o′ c x left r j row h f b less ej er eh ef eb yes′ wide copy says told em ep copy′ e k l rs p long most room =
     let g = begun t base index isos i back budget value j row h f b less ej er eh ef eb yes′ rs p in
-    ran-done work₁ work₂ o o′ n left r g (applied work g long most wide copy says) told room (omega (arith, kept, wide, long)) copy′ e k l
+    ran-done work₁ work₂ part o o′ c x left r g (applied work g long most wide copy says) told room (ep ∙ ap (drop c) em) copy′ e k l
 
-pub run-spent : (t : List ℕ) (base : ℕ) (index : List ℕ) (isos i : ℕ) (back : Bool) (budget : ℕ) (value work work₁ work₂ o : List ℕ) {z : D.Reduced} (r : R.Ran) (j row h f : ℕ) (b : Bool)
+pub run-spent : (t : List ℕ) (base : ℕ) (index : List ℕ) (isos i : ℕ) (back : Bool) (budget : ℕ) (value work work₁ work₂ o : List ℕ) {z : D.Given} (r : R.Ran) (j row h f : ℕ) (b : Bool)
     → i < isos → j ≡ cellOf t row f → row ≡ placeAt index h → h ≡ placeAt index i → f ≡ cond back 2 1 → b ≡ alone (behind (typeOf t j) value) → b ≡ true
     → length work₁ ≡ length work → (length value ≤ length value → length value ≤ length work → work₁ ≡ paste work 0 value (length value))
-    → ApplySays t base index back i work₁ work₂ 0 (length value) budget z → z ≡ reduced.Spent
+    → ApplySays t base index back i work₁ work₂ 0 (length value) 0 (length value) budget z → z ≡ given.Spent
     → refusalView (r .refusal) ≡ some spent → r .count ≡ 0 → r .length ≡ 0
     → (rs : List Row) → Prepared t base index isos rs → runRoom ≤ length work → length work ≤ workLength → resultLength ≤ length o → RanAs (answerFor rs i back budget value) o o r
 run-spent t base index isos i back budget value work work₁ work₂ o r j row h f b less ej er eh ef eb yes′ wide copy says told e k l rs p long most room =
@@ -256,10 +264,10 @@ front-spares work value e =
     }
 
 -- behind the frames of all isos the area is as it was
-pub run-spares : (t : List ℕ) (base : ℕ) (index : List ℕ) (isos i : ℕ) (back : Bool) (budget : ℕ) (value work work₁ work₂ : List ℕ) {z : D.Reduced} (j row h f : ℕ) (b : Bool)
+pub run-spares : (t : List ℕ) (base : ℕ) (index : List ℕ) (isos i : ℕ) (back : Bool) (budget : ℕ) (value work work₁ work₂ : List ℕ) {z : D.Given} (j row h f : ℕ) (b : Bool)
     → i < isos → j ≡ cellOf t row f → row ≡ placeAt index h → h ≡ placeAt index i → f ≡ cond back 2 1 → b ≡ alone (behind (typeOf t j) value) → b ≡ true
     → length work₁ ≡ length work → (length value ≤ length value → length value ≤ length work → work₁ ≡ paste work 0 value (length value))
-    → ApplySays t base index back i work₁ work₂ 0 (length value) budget z
+    → ApplySays t base index back i work₁ work₂ 0 (length value) 0 (length value) budget z
     → (rs : List Row) → Prepared t base index isos rs → runRoom ≤ length work → length work ≤ workLength → drop runRoom work₂ ≡ drop runRoom work
 run-spares t base index isos i back budget value work work₁ work₂ j row h f b less ej er eh ef eb yes′ wide copy says rs p long most =
     let g = begun t base index isos i back budget value j row h f b less ej er eh ef eb yes′ rs p in

@@ -12,14 +12,17 @@ use Rattle.format.specs.Code.{refusalView, numberOf}
 use Rattle.model.specs.Answers.{GoodRows}
 use Rattle.checker.specs.CheckSays.{Accepted}
 use Rattle.checker.specs.declared.Checked as C
+use Rattle.run_coding.specs.Coded.{Coded}
 use Rattle.run_index.specs.Index.{indexLength, isosAt}
 use Rattle.runner.specs.declared.run.Ran as R
 
--- what a run on a checked table assumes of it: it holds an accepted file's rows, and the index says where its isos and clauses begin
+-- what a run on a checked table assumes of it: it holds an accepted file's rows, the index says where its isos and clauses begin, and behind it
+-- stand flat patterns
 pub record Prepared (t : List ℕ) (base : ℕ) (index : List ℕ) (isos : ℕ) (rs : List Row) : Type 0 where
   pub good : GoodRows rs
   pub indexed : isosOf rs ≡ isosAt t base index 0 isos
   pub count : isos ≡ length (isosOf rs)
+  pub coded : Coded t base (drop indexLength index)
 
 -- the model's answer for the file's rows
 abbrev pub answerFor : List Row → ℕ → Bool → ℕ → List ℕ → RunAnswer

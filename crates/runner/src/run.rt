@@ -3,6 +3,8 @@
 use area_cells::byte_at;
 use area_cells::put_byte;
 use area_parts::clear_bytes;
+use area_parts::front;
+use area_parts::tail;
 use checker::Checked;
 use checker::check_file;
 use codes::ISO_FROM;
@@ -13,10 +15,12 @@ use limits::INDEX_LENGTH;
 use limits::MAX_LINES;
 use limits::RESULT_LENGTH;
 use limits::WORK_LENGTH;
+use run_coding::AREA_LENGTH;
+use run_coding::code_patterns;
 use run_direction::place;
 use run_direction::side;
 use run_index::index_isos;
-use run_reduction::Reduced;
+use run_reduction::Given;
 use run_reduction::apply;
 use run_values::is_value;
 use table_trees::cell;
@@ -24,6 +28,7 @@ ghost use mathlib.Core.Path.{_≡_};
 ghost use Prim.Native.Nat.{_-_, _≤_};
 ghost use lib.ListN.{length, drop};
 ghost use lib.Seq.{paste};
+ghost use Rattle.run_index.specs.Index.{indexLength};
 ghost use Rattle.runner.specs.RunSays.{OnChecked, OnAccepted, Prepares, answerFor, RanInto, RanWithin, RunSays};
 
 // A refusal or none, the number of applications, and the number of letters in the result area.
@@ -67,7 +72,8 @@ fn used(budget: u32, left: u32) -> u32
     0
 }
 
-// Indexes an accepted file, whose rows a check has left in the table.
+// Indexes an accepted file, whose rows a check has left in the table, and writes its patterns flat behind
+// the index, as far as there is room.
 pub fn prepare(table: &[u16], c: Checked, index: &mut [u16])
     ensures { λ r. ⌜
         Prepares (now (table .entry)) c (now (index .entry)) (now (index .exit))
@@ -81,7 +87,24 @@ pub fn prepare(table: &[u16], c: Checked, index: &mut [u16])
     if MAX_LINES < patterns {
         return;
     }
+    if index.len() < INDEX_LENGTH {
+        return;
+    }
+    let start = INDEX_LENGTH;
+    code_patterns(table, types, patterns, &mut index[start..]);
     index_isos(table, types + patterns, c.lines, c.isos, index);
+}
+
+// The numbers behind an index's.
+fn code_part(index: &[u16]) -> &[u16]
+    ensures { λ r. ⌜ now r ≡ drop indexLength (now (index .entry)) ⌝ }
+{
+    let n = index.len();
+    if n < INDEX_LENGTH {
+        return &index[n..];
+    }
+    let start = INDEX_LENGTH;
+    &index[start..]
 }
 
 // Runs iso i of a table that holds a checked file, whose isos the index finds. The work area needs
@@ -112,16 +135,33 @@ pub fn run_checked(
         return refused(Refusal::NoValue);
     }
     copy_front(value, value.len(), work);
-    match apply(t, base, index, back, i, work, 0, value.len(), budget) {
-        Reduced::Done(n, left) => {
-            copy_front(work, n, result);
+    let code = code_part(index);
+    let size = value.len();
+    match apply(
+        t,
+        base,
+        index,
+        code,
+        back,
+        i,
+        work,
+        0,
+        size,
+        0,
+        size,
+        budget,
+    ) {
+        Given::Range(b, e, left) => {
+            let letters = tail(front(work, e), b);
+            let n = letters.len();
+            copy_front(letters, n, result);
             Ran {
                 refusal: Refusal::Nothing,
                 count: used(budget, left),
                 length: n,
             }
         }
-        Reduced::Spent => refused(Refusal::Spent),
+        Given::Spent => refused(Refusal::Spent),
     }
 }
 
@@ -145,7 +185,7 @@ fn run_accepted(
         (now (result .entry)) (now (result .exit)) r)
         ⌝ }
 {
-    let mut index = [0u16; INDEX_LENGTH];
+    let mut index = [0u16; AREA_LENGTH];
     prepare(table, c, &mut index);
     run_checked(
         table,

@@ -8,7 +8,6 @@ use format::Answer;
 use format::Refusal;
 use format::is_refused;
 use format::number_of;
-use limits::INDEX_LENGTH;
 use limits::MAX_QUERIES;
 use limits::RESULT_LENGTH;
 use limits::TABLE_LENGTH;
@@ -16,6 +15,7 @@ use limits::WORK_LENGTH;
 use query_answers::answer_line;
 use read_fields::Cursor;
 use read_split::count_lines;
+use run_coding::AREA_LENGTH;
 use runner::run::Ran;
 use runner::run::prepare;
 ghost use mathlib.Core.Path.{_≡_};
@@ -178,7 +178,7 @@ fn answer_all(
         (now (numbers .entry)) (now (letters .entry)) (now (numbers .exit)) (now (letters .exit)))
         ⌝ }
 {
-    let mut index = [0u16; INDEX_LENGTH];
+    let mut index = [0u16; AREA_LENGTH];
     prepare(table, c, &mut index);
     answer_lines(
         table,

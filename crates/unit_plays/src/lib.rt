@@ -4,10 +4,10 @@ use area_parts::clear_bytes;
 use checker::Checked;
 use format::Refusal;
 use format::is_refused;
-use limits::INDEX_LENGTH;
 use limits::RUN_ROOM;
 use limits::WORK_LENGTH;
 use read_fields::Cursor;
+use run_coding::AREA_LENGTH;
 use runner::run::prepare;
 use unit_script::Plan;
 use unit_script::is_script;
@@ -98,7 +98,7 @@ fn play_all(
         (now (settings .entry)) (now (work .exit)) (now (lines .exit)) (now (settings .exit))
         ⌝ }
 {
-    let mut index = [0u16; INDEX_LENGTH];
+    let mut index = [0u16; AREA_LENGTH];
     prepare(table, c, &mut index);
     play_lines(
         table,

@@ -1,12 +1,15 @@
+use Prim.Native.Nat.{_-_}
 -- `run_index::with_clause` meets its contract: there is room in a file's C row, and its number is stored whole.
 use native.Mathlib.Omega.{arith}
 use Rattle.run_index.proofs.Indexing.{clause-room, clause-row}
+use mathlib.Core.Path.{refl}
+use Rattle.run_index.proofs.Tails.{tail-one}
 use borrow.Author.Needs.{needs}
 use Rattle.run_index.proofs.with_clause.Statement.{statement}
 use Rattle.run_index.proofs.with_clause.Tie as tie
 
 returns : tie.Need-returns
-returns c t rs types patterns lines f h e s = let room = clause-room f h s in absurd (omega arith)
+returns c = ((λ t rs types patterns lines f h e s. let room = clause-room f h s in absurd (omega arith)), λ a b. (refl, a, b))
 
 sub-slot : tie.Need-sub-slot
 sub-slot c = search needs
@@ -21,7 +24,7 @@ same-length : tie.Need-same-length
 same-length c = search needs
 
 returns-2 : tie.Need-returns-2
-returns-2 c t rs types patterns lines f h e s = clause-row f h s e (c .before .before .before .narrow .ensures) (c .before .before .store-word .ensures)
+returns-2 c = ((λ t rs types patterns lines f h e s. clause-row f h s e (c .before .before .before .narrow .ensures) (c .before .before .store-word .ensures)), λ a b. (tail-one (c .before .before .before .before .before .before .before .args .index .now) (c .before .before .before .before .before .before .before .args .l .first - 1) (c .before .before .before .narrow .result) (omega (arith, a)) (c .before .before .store-word .ensures), omega (arith, a), b))
 
 pub with-clause-spec : {M : Type 1} → statement M
 with-clause-spec =

@@ -1,15 +1,18 @@
+use Prim.Native.Nat.{_-_}
 -- `run_index::with_iso` meets its contract: there is room in a file's I row and an iso above, and both numbers are stored whole.
 use native.Mathlib.Omega.{arith}
 use Rattle.run_index.proofs.Indexing.{clause-room, iso-room, iso-row}
+use mathlib.Core.Path.{refl}
+use Rattle.run_index.proofs.Tails.{tail-two}
 use borrow.Author.Needs.{needs}
 use Rattle.run_index.proofs.with_iso.Statement.{statement}
 use Rattle.run_index.proofs.with_iso.Tie as tie
 
 returns : tie.Need-returns
-returns c t rs types patterns lines f h e s = let room = clause-room f h s in absurd (omega arith)
+returns c = ((λ t rs types patterns lines f h e s. let room = clause-room f h s in absurd (omega arith)), λ a b. (refl, a, b))
 
 returns-2 : tie.Need-returns-2
-returns-2 c t rs types patterns lines f h e s = let room = iso-room f h s e in absurd (omega arith)
+returns-2 c = ((λ t rs types patterns lines f h e s. let room = iso-room f h s e in absurd (omega arith)), λ a b. (refl, a, b))
 
 sub-slot : tie.Need-sub-slot
 sub-slot c = search needs
@@ -33,17 +36,7 @@ same-length : tie.Need-same-length
 same-length c = search needs
 
 returns-3 : tie.Need-returns-3
-returns-3 c t rs types patterns lines f h e s =
-    let b = c .before .before .before .before .before .before .before in
-    iso-row
-    f
-    h
-    s
-    e
-    (b .before .narrow .ensures)
-    (b .store-word .ensures)
-    (c .before .before .before .narrow2 .ensures)
-    (c .before .before .store-word2 .ensures)
+returns-3 c = ((λ t rs types patterns lines f h e s. iso-row f h s e (c .before .before .before .before .before .before .before .before .narrow .ensures) (c .before .before .before .before .before .before .before .store-word .ensures) (c .before .before .before .narrow2 .ensures) (c .before .before .store-word2 .ensures)), λ x y. (tail-two (c .before .before .before .before .before .before .before .before .before .before .before .before .before .args .index .now) (c .before .before .before .before .before .before .before .before .before .before .before .before .before .args .l .first - 1) (c .before .before .before .before .before .before .before .before .narrow .result) (c .before .before .before .before .before .before .before .before .before .before .before .before .before .args .l .isos - 1) (c .before .before .before .narrow2 .result) (omega (arith, x)) (c .before .before .before .before .before .before .before .store-word .ensures) (omega (arith, y)) (c .before .before .store-word2 .ensures), omega (arith, x), omega (arith, y)))
 
 pub with-iso-spec : {M : Type 1} → statement M
 with-iso-spec =

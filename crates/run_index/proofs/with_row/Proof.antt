@@ -1,5 +1,5 @@
 -- `run_index::with_row` meets its contract: a C row, an I row, or an L row, which leaves the index as it is.
-use mathlib.Core.Path.{sym, _∙_}
+use mathlib.Core.Path.{refl, sym, _∙_}
 use Rattle.run_index.proofs.Indexing.{other-row}
 use borrow.Author.Needs.{needs}
 use Rattle.run_index.proofs.with_row.Statement.{statement}
@@ -15,9 +15,9 @@ same-length : tie.Need-same-length
 same-length c = search needs
 
 returns : tie.Need-returns
-returns c rs types patterns lines f h late s =
+returns c =
     let b = c .before .before .before .before in
-    c .before .before .with-clause .ensures _ rs types patterns lines f h (sym (b .before .cell .ensures .0) ∙ b .if1 .taken) s
+    ((λ rs types patterns lines f h late s. c .before .before .with-clause .ensures .0 _ rs types patterns lines f h (sym (b .before .cell .ensures .0) ∙ b .if1 .taken) s), c .before .before .with-clause .ensures .1)
 
 with-iso-requires : tie.Need-with-iso-requires
 with-iso-requires c κs = search needs
@@ -26,12 +26,12 @@ same-length-2 : tie.Need-same-length-2
 same-length-2 c = search needs
 
 returns-2 : tie.Need-returns-2
-returns-2 c rs types patterns lines f h late s =
+returns-2 c =
     let b = c .before .before .before .before in
-    c .before .before .with-iso .ensures _ rs types patterns lines f h (sym (b .before .before .cell .ensures .0) ∙ b .if2 .taken) s
+    ((λ rs types patterns lines f h late s. c .before .before .with-iso .ensures .0 _ rs types patterns lines f h (sym (b .before .before .cell .ensures .0) ∙ b .if2 .taken) s), c .before .before .with-iso .ensures .1)
 
 returns-3 : tie.Need-returns-3
-returns-3 c rs types patterns lines f h late s = other-row f h s late (c .before .before .cell .ensures .0) (c .before .if1 .left) (c .if2 .left)
+returns-3 c = ((λ rs types patterns lines f h late s. other-row f h s late (c .before .before .cell .ensures .0) (c .before .if1 .left) (c .if2 .left)), λ a b. (refl, a, b))
 
 pub with-row-spec : {M : Type 1} → statement M
 with-row-spec =

@@ -1,10 +1,12 @@
-use Rattle.run_reduction.proofs.Framing.{Letting, applied-none, unmatched, apply-done, apply-spent, stepped-late, step-done, step-spent, letting-start, letting-next, lets-spent, lets-end, lets-fall, apply-falls, step-falls, rows-in, span-small}
-use Rattle.run_reduction.specs.Frames.{sidedLets}
-use mathlib.Core.Path.{_≡_, refl, sym, ap, _∙_}
-use lib.ListN.{length}
+use Prim.Native.Nat.{_+_, _-_, _*_}
 use native.Mathlib.Omega.{arith}
-use Prim.Native.Nat.{_+_, _-_, _*_, ℕ, _<_}
+use lib.ListN.{length}
+use mathlib.Core.Path.{_≡_, refl, sym, ap, _∙_}
+use Rattle.run_coding.specs.Coded.{Coded}
+use Rattle.run_reduction.specs.Frames.{sidedLets}
+use Rattle.run_reduction.proofs.Framing.{Letting, applied-none, unmatched, apply-done, apply-spent, stepped-late, step-done, step-spent, letting-start, letting-next, lets-spent, lets-end, lets-fall, apply-falls, step-falls, rows-in, span-small}
 use borrow.Author.Needs.{needs}
+use Prim.Native.Nat.{ℕ, _<_}
 use borrow.Fn.Kinds.{In}
 use borrow.Fn.PlainCycle.{Measures, is, falls, and}
 use Rattle.run_reduction.proofs.apply.Reads as apply
@@ -16,243 +18,954 @@ use Rattle.run_reduction.proofs.+apply+let_step+run_lets.Lts-let_step a
 use Rattle.run_reduction.proofs.run_lets.Reads as run-lets
 use Rattle.run_reduction.proofs.run_lets.Kinds as run-lets-kinds
 use Rattle.run_reduction.proofs.+apply+let_step+run_lets.Lts-run_lets as run-lets-lts
-use Rattle.table_trees.proofs.cell.Reads as cell-reads
+use Rattle.run_coding.proofs.match_again.Reads as match-again-reads
+use Rattle.run_direction.proofs.place.Reads as place-reads
+use Rattle.run_reduction.proofs.argument.Reads as argument-reads
 use Rattle.run_reduction.proofs.choose.Reads as choose-reads
+use Rattle.run_reduction.proofs.further.Reads as further-reads
+use Rattle.run_reduction.proofs.give.Reads as give-reads
 use Rattle.run_reduction.proofs.let_row.Reads as let-row-reads
 use Rattle.run_reduction.proofs.line.Reads as line-reads
 use Rattle.run_reduction.proofs.next_place.Reads as next-place-reads
-use Rattle.run_direction.proofs.place.Reads as place-reads
-use Rattle.run_reduction.proofs.put_result.Reads as put-result-reads
 use Rattle.run_reduction.proofs.span.Reads as span-reads
-use Rattle.run_patterns.proofs.build_at.Reads as build-at-reads
-use Rattle.run_patterns.proofs.match_at.Reads as match-at-reads
+use Rattle.table_trees.proofs.cell.Reads as cell-reads
 use Rattle.run_reduction.proofs.+apply+let_step+run_lets.{statement}
 use Rattle.run_reduction.proofs.+apply+let_step+run_lets.Tie.{close}
 
-abbrev μ-apply : Measures 3 apply-kinds.ps ℕ
-μ-apply κs a = 3 * (a .1 .1 .1 .1 .0) + 2
+abbrev μ-apply : Measures 4 apply-kinds.ps ℕ
+μ-apply κs a = 3 * (a .1 .1 .1 .1 .1 .0) + 2
 
-abbrev μ-let-step : Measures 4 let-step-kinds.ps ℕ
-μ-let-step κs a = 3 * (a .1 .1 .1 .1 .0)
+abbrev μ-let-step : Measures 5 let-step-kinds.ps ℕ
+μ-let-step κs a = 3 * (a .1 .1 .1 .1 .1 .0)
 
-abbrev μ-run-lets : Measures 4 run-lets-kinds.ps ℕ
-μ-run-lets κs a = 3 * (a .1 .1 .1 .1 .0) + 1
+abbrev μ-run-lets : Measures 5 run-lets-kinds.ps ℕ
+μ-run-lets κs a = 3 * (a .1 .1 .1 .1 .1 .0) + 1
 
-abbrev apply-at : ℕ → In 3 apply-kinds.ps
-apply-at t = and 3 apply-kinds.ps (is 3 apply-kinds.ps μ-apply t) apply.Pre
+abbrev apply-at : ℕ → In 4 apply-kinds.ps
+apply-at t = and 4 apply-kinds.ps (is 4 apply-kinds.ps μ-apply t) apply.Pre
 
-abbrev apply-below : ℕ → In 3 apply-kinds.ps
-apply-below t = and 3 apply-kinds.ps (falls 3 apply-kinds.ps _<_ μ-apply t) apply.Pre
+abbrev apply-below : ℕ → In 4 apply-kinds.ps
+apply-below t = and 4 apply-kinds.ps (falls 4 apply-kinds.ps _<_ μ-apply t) apply.Pre
 
-abbrev let-step-at : ℕ → In 4 let-step-kinds.ps
-let-step-at t = and 4 let-step-kinds.ps (is 4 let-step-kinds.ps μ-let-step t) let-step.Pre
+abbrev let-step-at : ℕ → In 5 let-step-kinds.ps
+let-step-at t = and 5 let-step-kinds.ps (is 5 let-step-kinds.ps μ-let-step t) let-step.Pre
 
-abbrev let-step-below : ℕ → In 4 let-step-kinds.ps
+abbrev let-step-below : ℕ → In 5 let-step-kinds.ps
 let-step-below t =
-    and 4 let-step-kinds.ps (falls 4 let-step-kinds.ps _<_ μ-let-step t) let-step.Pre
+    and 5 let-step-kinds.ps (falls 5 let-step-kinds.ps _<_ μ-let-step t) let-step.Pre
 
-abbrev run-lets-at : ℕ → In 4 run-lets-kinds.ps
-run-lets-at t = and 4 run-lets-kinds.ps (is 4 run-lets-kinds.ps μ-run-lets t) run-lets.Pre
+abbrev run-lets-at : ℕ → In 5 run-lets-kinds.ps
+run-lets-at t = and 5 run-lets-kinds.ps (is 5 run-lets-kinds.ps μ-run-lets t) run-lets.Pre
 
-abbrev run-lets-below : ℕ → In 4 run-lets-kinds.ps
+abbrev run-lets-below : ℕ → In 5 run-lets-kinds.ps
 run-lets-below t =
-    and 4 run-lets-kinds.ps (falls 4 run-lets-kinds.ps _<_ μ-run-lets t) run-lets.Pre
+    and 5 run-lets-kinds.ps (falls 5 run-lets-kinds.ps _<_ μ-run-lets t) run-lets.Pre
 
-abbrev ks-apply : ℕ → apply-lts.Claims
-ks-apply t = (place-reads.Asked, place-reads.Learnt, next-place-reads.Asked, next-place-reads.Learnt, choose-reads.Asked, choose-reads.Learnt, run-lets-below t, run-lets.Post, put-result-reads.Asked, put-result-reads.Learnt)
+-- src/lib.rt:338:9
+apply-returns : (t : ℕ) → apply-lts.Need-returns (
+  place-reads.Asked,
+  place-reads.Learnt,
+  next-place-reads.Asked,
+  next-place-reads.Learnt,
+  choose-reads.Asked,
+  choose-reads.Learnt,
+  run-lets-below t,
+  run-lets.Post,
+  line-reads.Asked,
+  line-reads.Learnt,
+  give-reads.Asked,
+  give-reads.Learnt,
+) (apply-at t) apply.Post
+apply-returns t c = λ z os d v w m laid run at′ e low over near room most. applied-none (c .if1 .taken) os d _ v m run
 
-abbrev ks-let-step : ℕ → let-step-lts.Claims
-ks-let-step t = (cell-reads.Asked, cell-reads.Learnt, line-reads.Asked, line-reads.Learnt, build-at-reads.Asked, build-at-reads.Learnt, apply-below t, apply.Post, match-at-reads.Asked, match-at-reads.Learnt)
+-- src/lib.rt:341:17
+apply-place-requires : (t : ℕ) → apply-lts.Need-place-requires (
+  place-reads.Asked,
+  place-reads.Learnt,
+  next-place-reads.Asked,
+  next-place-reads.Learnt,
+  choose-reads.Asked,
+  choose-reads.Learnt,
+  run-lets-below t,
+  run-lets.Post,
+  line-reads.Asked,
+  line-reads.Learnt,
+  give-reads.Asked,
+  give-reads.Learnt,
+) (apply-at t) apply.Post
+apply-place-requires t c κs = search needs
 
-abbrev ks-run-lets : ℕ → run-lets-lts.Claims
-ks-run-lets t = (span-reads.Asked, span-reads.Learnt, let-row-reads.Asked, let-row-reads.Learnt, let-step-below t, let-step.Post)
+-- src/lib.rt:341:17
+apply-add-first : (t : ℕ) → apply-lts.Need-add-low (
+  place-reads.Asked,
+  place-reads.Learnt,
+  next-place-reads.Asked,
+  next-place-reads.Learnt,
+  choose-reads.Asked,
+  choose-reads.Learnt,
+  run-lets-below t,
+  run-lets.Post,
+  line-reads.Asked,
+  line-reads.Learnt,
+  give-reads.Asked,
+  give-reads.Learnt,
+) (apply-at t) apply.Post
+apply-add-first t c = search needs
+
+-- src/lib.rt:342:9
+apply-next-place-requires : (t : ℕ) → apply-lts.Need-next-place-requires (
+  place-reads.Asked,
+  place-reads.Learnt,
+  next-place-reads.Asked,
+  next-place-reads.Learnt,
+  choose-reads.Asked,
+  choose-reads.Learnt,
+  run-lets-below t,
+  run-lets.Post,
+  line-reads.Asked,
+  line-reads.Learnt,
+  give-reads.Asked,
+  give-reads.Learnt,
+) (apply-at t) apply.Post
+apply-next-place-requires t c κs = search needs
+
+-- src/lib.rt:354:9
+apply-slice-aggregate-choose : (t : ℕ) → apply-lts.Need-slice-aggregate-choose (
+  place-reads.Asked,
+  place-reads.Learnt,
+  next-place-reads.Asked,
+  next-place-reads.Learnt,
+  choose-reads.Asked,
+  choose-reads.Learnt,
+  run-lets-below t,
+  run-lets.Post,
+  line-reads.Asked,
+  line-reads.Learnt,
+  give-reads.Asked,
+  give-reads.Learnt,
+) (apply-at t) apply.Post
+apply-slice-aggregate-choose t c = search needs
+
+-- src/lib.rt:343:9
+apply-choose-requires : (t : ℕ) → apply-lts.Need-choose-requires (
+  place-reads.Asked,
+  place-reads.Learnt,
+  next-place-reads.Asked,
+  next-place-reads.Learnt,
+  choose-reads.Asked,
+  choose-reads.Learnt,
+  run-lets-below t,
+  run-lets.Post,
+  line-reads.Asked,
+  line-reads.Learnt,
+  give-reads.Asked,
+  give-reads.Learnt,
+) (apply-at t) apply.Post
+apply-choose-requires t c κs = search needs
+
+-- src/lib.rt:357:9
+apply-same-length : (t : ℕ) → apply-lts.Need-same-length (
+  place-reads.Asked,
+  place-reads.Learnt,
+  next-place-reads.Asked,
+  next-place-reads.Learnt,
+  choose-reads.Asked,
+  choose-reads.Learnt,
+  run-lets-below t,
+  run-lets.Post,
+  line-reads.Asked,
+  line-reads.Learnt,
+  give-reads.Asked,
+  give-reads.Learnt,
+) (apply-at t) apply.Post
+apply-same-length t c = search needs
+
+-- src/lib.rt:357:9
+apply-returns-2 : (t : ℕ) → apply-lts.Need-returns-2 (
+  place-reads.Asked,
+  place-reads.Learnt,
+  next-place-reads.Asked,
+  next-place-reads.Learnt,
+  choose-reads.Asked,
+  choose-reads.Learnt,
+  run-lets-below t,
+  run-lets.Post,
+  line-reads.Asked,
+  line-reads.Learnt,
+  give-reads.Asked,
+  give-reads.Learnt,
+) (apply-at t) apply.Post
+apply-returns-2 t c = λ z. unmatched (c .before .before .before .before .before .before .before .before .before .before .before .before .args .t .now) (c .before .before .before .before .before .before .before .before .before .before .before .before .args .base) (c .before .before .before .before .before .before .before .before .before .before .before .before .args .index .now) (c .before .before .before .before .before .before .before .before .before .before .before .before .args .back) (c .before .before .before .before .before .before .before .before .before .before .before .before .args .i) (c .before .before .choose .result) (c .before .before .before .before .before .before .before .before .before .before .before .before .args .at) (c .before .before .before .before .before .before .before .before .before .before .before .before .args .end) (c .before .before .before .before .before .before .before .before .before .before .before .before .args .dest) (c .before .before .before .before .before .before .before .before .before .before .before .before .args .free) (c .before .before .before .before .before .before .before .before .before .before .before .before .args .left) (c .before .before .choose .ensures z) (c .before .before .before .before .before .before .place .ensures .0) (c .before .before .before .before .before .next-place .ensures .0) (c .if2 .taken)
+
+-- src/lib.rt:359:9
+apply-place-requires-2 : (t : ℕ) → apply-lts.Need-place-requires-2 (
+  place-reads.Asked,
+  place-reads.Learnt,
+  next-place-reads.Asked,
+  next-place-reads.Learnt,
+  choose-reads.Asked,
+  choose-reads.Learnt,
+  run-lets-below t,
+  run-lets.Post,
+  line-reads.Asked,
+  line-reads.Learnt,
+  give-reads.Asked,
+  give-reads.Learnt,
+) (apply-at t) apply.Post
+apply-place-requires-2 t c κs = search needs
+
+-- src/lib.rt:360:9
+apply-next-place-requires-2 : (t : ℕ) → apply-lts.Need-next-place-requires-2 (
+  place-reads.Asked,
+  place-reads.Learnt,
+  next-place-reads.Asked,
+  next-place-reads.Learnt,
+  choose-reads.Asked,
+  choose-reads.Learnt,
+  run-lets-below t,
+  run-lets.Post,
+  line-reads.Asked,
+  line-reads.Learnt,
+  give-reads.Asked,
+  give-reads.Learnt,
+) (apply-at t) apply.Post
+apply-next-place-requires-2 t c κs = search needs
+
+-- src/lib.rt:368:9
+apply-add-run-lets : (t : ℕ) → apply-lts.Need-add-run-lets (
+  place-reads.Asked,
+  place-reads.Learnt,
+  next-place-reads.Asked,
+  next-place-reads.Learnt,
+  choose-reads.Asked,
+  choose-reads.Learnt,
+  run-lets-below t,
+  run-lets.Post,
+  line-reads.Asked,
+  line-reads.Learnt,
+  give-reads.Asked,
+  give-reads.Learnt,
+) (apply-at t) apply.Post
+apply-add-run-lets t c = search needs
+
+-- src/lib.rt:372:9
+apply-slice-aggregate-run-lets : (t : ℕ) → apply-lts.Need-slice-aggregate-run-lets (
+  place-reads.Asked,
+  place-reads.Learnt,
+  next-place-reads.Asked,
+  next-place-reads.Learnt,
+  choose-reads.Asked,
+  choose-reads.Learnt,
+  run-lets-below t,
+  run-lets.Post,
+  line-reads.Asked,
+  line-reads.Learnt,
+  give-reads.Asked,
+  give-reads.Learnt,
+) (apply-at t) apply.Post
+apply-slice-aggregate-run-lets t c = search needs
+
+-- src/lib.rt:373:9
+apply-sub-run-lets : (t : ℕ) → apply-lts.Need-sub-run-lets (
+  place-reads.Asked,
+  place-reads.Learnt,
+  next-place-reads.Asked,
+  next-place-reads.Learnt,
+  choose-reads.Asked,
+  choose-reads.Learnt,
+  run-lets-below t,
+  run-lets.Post,
+  line-reads.Asked,
+  line-reads.Learnt,
+  give-reads.Asked,
+  give-reads.Learnt,
+) (apply-at t) apply.Post
+apply-sub-run-lets t c = search needs
+
+-- src/lib.rt:361:11
+apply-run-lets-requires : (t : ℕ) → apply-lts.Need-run-lets-requires (
+  place-reads.Asked,
+  place-reads.Learnt,
+  next-place-reads.Asked,
+  next-place-reads.Learnt,
+  choose-reads.Asked,
+  choose-reads.Learnt,
+  run-lets-below t,
+  run-lets.Post,
+  line-reads.Asked,
+  line-reads.Learnt,
+  give-reads.Asked,
+  give-reads.Learnt,
+) (apply-at t) apply.Post
+apply-run-lets-requires t c κs = (lets-fall (c .before .before .before .before .before .before .before .before .before .before .before .before .before .before .before .before .args .i) (c .before .before .before .before .before .before .before .before .before .before .before .before .before .before .before .before .pre .0), (rows-in (c .before .before .before .place2 .ensures .1), c .before .before .next-place2 .ensures .1))
+
+-- src/lib.rt:375:23
+apply-enum-known-top : (t : ℕ) → apply-lts.Need-enum-known-top (
+  place-reads.Asked,
+  place-reads.Learnt,
+  next-place-reads.Asked,
+  next-place-reads.Learnt,
+  choose-reads.Asked,
+  choose-reads.Learnt,
+  run-lets-below t,
+  run-lets.Post,
+  line-reads.Asked,
+  line-reads.Learnt,
+  give-reads.Asked,
+  give-reads.Learnt,
+) (apply-at t) apply.Post
+apply-enum-known-top t c = search needs
+
+-- src/lib.rt:376:17
+apply-line-requires : (t : ℕ) → apply-lts.Need-line-requires (
+  place-reads.Asked,
+  place-reads.Learnt,
+  next-place-reads.Asked,
+  next-place-reads.Learnt,
+  choose-reads.Asked,
+  choose-reads.Learnt,
+  run-lets-below t,
+  run-lets.Post,
+  line-reads.Asked,
+  line-reads.Learnt,
+  give-reads.Asked,
+  give-reads.Learnt,
+) (apply-at t) apply.Post
+apply-line-requires t c κs = search needs
+
+-- src/lib.rt:377:36
+apply-slice-aggregate-give : (t : ℕ) → apply-lts.Need-slice-aggregate-give (
+  place-reads.Asked,
+  place-reads.Learnt,
+  next-place-reads.Asked,
+  next-place-reads.Learnt,
+  choose-reads.Asked,
+  choose-reads.Learnt,
+  run-lets-below t,
+  run-lets.Post,
+  line-reads.Asked,
+  line-reads.Learnt,
+  give-reads.Asked,
+  give-reads.Learnt,
+) (apply-at t) apply.Post
+apply-slice-aggregate-give t c = search needs
+
+-- src/lib.rt:377:13
+apply-give-requires : (t : ℕ) → apply-lts.Need-give-requires (
+  place-reads.Asked,
+  place-reads.Learnt,
+  next-place-reads.Asked,
+  next-place-reads.Learnt,
+  choose-reads.Asked,
+  choose-reads.Learnt,
+  run-lets-below t,
+  run-lets.Post,
+  line-reads.Asked,
+  line-reads.Learnt,
+  give-reads.Asked,
+  give-reads.Learnt,
+) (apply-at t) apply.Post
+apply-give-requires t c κs = search needs
+
+-- src/lib.rt:379:27
+apply-enum-told : (t : ℕ) → apply-lts.Need-enum-told (
+  place-reads.Asked,
+  place-reads.Learnt,
+  next-place-reads.Asked,
+  next-place-reads.Learnt,
+  choose-reads.Asked,
+  choose-reads.Learnt,
+  run-lets-below t,
+  run-lets.Post,
+  line-reads.Asked,
+  line-reads.Learnt,
+  give-reads.Asked,
+  give-reads.Learnt,
+) (apply-at t) apply.Post
+apply-enum-told t c = search needs
+
+-- src/lib.rt:318:1
+apply-same-length-2 : (t : ℕ) → apply-lts.Need-same-length-2 (
+  place-reads.Asked,
+  place-reads.Learnt,
+  next-place-reads.Asked,
+  next-place-reads.Learnt,
+  choose-reads.Asked,
+  choose-reads.Learnt,
+  run-lets-below t,
+  run-lets.Post,
+  line-reads.Asked,
+  line-reads.Learnt,
+  give-reads.Asked,
+  give-reads.Learnt,
+) (apply-at t) apply.Post
+apply-same-length-2 t c = search needs
+
+-- src/lib.rt:318:1
+apply-returns-3 : (t : ℕ) → apply-lts.Need-returns-3 (
+  place-reads.Asked,
+  place-reads.Learnt,
+  next-place-reads.Asked,
+  next-place-reads.Learnt,
+  choose-reads.Asked,
+  choose-reads.Learnt,
+  run-lets-below t,
+  run-lets.Post,
+  line-reads.Asked,
+  line-reads.Learnt,
+  give-reads.Asked,
+  give-reads.Learnt,
+) (apply-at t) apply.Post
+apply-returns-3 t c = λ z. apply-done (c .before .before .before .before .before .before .before .before .before .before .before .before .before .before .before .before .before .before .before .before .before .before .before .before .before .before .before .before .before .args .t .now) (c .before .before .before .before .before .before .before .before .before .before .before .before .before .before .before .before .before .before .before .before .before .before .before .before .before .before .before .before .before .args .base) (c .before .before .before .before .before .before .before .before .before .before .before .before .before .before .before .before .before .before .before .before .before .before .before .before .before .before .before .before .before .args .index .now) (c .before .before .before .before .before .before .before .before .before .before .before .before .before .before .before .before .before .before .before .before .before .before .before .before .before .before .before .before .before .args .back) (c .before .before .before .before .before .before .before .before .before .before .before .before .before .before .before .before .before .before .before .before .before .before .before .before .before .before .before .before .before .args .i) (c .before .before .before .before .before .before .before .before .before .before .before .before .before .before .before .before .before .before .before .choose .result) (c .before .before .before .before .before .before .before .before .before .before .before .before .before .before .before .before .place2 .result) (c .before .before .before .before .before .before .before .before .before .before .before .before .before .before .before .next-place2 .result) (c .before .before .before .before .before .before .before .before .before .before .before .before .before .before .before .before .before .before .before .before .before .before .before .before .before .before .before .before .before .args .at) (c .before .before .before .before .before .before .before .before .before .before .before .before .before .before .before .before .before .before .before .before .before .before .before .before .before .before .before .before .before .args .end) (c .before .before .before .before .before .before .before .before .before .before .before .before .before .before .before .before .before .before .before .before .before .before .before .before .before .before .before .before .before .args .dest) (c .before .before .before .before .before .before .before .before .before .before .before .before .before .before .before .before .before .before .before .before .before .before .before .before .before .before .before .before .before .args .free) (c .before .before .before .before .before .before .before .before .before .before .before .before .before .before .before .before .before .before .before .before .before .before .before .before .before .before .before .before .before .args .left) (c .before .before .before .before .before .before .before .before .before .before .before .before .before .before .before .before .before .before .before .choose .ensures z) (c .before .before .before .before .before .before .before .before .before .before .before .before .before .before .before .before .before .before .before .before .before .before .before .place .ensures .0) (c .before .before .before .before .before .before .before .before .before .before .before .before .before .before .before .before .before .before .before .before .before .before .next-place .ensures .0) (c .before .before .before .before .before .before .before .before .before .before .before .before .before .before .before .before .place2 .ensures .0) (c .before .before .before .before .before .before .before .before .before .before .before .before .before .before .before .next-place2 .ensures .0) (c .before .before .before .before .before .before .before .before .before .before .before .before .before .before .before .before .before .before .before .before .before .before .before .before .if1 .left) (c .before .before .before .before .before .before .before .before .before .before .before .before .run-lets .ensures z) (c .before .before .before .before .before .before .before .top .given .1) (c .before .before .before .before .before .before .before .before .before .before .before .before .run-lets .kept .1 .1 .1 .1 .1 .1 .1 .1 .0) (c .before .before .before .before .before .line .ensures) (c .before .before .give .ensures z)
+
+-- src/lib.rt:318:1
+apply-same-length-3 : (t : ℕ) → apply-lts.Need-same-length-3 (
+  place-reads.Asked,
+  place-reads.Learnt,
+  next-place-reads.Asked,
+  next-place-reads.Learnt,
+  choose-reads.Asked,
+  choose-reads.Learnt,
+  run-lets-below t,
+  run-lets.Post,
+  line-reads.Asked,
+  line-reads.Learnt,
+  give-reads.Asked,
+  give-reads.Learnt,
+) (apply-at t) apply.Post
+apply-same-length-3 t c = search needs
+
+-- src/lib.rt:318:1
+apply-returns-4 : (t : ℕ) → apply-lts.Need-returns-4 (
+  place-reads.Asked,
+  place-reads.Learnt,
+  next-place-reads.Asked,
+  next-place-reads.Learnt,
+  choose-reads.Asked,
+  choose-reads.Learnt,
+  run-lets-below t,
+  run-lets.Post,
+  line-reads.Asked,
+  line-reads.Learnt,
+  give-reads.Asked,
+  give-reads.Learnt,
+) (apply-at t) apply.Post
+apply-returns-4 t c = λ z. apply-spent (c .before .before .before .before .before .before .before .before .before .before .before .before .before .before .before .before .before .before .before .before .before .before .args .t .now) (c .before .before .before .before .before .before .before .before .before .before .before .before .before .before .before .before .before .before .before .before .before .before .args .base) (c .before .before .before .before .before .before .before .before .before .before .before .before .before .before .before .before .before .before .before .before .before .before .args .index .now) (c .before .before .before .before .before .before .before .before .before .before .before .before .before .before .before .before .before .before .before .before .before .before .args .back) (c .before .before .before .before .before .before .before .before .before .before .before .before .before .before .before .before .before .before .before .before .before .before .args .i) (c .before .before .before .before .before .before .before .before .before .before .before .before .choose .result) (c .before .before .before .before .before .before .before .before .before .place2 .result) (c .before .before .before .before .before .before .before .before .next-place2 .result) (c .before .before .before .before .before .before .before .before .before .before .before .before .before .before .before .before .before .before .before .before .before .before .args .at) (c .before .before .before .before .before .before .before .before .before .before .before .before .before .before .before .before .before .before .before .before .before .before .args .end) (c .before .before .before .before .before .before .before .before .before .before .before .before .before .before .before .before .before .before .before .before .before .before .args .dest) (c .before .before .before .before .before .before .before .before .before .before .before .before .before .before .before .before .before .before .before .before .before .before .args .free) (c .before .before .before .before .before .before .before .before .before .before .before .before .before .before .before .before .before .before .before .before .before .before .args .left) (c .before .before .before .before .before .before .before .before .before .before .before .before .choose .ensures z) (c .before .before .before .before .before .before .before .before .before .before .before .before .before .before .before .before .place .ensures .0) (c .before .before .before .before .before .before .before .before .before .before .before .before .before .before .before .next-place .ensures .0) (c .before .before .before .before .before .before .before .before .before .place2 .ensures .0) (c .before .before .before .before .before .before .before .before .next-place2 .ensures .0) (c .before .before .before .before .before .before .before .before .before .before .before .before .before .before .before .before .before .if1 .left) (c .before .before .before .before .before .run-lets .ensures z) (c .enum-told .given .1)
+
+-- src/lib.rt:235:9
+let-step-cell-requires : (t : ℕ) → let-step-lts.Need-cell-requires (
+  cell-reads.Asked,
+  cell-reads.Learnt,
+  line-reads.Asked,
+  line-reads.Learnt,
+  argument-reads.Asked,
+  argument-reads.Learnt,
+  apply-below t,
+  apply.Post,
+  match-again-reads.Asked,
+  match-again-reads.Learnt,
+  further-reads.Asked,
+  further-reads.Learnt,
+) (let-step-at t) let-step.Post
+let-step-cell-requires t c κs = search needs
+
+-- src/lib.rt:237:9
+let-step-returns : (t : ℕ) → let-step-lts.Need-returns (
+  cell-reads.Asked,
+  cell-reads.Learnt,
+  line-reads.Asked,
+  line-reads.Learnt,
+  argument-reads.Asked,
+  argument-reads.Learnt,
+  apply-below t,
+  apply.Post,
+  match-again-reads.Asked,
+  match-again-reads.Learnt,
+  further-reads.Asked,
+  further-reads.Learnt,
+) (let-step-at t) let-step.Post
+let-step-returns t c = λ z os d l e f g u w m laid is less b small run little bound env room most. stepped-late (c .before .before .before .before .before .before .before .args .t .now) (c .before .before .before .before .before .before .before .args .base) (c .before .before .before .before .before .before .before .args .back) (c .before .before .before .before .before .before .before .args .i) (c .before .cell .result) (c .before .before .before .before .before .before .before .args .row) l is less (c .before .cell .ensures .0) (c .if1 .taken)
+
+-- src/lib.rt:239:9
+let-step-line-requires : (t : ℕ) → let-step-lts.Need-line-requires (
+  cell-reads.Asked,
+  cell-reads.Learnt,
+  line-reads.Asked,
+  line-reads.Learnt,
+  argument-reads.Asked,
+  argument-reads.Learnt,
+  apply-below t,
+  apply.Post,
+  match-again-reads.Asked,
+  match-again-reads.Learnt,
+  further-reads.Asked,
+  further-reads.Learnt,
+) (let-step-at t) let-step.Post
+let-step-line-requires t c κs = search needs
+
+-- src/lib.rt:240:9
+let-step-argument-requires : (t : ℕ) → let-step-lts.Need-argument-requires (
+  cell-reads.Asked,
+  cell-reads.Learnt,
+  line-reads.Asked,
+  line-reads.Learnt,
+  argument-reads.Asked,
+  argument-reads.Learnt,
+  apply-below t,
+  apply.Post,
+  match-again-reads.Asked,
+  match-again-reads.Learnt,
+  further-reads.Asked,
+  further-reads.Learnt,
+) (let-step-at t) let-step.Post
+let-step-argument-requires t c κs = search needs
+
+-- src/lib.rt:241:11
+let-step-apply-requires : (t : ℕ) → let-step-lts.Need-apply-requires (
+  cell-reads.Asked,
+  cell-reads.Learnt,
+  line-reads.Asked,
+  line-reads.Learnt,
+  argument-reads.Asked,
+  argument-reads.Learnt,
+  apply-below t,
+  apply.Post,
+  match-again-reads.Asked,
+  match-again-reads.Learnt,
+  further-reads.Asked,
+  further-reads.Learnt,
+) (let-step-at t) let-step.Post
+let-step-apply-requires t c κs = (apply-falls (c .before .before .before .before .before .before .before .before .before .before .before .before .before .before .args .i) (c .before .before .before .before .before .before .before .before .cell .result) (c .before .before .before .before .before .before .before .before .before .before .before .before .before .before .pre .0) (c .before .before .before .before .before .before .before .if1 .left), tt)
+
+-- src/lib.rt:255:22
+let-step-enum-known-b : (t : ℕ) → let-step-lts.Need-enum-known-b (
+  cell-reads.Asked,
+  cell-reads.Learnt,
+  line-reads.Asked,
+  line-reads.Learnt,
+  argument-reads.Asked,
+  argument-reads.Learnt,
+  apply-below t,
+  apply.Post,
+  match-again-reads.Asked,
+  match-again-reads.Learnt,
+  further-reads.Asked,
+  further-reads.Learnt,
+) (let-step-at t) let-step.Post
+let-step-enum-known-b t c = search needs
+
+-- src/lib.rt:256:17
+let-step-line-requires-2 : (t : ℕ) → let-step-lts.Need-line-requires-2 (
+  cell-reads.Asked,
+  cell-reads.Learnt,
+  line-reads.Asked,
+  line-reads.Learnt,
+  argument-reads.Asked,
+  argument-reads.Learnt,
+  apply-below t,
+  apply.Post,
+  match-again-reads.Asked,
+  match-again-reads.Learnt,
+  further-reads.Asked,
+  further-reads.Learnt,
+) (let-step-at t) let-step.Post
+let-step-line-requires-2 t c κs = search needs
+
+-- src/lib.rt:257:13
+let-step-match-again-requires : (t : ℕ) → let-step-lts.Need-match-again-requires (
+  cell-reads.Asked,
+  cell-reads.Learnt,
+  line-reads.Asked,
+  line-reads.Learnt,
+  argument-reads.Asked,
+  argument-reads.Learnt,
+  apply-below t,
+  apply.Post,
+  match-again-reads.Asked,
+  match-again-reads.Learnt,
+  further-reads.Asked,
+  further-reads.Learnt,
+) (let-step-at t) let-step.Post
+let-step-match-again-requires t c κs = search needs
+
+-- src/lib.rt:258:27
+let-step-further-requires : (t : ℕ) → let-step-lts.Need-further-requires (
+  cell-reads.Asked,
+  cell-reads.Learnt,
+  line-reads.Asked,
+  line-reads.Learnt,
+  argument-reads.Asked,
+  argument-reads.Learnt,
+  apply-below t,
+  apply.Post,
+  match-again-reads.Asked,
+  match-again-reads.Learnt,
+  further-reads.Asked,
+  further-reads.Learnt,
+) (let-step-at t) let-step.Post
+let-step-further-requires t c κs = search needs
+
+-- src/lib.rt:260:25
+let-step-enum-told : (t : ℕ) → let-step-lts.Need-enum-told (
+  cell-reads.Asked,
+  cell-reads.Learnt,
+  line-reads.Asked,
+  line-reads.Learnt,
+  argument-reads.Asked,
+  argument-reads.Learnt,
+  apply-below t,
+  apply.Post,
+  match-again-reads.Asked,
+  match-again-reads.Learnt,
+  further-reads.Asked,
+  further-reads.Learnt,
+) (let-step-at t) let-step.Post
+let-step-enum-told t c = search needs
+
+-- src/lib.rt:217:1
+let-step-same-length : (t : ℕ) → let-step-lts.Need-same-length (
+  cell-reads.Asked,
+  cell-reads.Learnt,
+  line-reads.Asked,
+  line-reads.Learnt,
+  argument-reads.Asked,
+  argument-reads.Learnt,
+  apply-below t,
+  apply.Post,
+  match-again-reads.Asked,
+  match-again-reads.Learnt,
+  further-reads.Asked,
+  further-reads.Learnt,
+) (let-step-at t) let-step.Post
+let-step-same-length t c = search needs
+
+-- src/lib.rt:217:1
+let-step-same-length-2 : (t : ℕ) → let-step-lts.Need-same-length-2 (
+  cell-reads.Asked,
+  cell-reads.Learnt,
+  line-reads.Asked,
+  line-reads.Learnt,
+  argument-reads.Asked,
+  argument-reads.Learnt,
+  apply-below t,
+  apply.Post,
+  match-again-reads.Asked,
+  match-again-reads.Learnt,
+  further-reads.Asked,
+  further-reads.Learnt,
+) (let-step-at t) let-step.Post
+let-step-same-length-2 t c = search needs
+
+-- src/lib.rt:217:1
+let-step-returns-2 : (t : ℕ) → let-step-lts.Need-returns-2 (
+  cell-reads.Asked,
+  cell-reads.Learnt,
+  line-reads.Asked,
+  line-reads.Learnt,
+  argument-reads.Asked,
+  argument-reads.Learnt,
+  apply-below t,
+  apply.Post,
+  match-again-reads.Asked,
+  match-again-reads.Learnt,
+  further-reads.Asked,
+  further-reads.Learnt,
+) (let-step-at t) let-step.Post
+let-step-returns-2 t c = λ z. step-done (c .before .before .before .before .before .before .before .before .before .before .before .before .before .before .before .before .before .before .before .before .before .before .before .before .before .before .before .args .t .now) (c .before .before .before .before .before .before .before .before .before .before .before .before .before .before .before .before .before .before .before .before .before .before .before .before .before .before .before .args .base) (c .before .before .before .before .before .before .before .before .before .before .before .before .before .before .before .before .before .before .before .before .before .before .before .before .before .before .before .args .index .now) (c .before .before .before .before .before .before .before .before .before .before .before .before .before .before .before .before .before .before .before .before .before .before .before .before .before .before .before .args .back) (c .before .before .before .before .before .before .before .before .before .before .before .before .before .before .before .before .before .before .before .before .before .before .before .before .before .before .before .args .row) (c .before .before .before .before .before .before .before .before .before .before .before .before .before .before .before .before .before .before .before .before .before .before .before .before .before .before .before .args .i) (c .before .before .before .before .before .before .before .before .before .before .before .before .before .before .before .before .before .before .before .before .before .cell .result) (c .before .before .before .before .before .before .before .before .before .before .before .before .before .before .before .before .before .before .before .before .before .cell .ensures .0) (c .before .before .before .before .before .before .before .before .before .before .before .before .before .before .before .before .before .before .before .line .ensures) (c .before .before .before .before .before .before .before .before .before .before .before .before .before .before .before .before .argument .ensures z) (c .before .before .before .before .before .before .before .before .before .before .before .before .before .before .before .before .argument .kept .1 .1 .1 .1 .1 .0) (c .before .before .before .before .before .before .before .before .before .before .before .before .apply .ensures z) (c .before .before .before .before .before .before .before .before .before .before .before .before .apply .kept .1 .1 .1 .1 .1 .1 .0) (c .before .before .before .before .before .before .before .before .b .given .1) (c .before .before .before .before .before .before .line2 .ensures) (λ v a y. c .before .before .before .match-again .ensures z v a y .1) (c .further .ensures)
+
+-- src/lib.rt:217:1
+let-step-same-length-3 : (t : ℕ) → let-step-lts.Need-same-length-3 (
+  cell-reads.Asked,
+  cell-reads.Learnt,
+  line-reads.Asked,
+  line-reads.Learnt,
+  argument-reads.Asked,
+  argument-reads.Learnt,
+  apply-below t,
+  apply.Post,
+  match-again-reads.Asked,
+  match-again-reads.Learnt,
+  further-reads.Asked,
+  further-reads.Learnt,
+) (let-step-at t) let-step.Post
+let-step-same-length-3 t c = search needs
+
+-- src/lib.rt:217:1
+let-step-same-length-4 : (t : ℕ) → let-step-lts.Need-same-length-4 (
+  cell-reads.Asked,
+  cell-reads.Learnt,
+  line-reads.Asked,
+  line-reads.Learnt,
+  argument-reads.Asked,
+  argument-reads.Learnt,
+  apply-below t,
+  apply.Post,
+  match-again-reads.Asked,
+  match-again-reads.Learnt,
+  further-reads.Asked,
+  further-reads.Learnt,
+) (let-step-at t) let-step.Post
+let-step-same-length-4 t c = search needs
+
+-- src/lib.rt:217:1
+let-step-returns-3 : (t : ℕ) → let-step-lts.Need-returns-3 (
+  cell-reads.Asked,
+  cell-reads.Learnt,
+  line-reads.Asked,
+  line-reads.Learnt,
+  argument-reads.Asked,
+  argument-reads.Learnt,
+  apply-below t,
+  apply.Post,
+  match-again-reads.Asked,
+  match-again-reads.Learnt,
+  further-reads.Asked,
+  further-reads.Learnt,
+) (let-step-at t) let-step.Post
+let-step-returns-3 t c = λ z. step-spent (c .before .before .before .before .before .before .before .before .before .before .before .before .before .before .before .before .before .before .before .args .t .now) (c .before .before .before .before .before .before .before .before .before .before .before .before .before .before .before .before .before .before .before .args .base) (c .before .before .before .before .before .before .before .before .before .before .before .before .before .before .before .before .before .before .before .args .index .now) (c .before .before .before .before .before .before .before .before .before .before .before .before .before .before .before .before .before .before .before .args .back) (c .before .before .before .before .before .before .before .before .before .before .before .before .before .before .before .before .before .before .before .args .row) (c .before .before .before .before .before .before .before .before .before .before .before .before .before .before .before .before .before .before .before .args .i) (c .before .before .before .before .before .before .before .before .before .before .before .before .before .cell .result) (c .before .before .before .before .before .before .before .before .before .before .before .before .before .cell .ensures .0) (c .before .before .before .before .before .before .before .before .before .before .before .line .ensures) (c .before .before .before .before .before .before .before .before .argument .ensures z) (c .before .before .before .before .before .before .before .before .argument .kept .1 .1 .1 .1 .1 .0) (c .before .before .before .before .apply .ensures z) (c .enum-told .given .1)
 
 abbrev run-lets-Inv-loop : run-lets-lts.InvT-loop
-run-lets-Inv-loop t base index back i from to work₀ end vars₀ budget n top₀ left₀ k₀ work vars top left k =
-    Letting t base index back i from n end budget work₀ vars₀ k top left work vars × (length vars ≡ length vars₀)
+run-lets-Inv-loop t base index code back i from to work₀ end vars₀ budget n top₀ left₀ k₀ work vars top left k = (Coded t base code → Letting t base index back i from n end budget work₀ vars₀ k top left work vars) × (length work ≡ length work₀) × (length vars ≡ length vars₀)
 
 abbrev run-lets-μ-loop : run-lets-lts.MeasureT-loop
-run-lets-μ-loop t base index back i from to work₀ end vars₀ budget n top₀ left₀ k₀ work vars top left k = n - k
+run-lets-μ-loop t base index code back i from to work₀ end vars₀ budget n top₀ left₀ k₀ work vars top left k = n - k
 
-apply-returns : (t : ℕ) → apply-lts.Need-returns (ks-apply t) (apply-at t) apply.Post
-apply-returns t c = λ os d v w m laid run at′ small e room most. applied-none (c .if1 .taken) os d _ v m run
+-- src/lib.rt:285:9
+run-lets-span-requires : (t : ℕ) → run-lets-lts.Need-span-requires (
+  span-reads.Asked,
+  span-reads.Learnt,
+  let-row-reads.Asked,
+  let-row-reads.Learnt,
+  let-step-below t,
+  let-step.Post,
+) (run-lets-at t) run-lets.Post run-lets-Inv-loop run-lets-μ-loop
+run-lets-span-requires t c κs = search needs
 
-apply-returns-2 : (t : ℕ) → apply-lts.Need-returns-2 (ks-apply t) (apply-at t) apply.Post
-apply-returns-2 t c =
-    let d = c .before .before .before .before .before in
-    let e = d .before .before .before .before .before .before in
-    let a = e .args in
-    unmatched (a .t .now) (a .base) (a .index .now) (a .back) (a .i) (c .before .before .choose .result) (a .at) (a .end) (a .left) (c .before .before .choose .ensures) (d .before .place .ensures .0) (d .next-place .ensures .0) (c .if2 .taken)
+-- src/lib.rt:289:5
+run-lets-loop-holds : (t : ℕ) → run-lets-lts.Need-loop-holds (
+  span-reads.Asked,
+  span-reads.Learnt,
+  let-row-reads.Asked,
+  let-row-reads.Learnt,
+  let-step-below t,
+  let-step.Post,
+) (run-lets-at t) run-lets.Post run-lets-Inv-loop run-lets-μ-loop
+run-lets-loop-holds t c = ((λ z. letting-start _ _ _ _ _ _ _ _ _ _ _), refl, refl)
 
-apply-run-lets-requires : (t : ℕ) → apply-lts.Need-run-lets-requires (ks-apply t) (apply-at t) apply.Post
-apply-run-lets-requires t c κs =
-    let d = c .before .before .before .before .before .before .before .before .before .before .before .before .before .before .before in
-    let a = d .args in
-    (lets-fall (a .i) (d .pre .0), (rows-in (c .before .before .before .place2 .ensures .1), c .before .before .next-place2 .ensures .1))
+-- src/lib.rt:297:13
+run-lets-let-row-requires : (t : ℕ) → run-lets-lts.Need-let-row-requires (
+  span-reads.Asked,
+  span-reads.Learnt,
+  let-row-reads.Asked,
+  let-row-reads.Learnt,
+  let-step-below t,
+  let-step.Post,
+) (run-lets-at t) run-lets.Post run-lets-Inv-loop run-lets-μ-loop
+run-lets-let-row-requires t c κs = (c .before .before .before .before .before .before .before .before .pre .1 .0, span-small (c .before .before .span .result) (c .before .before .before .before .before .before .before .before .args .from) (c .before .before .before .before .before .before .before .before .args .to) (c .before .before .span .ensures) (c .before .before .before .before .before .before .before .before .pre .1 .1), c .loop-test .taken)
 
-apply-returns-3 : (t : ℕ) → apply-lts.Need-returns-3 (ks-apply t) (apply-at t) apply.Post
-apply-returns-3 t c =
-    let d = c .before .before .before .before .before .before in
-    let e = d .before .before .before .before .before in
-    let f = e .before .before .before .before in
-    let g = f .before .before .before .before .before .before in
-    let h = g .before .before .before .before .before .before in
-    let a = h .args in
-    apply-done (a .t .now) (a .base) (a .index .now) (a .back) (a .i) (f .before .before .before .choose .result) (f .place2 .result) (e .before .before .before .next-place2 .result) (a .at) (a .end) (a .left) (f .before .before .before .choose .ensures) (g .before .place .ensures .0) (g .next-place .ensures .0) (f .place2 .ensures .0) (e .before .before .before .next-place2 .ensures .0) (g .before .before .if1 .left) (e .run-lets .ensures) (d .top .given .1) (e .run-lets .kept .1 .1 .1 .1 .1 .1 .1 .0) (c .before .before .put-result .ensures)
+-- src/lib.rt:290:15
+run-lets-let-step-requires : (t : ℕ) → run-lets-lts.Need-let-step-requires (
+  span-reads.Asked,
+  span-reads.Learnt,
+  let-row-reads.Asked,
+  let-row-reads.Learnt,
+  let-step-below t,
+  let-step.Post,
+) (run-lets-at t) run-lets.Post run-lets-Inv-loop run-lets-μ-loop
+run-lets-let-step-requires t c κs = (step-falls (c .before .before .before .before .before .before .before .before .before .before .before .args .i) (c .before .before .before .before .before .before .before .before .before .before .before .pre .0), tt)
 
-apply-returns-4 : (t : ℕ) → apply-lts.Need-returns-4 (ks-apply t) (apply-at t) apply.Post
-apply-returns-4 t c =
-    let d = c .before .before .before .before .before in
-    let e = d .before .before .before .before in
-    let f = e .before .before .before .before .before .before in
-    let g = f .before .before .before .before .before .before in
-    let a = g .args in
-    apply-spent (a .t .now) (a .base) (a .index .now) (a .back) (a .i) (e .before .before .before .choose .result) (e .place2 .result) (d .before .before .before .next-place2 .result) (a .at) (a .end) (a .left) (e .before .before .before .choose .ensures) (f .before .place .ensures .0) (f .next-place .ensures .0) (e .place2 .ensures .0) (d .before .before .before .next-place2 .ensures .0) (f .before .before .if1 .left) (d .run-lets .ensures) (c .enum-told .given .1)
+-- src/lib.rt:303:27
+run-lets-enum-known-e : (t : ℕ) → run-lets-lts.Need-enum-known-e (
+  span-reads.Asked,
+  span-reads.Learnt,
+  let-row-reads.Asked,
+  let-row-reads.Learnt,
+  let-step-below t,
+  let-step.Post,
+) (run-lets-at t) run-lets.Post run-lets-Inv-loop run-lets-μ-loop
+run-lets-enum-known-e t c = search needs
 
-let-step-returns : (t : ℕ) → let-step-lts.Need-returns (ks-let-step t) (let-step-at t) let-step.Post
-let-step-returns t c =
-    let d = c .before .before .before .before .before .before in
-    let a = d .args in
-    λ os d l e f g u w m laid is less b small run little bound env room most. stepped-late (a .t .now) (a .base) (a .back) (a .i) (c .before .cell .result) (a .row) l is less (c .before .cell .ensures .0) (c .if1 .taken)
+-- src/lib.rt:306:17
+run-lets-add-k : (t : ℕ) → run-lets-lts.Need-add-k (
+  span-reads.Asked,
+  span-reads.Learnt,
+  let-row-reads.Asked,
+  let-row-reads.Learnt,
+  let-step-below t,
+  let-step.Post,
+) (run-lets-at t) run-lets.Post run-lets-Inv-loop run-lets-μ-loop
+run-lets-add-k t c = search needs
 
-let-step-apply-requires : (t : ℕ) → let-step-lts.Need-apply-requires (ks-let-step t) (let-step-at t) let-step.Post
-let-step-apply-requires t c κs =
-    let d = c .before .before .before .before .before .before .before in
-    let e = d .before .before .before .before .before .before in
-    let a = e .args in
-    (apply-falls (a .i) (d .before .cell .result) (e .pre .0) (d .if1 .left), tt)
+-- src/lib.rt:289:5
+run-lets-loop-less : (t : ℕ) → run-lets-lts.Need-loop-less (
+  span-reads.Asked,
+  span-reads.Learnt,
+  let-row-reads.Asked,
+  let-row-reads.Learnt,
+  let-step-below t,
+  let-step.Post,
+) (run-lets-at t) run-lets.Post run-lets-Inv-loop run-lets-μ-loop
+run-lets-loop-less t c = let j = c .before .before .before .before .before .before .before .before .before .before .before .loop-test .taken in omega (arith, j)
 
-let-step-returns-2 : (t : ℕ) → let-step-lts.Need-returns-2 (ks-let-step t) (let-step-at t) let-step.Post
-let-step-returns-2 t c =
-    let d = c .before .before .before .before .before in
-    let e = d .before .before .before .before .before .before in
-    let f = e .before .before .before .before in
-    let g = f .before .before .before .before .before in
-    let h = g .before .before .before .before .before in
-    let a = h .args in
-    step-done (a .t .now) (a .base) (a .index .now) (a .back) (a .row) (a .i) (g .cell .result) (g .cell .ensures .0) (f .before .before .before .line .ensures) (f .build-at .ensures) (e .apply .ensures) (e .apply .kept .1 .1 .1 .1 .1 .0) (d .before .before .e .given .1) (d .line2 .ensures) (c .before .before .match-at .ensures .1)
+-- src/lib.rt:289:5
+run-lets-loop-again : (t : ℕ) → run-lets-lts.Need-loop-again (
+  span-reads.Asked,
+  span-reads.Learnt,
+  let-row-reads.Asked,
+  let-row-reads.Learnt,
+  let-step-below t,
+  let-step.Post,
+) (run-lets-at t) run-lets.Post run-lets-Inv-loop run-lets-μ-loop
+run-lets-loop-again t c = ((λ z. letting-next (c .before .e .given .1) (c .before .before .before .before .before .before .before .before .before .before .before .before .loop .inv .0 z) (c .before .before .before .before .before .before .before .before .before .before .before .loop-test .taken) (c .before .before .before .before .before .before .before .before .before .before .let-row .ensures) (c .before .before .before .before .before .before .before .let-step .kept .1 .1 .1 .1 .1 .1 .1 .0) (c .before .before .before .before .before .before .before .let-step .ensures z)), c .before .before .before .before .before .before .before .let-step .kept .1 .1 .1 .1 .1 .1 .1 .0 ∙ c .before .before .before .before .before .before .before .before .before .before .before .before .loop .inv .1, c .before .before .before .before .before .before .before .let-step .kept .1 .1 .1 .1 .1 .1 .1 .1 .1 .0 ∙ c .before .before .before .before .before .before .before .before .before .before .before .before .loop .inv .2)
 
-let-step-returns-3 : (t : ℕ) → let-step-lts.Need-returns-3 (ks-let-step t) (let-step-at t) let-step.Post
-let-step-returns-3 t c =
-    let d = c .before .before .before .before in
-    let e = d .before .before .before .before in
-    let f = e .before .before .before .before .before in
-    let g = f .before .before .before .before .before in
-    let a = g .args in
-    step-spent (a .t .now) (a .base) (a .index .now) (a .back) (a .row) (a .i) (f .cell .result) (f .cell .ensures .0) (e .before .before .before .line .ensures) (e .build-at .ensures) (d .apply .ensures) (c .enum-told .given .1)
+-- src/lib.rt:309:17
+run-lets-enum-told : (t : ℕ) → run-lets-lts.Need-enum-told (
+  span-reads.Asked,
+  span-reads.Learnt,
+  let-row-reads.Asked,
+  let-row-reads.Learnt,
+  let-step-below t,
+  let-step.Post,
+) (run-lets-at t) run-lets.Post run-lets-Inv-loop run-lets-μ-loop
+run-lets-enum-told t c = search needs
 
-run-lets-loop-holds : (t : ℕ) → run-lets-lts.Need-loop-holds (ks-run-lets t) (run-lets-at t) run-lets.Post run-lets-Inv-loop run-lets-μ-loop
-run-lets-loop-holds t c = (letting-start _ _ _ _ _ _ _ _ _ _ _, refl)
+-- src/lib.rt:309:17
+run-lets-same-length : (t : ℕ) → run-lets-lts.Need-same-length (
+  span-reads.Asked,
+  span-reads.Learnt,
+  let-row-reads.Asked,
+  let-row-reads.Learnt,
+  let-step-below t,
+  let-step.Post,
+) (run-lets-at t) run-lets.Post run-lets-Inv-loop run-lets-μ-loop
+run-lets-same-length t c = c .before .before .before .before .before .before .let-step .kept .1 .1 .1 .1 .1 .1 .1 .0 ∙ c .before .before .before .before .before .before .before .before .before .before .before .loop .inv .1
 
-run-lets-let-row-requires : (t : ℕ) → run-lets-lts.Need-let-row-requires (ks-run-lets t) (run-lets-at t) run-lets.Post run-lets-Inv-loop run-lets-μ-loop
-run-lets-let-row-requires t c κs =
-    let d = c .before .before .before .before .before .before .before in
-    let a = d .args in
-    (d .pre .1 .0, span-small (c .before .before .span .result) (a .from) (a .to) (c .before .before .span .ensures) (d .pre .1 .1), c .loop-test .taken)
+-- src/lib.rt:309:17
+run-lets-same-length-2 : (t : ℕ) → run-lets-lts.Need-same-length-2 (
+  span-reads.Asked,
+  span-reads.Learnt,
+  let-row-reads.Asked,
+  let-row-reads.Learnt,
+  let-step-below t,
+  let-step.Post,
+) (run-lets-at t) run-lets.Post run-lets-Inv-loop run-lets-μ-loop
+run-lets-same-length-2 t c = c .before .before .before .before .before .before .let-step .kept .1 .1 .1 .1 .1 .1 .1 .1 .1 .0 ∙ c .before .before .before .before .before .before .before .before .before .before .before .loop .inv .2
 
-run-lets-let-step-requires : (t : ℕ) → run-lets-lts.Need-let-step-requires (ks-run-lets t) (run-lets-at t) run-lets.Post run-lets-Inv-loop run-lets-μ-loop
-run-lets-let-step-requires t c κs =
-    let d = c .before .before .before .before .before .before .before .before .before .before in
-    let a = d .args in
-    (step-falls (a .i) (d .pre .0), tt)
+-- src/lib.rt:309:17
+run-lets-returns : (t : ℕ) → run-lets-lts.Need-returns (
+  span-reads.Asked,
+  span-reads.Learnt,
+  let-row-reads.Asked,
+  let-row-reads.Learnt,
+  let-step-below t,
+  let-step.Post,
+) (run-lets-at t) run-lets.Post run-lets-Inv-loop run-lets-μ-loop
+run-lets-returns t c = λ z os s ls r t w laid is. lets-spent (c .enum-told .given .1) (c .before .before .before .before .before .before .before .before .before .before .before .loop .inv .0 z) (c .before .before .before .before .before .before .before .before .before .before .loop-test .taken) (c .before .before .before .before .before .before .before .before .before .let-row .ensures) (c .before .before .before .before .before .before .let-step .ensures z) os s ls r t w laid (is ∙ ap (sidedLets (c .before .before .before .before .before .before .before .before .before .before .before .before .before .before .before .before .before .before .args .back) (c .before .before .before .before .before .before .before .before .before .before .before .before .before .before .before .before .before .before .args .t .now) (c .before .before .before .before .before .before .before .before .before .before .before .before .before .before .before .before .before .before .args .base) (c .before .before .before .before .before .before .before .before .before .before .before .before .before .before .before .before .before .before .args .from)) (sym (c .before .before .before .before .before .before .before .before .before .before .before .before .span .ensures)))
 
-run-lets-loop-less : (t : ℕ) → run-lets-lts.Need-loop-less (ks-run-lets t) (run-lets-at t) run-lets.Post run-lets-Inv-loop run-lets-μ-loop
-run-lets-loop-less t c =
-    let d = c .before .before .before .before .before .before .before .before .before .before .before in
-    let j = d .loop-test .taken in omega (arith, j)
+-- src/lib.rt:265:1
+run-lets-same-length-3 : (t : ℕ) → run-lets-lts.Need-same-length-3 (
+  span-reads.Asked,
+  span-reads.Learnt,
+  let-row-reads.Asked,
+  let-row-reads.Learnt,
+  let-step-below t,
+  let-step.Post,
+) (run-lets-at t) run-lets.Post run-lets-Inv-loop run-lets-μ-loop
+run-lets-same-length-3 t c = c .before .loop .inv .1
 
-run-lets-loop-again : (t : ℕ) → run-lets-lts.Need-loop-again (ks-run-lets t) (run-lets-at t) run-lets.Post run-lets-Inv-loop run-lets-μ-loop
-run-lets-loop-again t c =
-    let d = c .before .before .before .before .before .before .before in
-    let e = d .before .before .before .before in
-    (letting-next (c .before .e .given .1) (e .before .loop .inv .0) (e .loop-test .taken) (d .before .before .before .let-row .ensures) (d .let-step .kept .1 .1 .1 .1 .1 .1 .0) (d .let-step .ensures), d .let-step .kept .1 .1 .1 .1 .1 .1 .1 .1 .0 ∙ e .before .loop .inv .1)
+-- src/lib.rt:265:1
+run-lets-same-length-4 : (t : ℕ) → run-lets-lts.Need-same-length-4 (
+  span-reads.Asked,
+  span-reads.Learnt,
+  let-row-reads.Asked,
+  let-row-reads.Learnt,
+  let-step-below t,
+  let-step.Post,
+) (run-lets-at t) run-lets.Post run-lets-Inv-loop run-lets-μ-loop
+run-lets-same-length-4 t c = c .before .loop .inv .2
 
-run-lets-same-length : (t : ℕ) → run-lets-lts.Need-same-length (ks-run-lets t) (run-lets-at t) run-lets.Post run-lets-Inv-loop run-lets-μ-loop
-run-lets-same-length t c =
-    let d = c .before .before .before .before .before .before in
-    let e = d .before .before .before .before .before in
-    d .let-step .kept .1 .1 .1 .1 .1 .1 .0 ∙ e .loop .inv .0 .wide
-
-run-lets-same-length-2 : (t : ℕ) → run-lets-lts.Need-same-length-2 (ks-run-lets t) (run-lets-at t) run-lets.Post run-lets-Inv-loop run-lets-μ-loop
-run-lets-same-length-2 t c =
-    let d = c .before .before .before .before .before .before in
-    let e = d .before .before .before .before .before in
-    d .let-step .kept .1 .1 .1 .1 .1 .1 .1 .1 .0 ∙ e .loop .inv .1
-
-run-lets-returns : (t : ℕ) → run-lets-lts.Need-returns (ks-run-lets t) (run-lets-at t) run-lets.Post run-lets-Inv-loop run-lets-μ-loop
-run-lets-returns t c =
-    let d = c .before .before .before .before .before .before in
-    let e = d .before .before .before .before in
-    let f = e .before .before .before .before .before .before .before in
-    let a = f .args in
-    λ os s ls r t w laid is. lets-spent (c .enum-told .given .1) (e .before .loop .inv .0) (e .loop-test .taken) (d .before .before .before .let-row .ensures) (d .let-step .ensures) os s ls r t w laid (is ∙ ap (sidedLets (a .back) (a .t .now) (a .base) (a .from)) (sym (e .before .before .span .ensures)))
-
-run-lets-same-length-3 : (t : ℕ) → run-lets-lts.Need-same-length-3 (ks-run-lets t) (run-lets-at t) run-lets.Post run-lets-Inv-loop run-lets-μ-loop
-run-lets-same-length-3 t c = c .before .loop .inv .0 .wide
-
-run-lets-same-length-4 : (t : ℕ) → run-lets-lts.Need-same-length-4 (ks-run-lets t) (run-lets-at t) run-lets.Post run-lets-Inv-loop run-lets-μ-loop
-run-lets-same-length-4 t c = c .before .loop .inv .1
-
-run-lets-returns-2 : (t : ℕ) → run-lets-lts.Need-returns-2 (ks-run-lets t) (run-lets-at t) run-lets.Post run-lets-Inv-loop run-lets-μ-loop
-run-lets-returns-2 t c =
-    let d = c .before .before .before .before .before .before .before in
-    let a = d .args in
-    λ os s ls r t w laid is. lets-end (c .before .loop .inv .0) (c .loop-test .left) os s ls r t w laid (is ∙ ap (sidedLets (a .back) (a .t .now) (a .base) (a .from)) (sym (c .before .before .span .ensures)))
+-- src/lib.rt:265:1
+run-lets-returns-2 : (t : ℕ) → run-lets-lts.Need-returns-2 (
+  span-reads.Asked,
+  span-reads.Learnt,
+  let-row-reads.Asked,
+  let-row-reads.Learnt,
+  let-step-below t,
+  let-step.Post,
+) (run-lets-at t) run-lets.Post run-lets-Inv-loop run-lets-μ-loop
+run-lets-returns-2 t c = λ z os s ls r t w laid is. lets-end (c .before .loop .inv .0 z) (c .loop-test .left) os s ls r t w laid (is ∙ ap (sidedLets (c .before .before .before .before .before .before .before .before .args .back) (c .before .before .before .before .before .before .before .before .args .t .now) (c .before .before .before .before .before .before .before .before .args .base) (c .before .before .before .before .before .before .before .before .args .from)) (sym (c .before .before .span .ensures)))
 
 pub +apply+let-step+run-lets-spec : {M : Type 1} → statement M
-+apply+let-step+run-lets-spec = close μ-apply μ-let-step μ-run-lets (λ t. apply-lts.spec (ks-apply t)
++apply+let-step+run-lets-spec = close μ-apply μ-let-step μ-run-lets (λ t. apply-lts.spec (
+  place-reads.Asked,
+  place-reads.Learnt,
+  next-place-reads.Asked,
+  next-place-reads.Learnt,
+  choose-reads.Asked,
+  choose-reads.Learnt,
+  run-lets-below t,
+  run-lets.Post,
+  line-reads.Asked,
+  line-reads.Learnt,
+  give-reads.Asked,
+  give-reads.Learnt,
+)
     (apply-at t)
     apply.Post
     (apply-returns t)
-    (λ c κs. search needs)
-    (λ c. search needs)
-    (λ c κs. search needs)
-    (λ c. search needs)
-    (λ c κs. search needs)
-    (λ c. search needs)
+    (apply-place-requires t)
+    (apply-add-first t)
+    (apply-next-place-requires t)
+    (apply-slice-aggregate-choose t)
+    (apply-choose-requires t)
+    (apply-same-length t)
     (apply-returns-2 t)
-    (λ c κs. search needs)
-    (λ c κs. search needs)
-    (λ c. search needs)
-    (λ c. search needs)
-    (λ c. search needs)
+    (apply-place-requires-2 t)
+    (apply-next-place-requires-2 t)
+    (apply-add-run-lets t)
+    (apply-slice-aggregate-run-lets t)
+    (apply-sub-run-lets t)
     (apply-run-lets-requires t)
-    (λ c. search needs)
-    (λ c. search needs)
-    (λ c κs. search needs)
-    (λ c. search needs)
-    (λ c. search needs)
+    (apply-enum-known-top t)
+    (apply-line-requires t)
+    (apply-slice-aggregate-give t)
+    (apply-give-requires t)
+    (apply-enum-told t)
+    (apply-same-length-2 t)
     (apply-returns-3 t)
-    (λ c. search needs)
+    (apply-same-length-3 t)
     (apply-returns-4 t))
     (λ t. let-step-lts.spec (
       cell-reads.Asked,
       cell-reads.Learnt,
       line-reads.Asked,
       line-reads.Learnt,
-      build-at-reads.Asked,
-      build-at-reads.Learnt,
+      argument-reads.Asked,
+      argument-reads.Learnt,
       apply-below t,
       apply.Post,
-      match-at-reads.Asked,
-      match-at-reads.Learnt,
+      match-again-reads.Asked,
+      match-again-reads.Learnt,
+      further-reads.Asked,
+      further-reads.Learnt,
     )
     (let-step-at t)
     let-step.Post
-    (λ c κs. search needs)
+    (let-step-cell-requires t)
     (let-step-returns t)
-    (λ c κs. search needs)
-    (λ c κs. search needs)
+    (let-step-line-requires t)
+    (let-step-argument-requires t)
     (let-step-apply-requires t)
-    (λ c. search needs)
-    (λ c κs. search needs)
-    (λ c κs. search needs)
-    (λ c. search needs)
-    (λ c. search needs)
-    (λ c. search needs)
+    (let-step-enum-known-b t)
+    (let-step-line-requires-2 t)
+    (let-step-match-again-requires t)
+    (let-step-further-requires t)
+    (let-step-enum-told t)
+    (let-step-same-length t)
+    (let-step-same-length-2 t)
     (let-step-returns-2 t)
-    (λ c. search needs)
-    (λ c. search needs)
+    (let-step-same-length-3 t)
+    (let-step-same-length-4 t)
     (let-step-returns-3 t))
     λ t. run-lets-lts.spec (
       span-reads.Asked,
@@ -266,15 +979,15 @@ pub +apply+let-step+run-lets-spec : {M : Type 1} → statement M
     run-lets.Post
     run-lets-Inv-loop
     run-lets-μ-loop
-    (λ c κs. search needs)
+    (run-lets-span-requires t)
     (run-lets-loop-holds t)
     (run-lets-let-row-requires t)
     (run-lets-let-step-requires t)
-    (λ c. search needs)
-    (λ c. search needs)
+    (run-lets-enum-known-e t)
+    (run-lets-add-k t)
     (run-lets-loop-less t)
     (run-lets-loop-again t)
-    (λ c. search needs)
+    (run-lets-enum-told t)
     (run-lets-same-length t)
     (run-lets-same-length-2 t)
     (run-lets-returns t)

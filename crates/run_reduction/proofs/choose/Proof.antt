@@ -1,59 +1,73 @@
-use Rattle.run_reduction.proofs.Framing.{Choosing, side-found, choosing-start, choosing-next, choosing-found, choosing-end}
 use Rattle.run_reduction.specs.Frames.{sideAt}
-use mathlib.Core.Path.{sym, _∙_}
+use Rattle.run_reduction.proofs.Framing.{Choosing, side-found, choosing-start, choosing-next, choosing-found, choosing-end}
+use Rattle.run_coding.specs.Coded.{Coded}
+use lib.ListN.{length}
+use mathlib.Core.Path.{_≡_, refl, sym, _∙_}
 use native.Mathlib.Omega.{arith}
-use Prim.Native.Nat.{_-_}
+use Prim.Native.Nat.{_-_, _≤_}
 use borrow.Author.Needs.{needs}
 use Rattle.run_reduction.proofs.choose.Statement.{statement}
 use Rattle.run_reduction.proofs.choose.Tie as tie
+use Rattle.run_reduction.proofs.choose.Reads as reads
+use Rattle.run_reduction.proofs.choose.Lts as lts
+use Rattle.run_coding.proofs.match_line.Reads as match-line-reads
+use Rattle.run_direction.proofs.place.Reads as place-reads
+use Rattle.run_direction.proofs.side.Reads as side-reads
+use Rattle.table_trees.proofs.cell.Reads as cell-reads
 
 abbrev Inv-loop : tie.InvT-loop
-Inv-loop t base index back from stop work at end vars₀ field m₀ vars m = Choosing (sideAt t base index back) work at end from stop vars₀ vars m
+Inv-loop t base index code back from stop work at end vars₀ field m₀ vars m = (Coded t base code → Choosing (sideAt t base index back) work at end from stop vars₀ vars m) × (length vars ≡ length vars₀)
 
 abbrev μ-loop : tie.MeasureT-loop
-μ-loop t base index back from stop work at end vars₀ field m₀ vars m = stop - m
+μ-loop t base index code back from stop work at end vars₀ field m₀ vars m = stop - m
 
+-- src/lib.rt:88:9
 side-requires : tie.Need-side-requires Inv-loop μ-loop
 side-requires c κs = search needs
 
+-- src/lib.rt:90:5
 loop-holds : tie.Need-loop-holds Inv-loop μ-loop
-loop-holds c = choosing-start _ _ _ _ _ _ _
+loop-holds c = ((λ w. choosing-start _ _ _ _ _ _ _), refl)
 
+-- src/lib.rt:91:25
 place-requires : tie.Need-place-requires Inv-loop μ-loop
 place-requires c κs = search needs
 
+-- src/lib.rt:91:13
 cell-requires : tie.Need-cell-requires Inv-loop μ-loop
 cell-requires c κs = search needs
 
-match-at-requires : tie.Need-match-at-requires Inv-loop μ-loop
-match-at-requires c κs = search needs
+-- src/lib.rt:92:12
+match-line-requires : tie.Need-match-line-requires Inv-loop μ-loop
+match-line-requires c κs = search needs
 
-enum-told : tie.Need-enum-told Inv-loop μ-loop
-enum-told c = search needs
-
+-- src/lib.rt:93:13
 same-length : tie.Need-same-length Inv-loop μ-loop
-same-length c = c .before .before .before .before .match-at .kept .1 .1 .1 .1 .1 .1 .0 ∙ c .before .before .before .before .before .before .before .before .before .loop .inv .wide
+same-length c = c .before .before .before .match-line .kept .1 .1 .1 .1 .1 .1 .1 .0 ∙ c .before .before .before .before .before .before .before .before .loop .inv .1
 
+-- src/lib.rt:93:13
 returns : tie.Need-returns Inv-loop μ-loop
-returns c = choosing-found _ (c .before .before .before .before .before .before .before .before .before .loop .inv) (side-found (c .before .before .before .before .before .before .before .before .before .before .before .before .before .before .before .args .t .now) (c .before .before .before .before .before .before .before .before .before .before .before .before .before .before .before .args .base) (c .before .before .before .before .before .before .before .before .before .before .before .before .before .before .before .args .index .now) (c .before .before .before .before .before .before .before .before .before .before .before .before .before .before .before .args .back) (c .before .before .before .before .before .before .before .before .before .loop .m) (c .before .before .before .before .before .before .cell .ensures .0) (c .before .before .before .before .before .before .before .place .ensures .0) (c .before .before .before .before .before .before .before .before .before .before .side .ensures)) (λ v a z. sym (c .enum-told .given .1) ∙ c .before .before .before .before .match-at .ensures .0 v a z) (c .before .before .before .before .match-at .ensures .1)
+returns c = λ w. choosing-found _ (c .before .before .before .before .before .before .before .before .loop .inv .0 w) (side-found (c .before .before .before .before .before .before .before .before .before .before .before .before .before .before .before .args .t .now) (c .before .before .before .before .before .before .before .before .before .before .before .before .before .before .before .args .base) (c .before .before .before .before .before .before .before .before .before .before .before .before .before .before .before .args .index .now) (c .before .before .before .before .before .before .before .before .before .before .before .before .before .before .before .args .back) (c .before .before .before .before .before .before .before .before .loop .m) (c .before .before .before .before .before .cell .ensures .0) (c .before .before .before .before .before .before .place .ensures .0) (c .before .before .before .before .before .before .before .before .before .side .ensures)) (λ v a z. let g = c .before .before .before .match-line .ensures w v a z in (sym (c .if1 .taken) ∙ g .0, g .1))
 
-enum-told-2 : tie.Need-enum-told-2 Inv-loop μ-loop
-enum-told-2 c = search needs
-
+-- src/lib.rt:95:9
 add-m : tie.Need-add-m Inv-loop μ-loop
 add-m c = search needs
 
+-- src/lib.rt:90:5
 loop-less : tie.Need-loop-less Inv-loop μ-loop
-loop-less c = let h = c .before .before .before .before .before .before .before .before .loop-test .taken in omega (arith, h)
+loop-less c = let h = c .before .before .before .before .before .before .before .loop-test .taken in omega (arith, h)
 
+-- src/lib.rt:90:5
 loop-again : tie.Need-loop-again Inv-loop μ-loop
-loop-again c = choosing-next _ (c .before .before .before .before .before .before .before .before .before .loop .inv) (side-found (c .before .before .before .before .before .before .before .before .before .before .before .before .before .before .before .args .t .now) (c .before .before .before .before .before .before .before .before .before .before .before .before .before .before .before .args .base) (c .before .before .before .before .before .before .before .before .before .before .before .before .before .before .before .args .index .now) (c .before .before .before .before .before .before .before .before .before .before .before .before .before .before .before .args .back) (c .before .before .before .before .before .before .before .before .before .loop .m) (c .before .before .before .before .before .before .cell .ensures .0) (c .before .before .before .before .before .before .before .place .ensures .0) (c .before .before .before .before .before .before .before .before .before .before .side .ensures)) (c .before .before .before .before .match-at .kept .1 .1 .1 .1 .1 .1 .0) (λ v a z. sym (c .enum-told2 .given .1) ∙ c .before .before .before .before .match-at .ensures .0 v a z) (c .before .before .before .before .match-at .ensures .1)
+loop-again c = ((λ w. choosing-next _ (c .before .before .before .before .before .before .before .before .loop .inv .0 w) (side-found (c .before .before .before .before .before .before .before .before .before .before .before .before .before .before .before .args .t .now) (c .before .before .before .before .before .before .before .before .before .before .before .before .before .before .before .args .base) (c .before .before .before .before .before .before .before .before .before .before .before .before .before .before .before .args .index .now) (c .before .before .before .before .before .before .before .before .before .before .before .before .before .before .before .args .back) (c .before .before .before .before .before .before .before .before .loop .m) (c .before .before .before .before .before .cell .ensures .0) (c .before .before .before .before .before .before .place .ensures .0) (c .before .before .before .before .before .before .before .before .before .side .ensures)) (c .before .before .before .match-line .kept .1 .1 .1 .1 .1 .1 .1 .0) (λ v a z. let g = c .before .before .before .match-line .ensures w v a z in (sym (c .if1 .left) ∙ g .0, g .1))), c .before .before .before .match-line .kept .1 .1 .1 .1 .1 .1 .1 .0 ∙ c .before .before .before .before .before .before .before .before .loop .inv .1)
 
+-- src/lib.rt:70:1
 same-length-2 : tie.Need-same-length-2 Inv-loop μ-loop
-same-length-2 c = c .before .loop .inv .wide
+same-length-2 c = c .before .loop .inv .1
 
+-- src/lib.rt:70:1
 returns-2 : tie.Need-returns-2 Inv-loop μ-loop
-returns-2 c = choosing-end (c .before .loop .inv) (c .loop-test .left)
+returns-2 c = λ w. choosing-end (c .before .loop .inv .0 w) (c .loop-test .left)
 
 pub choose-spec : {M : Type 1} → statement M
 choose-spec =
@@ -65,11 +79,9 @@ choose-spec =
     loop-holds
     place-requires
     cell-requires
-    match-at-requires
-    enum-told
+    match-line-requires
     same-length
     returns
-    enum-told-2
     add-m
     loop-less
     loop-again

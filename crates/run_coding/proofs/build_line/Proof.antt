@@ -1,0 +1,49 @@
+use Rattle.run_coding.proofs.Reading.{built-var}
+use borrow.Author.Needs.{needs}
+use Rattle.run_coding.proofs.build_line.Statement.{statement}
+use Rattle.run_coding.proofs.build_line.Tie as tie
+use Rattle.run_coding.proofs.build_line.Reads as reads
+use Rattle.run_coding.proofs.build_line.Lts as lts
+use Rattle.run_coding.proofs.build_other.Reads as build-other-reads
+use Rattle.run_coding.proofs.variable.Reads as variable-reads
+use Rattle.run_flat.proofs.build_var.Reads as build-var-reads
+
+-- src/lib.rt:318:9
+variable-requires : tie.Need-variable-requires
+variable-requires c κs = search needs
+
+-- src/lib.rt:320:9
+build-var-requires : tie.Need-build-var-requires
+build-var-requires c κs = search needs
+
+-- src/lib.rt:320:9
+same-length : tie.Need-same-length
+same-length c = search needs
+
+-- src/lib.rt:320:9
+returns : tie.Need-returns
+returns c = λ w top b low. built-var (c .before .before .before .before .before .before .before .before .before .before .args .t .now) (c .before .before .before .before .before .before .before .before .before .before .args .base) (c .before .before .before .before .before .before .before .before .before .before .args .j) (c .before .before .before .before .before .before .before .before .before .before .args .vars .now) (c .before .before .before .before .before .before .before .before .before .before .args .work .now) top (c .before .before .before .before .before .variable .ensures .0) (c .before .before .before .before .if1 .taken) w (c .before .before .build-var .ensures top b low)
+
+-- src/lib.rt:322:5
+build-other-requires : tie.Need-build-other-requires
+build-other-requires c κs = search needs
+
+-- src/lib.rt:302:1
+same-length-2 : tie.Need-same-length-2
+same-length-2 c = search needs
+
+-- src/lib.rt:302:1
+returns-2 : tie.Need-returns-2
+returns-2 c = search needs
+
+pub build-line-spec : {M : Type 1} → statement M
+build-line-spec =
+    tie.close
+    (tie.spec
+    variable-requires
+    build-var-requires
+    same-length
+    returns
+    build-other-requires
+    same-length-2
+    returns-2)

@@ -1,0 +1,110 @@
+use Prim.Native.Nat.{ℕ, _+_, _-_, _≤_}
+use native.Mathlib.Omega.{arith}
+use mathlib.Core.Path.{_≡_, refl, _∙_}
+use lib.ListN.{length, take}
+use Rattle.calculus.specs.Trees.{Pat}
+use Rattle.run_values.specs.Texts.{Below, built}
+use Rattle.run_flat.specs.Flat.{Stands}
+use Rattle.run_flat.proofs.Writing.{Written, written-start, written-stop, written-within, written-var, written-letter}
+use borrow.Author.Needs.{needs}
+use Rattle.run_flat.proofs.build_flat.Statement.{statement}
+use Rattle.run_flat.proofs.build_flat.Tie as tie
+use Rattle.run_flat.proofs.build_flat.Reads as reads
+use Rattle.run_flat.proofs.build_flat.Lts as lts
+use Rattle.area_cells.proofs.put_byte.Reads as put-byte-reads
+use Rattle.area_words.proofs.wide.Reads as wide-reads
+use Rattle.run_flat.proofs.build_var.Reads as build-var-reads
+use Rattle.run_flat.proofs.narrower.Reads as narrower-reads
+
+abbrev Inv-loop : tie.InvT-loop
+Inv-loop code p vars work₀ from k₀ at₀ work k at = ((q : Pat) (top : ℕ) → Stands code p q → Below vars top → top ≤ from → from + length (built q (take top work₀) vars) ≤ length work₀ → Written code work₀ top vars from (built q (take top work₀) vars) k work at) × (length work ≡ length work₀)
+
+abbrev μ-loop : tie.MeasureT-loop
+μ-loop code p vars work₀ from k₀ at₀ work k at = length code - k
+
+-- src/lib.rt:169:5
+loop-holds : tie.Need-loop-holds Inv-loop μ-loop
+loop-holds c = (λ q top st b low fits. written-start top _ _ st, refl)
+
+-- src/lib.rt:170:17
+mul-o : tie.Need-mul-o Inv-loop μ-loop
+mul-o c = search needs
+
+-- src/lib.rt:170:17
+shared-slice-read-o : tie.Need-shared-slice-read-o Inv-loop μ-loop
+shared-slice-read-o c = search needs
+
+-- src/lib.rt:171:9
+add-k : tie.Need-add-k Inv-loop μ-loop
+add-k c = search needs
+
+-- src/lib.rt:173:28
+wide-requires : tie.Need-wide-requires Inv-loop μ-loop
+wide-requires c κs = search needs
+
+-- src/lib.rt:173:13
+build-var-requires : tie.Need-build-var-requires Inv-loop μ-loop
+build-var-requires c κs = search needs
+
+-- src/lib.rt:169:5
+loop-less : tie.Need-loop-less Inv-loop μ-loop
+loop-less c = search needs
+
+-- src/lib.rt:169:5
+loop-again : tie.Need-loop-again Inv-loop μ-loop
+loop-again c = (λ q top st b low fits. written-var (c .before .before .before .before .before .before .before .before .loop .inv .0 q top st b low fits) refl (c .before .before .before .before .before .if1 .taken) (c .before .before .before .before .wide .ensures .0) low fits (c .before .before .build-var .ensures top b), c .before .before .build-var .kept .1 .1 .0 ∙ c .before .before .before .before .before .before .before .before .loop .inv .1)
+
+-- src/lib.rt:177:13
+same-length : tie.Need-same-length Inv-loop μ-loop
+same-length c = c .before .before .before .before .loop .inv .1
+
+-- src/lib.rt:177:13
+returns : tie.Need-returns Inv-loop μ-loop
+returns c = λ q top st b low fits. written-stop (c .before .before .before .before .loop .inv .0 q top st b low fits) (c .if2 .taken) fits
+
+-- src/lib.rt:179:33
+narrower-requires : tie.Need-narrower-requires Inv-loop μ-loop
+narrower-requires c κs = search needs
+
+-- src/lib.rt:179:9
+put-byte-requires : tie.Need-put-byte-requires Inv-loop μ-loop
+put-byte-requires c κs = search needs
+
+-- src/lib.rt:169:5
+loop-less-2 : tie.Need-loop-less-2 Inv-loop μ-loop
+loop-less-2 c = search needs
+
+-- src/lib.rt:169:5
+loop-again-2 : tie.Need-loop-again-2 Inv-loop μ-loop
+loop-again-2 c = (λ q top st b low fits. written-letter (c .before .before .before .before .before .before .before .before .before .loop .inv .0 q top st b low fits) refl (c .before .before .before .before .before .before .if1 .left) (c .before .before .before .before .before .if2 .left) (c .before .before .before .narrower .ensures) (c .before .before .put-byte .ensures .0) (c .before .before .put-byte .ensures .1), c .before .before .put-byte .kept .0 ∙ c .before .before .before .before .before .before .before .before .before .loop .inv .1)
+
+-- src/lib.rt:159:1
+same-length-2 : tie.Need-same-length-2 Inv-loop μ-loop
+same-length-2 c = c .before .loop .inv .1
+
+-- src/lib.rt:159:1
+returns-2 : tie.Need-returns-2 Inv-loop μ-loop
+returns-2 c = λ q top st b low fits. let w = written-within (c .before .loop .inv .0 q top st b low fits) in absurd (omega (arith, w, c .loop-test .left))
+
+pub build-flat-spec : {M : Type 1} → statement M
+build-flat-spec =
+    tie.close
+    (tie.spec
+    Inv-loop
+    μ-loop
+    loop-holds
+    mul-o
+    shared-slice-read-o
+    add-k
+    wide-requires
+    build-var-requires
+    loop-less
+    loop-again
+    same-length
+    returns
+    narrower-requires
+    put-byte-requires
+    loop-less-2
+    loop-again-2
+    same-length-2
+    returns-2)

@@ -1,0 +1,182 @@
+// Patterns that stand flat, in prefix order, among numbers: matching one with a value, and building a
+// value from one, each in one loop. A variable's value is a range of the area: number n's begins at
+// `vars[n]` and ends before `vars[32 + n]`.
+
+use area_cells::put_byte;
+use area_words::narrow;
+use area_words::store_word;
+use area_words::wide;
+use area_words::word_at;
+use codes::LETTER_PAIR;
+use codes::LETTER_UNIT;
+use limits::VARIABLES;
+use run_values::copy_range;
+ghost use mathlib.Core.Path.{_≡_};
+ghost use mathlib.Core.Bool.{cond};
+ghost use Prim.Native.Nat.{ℕ, _+_, _-_, _%_, _≤_, _<_};
+ghost use lib.Dec.{eqb};
+ghost use lib.ListN.{length, getD, take};
+ghost use lib.Seq.{sets};
+ghost use Rattle.limits.specs.Limits.{fieldBound};
+ghost use Rattle.calculus.specs.Trees.{Pat, Val};
+ghost use Rattle.calculus.specs.Letters.{letters, letterU, letterP};
+ghost use Rattle.area_cells.specs.Areas.{Writes};
+ghost use Rattle.run_values.specs.Texts.{At, alike, putRange, ranges, rangeOf, built, Below};
+ghost use Rattle.run_flat.specs.Flat.{Stands};
+
+// The number behind a pattern's last one.
+pub const STOP: u16 = 128;
+
+// How many values come behind the one that is begun, once a letter is read, where `more` came before.
+fn more_after(b: u8, more: usize) -> usize
+    requires { ⌜ more < 18446744073709551615 ⌝ }
+    ensures { λ r. ⌜ r ≡ cond (eqb b letterU) (more - 1) (cond (eqb b letterP) (more + 1) more) ⌝ }
+{
+    if b == LETTER_UNIT {
+        if 0 < more {
+            return more - 1;
+        }
+        return 0;
+    }
+    if b == LETTER_PAIR {
+        return more + 1;
+    }
+    more
+}
+
+// Where the value ends that begins at a place.
+fn value_end(s: &[u8], at: usize) -> usize
+    ensures { λ r. ⌜ ((v : Val) → At (now (s .entry)) at v → r ≡ at + length (letters v)) ⌝ }
+{
+    let mut i = at;
+    let mut more: usize = 0;
+    while i < s.len() {
+        let b = s[i];
+        if b == LETTER_UNIT {
+            if more == 0 {
+                return i + 1;
+            }
+        }
+        more = more_after(b, more);
+        i += 1;
+    }
+    i
+}
+
+// Variable n stands for the letters from a place up to another.
+pub fn put_range(vars: &mut [u16], n: usize, from: usize, to: usize)
+    ensures { λ r. ⌜ now (vars .exit) ≡ putRange (now (vars .entry)) n from to ⌝ }
+{
+    if n < VARIABLES {
+        store_word(vars, n, narrow(from));
+        store_word(vars, VARIABLES + n, narrow(to));
+    }
+}
+
+// Where the value at a place ends: `end`, if the pattern ends with number k.
+fn flat_end(code: &[u16], k: usize, s: &[u8], at: usize, end: usize) -> usize
+    ensures { λ r. ⌜
+        ((v : Val) → At (now (s .entry)) at v → (getD (now (code .entry)) k 0 ≡ 128 → end ≡ at + length (letters v))
+        → r ≡ at + length (letters v))
+        ⌝ }
+{
+    if word_at(code, k) == STOP {
+        return end;
+    }
+    value_end(s, at)
+}
+
+// A letter of 8 bits as a number of 16.
+fn wider(b: u8) -> u16
+    ensures { λ r. ⌜ r ≡ b ⌝ }
+{
+    b as u16
+}
+
+// Matches the pattern that stands flat from place p on with the value from a place up to `end`: whether
+// it is of its shape, and the ranges of the pattern's variables.
+pub fn match_flat(
+    code: &[u16],
+    p: usize,
+    s: &[u8],
+    from: usize,
+    end: usize,
+    vars: &mut [u16],
+) -> bool
+    ensures { λ r. ⌜
+        ((q : Pat) (v : Val) → Stands (now (code .entry)) p q → At (now (s .entry)) from v
+        → end ≡ from + length (letters v)
+        → (r ≡ alike q v) × (now (vars .exit) ≡ ranges q v from (now (vars .entry))))
+        ⌝ }
+{
+    let mut k = p;
+    let mut at = from;
+    while k < code.len() {
+        let o = code[k];
+        k += 1;
+        if o < 32 {
+            let to = flat_end(code, k, s, at, end);
+            put_range(vars, wide(o), at, to);
+            at = to;
+            continue;
+        }
+        if o == STOP {
+            return true;
+        }
+        if s.len() <= at {
+            return false;
+        }
+        if wider(s[at]) != o {
+            return false;
+        }
+        at += 1;
+    }
+    true
+}
+
+// Writes the letters that variable n stands for; gives where they end.
+pub fn build_var(n: usize, vars: &[u16], work: &mut [u8], at: usize) -> usize
+    requires { ⌜ n < fieldBound ⌝ }
+    ensures { λ r. ⌜
+        ((top : ℕ) → Below (now (vars .entry)) top → top ≤ at
+        → Writes (now (work .entry)) (now (work .exit)) at r
+        (rangeOf (take top (now (work .entry))) (now (vars .entry)) n))
+        ⌝ }
+{
+    let from = wide(word_at(vars, n));
+    copy_range(work, from, wide(word_at(vars, VARIABLES + n)), at)
+}
+
+// A letter of 16 bits as one of 8.
+fn narrower(o: u16) -> u8
+    ensures { λ r. ⌜ r ≡ o % 256 ⌝ }
+{
+    (o % 256) as u8
+}
+
+// Writes the pattern that stands flat from place p on with its variables' values put in; gives where it
+// ends.
+pub fn build_flat(code: &[u16], p: usize, vars: &[u16], work: &mut [u8], from: usize) -> usize
+    ensures { λ r. ⌜
+        ((q : Pat) (top : ℕ) → Stands (now (code .entry)) p q → Below (now (vars .entry)) top → top ≤ from
+        → from + length (built q (take top (now (work .entry))) (now (vars .entry))) ≤ length (now (work .entry))
+        → (now (work .exit) ≡ sets (now (work .entry)) from (built q (take top (now (work .entry))) (now (vars .entry))))
+        × (r ≡ from + length (built q (take top (now (work .entry))) (now (vars .entry)))))
+        ⌝ }
+{
+    let mut k = p;
+    let mut at = from;
+    while k < code.len() {
+        let o = code[k];
+        k += 1;
+        if o < 32 {
+            at = build_var(wide(o), vars, work, at);
+            continue;
+        }
+        if o == STOP {
+            return at;
+        }
+        at = put_byte(work, at, narrower(o));
+    }
+    at
+}
