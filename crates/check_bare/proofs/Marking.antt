@@ -189,6 +189,11 @@ typing-all w h = record { types = λ i l. w .found .types i (omega arith) }
 pub patterning-all : {t g₀ g : List ℕ} {base n j : ℕ} → Patterning t g₀ g base n j → n ≤ j → Patterns t base g n
 patterning-all w h = record { patterns = λ i l. w .found .patterns i (omega arith) }
 
+-- ---- hints
+
+pub stored-long : (g : List ℕ) (i v : ℕ) {k : List ℕ} {n : ℕ} → k ≡ set g i v → length g ≡ n → length k ≡ n
+stored-long g i v e h = ap length e ∙ length-set g i v ∙ h
+
 -- ---- all marks
 
 pub bares-all : {t g : List ℕ} {base n m : ℕ} → length g ≡ m → base ≤ m → n ≡ m - base → Types t g base → Patterns t base g n → Bares t base g

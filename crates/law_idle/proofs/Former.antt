@@ -1,30 +1,31 @@
--- Request 11: files without idle lines answer as before, those with one are refused with the table all zero, and turned files have the idle lines that
--- their originals have.
+-- Request 11: the verdict of files without idle lines is as before, that of a file with one is 21 at the first, and turned and resaved files have the idle lines
+-- that their originals have.
 use Prim.Native.Nat.{ℕ, _≤_}
-use mathlib.Core.Path.{_≡_, refl, sym, ap, ap₂, _∙_, subst}
+use mathlib.Core.Path.{_≡_, refl, sym, ap, _∙_}
 use mathlib.Core.Logic.{_↔_}
-use mathlib.Core.Bool.{Bool, true, false, cond, _||_}
-use mathlib.Core.Option.{Option, none, some}
+use mathlib.Core.Bool.{false, cond}
+use mathlib.Core.Option.{none}
 use mathlib.Core.List.{List, []}
 use lib.ListN.{length}
-use borrow.Author.Tests.{le-ltb}
-use Rattle.limits.specs.Limits.{tableLength, workLength}
+use Rattle.limits.specs.Limits.{maxBytes}
 use Rattle.calculus.specs.Tools.{orElse}
-use Rattle.calculus.specs.Refusals.{Refusal, tooLong, idle}
-use Rattle.calculus.specs.Clauses.{fault}
-use Rattle.format.specs.Lines.{Row, lines, printRows}
+use Rattle.calculus.specs.Refusals.{Kind, Refusal, tooLong, idle}
+use Rattle.calculus.specs.Clauses.{fault, sigsOf}
+use Rattle.format.specs.Lines.{Row, lines}
 use Rattle.format.specs.Judge.{Reading, rows, faulty, start, readFrom}
 use Rattle.format.specs.Unfold.{isosOf, turnRows}
 use Rattle.format.specs.Idle.{NoneIdle, FirstIdle, idleFault}
 use Rattle.format.proofs.Passing.{Passes}
 use Rattle.format.proofs.Turning.{passes-turn}
 use Rattle.format.proofs.Idling.{idle-none, idle-some, idle-turn}
-use Rattle.model.specs.Services.{Verdict, accepted, refused, judged, over, verdict, filled, unless, short, answerOf, tableAfter, workAfter, checkBy, check, turnBy, turn, runBy, runService}
+use Rattle.model.specs.Services.{accepted, refused, judged, over, verdict}
 use Rattle.model.specs.Services as today
-use Rattle.model.specs.Desk.{deskBy, filePart, desk}
-use Rattle.model.specs.Sheet.{sheetBy, sheet}
-use Rattle.model.proofs.Files.{refused≢accepted, judged-accepted, InForm, passes-read, verdict-read, accepted-form}
-use Rattle.law_idle.specs.Former.{afterReading, former, WithoutIdle}
+use Rattle.model.proofs.Files.{passes-read, verdict-read, accepted-form}
+use Rattle.law_witnesses.specs.Showing.{shownFirst, lettersOf?, shownUnless, shownOf, showing}
+use Rattle.law_endings.specs.Resaved.{Resaved}
+use Rattle.law_endings.proofs.Lines.{read-same}
+use Rattle.law_endings.proofs.Alike.{verdict-alike}
+use Rattle.law_idle.specs.Former.{afterReading, former, shownAfter, formerShowing, WithoutIdle, IdleAt}
 
 -- ---- files without idle lines
 
@@ -38,32 +39,15 @@ unfolding verdict former
 same-verdict bs h =
     ap (cond (over bs) (refused tooLong 0)) (same-reading (readFrom start 1 (lines bs)) (λ rs e. idle-none (passes-read bs rs e) .1 (h rs e)))
 
--- every service answers by the verdict of its file
-module _ (bs : List ℕ) (h : WithoutIdle bs) where
-  same : former bs ≡ verdict bs
-  same = sym (same-verdict bs h)
+-- and so is the setting that shows a fault
+same-shown-reading : (r : Reading) → ((rs : List Row) → r ≡ rows rs → idleFault rs ≡ none) → shownOf r ≡ shownAfter r
+same-shown-reading (faulty f n) h = refl
+same-shown-reading (rows rs) h = ap (λ o. shownUnless o (lettersOf? (shownFirst (sigsOf (isosOf rs)) (isosOf rs)))) (h rs refl)
 
-  pub same-check : (table work : List ℕ) → checkBy (former bs) table work ≡ check bs table work
-  unfolding check
-  same-check table work = ap (λ v. checkBy v table work) same
-
-  pub same-turn : (table work output : List ℕ) → turnBy (former bs) (length bs) table work output ≡ turn bs table work output
-  unfolding turn
-  same-turn table work output = ap (λ v. turnBy v (length bs) table work output) same
-
-  pub same-run : (table work : List ℕ) (i : ℕ) (back : Bool) (budget : ℕ) (value result : List ℕ)
-      → runBy (former bs) table work i back budget value result ≡ runService bs table work i back budget value result
-  unfolding runService
-  same-run table work i back budget value result = ap (λ v. runBy v table work i back budget value result) same
-
-  pub same-sheet : (table work queries numbers letters : List ℕ)
-      → sheetBy (former bs) table work queries numbers letters ≡ sheet bs table work queries numbers letters
-  unfolding sheet
-  same-sheet table work queries numbers letters = ap (λ v. sheetBy v table work queries numbers letters) same
-
-pub same-desk : (bs : List ℕ) → WithoutIdle (filePart bs) → deskBy (former (filePart bs)) bs ≡ desk bs
-unfolding desk
-same-desk bs h = ap (λ v. deskBy v bs) (same (filePart bs) h)
+pub same-showing : (bs : List ℕ) → WithoutIdle bs → showing bs ≡ formerShowing bs
+unfolding showing formerShowing
+same-showing bs h =
+    ap (cond (over bs) []) (same-shown-reading (readFrom start 1 (lines bs)) (λ rs e. idle-none (passes-read bs rs e) .1 (h rs e)))
 
 -- what is accepted was accepted before, with the same rows
 pub accepted-before : (bs : List ℕ) (rs : List Row) → verdict bs ≡ accepted rs → former bs ≡ accepted rs
@@ -76,7 +60,7 @@ accepted-before bs rs e =
 
 -- ---- files with an idle line
 
--- "refused at the first such line … with the table all zero", and the work area too
+-- "refused at the first such line"
 module _ (bs : List ℕ) (rs : List Row) (fits : over bs ≡ false) (reads : readFrom start 1 (lines bs) ≡ rows rs) (f : Refusal) (n : ℕ) (first : FirstIdle rs f n) where
   pub idle-refused : verdict bs ≡ refused (idle (first .row .kind)) n
   idle-refused =
@@ -84,14 +68,13 @@ module _ (bs : List ℕ) (rs : List Row) (fits : over bs ≡ false) (reads : rea
       ∙ ap (λ o. judged rs (orElse o (fault (isosOf rs)))) (idle-some (passes-read bs rs reads) f n .1 first)
       ∙ ap (λ g. refused g n) (first .refusal)
 
-  pub idle-checked : (table work : List ℕ) → tableLength ≤ length table → workLength ≤ length work
-      → check bs table work ≡ record { answer = record { number = 21; line = n }; table = filled tableLength [] table; work = filled workLength [] work }
-  unfolding check
-  idle-checked table work ht hw =
-      ap (λ b. checkOf (unless b (verdict bs))) (ap₂ _||_ (le-ltb _ _ ht) (le-ltb _ _ hw)) ∙ ap checkOf idle-refused
-    where
-      checkOf : Verdict → today.Checked
-      checkOf v = record { answer = answerOf v; table = tableAfter v table; work = workAfter v work }
+  -- no setting is shown
+  pub idle-showing : showing bs ≡ []
+  unfolding showing
+  idle-showing =
+      ap (λ b. cond b [] (shownOf (readFrom start 1 (lines bs)))) fits
+      ∙ ap shownOf reads
+      ∙ ap (λ o. shownUnless o (lettersOf? (shownFirst (sigsOf (isosOf rs)) (isosOf rs)))) (idle-some (passes-read bs rs reads) f n .1 first)
 
 -- ---- turned files
 
@@ -107,3 +90,20 @@ turned-none rs d = (
   (λ h. idle-none d .0 (sym (idle-turn d) ∙ idle-none (passes-turn d) .1 h)),
   (λ h. idle-none (passes-turn d) .0 (idle-turn d ∙ idle-none d .1 h)),
 )
+
+-- ---- files with other endings
+
+-- request 06's files have the same rows, and so the same idle lines
+resaved-to : (bs cs : List ℕ) → readFrom start 1 (lines bs) ≡ readFrom start 1 (lines cs) → (f : Refusal) (n : ℕ) → IdleAt bs f n → IdleAt cs f n
+resaved-to bs cs e f n h = record { read = h .read; reads = sym e ∙ h .reads; first = h .first }
+
+pub resaved-idle : (bs cs : List ℕ) → Resaved bs cs → (f : Refusal) (n : ℕ) → IdleAt bs f n ↔ IdleAt cs f n
+resaved-idle bs cs h f n = let e = read-same start 1 h in (resaved-to bs cs e f n, resaved-to cs bs (sym e) f n)
+
+pub resaved-without : (bs cs : List ℕ) → Resaved bs cs → WithoutIdle bs ↔ WithoutIdle cs
+resaved-without bs cs h = let e = read-same start 1 h in ((λ w rs q. w rs (e ∙ q)), (λ w rs q. w rs (sym e ∙ q)))
+
+-- and 21 is at the same line of both
+pub resaved-refused : (bs cs : List ℕ) → Resaved bs cs → length bs ≤ maxBytes → length cs ≤ maxBytes → (k : Kind) (n : ℕ)
+    → (verdict bs ≡ refused (idle k) n) ↔ (verdict cs ≡ refused (idle k) n)
+resaved-refused bs cs h m l k n = let e = verdict-alike bs cs h m l in ((λ q. sym e ∙ q), (λ q. e ∙ q))

@@ -1,1 +1,4 @@
+-- verdicts and idle lines
 pub mod Former
+-- every service
+pub mod Services

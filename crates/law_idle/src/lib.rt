@@ -1,2 +1,2 @@
-// Request 11's laws; no code. What is promised of files with and without idle lines stands in proofs/Former.antt,
-// the verdict without the test in specs/Former.antt.
+// Request 11's laws; no code. The verdict without the test stands in specs/Former.antt; what is promised of verdicts and
+// idle lines in proofs/Former.antt, of every service in proofs/Services.antt.

@@ -1,10 +1,10 @@
 -- Request 13: "Stored files … within the old ceiling keep their bytes and answers. The checker as it stood before this request meets a file that only the new ceiling
--- admits with 7 and never with a wrong setting."
-use Prim.Native.Nat.{ℕ, zero, suc, _+_, _≤_, _<_}
+-- admits with 7 and never with a wrong setting." The verdicts; the line of 7 stands in proofs/Over.antt, every service in proofs/Services.antt.
+use Prim.Native.Nat.{ℕ, suc, _+_, _≤_}
 use native.Mathlib.Omega.{arith}
-use mathlib.Core.Path.{_≡_, refl, sym, ap, ap₂, _∙_, subst}
+use mathlib.Core.Path.{_≡_, refl, sym, ap, _∙_, subst}
 use mathlib.Core.Logic.{_⊎_, inl, inr, _↔_}
-use mathlib.Core.Bool.{Bool, true, false, cond, _&&_, _||_, true≢false, false≢true}
+use mathlib.Core.Bool.{Bool, true, false, cond, _&&_, _||_, false≢true}
 use mathlib.Core.Option.{Option, none, some}
 use mathlib.Core.List.{List, [], _∷_, List·Memᴰ, List·Memᴰ·head, List·Memᴰ·tail}
 use lib.Dec.{ltb}
@@ -18,12 +18,11 @@ use Rattle.format.specs.Judge.{Seen, start, inOrder, fieldsFit, named, withinCe
 use Rattle.format.specs.Unfold.{Tail, place, tailFrom, isosOf}
 use Rattle.format.proofs.Printing.{rows-inj, rows≢faulty}
 use Rattle.format.proofs.Passing.{Passes, done, next, Fit, judge-fit}
-use Rattle.model.specs.Services.{Verdict, accepted, refused, judged, fileTests, afterReading, over, verdict, unless, checkBy, check, turnBy, turn, short, serve, ranBy, runOn, RunResult, runBy, runService}
-use Rattle.model.specs.Desk.{deskBy, filePart, desk}
-use Rattle.model.specs.Sheet.{sheetBy, sheet}
-use Rattle.model.proofs.Files.{refused≢accepted, accepted-inj, accepted-form, judged-accepted, passes-read}
-use Rattle.calculus.proofs.Basic.{none≢some, some-inj, bool-cases, and-true, true-and, ltb-lt, lt-ltb, ltb-false, not-both, none-failing, leb-le, each-nil, each-cons}
-use Rattle.law_longer.specs.Former.{formerClauses, withinFormer, formerJudge, formerRead, former, FewClauses}
+use Rattle.model.specs.Services.{Verdict, accepted, refused, fileTests, afterReading, over, verdict, short, serve, ranBy, runOn, RunResult, runBy, runService}
+use Rattle.model.proofs.Files.{refused≢accepted, accepted-form, judged-accepted, passes-read}
+use Rattle.calculus.proofs.Basic.{and-true, true-and, ltb-lt, lt-ltb, ltb-false, none-failing, leb-le, each-nil, each-cons}
+use Rattle.law_witnesses.specs.Showing.{shownOf, showing}
+use Rattle.law_longer.specs.Former.{formerClauses, withinFormer, formerJudge, formerRead, former, formerShowing, FewClauses}
 
 -- ---- a row
 
@@ -217,7 +216,7 @@ few-clauses rs d = (
 
 -- ---- the former reading of rows
 
-former-few : (s : Seen) (r : Row) → formerJudge s r ≡ none → kindFew (r .kind) s ≡ true
+pub former-few : (s : Seen) (r : Row) → formerJudge s r ≡ none → kindFew (r .kind) s ≡ true
 unfolding formerJudge
 former-few s r e =
     let k : Kind = r .kind in
@@ -234,7 +233,7 @@ former-few s r e =
     step clauseLine h = h
     step letLine h = refl
 
-few-former : (s : Seen) (r : Row) → judge s r ≡ none → kindFew (r .kind) s ≡ true → formerJudge s r ≡ none
+pub few-former : (s : Seen) (r : Row) → judge s r ≡ none → kindFew (r .kind) s ≡ true → formerJudge s r ≡ none
 few-former s r j h = go (judge-cases s r)
   where
     go : JudgeCases s r → formerJudge s r ≡ none
@@ -248,7 +247,7 @@ former-today s r e = go (judge-cases s r)
     go (JudgeCases.alike a) = sym a ∙ e
     go (JudgeCases.newly a b c d) = a
 
-withRow-rows : (r : Row) (x : Reading) (rs : List Row) → withRow r x ≡ rows rs → (qs : List Row) × (x ≡ rows qs) × (rs ≡ r ∷ qs)
+pub withRow-rows : (r : Row) (x : Reading) (rs : List Row) → withRow r x ≡ rows rs → (qs : List Row) × (x ≡ rows qs) × (rs ≡ r ∷ qs)
 withRow-rows r (rows qs) rs e = (qs, refl, sym (rows-inj e))
 withRow-rows r (faulty f n) rs e = absurd (rows≢faulty (sym e))
 
@@ -330,48 +329,31 @@ former-accepts bs rs = (there, λ h. same-verdict bs rs (accepted-form bs rs (h 
         let few = few-clauses rs (passes-read bs rs (k .0)) .1 (k .1) in
         (sym (same-verdict bs rs (k .0) few) ∙ e, few)
 
--- "meets a file that only the new ceiling admits with 7"
-pub newly-admitted : (bs : List ℕ) (rs : List Row) → verdict bs ≡ accepted rs → (FewClauses rs → ⊥) → (n : ℕ) × (former bs ≡ refused (ceiling clauseLine) n)
-newly-admitted bs rs e h = go (verdicts bs)
+-- "and never with a wrong setting": for any bytes, whatever goes by the verdict answers as today, or as for a file refused 7
+pub former-answers : {A : Type 0} (answer : Verdict → A) (bs : List ℕ)
+    → (answer (former bs) ≡ answer (verdict bs)) ⊎ ((n : ℕ) × (answer (former bs) ≡ answer (refused (ceiling clauseLine) n)))
+former-answers answer bs = go (verdicts bs)
   where
-    go : Verdicts bs → (n : ℕ) × (former bs ≡ refused (ceiling clauseLine) n)
-    go (Verdicts.alike a) = absurd (h (former-accepts bs rs .0 (a ∙ e) .1))
-    go (Verdicts.seven n a) = (n, a)
+    go : Verdicts bs → (answer (former bs) ≡ answer (verdict bs)) ⊎ ((n : ℕ) × (answer (former bs) ≡ answer (refused (ceiling clauseLine) n)))
+    go (Verdicts.alike a) = inl (ap answer a)
+    go (Verdicts.seven n a) = inr (n, ap answer a)
 
--- every service answers by the verdict of its file
-module _ (bs : List ℕ) (rs : List Row) (reads : readFrom start 1 (lines bs) ≡ rows rs) (h : FewClauses rs) where
-  same : former bs ≡ verdict bs
-  same = same-verdict bs rs reads h
-
-  pub same-check : (table work : List ℕ) → checkBy (former bs) table work ≡ check bs table work
-  unfolding check
-  same-check table work = ap (λ v. checkBy v table work) same
-
-  pub same-turn : (table work output : List ℕ) → turnBy (former bs) (length bs) table work output ≡ turn bs table work output
-  unfolding turn
-  same-turn table work output = ap (λ v. turnBy v (length bs) table work output) same
-
-  pub same-run : (table work : List ℕ) (i : ℕ) (back : Bool) (budget : ℕ) (value result : List ℕ)
-      → runBy (former bs) table work i back budget value result ≡ runService bs table work i back budget value result
-  unfolding runService
-  same-run table work i back budget value result = ap (λ v. runBy v table work i back budget value result) same
-
-  pub same-sheet : (table work queries numbers letters : List ℕ)
-      → sheetBy (former bs) table work queries numbers letters ≡ sheet bs table work queries numbers letters
-  unfolding sheet
-  same-sheet table work queries numbers letters = ap (λ v. sheetBy v table work queries numbers letters) same
-
--- "and never with a wrong setting": whatever the file, a run of the former checker answers as today's, or as for a file refused 7
 pub former-run : (bs table work : List ℕ) (i : ℕ) (back : Bool) (budget : ℕ) (value result : List ℕ)
     → (runBy (former bs) table work i back budget value result ≡ runService bs table work i back budget value result)
     ⊎ ((n : ℕ) × (runBy (former bs) table work i back budget value result ≡ runBy (refused (ceiling clauseLine) n) table work i back budget value result))
 unfolding runService
-former-run bs table work i back budget value result = go (verdicts bs)
+former-run bs table work i back budget value result = former-answers (λ v. runBy v table work i back budget value result) bs
+
+-- the setting that shows a fault is today's, or none is shown
+pub former-showing : (bs : List ℕ) → (formerShowing bs ≡ showing bs) ⊎ (formerShowing bs ≡ [])
+unfolding showing formerShowing
+former-showing bs = go (over bs) (read-cases start 1 (lines bs))
   where
-    go : Verdicts bs → (runBy (former bs) table work i back budget value result ≡ runBy (verdict bs) table work i back budget value result)
-        ⊎ ((n : ℕ) × (runBy (former bs) table work i back budget value result ≡ runBy (refused (ceiling clauseLine) n) table work i back budget value result))
-    go (Verdicts.alike a) = inl (ap (λ v. runBy v table work i back budget value result) a)
-    go (Verdicts.seven n a) = inr (n, ap (λ v. runBy v table work i back budget value result) a)
+    go : (b : Bool) → ReadCases start 1 (lines bs)
+        → (cond b [] (shownOf (formerRead start 1 (lines bs))) ≡ cond b [] (shownOf (readFrom start 1 (lines bs)))) ⊎ (cond b [] (shownOf (formerRead start 1 (lines bs))) ≡ [])
+    go true x = inl refl
+    go false (ReadCases.alike a) = inl (ap shownOf a)
+    go false (ReadCases.seven m a) = inr (ap shownOf a)
 
 -- and such a run gives nothing
 pub seven-run : (n : ℕ) (table work : List ℕ) (i : ℕ) (back : Bool) (budget : ℕ) (value result : List ℕ) (r : RunResult)

@@ -1,4 +1,8 @@
--- verdicts and services
+-- verdicts
 pub mod Former
--- pair lists
+-- the line of what only the new ceiling admits
+pub mod Over
+-- imported lists
 pub mod Lists
+-- every service
+pub mod Services

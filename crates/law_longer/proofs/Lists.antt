@@ -1,26 +1,25 @@
--- Request 13: "Stored files, numbers and pair lists within the old ceiling keep their bytes and answers."
-use Prim.Native.Nat.{ℕ, suc, _+_, _≤_, _<_}
+-- Request 13: "… and pair lists within the old ceiling keep their bytes and answers": import, which has a ceiling of its own.
+use Prim.Native.Nat.{ℕ, suc, _+_, _≤_}
 use native.Mathlib.Omega.{arith}
 use mathlib.Core.Path.{_≡_, refl, sym, ap, ap₂, _∙_, subst}
-use mathlib.Core.Logic.{_⊎_, inl, inr}
-use mathlib.Core.Bool.{Bool, true, false, cond, _&&_, _||_}
+use mathlib.Core.Bool.{true, cond, _&&_, _||_}
 use mathlib.Core.Option.{Option, none, some}
 use mathlib.Core.List.{List, [], _∷_, _++_, List·Memᴰ, List·Memᴰ·head, List·Memᴰ·tail}
 use lib.Dec.{ltb}
 use lib.ListN.{length, getElem?}
-use Rattle.limits.specs.Limits.{maxClauses, maxPairs, exportLength, importLength, resultLength}
+use Rattle.limits.specs.Limits.{maxClauses, maxPairs, importLength}
 use Rattle.calculus.specs.Tools.{_>>=_, guard}
 use Rattle.calculus.specs.Trees.{Ty, tunit, tsum, tprod, left, right, Val, vunit, vinj, vpair}
 use Rattle.calculus.specs.Refusals.{Kind, typeLine, patternLine, isoLine, clauseLine, letLine, ceiling, tooMany}
 use Rattle.format.specs.Lines.{Row, lines, printRows}
 use Rattle.format.specs.Judge.{Seen, start, withinCeilings, afterKind, after, afterAll, rows, readFrom}
-use Rattle.law_ranking.specs.Numbering.{count, typesOf, numberRows, settingRows, numberedBy, numberService, letteredBy, settingService}
-use Rattle.model.specs.Services.{Verdict, accepted, refused, verdict, Outcome, gives, fails, goOn, Served, served, serve, short, unless}
-use Rattle.law_pairlists.specs.PairLists.{tosOf, pairsUp, listOf, find, enter, Entry, entry, typeRow, patternRow, clauseRow, isoRow, writeType, writeValue, writePairs, settings, fileRows, withinAll, onList, onLines, onTypes, importRows, exportRows, Traded, tradedBy, importService, exportService}
+use Rattle.law_ranking.specs.Numbering.{count, typesOf}
+use Rattle.model.specs.Services.{Verdict, accepted, refused, verdict, gives, fails, goOn, served, short, unless}
+use Rattle.law_pairlists.specs.PairLists.{tosOf, pairsUp, listOf, enter, Entry, typeRow, patternRow, isoRow, writeType, writeValue, writePairs, settings, fileRows, withinAll, onList, onLines, onTypes, importRows, tradedBy, importService}
 use Rattle.calculus.proofs.Basic.{bind-some, some-inj, and-true, true-and, ltb-lt, lt-ltb, not-ltb, each-nil, each-cons, each-append}
 use Rattle.law_pairlists.proofs.Rows.{Finding, there, fresh, finding}
 use Rattle.law_pairlists.proofs.List.{tos-length, settings-length}
-use Rattle.law_longer.specs.Former.{formerClauses, withinFormer, former, FewClauses, withinAllFormer, formerWriting, formerOnList, formerOnLines, formerOnTypes, formerImportRows}
+use Rattle.law_longer.specs.Former.{formerClauses, withinFormer, former, FewClauses, withinAllFormer, formerOnList, formerOnLines, formerOnTypes, formerImportRows, formerImport}
 use Rattle.law_longer.proofs.Former.{kindFew, fewRows, same-verdict}
 
 -- ---- rows within the old ceiling
@@ -147,33 +146,12 @@ module _ (list : List ℕ) (short-list : length (lines list) ≤ formerClauses) 
 
   -- the service, for a file within the old ceiling: the same bytes, answer and areas
   pub same-import-service : (file : List ℕ) (rs : List Row) → readFrom start 1 (lines file) ≡ rows rs → FewClauses rs → (table work : List ℕ) (i j : ℕ) (output : List ℕ)
-      → tradedBy output (serve (short table work || ltb (length output) importLength) (former file) (λ qs. formerImportRows qs i j list) table work)
-      ≡ importService file table work i j list output
+      → formerImport (former file) table work i j list output ≡ importService file table work i j list output
   unfolding importService
   same-import-service file rs e h table work i j output =
-      ap (λ v. tradedBy output (serve (short table work || ltb (length output) importLength) v (λ qs. formerImportRows qs i j list) table work)) (same-verdict file rs e h)
+      ap (λ v. formerImport v table work i j list output) (same-verdict file rs e h)
       ∙ ap (tradedBy output) (on (unless (short table work || ltb (length output) importLength) (verdict file)))
     where
       on : (v : Verdict) → served v (goOn v (λ qs. formerImportRows qs i j list)) table work ≡ served v (goOn v (λ qs. importRows qs i j list)) table work
       on (accepted qs) = ap (λ o. served (accepted qs) o table work) (same-import qs i j)
       on (refused f n) = refl
-
--- export of a file within the old ceiling
-pub same-export-service : (file : List ℕ) (rs : List Row) → readFrom start 1 (lines file) ≡ rows rs → FewClauses rs → (table work : List ℕ) (i budget : ℕ) (output : List ℕ)
-    → tradedBy output (serve (short table work || ltb (length output) exportLength) (former file) (λ qs. exportRows qs i budget) table work)
-    ≡ exportService file table work i budget output
-unfolding exportService
-same-export-service file rs e h table work i budget output =
-    ap (λ v. tradedBy output (serve (short table work || ltb (length output) exportLength) v (λ qs. exportRows qs i budget) table work)) (same-verdict file rs e h)
-
--- and its settings as numbers, both ways
-pub same-number-service : (file : List ℕ) (rs : List Row) → readFrom start 1 (lines file) ≡ rows rs → FewClauses rs → (table work : List ℕ) (i : ℕ) (value : List ℕ)
-    → numberedBy (serve (short table work) (former file) (numberRows i value) table work) ≡ numberService file table work i value
-unfolding numberService
-same-number-service file rs e h table work i value = ap (λ v. numberedBy (serve (short table work) v (numberRows i value) table work)) (same-verdict file rs e h)
-
-pub same-setting-service : (file : List ℕ) (rs : List Row) → readFrom start 1 (lines file) ≡ rows rs → FewClauses rs → (table work : List ℕ) (i n : ℕ) (result : List ℕ)
-    → letteredBy result (serve (short table work || ltb (length result) resultLength) (former file) (settingRows i n) table work) ≡ settingService file table work i n result
-unfolding settingService
-same-setting-service file rs e h table work i n result =
-    ap (λ v. letteredBy result (serve (short table work || ltb (length result) resultLength) v (settingRows i n) table work)) (same-verdict file rs e h)

@@ -5,18 +5,20 @@ use mathlib.Core.Option.{Option, none, some}
 use mathlib.Core.List.{List, [], _∷_, List·Memᴰ}
 use lib.Dec.{ltb}
 use lib.ListN.{length, getElem?}
-use Rattle.limits.specs.Limits.{maxPairs}
+use Rattle.limits.specs.Limits.{maxPairs, importLength}
 use Rattle.calculus.specs.Tools.{firstFailing}
 use Rattle.calculus.specs.Trees.{Ty, Iso}
 use Rattle.calculus.specs.Refusals.{Kind, typeLine, patternLine, isoLine, clauseLine, letLine, Refusal, misplaced, badField, badName, ceiling, tooLong, noIso, tooMany, badList}
 use Rattle.format.specs.Lines.{Row, lines, rowOf, printRows}
-use Rattle.format.specs.Judge.{Seen, start, inOrder, fieldsFit, named, withinCeilings, judge, after, Reading, rows, withRow, onRow, onJudged}
+use Rattle.format.specs.Judge.{Seen, start, inOrder, fieldsFit, named, withinCeilings, after, Reading, rows, withRow, onRow, onJudged}
 use Rattle.format.specs.Unfold.{isosOf}
 use Rattle.format.specs.Idle.{idleFault}
-use Rattle.calculus.specs.Clauses.{fault}
+use Rattle.calculus.specs.Clauses.{fault, isoFault}
 use Rattle.law_ranking.specs.Numbering.{count, typesOf}
 use Rattle.model.specs.Services.{Verdict, refused, afterReading, over, Outcome, gives, fails}
-use Rattle.law_pairlists.specs.PairLists.{listOf, settings, fileRows}
+use Rattle.law_witnesses.specs.Showing.{setting, shownOf}
+use Rattle.law_pairlists.specs.PairLists.{listOf, settings, fileRows, Traded}
+use Rattle.law_refused.specs.ByVerdict.{tradeWith}
 
 abbrev pub formerClauses : ℕ
 formerClauses = 32
@@ -47,6 +49,11 @@ unfoldable pub former : List ℕ → Verdict
 unfolding over start formerJudge idleFault isosOf fault
 former bs = cond (over bs) (refused tooLong 0) (afterReading (formerRead start 1 (lines bs)))
 
+-- request 09's letters, of the lines as they were read
+unfoldable pub formerShowing : List ℕ → List ℕ
+unfolding over start formerJudge idleFault isosOf isoFault setting
+formerShowing bs = cond (over bs) [] (shownOf (formerRead start 1 (lines bs)))
+
 -- "within the old ceiling": no iso of over 32 clauses
 abbrev pub FewClauses : List Row → Type 0
 FewClauses rs = (o : Iso) → List·Memᴰ o (isosOf rs) → length (o .clauses) ≤ formerClauses
@@ -75,3 +82,7 @@ formerOnTypes (some a) (some b) ls = cond (ltb maxPairs (count a) || ltb maxPair
 unfoldable pub formerImportRows : List Row → ℕ → ℕ → List ℕ → Outcome (List ℕ)
 unfolding typesOf listOf fileRows printRows start
 formerImportRows rs i j list = formerOnTypes (getElem? (typesOf rs) i) (getElem? (typesOf rs) j) (lines list)
+
+-- the service, for a file of which the verdict is `file`
+abbrev pub formerImport : Verdict → List ℕ → List ℕ → ℕ → ℕ → List ℕ → List ℕ → Traded
+formerImport file table work i j list output = tradeWith importLength (λ rs. formerImportRows rs i j list) file table work output

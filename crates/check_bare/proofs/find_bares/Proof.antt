@@ -5,8 +5,14 @@ use borrow.Author.Needs.{needs}
 use Rattle.check_bare.proofs.find_bares.Statement.{statement}
 use Rattle.check_bare.proofs.find_bares.Tie as tie
 
+slice-aggregate-mark-types : tie.Need-slice-aggregate-mark-types
+slice-aggregate-mark-types c = search needs
+
 mark-types-requires : tie.Need-mark-types-requires
 mark-types-requires c κs = search needs
+
+slice-aggregate-mark-patterns : tie.Need-slice-aggregate-mark-patterns
+slice-aggregate-mark-patterns c = search needs
 
 mark-patterns-requires : tie.Need-mark-patterns-requires
 mark-patterns-requires c κs = search needs
@@ -15,7 +21,10 @@ same-length : tie.Need-same-length
 same-length c = search needs
 
 returns : tie.Need-returns
-returns c = ((c .before .before .mark-patterns .ensures .0) ∙ (c .before .before .before .before .before .before .mark-types .ensures .0), bares-all ((c .before .before .mark-patterns .ensures .0) ∙ (c .before .before .before .before .before .before .mark-types .ensures .0)) (c .before .before .before .before .before .before .before .before .if1 .taken) refl (c .before .before .mark-patterns .ensures .1) (c .before .before .mark-patterns .ensures .2))
+returns c = ((c .before .before .mark-patterns .ensures .0) ∙ (c .before .before .before .before .before .before .before .before .mark-types .ensures .0), bares-all ((c .before .before .mark-patterns .ensures .0) ∙ (c .before .before .before .before .before .before .before .before .mark-types .ensures .0)) (c .before .before .before .before .before .before .before .before .before .before .before .if1 .taken) refl (c .before .before .mark-patterns .ensures .1) (c .before .before .mark-patterns .ensures .2))
+
+slice-aggregate-mark-types-2 : tie.Need-slice-aggregate-mark-types-2
+slice-aggregate-mark-types-2 c = search needs
 
 mark-types-requires-2 : tie.Need-mark-types-requires-2
 mark-types-requires-2 c κs = search needs
@@ -24,16 +33,19 @@ same-length-2 : tie.Need-same-length-2
 same-length-2 c = search needs
 
 returns-2 : tie.Need-returns-2
-returns-2 c = ((c .before .before .mark-types2 .ensures .0), bares-short (c .before .before .mark-types2 .ensures .0) (c .before .before .before .before .if1 .left) (c .before .before .mark-types2 .ensures .1))
+returns-2 c = ((c .before .before .before .mark-types2 .ensures .0), bares-short (c .before .before .before .mark-types2 .ensures .0) (c .before .before .before .before .before .before .if1 .left) (c .before .before .before .mark-types2 .ensures .1))
 
 pub find-bares-spec : {M : Type 1} → statement M
 find-bares-spec =
     tie.close
     (tie.spec
+    slice-aggregate-mark-types
     mark-types-requires
+    slice-aggregate-mark-patterns
     mark-patterns-requires
     same-length
     returns
+    slice-aggregate-mark-types-2
     mark-types-requires-2
     same-length-2
     returns-2)

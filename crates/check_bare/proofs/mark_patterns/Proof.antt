@@ -8,13 +8,13 @@ use Rattle.check_bare.proofs.mark_patterns.Statement.{statement}
 use Rattle.check_bare.proofs.mark_patterns.Tie as tie
 
 abbrev Inv-loop : tie.InvT-loop
-Inv-loop t g₀ base n j₀ g j = Patterning t g₀ g base n j
+Inv-loop t g₀ h base n j₀ g j = Patterning t g₀ g base n j
 
 abbrev μ-loop : tie.MeasureT-loop
-μ-loop t g₀ base n j₀ g j = n - j
+μ-loop t g₀ h base n j₀ g j = n - j
 
 loop-holds : tie.Need-loop-holds Inv-loop μ-loop
-loop-holds c = record { long = refl; within = (c .before .before .pre .0); kept = (c .before .before .pre .1); found = patterns-start _ _ _ }
+loop-holds c = record { long = refl; within = (c .before .before .before .pre .0); kept = (c .before .before .before .pre .1); found = patterns-start _ _ _ }
 
 pattern-mark-requires : tie.Need-pattern-mark-requires Inv-loop μ-loop
 pattern-mark-requires c κs = (omega (arith, (c .before .before .loop .inv .within), (c .before .loop-test .taken)), (c .before .before .loop .inv .kept), (c .before .before .loop .inv .found))

@@ -1,6 +1,7 @@
 -- `check_bare::mark_types` meets its contract.
 use Rattle.check_bare.proofs.Marking.{Typing, types-start, typing-step, typing-all}
-use mathlib.Core.Path.{refl}
+use mathlib.Core.Path.{_≡_, refl, _∙_}
+use lib.ListN.{length, length-set}
 use native.Mathlib.Omega.{arith}
 use Prim.Native.Nat.{_-_}
 use borrow.Author.Needs.{needs}
@@ -8,16 +9,16 @@ use Rattle.check_bare.proofs.mark_types.Statement.{statement}
 use Rattle.check_bare.proofs.mark_types.Tie as tie
 
 abbrev Inv-loop : tie.InvT-loop
-Inv-loop t g₀ n i₀ g i = Typing t g₀ g n i
+Inv-loop t g₀ h₀ n i₀ g h i = Typing t g₀ g n i × (length h ≡ length h₀)
 
 abbrev μ-loop : tie.MeasureT-loop
-μ-loop t g₀ n i₀ g i = n - i
+μ-loop t g₀ h₀ n i₀ g h i = n - i
 
 loop-holds : tie.Need-loop-holds Inv-loop μ-loop
-loop-holds c = record { long = refl; within = (c .before .before .pre .0); found = types-start _ _ }
+loop-holds c = (record { long = refl; within = (c .before .before .before .pre .0); found = types-start _ _ }, refl)
 
 type-mark-requires : tie.Need-type-mark-requires Inv-loop μ-loop
-type-mark-requires c κs = (omega (arith, (c .before .before .loop .inv .within), (c .before .loop-test .taken)), (c .before .before .loop .inv .found), omega (arith, (c .before .loop-test .taken), (c .before .before .before .before .before .pre .1)))
+type-mark-requires c κs = (omega (arith, (c .before .before .before .loop .inv .0 .within), (c .before .before .loop-test .taken)), (c .before .before .before .loop .inv .0 .found), omega (arith, (c .before .before .loop-test .taken), (c .before .before .before .before .before .before .before .pre .1)))
 
 narrow-requires : tie.Need-narrow-requires Inv-loop μ-loop
 narrow-requires c κs = search needs
@@ -26,7 +27,10 @@ mul-g : tie.Need-mul-g Inv-loop μ-loop
 mul-g c = search needs
 
 slice-write-g : tie.Need-slice-write-g Inv-loop μ-loop
-slice-write-g c = omega (arith, (c .before .before .before .before .loop .inv .within), (c .before .before .before .loop-test .taken))
+slice-write-g c = omega (arith, (c .before .before .before .before .before .loop .inv .0 .within), (c .before .before .before .before .loop-test .taken))
+
+hint-line-requires : tie.Need-hint-line-requires Inv-loop μ-loop
+hint-line-requires c κs = (omega (arith, length-set (c .before .before .before .before .before .before .before .loop .g) (c .before .before .before .before .before .before .before .loop .i) (c .before .before .narrow .result), (c .before .before .before .before .before .before .before .loop .inv .0 .within), (c .before .before .before .before .before .before .loop-test .taken)), omega (arith, (c .before .before .before .before .before .before .loop-test .taken), (c .before .before .before .before .before .before .before .before .before .before .before .pre .1)))
 
 add-i : tie.Need-add-i Inv-loop μ-loop
 add-i c = search needs
@@ -35,13 +39,16 @@ loop-less : tie.Need-loop-less Inv-loop μ-loop
 loop-less c = omega arith
 
 loop-again : tie.Need-loop-again Inv-loop μ-loop
-loop-again c = typing-step _ _ _ _ _ (c .before .before .before .before .loop .inv) (c .before .before .before .loop-test .taken) (c .before .type-mark .ensures .0) (c .before .type-mark .ensures .1) (c .narrow .ensures)
+loop-again c = (typing-step _ _ _ _ _ (c .before .before .before .before .before .before .before .before .before .before .loop .inv .0) (c .before .before .before .before .before .before .before .before .before .loop-test .taken) (c .before .before .before .before .before .before .type-mark .ensures .0) (c .before .before .before .before .before .before .type-mark .ensures .1) (c .before .before .before .before .before .narrow .ensures), (c .before .before .hint-line .ensures) ∙ (c .before .before .before .before .before .before .before .before .before .before .loop .inv .1))
 
 same-length : tie.Need-same-length Inv-loop μ-loop
-same-length c = (c .before .loop .inv .long)
+same-length c = (c .before .loop .inv .0 .long)
+
+same-length-2 : tie.Need-same-length-2 Inv-loop μ-loop
+same-length-2 c = (c .before .loop .inv .1)
 
 returns : tie.Need-returns Inv-loop μ-loop
-returns c = ((c .before .loop .inv .long), typing-all (c .before .loop .inv) (c .loop-test .left))
+returns c = ((c .before .loop .inv .0 .long), typing-all (c .before .loop .inv .0) (c .loop-test .left))
 
 pub mark-types-spec : {M : Type 1} → statement M
 mark-types-spec =
@@ -54,8 +61,10 @@ mark-types-spec =
     narrow-requires
     mul-g
     slice-write-g
+    hint-line-requires
     add-i
     loop-less
     loop-again
     same-length
+    same-length-2
     returns)

@@ -1,46 +1,69 @@
--- `check_bare::product_mark` meets its contract.
-use Prim.Native.Nat.{_-_}
+use Rattle.check_bare.proofs.Marking.{multiplies-none}
 use native.Mathlib.Omega.{arith}
-use Rattle.check_bare.proofs.Marking.{types-less, multiplies-at, multiplies-none}
+use Prim.Native.Nat.{_-_}
 use borrow.Author.Needs.{needs}
 use Rattle.check_bare.proofs.product_mark.Statement.{statement}
 use Rattle.check_bare.proofs.product_mark.Tie as tie
+use Rattle.check_bare.proofs.product_mark.Reads as reads
+use Rattle.check_bare.proofs.product_mark.Lts as lts
+use Rattle.area_words.proofs.wide.Reads as wide-reads
+use Rattle.area_words.proofs.word_at.Reads as word-at-reads
+use Rattle.check_bare.proofs.hint_of.Reads as hint-of-reads
+use Rattle.check_bare.proofs.product_at.Reads as product-at-reads
 
 abbrev Inv-loop : tie.InvT-loop
-Inv-loop t g n x y i₀ i = Unit {0}
+Inv-loop t g h n x y from k₀ k = Unit {0}
 
 abbrev μ-loop : tie.MeasureT-loop
-μ-loop t g n x y i₀ i = n - i
+μ-loop t g h n x y from k₀ k = 8 - k
 
+-- src/lib.rt:85:9
+hint-of-requires : tie.Need-hint-of-requires Inv-loop μ-loop
+hint-of-requires c κs = search needs
+
+-- src/lib.rt:87:5
 loop-holds : tie.Need-loop-holds Inv-loop μ-loop
 loop-holds c = tt
 
-is-product-requires : tie.Need-is-product-requires Inv-loop μ-loop
-is-product-requires c κs = (omega (arith, (c .before .before .before .before .pre .0), (c .loop-test .taken)), types-less (c .before .before .before .before .args .t .now) (c .before .before .before .before .args .g .now) (omega (arith, (c .loop-test .taken))) (c .before .before .before .before .pre .1))
+-- src/lib.rt:88:33
+add-word-at : tie.Need-add-word-at Inv-loop μ-loop
+add-word-at c = search needs
 
-mul-wide : tie.Need-mul-wide Inv-loop μ-loop
-mul-wide c = search needs
+-- src/lib.rt:88:22
+word-at-requires : tie.Need-word-at-requires Inv-loop μ-loop
+word-at-requires c κs = search needs
 
-shared-slice-read-wide : tie.Need-shared-slice-read-wide Inv-loop μ-loop
-shared-slice-read-wide c = search needs
-
+-- src/lib.rt:88:13
 wide-requires : tie.Need-wide-requires Inv-loop μ-loop
 wide-requires c κs = search needs
 
+-- src/lib.rt:90:13
 returns : tie.Need-returns Inv-loop μ-loop
-returns c = (multiplies-at (c .before .before .before .before .before .before .before .before .args .t .now) (c .before .before .before .before .before .before .before .before .args .g .now) (c .before .before .before .before .before .before .before .before .pre .1) (c .before .before .before .before .loop-test .taken) ((c .before .before .before .is-product .ensures) (c .before .before .if1 .taken)) (c .wide .ensures .0), (c .wide .ensures .1))
+returns c = (multiplies-none _ _ _, omega arith)
 
-add-i : tie.Need-add-i Inv-loop μ-loop
-add-i c = search needs
+-- src/lib.rt:92:13
+product-at-requires : tie.Need-product-at-requires Inv-loop μ-loop
+product-at-requires c κs = c .before .before .before .before .before .before .before .before .before .pre
 
+-- src/lib.rt:94:13
+returns-2 : tie.Need-returns-2 Inv-loop μ-loop
+returns-2 c = c .before .product-at .ensures
+
+-- src/lib.rt:96:9
+add-k : tie.Need-add-k Inv-loop μ-loop
+add-k c = search needs
+
+-- src/lib.rt:87:5
 loop-less : tie.Need-loop-less Inv-loop μ-loop
 loop-less c = omega arith
 
+-- src/lib.rt:87:5
 loop-again : tie.Need-loop-again Inv-loop μ-loop
 loop-again c = tt
 
-returns-2 : tie.Need-returns-2 Inv-loop μ-loop
-returns-2 c = (multiplies-none _ _ _, omega arith)
+-- src/lib.rt:81:1
+returns-3 : tie.Need-returns-3 Inv-loop μ-loop
+returns-3 c = (multiplies-none _ _ _, omega arith)
 
 pub product-mark-spec : {M : Type 1} → statement M
 product-mark-spec =
@@ -48,13 +71,15 @@ product-mark-spec =
     (tie.spec
     Inv-loop
     μ-loop
+    hint-of-requires
     loop-holds
-    is-product-requires
-    mul-wide
-    shared-slice-read-wide
+    add-word-at
+    word-at-requires
     wide-requires
     returns
-    add-i
+    product-at-requires
+    returns-2
+    add-k
     loop-less
     loop-again
-    returns-2)
+    returns-3)

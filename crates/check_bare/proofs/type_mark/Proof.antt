@@ -15,7 +15,7 @@ or-own-requires : tie.Need-or-own-requires
 or-own-requires c κs = search needs
 
 returns : tie.Need-returns
-returns c = (own-stands (c .before .before .before .before .before .before .args .t .now) (c .before .before .before .before .before .before .args .i) (unit-stands (c .before .before .before .before .before .before .args .t .now) (c .before .before .before .before .before .before .args .i) (c .before .before .before .cell .ensures .0) (c .before .before .if1 .taken) (c .before .unit-mark .ensures .0)) (c .or-own .ensures .0), (c .or-own .ensures .1))
+returns c = (own-stands (c .before .before .before .before .before .before .before .args .t .now) (c .before .before .before .before .before .before .before .args .i) (unit-stands (c .before .before .before .before .before .before .before .args .t .now) (c .before .before .before .before .before .before .before .args .i) (c .before .before .before .cell .ensures .0) (c .before .before .if1 .taken) (c .before .unit-mark .ensures .0)) (c .or-own .ensures .0), (c .or-own .ensures .1))
 
 cell-requires-2 : tie.Need-cell-requires-2
 cell-requires-2 c κs = search needs
@@ -36,7 +36,7 @@ or-own-requires-2 : tie.Need-or-own-requires-2
 or-own-requires-2 c κs = search needs
 
 returns-2 : tie.Need-returns-2
-returns-2 c = (own-stands (c .before .before .before .before .before .before .before .before .before .before .before .before .before .args .t .now) (c .before .before .before .before .before .before .before .before .before .before .before .before .before .args .i) (product-stands (c .before .before .before .before .before .before .before .before .before .before .before .before .before .args .t .now) (product-of (c .before .before .before .before .before .before .before .before .before .before .before .before .before .args .t .now) (c .before .before .before .before .before .before .before .before .before .before .before .before .before .args .g .now) (c .before .before .before .before .before .before .before .before .before .before .before .before .before .args .i) (c .before .before .before .before .before .before .before .before .before .before .before .before .before .pre .1) (c .before .before .before .before .before .before .before .before .before .before .cell .ensures .0) (c .before .before .before .before .before .before .before .before .if2 .taken) (c .before .before .before .before .before .before .before .cell2 .ensures .0) (c .before .before .before .before .before .before .mark-of .ensures) (c .before .before .before .before .before .cell3 .ensures .0) (c .before .before .before .before .mark-of2 .ensures)) (c .before .before .before .if3 .taken) (c .before .before .if4 .taken) (c .before .product-mark .ensures .0)) (c .or-own2 .ensures .0), (c .or-own2 .ensures .1))
+returns-2 c = (own-stands (c .before .before .before .before .before .before .before .before .before .before .before .before .before .before .args .t .now) (c .before .before .before .before .before .before .before .before .before .before .before .before .before .before .args .i) (product-stands (c .before .before .before .before .before .before .before .before .before .before .before .before .before .before .args .t .now) (product-of (c .before .before .before .before .before .before .before .before .before .before .before .before .before .before .args .t .now) (c .before .before .before .before .before .before .before .before .before .before .before .before .before .before .args .g .now) (c .before .before .before .before .before .before .before .before .before .before .before .before .before .before .args .i) (c .before .before .before .before .before .before .before .before .before .before .before .before .before .before .pre .1) (c .before .before .before .before .before .before .before .before .before .before .cell .ensures .0) (c .before .before .before .before .before .before .before .before .if2 .taken) (c .before .before .before .before .before .before .before .cell2 .ensures .0) (c .before .before .before .before .before .before .mark-of .ensures) (c .before .before .before .before .before .cell3 .ensures .0) (c .before .before .before .before .mark-of2 .ensures)) (c .before .before .before .if3 .taken) (c .before .before .if4 .taken) (c .before .product-mark .ensures .0)) (c .or-own2 .ensures .0), (c .or-own2 .ensures .1))
 
 returns-3 : tie.Need-returns-3
 returns-3 c = (stands-none _ _, omega arith)

@@ -1,0 +1,4 @@
+-- each service is its form with the verdict of its file
+pub mod ByVerdict
+-- what each answers for a refused file
+pub mod Refused

@@ -1,0 +1,4 @@
+-- each service by its file's verdict
+pub mod ByVerdict
+-- what each answers for a refused file
+pub mod Refused
