@@ -29,8 +29,16 @@ pub fn accepted(desk: &mut Desk, file: &Input) -> bool {
 
 /// A refusal of what was asked, on standard error.
 pub fn say_refused(refused: Refused) -> Status {
+    say_refused_at(refused, &[])
+}
+
+/// The same, with where to look.
+pub fn say_refused_at(refused: Refused, place: &[String]) -> Status {
     let meaning = explain::meaning(refused.refusal);
     output::say(&format!("refused with {}", refused.refusal));
+    for line in place {
+        output::say(line);
+    }
     output::say(&format!("what happened: {}", meaning.happened));
     output::say(&format!("what to do: {}", meaning.ask));
     Status::Refused

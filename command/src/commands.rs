@@ -2,7 +2,8 @@
 
 use crate::arguments::{Command, Given};
 use crate::{
-    check, explain, lists, numbers, output, patterns, run, sheet, show, turn, verdict, witness,
+    check, explain, lists, numbers, output, patterns, play, run, sheet, show, turn, verdict,
+    witness,
 };
 use crate::{Failure, Outcome, Status};
 use std::ffi::OsString;
@@ -38,7 +39,7 @@ static COMMANDS: &[Command] = &[
         help: "Types are written with 1 (nothing to tell apart), + (either, or) and × (both), and with their number of \
             settings. Each clause is `pattern ↦ pattern, where p = iso i (q)`; small letters are parts that are carried \
             over. With --html it is one page, with drawings and with every conversion of an iso of at most 256 settings. \
-            Of a file refused with 8 to 14, which has readable lines, the lines are shown too, and the status is 1.",
+            Of a file refused with 8 to 14 or 21, which has readable lines, the lines are shown too, and the status is 1.",
         words: 1..=2,
         options: &[("--html", false), ("-o", true)],
         run: show::show,
@@ -138,11 +139,28 @@ static COMMANDS: &[Command] = &[
         usage: "FILE FROM TO LIST [-o OUT]",
         about: "write a rule file out of a list of pairs of setting numbers",
         help: "FROM and TO are the numbers of two T lines of FILE; `rulefile show` prints them as T0, T1 and so on, which is taken \
-            too. LIST has a line `from,to` for each setting, from 0 upwards. The new file has one iso with a clause for each \
+            too. LIST has a line `from,to` for each setting, from 0 upwards, at most 128. The new file has one iso with a clause for each \
             line, and `rulefile export` of it gives the list again.",
         words: 4..=4,
         options: &[("-o", true)],
         run: lists::import,
+    },
+    Command {
+        name: "play",
+        usage: "FILE UNITS SCRIPT [--budget N] [--csv] [-o OUT]",
+        about: "try out a script of visits on units, before a rollout",
+        help: "UNITS has a line `tline,number` for each unit, from unit 0 on: the number of a T line, and that of a setting as \
+            `rulefile number` gives it; at most 1,000. SCRIPT has a line `S,unit,iso,direction` for each visit, direction 0 for \
+            there and 1 for back; at most 4,096. Lines end with a line feed, or with a carriage return and a line feed. Prints \
+            `number,done,skipped,spent`, and then for each unit what it held before and after, and its visits. A visit is \
+            skipped where the unit holds another type than the conversion begins at, and spent where that takes more steps \
+            than the budget, which each visit has for itself; both leave the unit as it was, and the status is 0. Without \
+            --budget as many steps are allowed as any setting needs. With --csv the table of the units alone is printed, with \
+            the columns unit, type before, setting before, type after, setting after, done, skipped, spent. With -o the units \
+            after the play are written to OUT, in the form of UNITS, so that it can be played on.",
+        words: 3..=3,
+        options: &[("--budget", true), ("--csv", false), ("-o", true)],
+        run: play::play,
     },
 ];
 

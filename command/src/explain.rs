@@ -37,16 +37,11 @@ pub const ACCEPTED: &str =
     "every setting of a from-type goes to exactly one setting of its to-type, \
     every setting of the to-type is reached, and the way back leads to the setting it came from";
 
-/// A warning about an accepted file in which there is nothing to use.
+/// A warning about an accepted file in which there is nothing to use. One with lines has an I line, or its first
+/// line would be idle or misplaced.
 pub fn warning(bytes: &[u8]) -> Option<&'static str> {
-    let isos = bytes.split(|byte| *byte == b'\n');
-    if bytes.is_empty() {
-        Some("the file is empty: it is accepted, and has no conversion; was it sent whole?")
-    } else if !isos.clone().any(|line| line.first() == Some(&b'I')) {
-        Some("the file has no I line, so no conversion; was it sent whole?")
-    } else {
-        None
-    }
+    let empty = "the file is empty: it is accepted, and has no conversion; was it sent whole?";
+    bytes.is_empty().then_some(empty)
 }
 
 /// The word of a verdict.
@@ -82,7 +77,7 @@ pub fn setting(file: &[u8], refused: Refused) -> Option<String> {
 }
 
 /// What there is to see of a refusal, each with its label: the line; what is wrong with its form where that is the
-/// fault; a clause as it reads; a setting that shows the fault.
+/// fault; a clause, or an idle type or pattern, as it reads; a setting that shows the fault.
 pub fn line(file: &[u8], refused: Refused) -> Vec<(String, String)> {
     let Some(bytes) = form::line(file, refused.line) else {
         return Vec::new();
@@ -92,10 +87,10 @@ pub fn line(file: &[u8], refused: Refused) -> Vec<(String, String)> {
         said.extend(text.map(|text| (label.to_string(), text)));
     };
     let number = refused.refusal.number();
-    let form = (number == 3).then(|| form::fault(file, refused.line));
-    add("look here", form);
-    let clause = (number > 7).then(|| show::clause(file, refused.line));
-    add("it reads", clause.flatten());
+    let form = (number == 3).then(|| form::fault(&form::RULES, file, refused.line));
+    add("look here", form.flatten());
+    let reading = (number > 7).then(|| show::reading(file, refused.line));
+    add("it reads", reading.flatten());
     add("a setting", setting(file, refused));
     said
 }

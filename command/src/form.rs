@@ -1,8 +1,32 @@
-//! Refusal 3 told apart: what about a line is not one of the five forms. The library judges; here is only looked
-//! for what a person can mend.
+//! Refusals 3 and 22 told apart: what about a line of a rule file or of a script is of another form. The library
+//! judges; here is only looked for what a person can mend.
 
-/// The five forms: the letter, and how many numbers follow.
-const FORMS: [(u8, usize); 5] = [(b'T', 3), (b'P', 3), (b'I', 2), (b'C', 2), (b'L', 3)];
+/// The forms that the lines of a text have.
+pub struct Forms {
+    /// The letters, and how many numbers follow each.
+    lines: &'static [(u8, usize)],
+    /// What is said of another letter.
+    other: &'static str,
+    /// What is said of a query.
+    query: &'static str,
+}
+
+/// The forms of a rule file.
+pub const RULES: Forms = Forms {
+    lines: &[(b'T', 3), (b'P', 3), (b'I', 2), (b'C', 2), (b'L', 3)],
+    other: "the line begins with none of the letters T, P, I, C and L",
+    query: "a query stands in the rule file; queries belong into a file of their own (rulefile sheet FILE QUERIES)",
+};
+
+/// The form of a script.
+pub const SCRIPT: Forms = Forms {
+    lines: &[(b'S', 3)],
+    other: "the line does not begin with the letter S",
+    query: "a query stands in the script; a line of a script is `S,unit,iso,direction`",
+};
+
+/// The highest number of a line of a rule file or of a script.
+const MOST: u64 = 65_535;
 
 /// A line of a file, counted from 1, with its ending.
 pub fn line(file: &[u8], number: usize) -> Option<&[u8]> {
@@ -11,7 +35,7 @@ pub fn line(file: &[u8], number: usize) -> Option<&[u8]> {
 }
 
 /// A line without its ending.
-fn text(line: &[u8]) -> &[u8] {
+pub fn text(line: &[u8]) -> &[u8] {
     let line = line.strip_suffix(b"\n").unwrap_or(line);
     line.strip_suffix(b"\r").unwrap_or(line)
 }
@@ -39,14 +63,36 @@ pub fn shown(line: &[u8]) -> String {
 }
 
 /// What is wrong with the form of a line.
-pub fn fault(file: &[u8], number: usize) -> String {
-    let line = line(file, number).unwrap_or_default();
-    let found = whole_file(file, number)
+pub fn fault(forms: &Forms, file: &[u8], number: usize) -> Option<String> {
+    let line = line(file, number)?;
+    whole_file(file, number)
+        .or_else(|| ending(file, line))
+        .or_else(|| query(forms, line))
+        .or_else(|| strange_byte(line))
+        .or_else(|| letter(forms, line))
+        .or_else(|| fields(forms, line))
+}
+
+/// What is wrong with a line that should be a unit, `tline,number`.
+pub fn unit_fault(file: &[u8], number: usize) -> Option<String> {
+    let line = line(file, number)?;
+    whole_file(file, number)
         .or_else(|| ending(file, line))
         .or_else(|| strange_byte(line))
-        .or_else(|| letter(line))
-        .or_else(|| fields(line));
-    found.unwrap_or_else(|| "the line is not one of the five forms".to_string())
+        .or_else(|| unit_fields(line))
+}
+
+/// The two numbers of a unit.
+fn unit_fields(line: &[u8]) -> Option<String> {
+    let text = String::from_utf8_lossy(text(line));
+    let fields: Vec<&str> = text.split(',').collect();
+    let most = u32::MAX.into();
+    match fields.len() {
+        2 => fields
+            .into_iter()
+            .find_map(|field| self::field(field, most)),
+        given => Some(format!("a unit has 2 numbers, here there are {given}")),
+    }
 }
 
 /// Encodings other than plain text.
@@ -99,15 +145,16 @@ fn ending(file: &[u8], line: &[u8]) -> Option<String> {
     None
 }
 
+/// A query among other lines.
+fn query(forms: &Forms, line: &[u8]) -> Option<String> {
+    line.starts_with(b"Q").then(|| forms.query.to_string())
+}
+
 /// A byte that no line has.
 fn strange_byte(line: &[u8]) -> Option<String> {
     let text = text(line);
     if text.is_empty() {
         return Some("the line is empty".to_string());
-    }
-    if text[0] == b'Q' {
-        let why = "a query stands in the rule file; queries belong into a file of their own (rulefile sheet FILE QUERIES)";
-        return Some(why.to_string());
     }
     let place = text
         .iter()
@@ -124,28 +171,29 @@ fn strange_byte(line: &[u8]) -> Option<String> {
 }
 
 /// The letter in front.
-fn letter(line: &[u8]) -> Option<String> {
+fn letter(forms: &Forms, line: &[u8]) -> Option<String> {
     let first = *line.first()?;
-    if FORMS.iter().any(|form| form.0 == first) {
+    let known = |letter: u8| forms.lines.iter().any(|form| form.0 == letter);
+    if known(first) {
         return None;
     }
     let upper = first.to_ascii_uppercase();
-    if FORMS.iter().any(|form| form.0 == upper) {
+    if known(upper) {
         let (small, large) = (char::from(first), char::from(upper));
         return Some(format!(
             "the line begins with a small {small}; its letter is {large}"
         ));
     }
-    Some("the line begins with none of the letters T, P, I, C and L".to_string())
+    Some(forms.other.to_string())
 }
 
 /// The numbers behind the letter.
-fn fields(line: &[u8]) -> Option<String> {
-    let text = String::from_utf8_lossy(line);
-    let mut fields = text.trim_end_matches(['\r', '\n']).split(',');
+fn fields(forms: &Forms, line: &[u8]) -> Option<String> {
+    let text = String::from_utf8_lossy(text(line));
+    let mut fields = text.split(',');
     let letter = fields.next()?;
-    let wanted = FORMS.iter().find(|form| letter.as_bytes() == [form.0]);
-    let Some((_, wanted)) = wanted else {
+    let mut known = forms.lines.iter();
+    let Some((_, wanted)) = known.find(|form| letter.as_bytes() == [form.0]) else {
         return Some("a comma is missing behind the letter".to_string());
     };
     let fields: Vec<&str> = fields.collect();
@@ -155,19 +203,27 @@ fn fields(line: &[u8]) -> Option<String> {
             "{wanted} numbers follow the letter {letter}, here there are {given}"
         ));
     }
-    fields.into_iter().find_map(field)
+    fields
+        .into_iter()
+        .find_map(|field| self::field(field, MOST))
 }
 
-/// One number.
-fn field(field: &str) -> Option<String> {
+/// A number of 32 bits, as lines have it.
+pub fn number(field: &str) -> Option<u32> {
+    let fault = self::field(field, u32::MAX.into());
+    field.parse().ok().filter(|_| fault.is_none())
+}
+
+/// What is wrong with a number of at most this.
+fn field(field: &str, most: u64) -> Option<String> {
     if field.is_empty() {
         Some("a number is missing between two commas or at the end".to_string())
     } else if !field.bytes().all(|byte| byte.is_ascii_digit()) {
         Some(format!("{field} is not a number"))
     } else if field.len() > 1 && field.starts_with('0') {
         Some(format!("the number {field} has a leading zero"))
-    } else if field.parse::<u16>().is_err() {
-        Some(format!("the number {field} is over 65535"))
+    } else if field.parse().map_or(true, |number: u64| number > most) {
+        Some(format!("the number {field} is over {most}"))
     } else {
         None
     }

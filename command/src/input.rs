@@ -82,6 +82,19 @@ pub fn read(path: &OsStr) -> Result<Input, Failure> {
     Ok(Input { name, bytes })
 }
 
+/// The bytes of a list that goes into one call; one of over 65,536 bytes is none.
+pub fn read_list(path: &OsStr, what: &str) -> Result<Vec<u8>, Failure> {
+    let list = read(path)?;
+    match list.too_long() {
+        true => {
+            let name = list.name;
+            let why = format!("{name} is no {what}: it has over {CEILING} bytes");
+            Err(Failure(why))
+        }
+        false => Ok(list.bytes),
+    }
+}
+
 /// The lines of a list of any length, each with its ending.
 pub struct Lines {
     name: String,

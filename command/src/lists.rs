@@ -1,10 +1,8 @@
 //! `export` and `import`: conversions as pair lists.
 
 use crate::arguments::{number, Given};
-use crate::input::{self, CEILING};
-use crate::{check, output, run, turn, Failure, Outcome, Status};
+use crate::{check, input, output, run, turn, Failure, Outcome, Status};
 use rulefile::{Desk, Refused};
-use std::ffi::OsStr;
 
 /// Writes what an accepted file gives, alone; on refusal nothing is written.
 fn write(
@@ -33,19 +31,6 @@ pub fn export(given: &Given) -> Outcome {
     })
 }
 
-/// A list; one of over 65,536 bytes is none.
-fn read_list(path: &OsStr) -> Result<Vec<u8>, Failure> {
-    let list = input::read(path)?;
-    match list.too_long() {
-        true => {
-            let name = list.name;
-            let why = format!("{name} is no pair list: it has over {CEILING} bytes");
-            Err(Failure(why))
-        }
-        false => Ok(list.bytes),
-    }
-}
-
 /// Writes a file out of a pair list.
 pub fn import(given: &Given) -> Outcome {
     let from = number(given.word(1), "T", "FROM")?;
@@ -55,6 +40,6 @@ pub fn import(given: &Given) -> Outcome {
         return Err(Failure(why.to_string()));
     }
     turn::require_other(given.word(3), given.value("-o"))?;
-    let list = read_list(given.word(3))?;
+    let list = input::read_list(given.word(3), "pair list")?;
     write(given, |desk, file| desk.import(file, from, to, &list))
 }

@@ -1,4 +1,4 @@
-//! `rulefile COMMAND …`: judges, files, shows, turns and runs rule files. Every answer comes from the proved
+//! `rulefile COMMAND …`: judges, files, shows, turns and runs rule files, and tries out visits with them. Every answer comes from the proved
 //! library; the words for it come from `docs/REFUSALS.md`.
 //!
 //! Exit status: 0 accepted or done, 1 refused, 2 not readable, not writable or wrong usage.
@@ -17,13 +17,16 @@ mod lists;
 mod numbers;
 mod output;
 mod patterns;
+mod play;
 mod rules;
 mod run;
+mod script;
 mod sheet;
 mod show;
 mod streams;
 mod system;
 mod turn;
+mod units;
 mod verdict;
 mod witness;
 

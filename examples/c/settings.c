@@ -1,12 +1,14 @@
 /*
  * settings FILE
  *
- * Settings as numbers, and pair lists of them. FILE has the lines of a rule file and behind them calls:
- * `N,type,letters` asks for the number of a setting of a T line, `S,type,number` for the letters of the
- * setting with a number, `E,iso,budget` for an iso as a pair list, `M,from,to` and the lines of a list,
- * each behind a blank, for a file with that conversion between two T lines. Prints `number,line` for the
- * rule file and, if it is accepted, a line for each call: `number,setting` for N, `number,letters` for S,
- * for E and M `number,` and the lines written, each behind a blank.
+ * Settings as numbers, pair lists of them, and units that hold them. FILE has the lines of a rule file and
+ * behind them calls: `N,type,letters` asks for the number of a setting of a T line, `S,type,number` for the
+ * letters of the setting with a number, `E,iso,budget` for an iso as a pair list, `M,from,to` and the lines
+ * of a list, each behind a blank, for a file with that conversion between two T lines, `U,budget` and, each
+ * behind a blank, units `type,number` and from the first word with S on the lines of a script, for a play.
+ * Prints `number,line` for the rule file and, if it is accepted, a line for each call: `number,setting` for
+ * N, `number,letters` for S, for E and M `number,` and the lines written, each behind a blank, for U
+ * `number,done,skipped,spent` and the units after the play, each behind a blank.
  *
  * Exit status: 0 accepted, 1 refused, 2 the argument, FILE or a call in it cannot be read.
  */
@@ -21,6 +23,8 @@ static uint16_t table[RULEFILE_TABLE_LENGTH];
 static uint8_t work[RULEFILE_WORK_LENGTH];
 static uint8_t output[RULEFILE_MAX_FILE_LENGTH]; /* long enough for a pair list too */
 static char text[2 * RULEFILE_MAX_FILE_LENGTH]; /* with a zero byte behind it */
+static uint32_t types[RULEFILE_MAX_UNITS];
+static uint32_t settings[RULEFILE_MAX_UNITS];
 
 struct bytes {
     const uint8_t *start;
@@ -56,7 +60,7 @@ static bool read_text(const char *path)
 /* Whether a line that begins so is a call. */
 static bool is_call(char letter)
 {
-    return letter == 'N' || letter == 'S' || letter == 'E' || letter == 'M';
+    return letter == 'N' || letter == 'S' || letter == 'E' || letter == 'M' || letter == 'U';
 }
 
 /* Where the first call stands, or the end. */
@@ -125,22 +129,69 @@ static void print_file(struct bytes rules, uint32_t from, uint32_t to, struct by
     print_lines(answer.number, answer.length);
 }
 
-/* Reads the second T line and the list behind it, and steps behind both; blanks become line feeds. */
-static bool read_list(char **at, uint32_t *to, struct bytes *list)
+/* Reads a number that a blank or the line feed follows, and steps behind both; `more` where it is a blank. */
+static bool read_last(char **at, uint32_t *number, bool *more)
 {
-    char *start = *at + strcspn(*at, " \n");
-    *list = (struct bytes){(const uint8_t *)start, 0};
-    if (*start == '\n')
-        return read_number(at, '\n', to);
-    if (!read_number(at, ' ', to))
-        return false;
-    list->start++;
+    char end = (*at)[strcspn(*at, " \n")];
+    *more = end == ' ';
+    return read_number(at, end, number);
+}
+
+/* The words up to the line feed as lines, blanks become line feeds; steps behind them. */
+static struct bytes read_lines(char **at)
+{
+    struct bytes lines = {(const uint8_t *)*at, 0};
     for (; **at != '\n'; ++*at) {
         if (**at == ' ')
             **at = '\n';
     }
     ++*at;
-    list->length = (size_t)((const uint8_t *)*at - list->start);
+    lines.length = (size_t)((const uint8_t *)*at - lines.start);
+    return lines;
+}
+
+/* Reads the second T line and the list behind it, and steps behind both. */
+static bool read_list(char **at, uint32_t *to, struct bytes *list)
+{
+    bool more;
+    if (!read_last(at, to, &more))
+        return false;
+    if (more)
+        *list = read_lines(at);
+    return true;
+}
+
+/* Reads the units of a play, up to the script or the end of the line; `more` where there is a script. */
+static bool read_units(char **at, size_t *count, bool *more)
+{
+    for (*count = 0; *more && **at != 'S'; ++*count) {
+        if (*count == RULEFILE_MAX_UNITS || !read_number(at, ',', &types[*count]) ||
+            !read_last(at, &settings[*count], more))
+            return false;
+    }
+    return true;
+}
+
+/* Reads what is behind `U,`, plays it, and steps behind it. */
+static bool answer_play(struct bytes rules, char **at)
+{
+    uint32_t budget;
+    bool more;
+    size_t count;
+    if (!read_last(at, &budget, &more) || !read_units(at, &count, &more))
+        return false;
+    struct bytes script = {NULL, 0};
+    if (more)
+        script = read_lines(at);
+    struct rulefile_tally tally = {0, 0, 0};
+    struct rulefile_play_answer answer =
+        rulefile_play(rules.start, rules.length, table, RULEFILE_TABLE_LENGTH, work, RULEFILE_WORK_LENGTH, types,
+                      count, settings, count, script.start, script.length, budget, &tally);
+    printf("%lu,%lu,%lu,%lu", (unsigned long)answer.number, (unsigned long)tally.done, (unsigned long)tally.skipped,
+           (unsigned long)tally.spent);
+    for (size_t i = 0; i < count; i++)
+        printf(" %lu,%lu", (unsigned long)types[i], (unsigned long)settings[i]);
+    putchar('\n');
     return true;
 }
 
@@ -154,6 +205,8 @@ static bool answer_call(struct bytes rules, char **at)
     if (!is_call(letter) || (*at)[1] != ',')
         return false;
     *at += 2;
+    if (letter == 'U')
+        return answer_play(rules, at);
     if (!read_number(at, ',', &first))
         return false;
     if (letter == 'N') {

@@ -31,6 +31,6 @@ def run(p):
             shown.append(line)
             found = p.shell(line)[1]
             p.same(f"{document.relative_to(TREE)}: {line}", plain(printed), plain(found))
-    for command in ("check", "verdict", "show", "turn", "run", "sheet"):
+    for command in ("check", "verdict", "show", "turn", "run", "sheet", "number", "setting", "export", "import", "play"):
         known = any(f"bin/rulefile {command} " in line for line in shown)
         p.expect(f"{command} is shown in a document", known, "no document shows it")

@@ -74,6 +74,8 @@ def run(p):
     p.expect("a number used again: told apart", "(a, b)  ↦ (b′, a), where b′ = iso 0 (b)" in again, again)
     refused = p.gives("show of a refused file", ["show", M], 1)
     p.expect("show of a refused file: lines", refused.startswith("12,9\n") and "line 11: RLU  ↦ RRU\n" in refused, refused)
+    idle = p.gives("show of an idle line", ["show", "examples/refusals/21-idle-line.in"], 1)
+    p.expect("show of an idle line: lines", idle.startswith("21,3\n") and "T2 = (1 + 1) × (1 + 1)  4 settings\n" in idle and "iso 0: T1 → T1" in idle, idle)
     bad = p.gives("show of a bad line", ["show", p.file("bad.rules", "T,0,0,0\nx\n")], 1)
     p.expect("show of a bad line: no lines", bad.startswith("3,2\n") and "types" not in bad, bad)
     p.gives("show of an empty file", ["show", "/dev/null"], 0)
@@ -110,6 +112,8 @@ def pages(p):
     p.expect("page: light and dark", "prefers-color-scheme: dark" in text and "@media print" in text)
     text, _ = page(p, "page of a refused file", [M], 1)
     p.expect("page of a refused file: verdict", "12,9 – refused: overlap right" in text and "becomes" not in text)
+    text, _ = page(p, "page of an idle line", ["examples/refusals/21-idle-line.in"], 1)
+    p.expect("page of an idle line: marked", "21,3 – refused: idle line" in text and text.count('class="card fault"') == 1 and '<div class="card fault"><p><b>T2</b>' in text)
     name = "a&b <i>\"'.rules"
     p.file(name, (p.folder / H).read_bytes())
     text, _ = page(p, "a page with a strange name", [name], 0)

@@ -22,7 +22,7 @@ def run(p):
 
 def unreadable(p):
     more = {"run": [0, "LU"], "sheet": ["examples/heating-curve.queries"], "number": [0, "U"], "setting": [0, 0], "bounds": [0], "overlap": [0, 0], "export": [0]}
-    more |= {"witness": [], "import": [0, 0, "examples/heating-curve.queries"]}
+    more |= {"witness": [], "import": [0, 0, "examples/heating-curve.queries"], "play": ["examples/rollout/fleet.units", "examples/rollout/plan.script"]}
     for command in (*S, *more):
         rest = more.get(command, [])
         p.gives(f"{command} of a missing file", [command, "missing.rules", *rest], 2, "", said="there is no file missing.rules")
@@ -111,7 +111,7 @@ def taken(p, words):
 
 
 def endless(p):
-    for command, *rest in (["check"], ["show"], ["turn"], ["witness"], ["run", "0", "LU"], ["number", "0", "U"], ["export", "0"]):
+    for command, *rest in (["check"], ["show"], ["turn"], ["witness"], ["run", "0", "LU"], ["number", "0", "U"], ["export", "0"], ["play", "/dev/null", "/dev/null"]):
         status, text, count = taken(p, [command, "-", *rest])
         p.expect(f"{command} of 4 GB of zeros", status == 1 and "2,0" in text, text)
         p.expect(f"{command} of 4 GB of zeros: {count} bytes taken", count < 1 << 20)
@@ -129,7 +129,7 @@ def endless(p):
 
 
 def full(p):
-    for words in (["check", H], ["turn", H], ["show", H], ["run", H, 0, "LU"], ["sheet", H, "examples/heating-curve.queries"], ["--help"]):
+    for words in (["check", H], ["turn", H], ["show", H], ["run", H, 0, "LU"], ["sheet", H, "examples/heating-curve.queries"], ["play", "examples/rollout/boards.rules", "examples/rollout/fleet.units", "examples/rollout/plan.script"], ["--help"]):
         with open("/dev/full", "wb") as device:
             p.gives(f"{words[0]} on a full device", words, 2, said="cannot write to standard output: No space left", stdout=device)
     p.gives("turn into a full device", ["turn", H, "-o", "/dev/full"], 2, "", said="cannot write /dev/full: No space left")

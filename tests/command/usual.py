@@ -23,6 +23,10 @@ def run(p):
     numbers(p)
     witnesses(p)
     lists(p)
+    plays(p)
+    played(p)
+    refused_plays(p)
+    no_plays(p)
     usage(p)
 
 
@@ -43,7 +47,12 @@ def checks(p):
         p.expect(f"{example.name}: words", status == 0 or "what happened: " in out, out)
     p.gives("check of an empty file", ["check", p.file("empty.rules", "")], 0, said="the file is empty")
     out = p.gives("check without an iso", ["check", p.file("types.rules", "T,0,0,0\n")], 1)
-    p.expect("check without an iso: 21", out.startswith("21,1\n"), out)
+    p.expect("check without an iso: 21", out.startswith("21,1\n") and "it reads: T0 = 1\n" in out, out)
+    idle = "T,0,0,0\nP,0,0,0\nP,1,3,0\nP,4,0,1\nI,0,0\nC,0,0\n"
+    out = p.gives("check of an idle pattern", ["check", p.file("idle.rules", idle)], 1)
+    p.expect("check of an idle pattern: 21", out.startswith("21,3\n") and "it reads: P1 = d\n" in out, out)
+    for words in ("21, idle line, at line 3", "line 3: P,1,3,0", "is used by no iso, clause or let step", "ask whether a clause was left out"):
+        p.expect(f"check of an idle pattern: {words}", words in out, out)
     out = p.gives("check of 65,537 bytes", ["check", p.file("long.rules", b"T" * 65537)], 1)
     p.expect("check of 65,537 bytes: 2", out.startswith("2,0\n"), out)
     out = p.gives("a stray query", ["check", p.file("q.rules", (p.folder / H).read_bytes() + b"Q,0,0,9,LU\n")], 1)
@@ -205,6 +214,137 @@ def lists(p):
     p.gives("import, both standard input", ["import", "-", 5, 6, "-"], 2, "", said="cannot both be standard input")
     p.gives("import of a refused file", ["import", M, 0, 0, "pairs.list"], 1, "", said="12,9")
     p.same("import of a list that is missing", 2, p.call("import", H, 5, 6, "missing")[0])
+
+
+B = "examples/rollout/boards.rules"
+FLEET = "examples/rollout/fleet.units"
+PLAN = "examples/rollout/plan.script"
+HEAD = "unit,type before,setting before,type after,setting after,done,skipped,spent\n"
+
+
+def plays(p):
+    """Plays as they are meant, on the heating curve: T5 the older board, T6 the newer one; iso 1 leads from one to the other in two steps."""
+    units, script = p.file("few.units", "5,6\r\n6,5\n3,0\n"), p.file("few.script", "S,0,1,0\nS,1,1,0\r\nS,2,0,0\n")
+    table = "  unit  before  after  done  skipped  spent\n     0    T5 6   T6 5     1        0      0\n     1    T6 5   T6 5     0        1      0\n     2    T3 0   T4 0     1        0      0\n"
+    words = "3 visits to 3 units: 2 done, 1 skipped, 0 spent\n  skipped: the unit holds another type than the conversion begins at; it stays as it was\n"
+    p.gives("play", ["play", H, "few.units", "few.script"], 0, f"0,2,1,0\n{words}\n{table}")
+    rows = "0,5,6,6,5,1,0,0\n1,6,5,6,5,0,1,0\n2,3,0,4,0,1,0,0\n"
+    p.gives("play as CSV", ["play", H, units, script, "--csv"], 0, HEAD + rows, said="2 done, 1 skipped, 0 spent")
+    p.gives("play into a file", ["play", H, units, script, "--csv", "-o", "after.units"], 0, HEAD + rows, said="1 skipped")
+    p.same("play into a file: content", "6,5\n6,5\n4,0\n", (p.folder / "after.units").read_text())
+    out = p.gives("play, spent", ["play", H, units, script, "--budget", 1], 0)
+    p.expect("play, spent: counts", out.startswith("0,1,1,1\n3 visits to 3 units: 1 done, 1 skipped, 1 spent\n"), out)
+    p.expect("play, spent: words", "  spent: the conversion takes more than 1 step; the unit stays as it was\n" in out, out)
+    back = p.file("back.script", "S,2,0,1\nS,0,1,1\n")
+    p.gives("play back", ["play", H, "after.units", back, "-o", "again.units", "--csv"], 0)
+    p.same("play back: restored", "5,6\n6,5\n3,0\n", (p.folder / "again.units").read_text())
+    for place, (name, text) in enumerate((("file", (p.folder / H).read_bytes()), ("units", units.read_bytes()), ("script", script.read_bytes()))):
+        inputs = ["-" if place == other else path for other, path in enumerate((H, units, script))]
+        p.gives(f"play, the {name} from standard input", ["play", *inputs], 0, f"0,2,1,0\n{words}\n{table}", stdin=text)
+    p.gives("play without a script", ["play", H, units, "/dev/null", "--csv"], 0, HEAD + "0,5,6,5,6,0,0,0\n1,6,5,6,5,0,0,0\n2,3,0,3,0,0,0,0\n", said="the script is empty")
+    empty = "0,0,0,0\n0 visits to 0 units: 0 done, 0 skipped, 0 spent\n\n  unit  before  after  done  skipped  spent\n"
+    p.gives("play without units", ["play", H, "/dev/null", "/dev/null"], 0, empty, said="the script is empty")
+    p.gives("play of an empty file", ["play", "/dev/null", "/dev/null", "/dev/null"], 0, empty, said="the script is empty")
+
+
+def played(p):
+    """Each unit's row is what `setting`, `run` and `number` give, visit by visit, and the counts of the rows add up."""
+    start = [tuple(map(int, line.split(","))) for line in (p.folder / FLEET).read_text().splitlines()][:12]
+    ends = {0: (3, 4), 1: (5, 6), 2: (4, 4), 3: (6, 7)}
+    visits = [(unit, iso, back) for iso in (3, 1, 1, 3, 2) for back in (0, 1) for unit in range(12)]
+    p.file("some.units", "".join(f"{ty},{number}\n" for ty, number in start))
+    p.file("some.script", "".join(f"S,{unit},{iso},{back}\n" for unit, iso, back in visits))
+    known, rows = {}, [[*unit, *unit, 0, 0, 0] for unit in start]
+    for unit, iso, back in visits:
+        row, begin, end = rows[unit], ends[iso][back], ends[iso][1 - back]
+        if row[2] != begin:
+            row[5] += 1
+            continue
+        key = (iso, back, row[3])
+        if key not in known:
+            letters = p.call("setting", B, begin, row[3])[1].splitlines()[0].split(",")[1]
+            status, out, _ = p.call("run", B, iso, letters, "--budget", 1, *["--back"] * back)
+            result = out.splitlines()[0].split(",")[2]
+            known[key] = None if status else int(p.call("number", B, end, result)[1].splitlines()[0].split(",")[1])
+        row[2:] = [*row[2:6], row[6] + 1] if known[key] is None else [end, known[key], row[4] + 1, *row[5:]]
+    text = HEAD + "".join(",".join(map(str, (place, *row))) + "\n" for place, row in enumerate(rows))
+    out = p.gives("play by the services", ["play", B, "some.units", "some.script", "--budget", 1, "--csv"], 0, text, said="spent")
+    totals = [sum(int(row.split(",")[place]) for row in out.splitlines()[1:]) for place in (5, 6, 7)]
+    p.expect("play by the services: some of each", min(totals) > 0 and sum(totals) == len(visits), totals)
+    first = p.gives("play by the services: totals", ["play", B, "some.units", "some.script", "--budget", 1], 0).splitlines()[0]
+    p.same("play by the services: the first line", ",".join(map(str, [0, *totals])), first)
+
+
+def refused_plays(p):
+    few, many = "5,6\n6,5\n", "5,6\n" * 1001
+    cases = [
+        ("no such unit", few, "S,0,1,0\nS,2,1,0\n", 22, "line 2 of script: S,2,1,0", "there is no unit 2: there are 2, numbered from 0"),
+        ("no such iso", few, "S,1,2,0\n", 22, "line 1 of script: S,1,2,0", "the file has no iso 2"),
+        ("a third direction", few, "S,0,1,0\n" * 9 + "S,0,1,2\n", 22, "line 10 of script", "the direction is 0 for there or 1 for back, not 2"),
+        ("a small letter", few, "s,0,1,0\n", 22, "line 1 of script: s,0,1,0", "begins with a small s; its letter is S"),
+        ("another letter", few, "S,0,1,0\nX,0,1,0\n", 22, "line 2 of script", "does not begin with the letter S"),
+        ("a query", few, "Q,0,0,9,LU\n", 22, "line 1 of script", "a query stands in the script"),
+        ("a number too few", few, "S,0,1\n", 22, "line 1 of script", "3 numbers follow the letter S, here there are 2"),
+        ("a leading zero", few, "S,0,01,0\n", 22, "line 1 of script", "the number 01 has a leading zero"),
+        ("a blank", few, "S, 0,1,0\n", 22, "line 1 of script", "there is a blank at byte 3"),
+        ("an empty line", few, "S,0,1,0\n\nS,0,1,1\n", 22, "line 2 of script", "the line is empty"),
+        ("no last line feed", few, "S,0,1,0\nS,0,1,1", 22, "line 2 of script", "does not end with a line feed"),
+        ("units, none of them there", "", "S,0,1,0\n", 22, "line 1 of script", "there is no unit 0: there are 0"),
+        ("a unit of no type", "5,6\n7,0\n", "x", 15, "unit 1, line 2 of units: setting 0 of T7", "names an iso that the file does not have"),
+        ("a unit too high", "5,6\n5,7\n5,8\n4294967295,0\n", "x", 19, "unit 2, line 3 of units: setting 8 of T5", "not below the count of settings"),
+        ("over 1,000 units", many, "S,0,1,0\n", 2, "units has 1001 lines, script has 1", "more than 1,000 units"),
+        ("over 4,096 lines", few, "S,0,1,0\n" * 4097, 2, "units has 2 lines, script has 4097", "4,096 lines of its script"),
+    ]
+    for name, units, script, number, place, words in cases:
+        inputs = [H, p.file("units", units).name, p.file("script", script).name]
+        kept = p.file("kept", "kept\n")
+        p.gives(f"play, {name}", ["play", *inputs, "-o", kept], 1, f"{number},0,0,0\n", said=f"refused with {number}, ")
+        p.same(f"play, {name}: nothing written", "kept\n", kept.read_text())
+        p.gives(f"play, {name}, as CSV", ["play", *inputs, "--csv"], 1, "", said=place)
+        p.gives(f"play, {name}: words", ["play", *inputs], 1, said=words)
+    bits = "T,0,0,0\nT,1,0,0\n" + "".join(f"T,2,1,{i}\n" for i in range(1, 32)) + "P,1,0,0\nI,32,32\nC,0,0\n"
+    inputs = [p.file("bits.rules", bits), p.file("units", "31,2147483647\n32,0\n").name, "/dev/null"]
+    p.gives("play, a unit of too many settings", ["play", *inputs], 1, "18,0,0,0\n", said="unit 1, line 2 of units: setting 0 of T32")
+    most = [p.file("most.units", "5,6\n" * 1000), p.file("most.script", "S,999,1,0\nS,999,1,1\n" * 2048)]
+    out = p.gives("play of 1,000 units and 4,096 visits", ["play", H, *most], 0)
+    p.expect("play of 1,000 units and 4,096 visits: all done", out.startswith("0,4096,0,0\n4096 visits to 1000 units: 4096 done,"), out[:80])
+    p.expect("play of 1,000 units and 4,096 visits: the last", out.endswith("   999    T5 6   T5 6  4096        0      0\n"), out[-80:])
+    p.gives("play with a refused file", ["play", M, FLEET, PLAN], 1, "", said="12,9")
+    p.gives("play with an idle file", ["play", "examples/refusals/21-idle-line.in", FLEET, PLAN], 1, "", said="it reads: T2 = (1 + 1) × (1 + 1)")
+
+
+def no_plays(p):
+    """What is no list of units or no script, what is missing, and wrong usage."""
+    bad = [
+        ("a unit of one number", "5,6\n5\n", 2, "a unit has 2 numbers, here there are 1"),
+        ("a unit of three numbers", "5,6,7\n", 1, "a unit has 2 numbers, here there are 3"),
+        ("a unit by name", "T5,6\n", 1, "T5 is not a number"),
+        ("a unit without a number", "5,\n", 1, "a number is missing"),
+        ("a unit with a leading zero", "5,06\n", 1, "the number 06 has a leading zero"),
+        ("a unit of 33 bits", "5,4294967296\n", 1, "the number 4294967296 is over 4294967295"),
+        ("a unit with a sign", "5,+6\n", 1, "a sign or a point at byte 3"),
+        ("a unit with a semicolon", "5,6\n5;6\n", 2, "semicolon"),
+        ("a unit without its line feed", "5,6\n5,6", 2, "does not end with a line feed"),
+        ("an empty line among units", "5,6\n\n", 2, "the line is empty"),
+        ("units with a byte order mark", b"\xef\xbb\xbf5,6\n", 1, "byte order mark"),
+        ("units with carriage returns alone", "5,6\r5,6\r", 1, "carriage returns alone"),
+    ]
+    for name, content, line, words in bad:
+        p.file("bad.units", content)
+        p.gives(name, ["play", H, "bad.units", PLAN], 2, "", said=f"line {line} of bad.units is no unit `tline,number`: ")
+        p.gives(f"{name}: {words}", ["play", H, "bad.units", PLAN], 2, "", said=words)
+    p.gives("play without its units", ["play", B, "missing", PLAN], 2, "", said="there is no file missing")
+    p.gives("play without its script", ["play", B, FLEET, "missing"], 2, "", said="there is no file missing")
+    p.gives("play of a folder of units", ["play", B, "examples", PLAN], 2, "", said="examples is a folder")
+    p.gives("play of units without end", ["play", B, "/dev/zero", PLAN], 2, "", said="is no list of units: it has over 65536 bytes")
+    p.gives("play of a script without end", ["play", B, FLEET, "/dev/zero"], 2, "", said="is no script: it has over 65536 bytes")
+    p.gives("play, two from standard input", ["play", B, "-", "-"], 2, "", said="only one of FILE, UNITS and SCRIPT can be standard input")
+    for name in (B, FLEET, PLAN):
+        before = (p.folder / name).read_bytes()
+        p.gives(f"play over {name}", ["play", B, FLEET, PLAN, "-o", name], 2, "", said="-o names a file that is read")
+        p.same(f"play over {name}: kept", before, (p.folder / name).read_bytes())
+    p.gives("play into a folder", ["play", B, FLEET, PLAN, "-o", "examples"], 2, "", said="examples is a folder")
+    p.gives("play, no number", ["play", B, FLEET, PLAN, "--budget", "x"], 2, "", said="the budget is a number")
 
 
 def usage(p):

@@ -1,15 +1,17 @@
 //! `settings FILE`
 //!
-//! Settings as numbers, and pair lists of them. FILE has the lines of a rule file and behind them calls:
-//! `N,type,letters` asks for the number of a setting of a T line, `S,type,number` for the letters of the
-//! setting with a number, `E,iso,budget` for an iso as a pair list, `M,from,to` and the lines of a list,
-//! each behind a blank, for a file with that conversion between two T lines. Prints `number,line` for the
-//! rule file and, if it is accepted, a line for each call: `number,setting` for N, `number,letters` for S,
-//! for E and M `number,` and the lines written, each behind a blank.
+//! Settings as numbers, pair lists of them, and units that hold them. FILE has the lines of a rule file and
+//! behind them calls: `N,type,letters` asks for the number of a setting of a T line, `S,type,number` for the
+//! letters of the setting with a number, `E,iso,budget` for an iso as a pair list, `M,from,to` and the lines
+//! of a list, each behind a blank, for a file with that conversion between two T lines, `U,budget` and, each
+//! behind a blank, units `type,number` and from the first word with S on the lines of a script, for a play.
+//! Prints `number,line` for the rule file and, if it is accepted, a line for each call: `number,setting` for
+//! N, `number,letters` for S, for E and M `number,` and the lines written, each behind a blank, for U
+//! `number,done,skipped,spent` and the units after the play, each behind a blank.
 //!
 //! Exit status: 0 accepted, 1 refused, 2 the argument, FILE or a call in it cannot be read.
 
-use rulefile::{Desk, Refused};
+use rulefile::{Desk, Refused, MAX_UNITS};
 use std::env;
 use std::ffi::{OsStr, OsString};
 use std::fs;
@@ -25,10 +27,19 @@ enum Call<'a> {
     List(u32, u32),
     /// With the lines of a pair list, each with its line feed.
     File(u32, u32, String),
+    Play(Play),
+}
+
+/// A script, each line with its line feed, and the units that it is played on.
+struct Play {
+    budget: u32,
+    types: Vec<u32>,
+    settings: Vec<u32>,
+    script: String,
 }
 
 /// The letters that a call begins with.
-const CALLS: [char; 4] = ['N', 'S', 'E', 'M'];
+const CALLS: [char; 5] = ['N', 'S', 'E', 'M', 'U'];
 
 /// A text without zero bytes that ends in a line feed; an empty one too.
 fn read_text(path: &OsStr) -> Option<String> {
@@ -42,6 +53,9 @@ fn read_number(text: &str) -> Option<u32> {
 }
 
 fn read_call(line: &str) -> Option<Call<'_>> {
+    if let Some(play) = line.strip_prefix("U,") {
+        return read_play(play).map(Call::Play);
+    }
     let fields: Vec<&str> = line.splitn(3, ',').collect();
     let [letter, first, last] = fields[..] else {
         return None;
@@ -66,6 +80,30 @@ fn read_list(text: &str) -> Option<(u32, String)> {
         None => (text, String::new()),
     };
     Some((read_number(to)?, list))
+}
+
+/// The T line and the setting number of a unit.
+fn read_unit(word: &&str) -> Option<(u32, u32)> {
+    let (ty, setting) = word.split_once(',')?;
+    Some((read_number(ty)?, read_number(setting)?))
+}
+
+/// The budget, the units and the script of a play.
+fn read_play(text: &str) -> Option<Play> {
+    let mut words = text.split(' ');
+    let budget = read_number(words.next()?)?;
+    let words: Vec<&str> = words.collect();
+    let script = words.iter().position(|word| word.starts_with('S'));
+    let (units, script) = words.split_at(script.unwrap_or(words.len()));
+    let units: Option<Vec<(u32, u32)>> = units.iter().map(read_unit).collect();
+    let units = units.filter(|units| units.len() <= MAX_UNITS)?;
+    let (types, settings) = units.into_iter().unzip();
+    Some(Play {
+        budget,
+        types,
+        settings,
+        script: script.iter().map(|line| format!("{line}\n")).collect(),
+    })
 }
 
 /// What stands before the first call, and the calls.
@@ -93,7 +131,22 @@ fn answer(desk: &mut Desk, rules: &[u8], call: Call) -> String {
         },
         Call::List(iso, budget) => lines(desk.export(rules, iso, budget)),
         Call::File(from, to, list) => lines(desk.import(rules, from, to, list.as_bytes())),
+        Call::Play(play) => answer_play(desk, rules, play),
     }
+}
+
+/// What a play comes to, and the units after it, each behind a blank.
+fn answer_play(desk: &mut Desk, rules: &[u8], play: Play) -> String {
+    let (mut types, mut settings) = (play.types, play.settings);
+    let script = play.script.as_bytes();
+    let mut answer = match desk.play(rules, &mut types, &mut settings, script, play.budget) {
+        Ok(tally) => format!("0,{},{},{}", tally.done, tally.skipped, tally.spent),
+        Err(refused) => format!("{},0,0,0", number(refused)),
+    };
+    for (ty, setting) in types.iter().zip(settings) {
+        answer += &format!(" {ty},{setting}");
+    }
+    answer
 }
 
 /// The lines that were written, each behind a blank.

@@ -1,10 +1,11 @@
 //! Check, Turn, Run, whole sheets of queries, settings as numbers, the overlap of two patterns, steps known
-//! beforehand, pair lists, settings that show a fault and units tried out for rule files, over the proved static library.
+//! beforehand, pair lists, settings that show a fault and units tried out for rule files, over the proved static
+//! library.
 //!
 //! Callers who keep their own areas lend them to [`check`], [`turn`], [`run`], [`sheet`], [`number_of`],
-//! [`setting_of`], [`overlap`], [`bounds`], [`export`], [`import`], [`witness`] and [`play`]; areas of any length are safe, and
-//! what each then holds is said in `include/rulefile.h`. Callers who do not want to make one [`Desk`], which owns the
-//! areas:
+//! [`setting_of`], [`overlap`], [`bounds`], [`export`], [`import`], [`witness`] and [`play`]; areas of any length are
+//! safe, and what each then holds is said in `include/rulefile.h`. Callers who do not want to make one [`Desk`],
+//! which owns the areas:
 //!
 //! ```
 //! use rulefile::{Desk, Direction, Query};
@@ -49,7 +50,7 @@ pub use refusal::{Refusal, Refused, Witness, Witnessed};
 /// The version of this crate, which is that of the library.
 pub const VERSION: &str = env!("CARGO_PKG_VERSION");
 
-/// The least length of a table area, in numbers of 16 bits.
+/// The least length of a table area, in numbers of 16 bits: five for each of 4,096 lines.
 pub const TABLE_LENGTH: usize = 20_480;
 /// The least length of a work area, in bytes.
 pub const WORK_LENGTH: usize = 65_536;
@@ -108,15 +109,15 @@ pub struct Bounds {
     pub greatest_over: bool,
 }
 
-/// What came of the visits of a play, each counted from 0.
+/// What came of the visits of a play, counted from 0 in each.
 #[repr(C)]
 #[derive(Clone, Copy, Debug, Default, PartialEq, Eq)]
 pub struct Tally {
-    /// The visits that converted their unit.
+    /// The visits after which the unit holds what the run gave.
     pub done: u32,
-    /// The visits whose type does not match the unit.
+    /// The visits to a unit of another type than the iso begins at; they leave it.
     pub skipped: u32,
-    /// The visits over budget.
+    /// The visits whose run would pass the budget; they leave the unit.
     pub spent: u32,
 }
 
@@ -256,13 +257,16 @@ pub fn witness(
     given.map_err(|refused| Witnessed { refused, length })
 }
 
-/// Checks a file and plays a script of visits, lines `S,unit,iso,direction`, on units that each hold a T line and a
-/// setting number, each visit under the budget; the tally then says how many were done, skipped and spent.
+/// Checks a file and plays a script of visits, lines `S,unit,iso,direction`, on units: unit k holds the setting with
+/// number `settings[k]` of T line `types[k]`. Each visit has the budget for itself. One that is done leaves in the
+/// unit the T line that the iso's I line names at the other end, and the number of what the run gives; the tally
+/// then says how many were done, skipped and spent. If none was skipped or spent, a play of the script last line
+/// first with directions exchanged, under the same budget, restores each unit's type tree and number.
 ///
 /// Refused, in this order: what [`check`] refuses, of which 1 also for unit areas of unequal length and 2 also for
-/// over 1,000 units or 4,096 lines, for the units in order an absent T line (15), a type too big to number (18), a
-/// number too high (19), and a line of another form or that names an absent unit or iso (22). Units and tally are
-/// then as they were.
+/// over 1,000 units or 4,096 lines; for the units in order an absent T line (15), a type of over 4,294,967,295
+/// values (18), a number that is not below their count (19); a line of the script of another form, or that names an
+/// absent unit or iso (22). All of this is tested before the first visit. Units and tally are then as they were.
 #[allow(clippy::too_many_arguments)]
 pub fn play(
     file: &[u8],
@@ -419,7 +423,7 @@ impl Desk {
         })
     }
 
-    /// Plays a script of visits on units, and gives the tally.
+    /// Plays a script of visits on units, each a T line and a setting number, and gives the tally.
     pub fn play(
         &mut self,
         file: &[u8],

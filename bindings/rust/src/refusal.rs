@@ -9,9 +9,9 @@ use std::fmt;
 #[non_exhaustive]
 #[repr(u32)]
 pub enum Refusal {
-    /// A lent area is shorter than stated.
+    /// A lent area is shorter than stated; of a play, the unit areas are of unequal length.
     ShortArea = 1,
-    /// Over 65,536 bytes or 4,096 lines; of a sheet, over 600 queries.
+    /// Over 65,536 bytes or 4,096 lines; of a sheet, over 600 queries; of a play, over 1,000 units or 4,096 lines.
     TooLong = 2,
     /// Not one of the five line forms, or no line feed at the end; of a query, another form.
     BadLine = 3,
@@ -21,7 +21,7 @@ pub enum Refusal {
     BadField = 5,
     /// A named line does not stand earlier, or an L line names its own iso.
     BadName = 6,
-    /// Any other ceiling passed.
+    /// Any other ceiling passed; of an import, by the list or by the file that would be written.
     Ceiling = 7,
     /// A variable bound while live, used while not, or live at the end of its clause.
     Variable = 8,
@@ -43,7 +43,7 @@ pub enum Refusal {
     NoValue = 16,
     /// The full count would pass the budget.
     Spent = 17,
-    /// The T line has over 4,294,967,295 values.
+    /// The T line has over 4,294,967,295 values; of a pair list, over 4,096.
     TooMany = 18,
     /// The setting's number is not below the T line's count of values.
     TooHigh = 19,

@@ -103,6 +103,10 @@ fn expect_refused(file: &[u8], refusal: Refusal, line: usize) {
         let answer = desk.overlap(file, left, right);
         assert_eq!(answer, Err(refused(refusal, line)));
     }
+    for script in [&b""[..], b"S,0,0,0\n", b"x"] {
+        let answer = desk.play(file, &mut [0], &mut [u32::MAX], script, 9);
+        assert_eq!(answer, Err(refused(refusal, line)));
+    }
     for ty in [0, 256, u32::MAX] {
         let answer = desk.number_of(file, ty, b"");
         assert_eq!(answer, Err(refused(refusal, 0)));
@@ -1234,8 +1238,47 @@ fn answer_list(desk: &mut Desk, file: &[u8], from: u32, text: &str) -> String {
     answer_lines(written)
 }
 
+/// The line that answers `U,budget` with units and a script. Where every visit is done, the script backward restores
+/// the units.
+fn answer_play(desk: &mut Desk, file: &[u8], text: &str) -> String {
+    let mut words = text.split_whitespace();
+    let budget = words.next().unwrap().parse().unwrap();
+    let (script, units): (Vec<&str>, Vec<&str>) =
+        words.partition(|word| word.starts_with(['S', 's']));
+    let unit = |word: &str| {
+        let (ty, setting) = word.split_once(',').unwrap();
+        (ty.parse::<u32>().unwrap(), setting.parse::<u32>().unwrap())
+    };
+    let before: (Vec<u32>, Vec<u32>) = units.into_iter().map(unit).unzip();
+    let (mut types, mut settings) = before.clone();
+    let lines: String = script.iter().map(|line| format!("{line}\n")).collect();
+    let given = desk.play(file, &mut types, &mut settings, lines.as_bytes(), budget);
+    let answer = match given {
+        Ok(tally) => format!("0,{},{},{}", tally.done, tally.skipped, tally.spent),
+        Err(refused) => format!("{},0,0,0", refused.refusal.number()),
+    };
+    let after: String = types
+        .iter()
+        .zip(&settings)
+        .map(|(ty, setting)| format!(" {ty},{setting}"))
+        .collect();
+    if given.is_ok_and(|tally| tally.done as usize == script.len()) {
+        let turned = |line: &&str| match line.strip_suffix(",0") {
+            Some(front) => format!("{front},1\n"),
+            None => format!("{},0\n", line.strip_suffix(",1").unwrap()),
+        };
+        let back: String = script.iter().rev().map(turned).collect();
+        let again = desk.play(file, &mut types, &mut settings, back.as_bytes(), budget);
+        assert_eq!((again, (types, settings)), (given, before));
+    }
+    format!("{answer}{after}\n")
+}
+
 /// The line that answers a call of a stored example.
 fn answer_call(desk: &mut Desk, file: &[u8], line: &str) -> String {
+    if let Some(play) = line.strip_prefix("U,") {
+        return answer_play(desk, file, play);
+    }
     let fields: Vec<&str> = line.splitn(3, ',').collect();
     let first = fields[1].parse().unwrap();
     match fields[0] {
@@ -1251,7 +1294,7 @@ fn answer_call(desk: &mut Desk, file: &[u8], line: &str) -> String {
 fn answer_calls(text: &str) -> String {
     let calls = text
         .split_inclusive('\n')
-        .skip_while(|line| !line.starts_with(['N', 'S', 'E', 'M']));
+        .skip_while(|line| !line.starts_with(['N', 'S', 'E', 'M', 'U']));
     let length = text.len() - calls.clone().map(str::len).sum::<usize>();
     let file = &text.as_bytes()[..length];
     let mut desk = Desk::new();
@@ -1275,7 +1318,7 @@ fn stored_calls() {
         let number = |line: &str| line.split(',').next().unwrap().parse::<u32>().unwrap();
         numbers.extend(expected.lines().map(number));
     }
-    for number in [0, 7, 15, 16, 17, 18, 19, 20] {
+    for number in [0, 7, 15, 16, 17, 18, 19, 20, 22] {
         assert!(numbers.contains(&number), "{number} in no example");
     }
 }

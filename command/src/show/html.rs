@@ -57,10 +57,18 @@ fn verdict(sight: &Sight) -> String {
     }
 }
 
+/// The class of what stands at a line: marked where the line is the one refused.
+fn class(sight: &Sight, line: usize) -> &'static str {
+    match sight.verdict {
+        Err(refused) if refused.line == line => "card fault",
+        _ => "card",
+    }
+}
+
 /// A line with its name, its text and its drawing.
-fn card(name: &str, text: &str, more: &str, drawing: &str) -> String {
+fn card(class: &str, name: &str, text: &str, more: &str, drawing: &str) -> String {
     let (name, text) = (escaped(name), escaped(text));
-    format!("<div class=\"card\"><p><b>{name}</b> = <span class=\"f\">{text}</span>{more}</p>{drawing}</div>\n")
+    format!("<div class=\"{class}\"><p><b>{name}</b> = <span class=\"f\">{text}</span>{more}</p>{drawing}</div>\n")
 }
 
 fn types(sight: &Sight) -> String {
@@ -73,6 +81,8 @@ fn types(sight: &Sight) -> String {
         let settings = run::counted(sight.rules.settings[*place], "setting");
         let more = format!(" <span class=\"pale\">· {settings}</span>");
         text += &card(
+            // T lines come first
+            class(sight, place + 1),
             &format!("T{place}"),
             &shown.text(),
             &more,
@@ -90,19 +100,17 @@ fn parts(sight: &Sight) -> String {
         "<h2>Parts of patterns that are used by name</h2>\n<div class=\"types\">\n".to_string();
     for place in &sight.parts {
         let shown = Naming::plain().pattern(&sight.rules, *place);
-        text += &card(&format!("P{place}"), &shown.text(), "", &svg::tree(&shown));
+        let name = format!("P{place}");
+        text += &card("card", &name, &shown.text(), "", &svg::tree(&shown));
     }
     text + "</div>\n"
 }
 
 fn clause(sight: &Sight, clause: &Clause) -> String {
     let shown = tree::clause(&sight.rules, clause);
-    let fault = match sight.verdict {
-        Err(refused) if refused.line == clause.line => " fault",
-        _ => "",
-    };
     format!(
-        "<div class=\"card{fault}\"><p><span class=\"pale\">line {}:</span> <span class=\"f\">{} ↦ {}</span></p>{}</div>\n",
+        "<div class=\"{}\"><p><span class=\"pale\">line {}:</span> <span class=\"f\">{} ↦ {}</span></p>{}</div>\n",
+        class(sight, clause.line),
         clause.line,
         escaped(&shown.left.text()),
         escaped(&shown.outcome()),

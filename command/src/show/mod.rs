@@ -84,9 +84,19 @@ impl<'a> Sight<'a> {
     }
 }
 
-/// The clause that begins at a line, as it reads, of a file whose lines are in order.
-pub fn clause(file: &[u8], line: usize) -> Option<String> {
+/// The clause, type or pattern of a line, as it reads, of a file whose lines are in order: T lines first, and then P
+/// lines.
+pub fn reading(file: &[u8], line: usize) -> Option<String> {
     let rules = Rules::of(file);
+    let place = line.checked_sub(1)?;
+    if place < rules.types.len() {
+        return Some(format!("T{place} = {}", tree::ty(&rules, place).text()));
+    }
+    let place = place - rules.types.len();
+    if place < rules.patterns.len() {
+        let pattern = tree::Naming::plain().pattern(&rules, place);
+        return Some(format!("P{place} = {}", pattern.text()));
+    }
     let mut clauses = rules.isos.iter().flat_map(|iso| &iso.clauses);
     let clause = clauses.find(|clause| clause.line == line)?;
     let shown = tree::clause(&rules, clause);
