@@ -272,7 +272,7 @@ verdict-high file {f} {m} e = go (bool-cases (over file))
     go (inr t) = let (h, k) = low (refused-for file t e) in inr (t, h, k)
 
 -- no file is refused with 1
-no-one : (file : List ℕ) (v : Verdict) → verdict file ≡ v → answerOf v .number ≡ 1 → ⊥
+pub no-one : (file : List ℕ) (v : Verdict) → verdict file ≡ v → answerOf v .number ≡ 1 → ⊥
 no-one file (accepted rs) e z = omega arith
 no-one file (refused f m) e z = ⊎-elim (λ (o, p, q). let y = ap number p in omega arith) (λ (o, p, q). omega arith) (verdict-high file e)
 

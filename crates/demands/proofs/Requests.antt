@@ -1,14 +1,16 @@
 -- The promises of `specs/Requests.antt`, proved.
-use Prim.Native.Nat.{ℕ, _-_}
+use Prim.Native.Nat.{ℕ, _+_, _*_, _-_, _≤_, _<_}
 use native.Mathlib.Omega.{arith}
 use mathlib.Core.Path.{_≡_, refl, sym, ap, ap₂, _∙_, subst}
-use mathlib.Core.Bool.{Bool, false, _||_}
+use mathlib.Core.Logic.{_⊎_, inl, inr}
+use mathlib.Core.Bool.{Bool, false, cond, not, _||_, or-false}
 use mathlib.Core.List.{List, [], _∷_, _++_}
 use lib.Dec.{ltb}
-use lib.ListN.{length, take, drop, replicate}
+use lib.ListN.{length, take, drop, replicate, getD}
 use lib.Seq.{take-append-seam}
 use borrow.Author.Tests.{le-ltb}
-use Rattle.limits.specs.Limits.{tableLength, resultLength}
+use Rattle.limits.specs.Limits.{tableLength, resultLength, maxQueries}
+use Rattle.calculus.specs.Refusals.{Refusal, number, tooLong}
 use Rattle.format.specs.Lines.{Row, lines, withoutReturns}
 use Rattle.format.specs.Judge.{start, Passes}
 use Rattle.format.specs.Table.{tableOf}
@@ -17,22 +19,36 @@ use Rattle.calculus.specs.Paper.{FileOk}
 use Rattle.format.proofs.Printing.{read-rows}
 use Rattle.format.proofs.Sizes.{type-size-at, pattern-size-at, no-size-at}
 use Rattle.model.specs.Answers.{InForm}
-use Rattle.model.specs.Services.{verdict, written, tableAfter, short, unless, check, turn, turned, runOf, run, RunAnswer, answerOfRun, RunResult, runService}
-use Rattle.model.specs.Sheet.{three}
+use Rattle.model.specs.Services.{refused, verdict, written, tableAfter, short, unless, Answer, check, turn, turned, runOf, run, RunAnswer, answerOfRun, RunResult, runService}
+use Rattle.model.specs.Sheet.{three, sheet}
 use Rattle.model.proofs.Files.{accepted-iff, turned-twice, turned-fits}
 use Rattle.model.proofs.Sheets.{block, Room, as-check, each-query}
+use Rattle.calculus.proofs.Basic.{eq-eqb, not-ltb, le-or-lt}
+use Rattle.law_ranking.specs.Answers.{LineFault}
+use Rattle.law_ranking.proofs.Services.{number-areas, setting-areas}
 use Rattle.law_costs.specs.Bounds.{boundsService}
-use Rattle.law_costs.proofs.Served.{turned-same}
+use Rattle.law_costs.proofs.Served.{turned-same, as-check as bounds-areas}
 use Rattle.law_endings.proofs.Feeds.{turned-returnless}
 use Rattle.law_witnesses.proofs.Served.{as-check as as-shown, served-shows, served-silent}
 use Rattle.law_pairlists.specs.PairLists.{Traded, exportService}
-use Rattle.law_pairlists.proofs.Services.{import-checks, import-exports}
+use Rattle.law_pairlists.proofs.Services.{import-areas, import-checks, import-exports, export-areas}
+use Rattle.law_units.specs.Units.{Units, Holds, Tally, nothingYet, Play, playService}
+use Rattle.law_units.specs.Backward.{Alike}
+use Rattle.law_units.specs.Faults.{UnitFault, FirstUnit, Room as PlayRoom, PlayFault}
+use Rattle.law_units.specs.Calls.{PlayServed}
+use Rattle.law_units.proofs.Playing.{AllHold}
+use Rattle.law_units.proofs.Services.{play-refused, play-areas, fileRows, accepts, play-counts, play-many, play-holds, play-restores}
+use Rattle.law_units.proofs.Calling.{play-served}
+use Rattle.law_units.proofs.Faulting.{play-faults}
+use Rattle.law_units.proofs.Exchanging.{lines-behind, plays-exchanged}
 use Rattle.law_reordering.specs.Reordered.{SameButOrder}
 use Rattle.law_reordering.proofs.Files.{reordered-sym}
 use Rattle.law_reordering.proofs.Services.{check-both, run-same, turned-same as turned-order}
 use Rattle.demands.specs.Words.{Areas, yes, Accepted, turnedBytes}
-use Rattle.demands.specs.Requests.{SheetOfLoneRuns, BoundsOfTurned, TurnedWithFeeds, TurnedTwice, importedBytes, ImportAccepted, ExportOfImport, ShowsAsCheck, ShowsFault, BothAccepted, AnswerAlike, TurnedAlike, Sizes, SizesLeft}
-use Rattle.demands.proofs.Serving.{not-short, not-tight, accepted-rows, turn-writes, gives-run, run-gives, zero-says}
+use Rattle.demands.specs.Requests.{SheetOfLoneRuns, BoundsOfTurned, TurnedWithFeeds, TurnedTwice, importedBytes, ImportAccepted, ExportOfImport, ShowsAsCheck, ShowsFault, BothAccepted, AnswerAlike, TurnedAlike, Sizes, SizesLeft, TablesLeft, PlayOfCalls, PlayCounts, PlayGood, PlayRestores, PlayRefused, PlayRefusedExactly, PlayShortExactly, PlayLongExactly, UnitAtFault, UnitExactly, BadScript, BadScriptExactly, PlaysExchange}
+use Rattle.demands.proofs.Serving.{not-short, not-tight, check-says, accepted-rows, same-rows, turn-writes, gives-run, run-gives, zero-says}
+use Rattle.demands.specs.Faults.{UpTo}
+use Rattle.demands.proofs.Faults.{no-one, long-exactly, numbered-answers}
 use Rattle.demands.proofs.Demands.{accepted-anywhere}
 
 -- ---- request 01
@@ -150,3 +166,217 @@ sizes-left file t w areas rs f ok = (
   (λ output h. sizes-after file t rs f ok (not-tight output (length file) areas h)),
   (λ i back budget value result h. sizes-after file t rs f ok (not-tight result resultLength areas h)),
 )
+
+-- another area of the stated length counts for nothing
+roomy : (t w o : List ℕ) (n : ℕ) → n ≤ length o → (short t w || ltb (length o) n) ≡ short t w
+roomy t w o n h = ap (λ b. short t w || b) (not-ltb {m = length o} {n = n} h) ∙ or-false (short t w)
+
+pub tables-left : TablesLeft
+unfolding check turn runService sheet
+tables-left file t w kept e = (
+  (λ output h. ap (λ b. tableAfter (unless b (verdict file)) t) (roomy t w output (length file) h) ∙ e),
+  (λ i back budget value result h. ap (λ b. tableAfter (unless b (verdict file)) t) (roomy t w result resultLength h) ∙ e),
+  (λ queries numbers letters few enough room.
+      ap₂ (λ b v. tableAfter (unless b v) t)
+      (ap₂ (λ b c. short t w || (b || c)) (not-ltb {m = length numbers} {n = length (lines queries) * 3} enough) (not-ltb {m = length letters} {n = length (lines queries) * resultLength} room)
+      ∙ or-false (short t w))
+      (ap (λ b. cond b (refused tooLong 0) (verdict file)) (not-ltb {m = maxQueries} {n = length (lines queries)} few))
+      ∙ e),
+  (λ i value. number-areas file t w i value .0 ∙ e),
+  (λ i n result h. setting-areas file t w i n result h .0 ∙ e),
+  (λ i. bounds-areas file t w i .0 ∙ e),
+  (λ i j list output h. import-areas file t w i j list output h .0 ∙ e),
+  (λ i budget output h. export-areas file t w i budget output h .0 ∙ e),
+  (λ result h. as-shown file t w result (le-ltb (length result) resultLength h) .1 ∙ e),
+  (λ us script budget tally same few short-enough. play-areas file t w us script budget tally (ap not (eq-eqb same)) few short-enough .0 ∙ e),
+)
+
+-- ---- request 12
+
+module _ (file t w : List ℕ) (us : Units) (script : List ℕ) (budget : ℕ) (tally : Tally) where
+  abbrev playing : Play
+  playing = playService file t w us script budget tally
+
+  -- a play that is not refused has the rows that the file's lines are
+  module _ (ok : playing .answer .number ≡ 0) (rs : List Row) (f : InForm file rs) where
+    own-rows : fileRows file t w us script budget tally ok ≡ rs
+    own-rows = same-rows (accepts file t w us script budget tally ok) rs f
+
+    served-rows : PlayServed file rs budget (lines script) us nothingYet (playing .units) (playing .tally)
+    served-rows = subst (λ z. PlayServed file z budget (lines script) us nothingYet (playing .units) (playing .tally)) own-rows (play-served file t w us script budget tally ok)
+
+    good-after : AllHold rs (playing .units)
+    good-after = subst (λ z. AllHold z (playing .units)) own-rows (play-holds file t w us script budget tally ok)
+
+pub play-of-calls : PlayOfCalls
+play-of-calls file t w us script budget tally p e ok rs f =
+    subst (λ (q : Play). PlayServed file rs budget (lines script) us nothingYet (q .units) (q .tally)) (sym e)
+    (served-rows file t w us script budget tally (ap (λ (q : Play). q .answer .number) (sym e) ∙ ap (λ (a : Answer). a .number) ok) rs f)
+
+pub play-counts-lines : PlayCounts
+play-counts-lines file t w us script budget tally p e ok =
+    ap (λ (q : Play). q .tally .done + q .tally .skipped + q .tally .spent) e
+    ∙ play-counts file t w us script budget tally (ap (λ (q : Play). q .answer .number) (sym e) ∙ ap (λ (a : Answer). a .number) ok)
+
+pub play-leaves-good : PlayGood
+play-leaves-good file t w us script budget tally p e ok rs f k h =
+    let zero = ap (λ (q : Play). q .answer .number) (sym e) ∙ ap (λ (a : Answer). a .number) ok in
+    let many = play-many file t w us script budget tally zero in
+    subst (λ (q : Play). Holds rs (getD (q .units .types) k 0) (getD (q .units .settings) k 0)) (sym e)
+    (good-after file t w us script budget tally zero rs f .each k (omega (arith, h, many)))
+
+pub play-back : PlayRestores
+play-back file t w us script budget tally p e ok none-skipped none-spent other back t₂ w₂ tally₂ areas q e₂ rs f =
+    let zero = ap (λ (x : Play). x .answer .number) (sym e) ∙ ap (λ (a : Answer). a .number) ok in
+    let r = play-restores file t w us script budget tally zero (ap (λ (x : Play). x .tally .skipped) (sym e) ∙ none-skipped) (ap (λ (x : Play). x .tally .spent) (sym e) ∙ none-spent) other back
+    t₂ w₂ tally₂ (areas .long) (areas .wide) in
+    let same : playService file t₂ w₂ (playService file t w us script budget tally .units) other budget tally₂ ≡ q =
+    ap (λ (x : Play). playService file t₂ w₂ (x .units) other budget tally₂) (sym e) ∙ sym e₂ in
+    subst (λ (x : Play). (x .answer ≡ yes) × Alike rs us (x .units) × (x .tally ≡ record { done = length (lines script); skipped = 0; spent = 0 })) same
+    (r .0, subst (λ z. Alike z us (playService file t₂ w₂ (playService file t w us script budget tally .units) other budget tally₂ .units)) (own-rows file t w us script budget tally zero rs f) (r .1), r .2)
+
+pub play-refused-leaves : PlayRefused
+play-refused-leaves file t w us script budget tally p e h =
+    subst (λ (q : Play). (q .units ≡ us) × (q .tally ≡ tally)) (sym e) (play-refused file t w us script budget tally (subst (λ (q : Play). 0 < q .answer .number) e h))
+
+-- ---- each refusal of a play
+
+pub play-refused-exactly : PlayRefusedExactly
+play-refused-exactly = play-faults
+
+-- the numbers of a unit at fault
+unit-number : {rs : List Row} {i n : ℕ} {f : Refusal} → UnitFault rs i n f → (15 ≤ number f) × (number f ≤ 19)
+unit-number (UnitFault.line f (LineFault.absent e)) = (omega arith, omega arith)
+unit-number (UnitFault.line f (LineFault.many a e h)) = (omega arith, omega arith)
+unit-number (UnitFault.high a l k) = (omega arith, omega arith)
+
+first-number : {rs : List Row} {is ns : List ℕ} {f : Refusal} → FirstUnit rs is ns f → (15 ≤ number f) × (number f ≤ 19)
+first-number (FirstUnit.here u) = unit-number u
+first-number (FirstUnit.later h u) = first-number u
+
+-- a number that is no answer of Check
+not-checked : (file t w : List ℕ) (n : ℕ) → 15 ≤ n → (n ≡ 21 → ⊥) → check file t w .answer .number ≡ n → ⊥
+not-checked file t w n h k e = go (numbered-answers file t w .0)
+  where
+    go : UpTo 14 (check file t w .answer .number) → ⊥
+    go (inl m) = absurd (omega (arith, h, e, m))
+    go (inr m) = k (sym e ∙ m)
+
+module _ (file t w : List ℕ) (us : Units) (script : List ℕ) where
+  areas-of : PlayRoom t w us → Areas t w
+  areas-of r = record { long = r .table; wide = r .work }
+
+  -- 1 is of the areas
+  fault-one : {n m : ℕ} → PlayFault file t w us script n m → n ≡ 1 → PlayRoom t w us → ⊥
+  fault-one (PlayFault.area h) e r = h r
+  fault-one (PlayFault.long r h) e room = absurd (omega (arith, e))
+  fault-one (PlayFault.file n m r s h says) e room =
+      no-one file (verdict file) refl (ap (λ (a : Answer). a .number) (sym (check-says file (areas-of room)) ∙ says) ∙ e)
+  fault-one (PlayFault.unit rs f r s form ok u) e room = let b = first-number u in absurd (omega (arith, e, b .0))
+  fault-one (PlayFault.script rs l r s form ok holds at bad) e room = absurd (omega (arith, e))
+
+  -- 2 is of the units, the script or the file
+  fault-two : {n m : ℕ} → PlayFault file t w us script n m → n ≡ 2 → m ≡ 0
+      → ((1000 < length (us .types)) ⊎ (4096 < length (lines script))) ⊎ ((65536 < length file) ⊎ (4096 < length (lines file)))
+  fault-two (PlayFault.area h) e z = absurd (omega (arith, e))
+  fault-two (PlayFault.long r h) e z = inl h
+  fault-two (PlayFault.file n m r s h says) e z =
+      inr (long-exactly file t w (areas-of r) .0 (says ∙ ap₂ (λ x y. record { number = x; line = y }) e z))
+  fault-two (PlayFault.unit rs f r s form ok u) e z = let b = first-number u in absurd (omega (arith, e, b .0))
+  fault-two (PlayFault.script rs l r s form ok holds at bad) e z = absurd (omega (arith, e))
+
+  two-fault : PlayRoom t w us → ((1000 < length (us .types)) ⊎ (4096 < length (lines script))) ⊎ ((65536 < length file) ⊎ (4096 < length (lines file))) → PlayFault file t w us script 2 0
+  two-fault r (inl h) = PlayFault.long r h
+  two-fault r (inr h) = go (le-or-lt (length (us .types)) 1000) (le-or-lt (length (lines script)) 4096)
+    where
+      go : (length (us .types) ≤ 1000) ⊎ (1000 < length (us .types)) → (length (lines script) ≤ 4096) ⊎ (4096 < length (lines script)) → PlayFault file t w us script 2 0
+      go (inr l) y = PlayFault.long r (inl l)
+      go (inl l) (inr m) = PlayFault.long r (inr m)
+      go (inl l) (inl m) = PlayFault.file 2 0 r (record { units = l; visits = m }) (omega arith) (long-exactly file t w (areas-of r) .1 h)
+
+  -- 15, 18 and 19 are of the units
+  fault-unit : {n m : ℕ} → PlayFault file t w us script n m → 15 ≤ n → n ≤ 19 → UnitAtFault file t w us script n
+  fault-unit (PlayFault.area h) a b = absurd (omega (arith, a))
+  fault-unit (PlayFault.long r h) a b = absurd (omega (arith, a))
+  fault-unit (PlayFault.file n m r s h says) a b = absurd (not-checked file t w n a (λ q. absurd (omega (arith, b, q))) (ap (λ (x : Answer). x .number) says))
+  fault-unit (PlayFault.unit rs f r s form ok u) a b =
+      record {
+        areas = areas-of r;
+        equal = r .equal;
+        units = s .units;
+        visits = s .visits;
+        rows = rs;
+        form = form;
+        ok = ok;
+        refusal = f;
+        numbered = refl;
+        first = u;
+      }
+  fault-unit (PlayFault.script rs l r s form ok holds at bad) a b = absurd (omega (arith, b))
+
+  -- 22 is of the script
+  fault-script : {n m : ℕ} → PlayFault file t w us script n m → n ≡ 22 → BadScript file t w us script
+  fault-script (PlayFault.area h) e = absurd (omega (arith, e))
+  fault-script (PlayFault.long r h) e = absurd (omega (arith, e))
+  fault-script (PlayFault.file n m r s h says) e =
+      absurd (not-checked file t w 22 (omega arith) (λ q. absurd (omega (arith, q))) (ap (λ (a : Answer). a .number) says ∙ e))
+  fault-script (PlayFault.unit rs f r s form ok u) e = let b = first-number u in absurd (omega (arith, e, b .1))
+  fault-script (PlayFault.script rs l r s form ok holds at bad) e =
+      record {
+        areas = areas-of r;
+        equal = r .equal;
+        units = s .units;
+        visits = s .visits;
+        rows = rs;
+        form = form;
+        ok = ok;
+        good = holds;
+        line = l;
+        among = at;
+        bad = bad;
+      }
+
+abbrev room-of : {t w : List ℕ} {us : Units} → Areas t w → length (us .types) ≡ length (us .settings) → PlayRoom t w us
+room-of a e = record { table = a .long; work = a .wide; equal = e }
+
+pub play-short-exactly : PlayShortExactly
+play-short-exactly file t w us script budget tally =
+    let f = play-faults file t w us script budget tally 1 0 (omega arith) in (
+      (λ e (a, same). fault-one file t w us script (f .0 e) refl (room-of a same)),
+      (λ h. f .1 (PlayFault.area (λ r. h (areas-of file t w us script r, r .equal)))),
+    )
+
+pub play-long-exactly : PlayLongExactly
+play-long-exactly file t w us script budget tally a same =
+    let f = play-faults file t w us script budget tally 2 0 (omega arith) in (
+      (λ e. fault-two file t w us script (f .0 e) refl refl),
+      (λ h. f .1 (two-fault file t w us script (room-of a same) h)),
+    )
+
+pub unit-exactly : UnitExactly
+unit-exactly file t w us script budget tally n low high =
+    let f = play-faults file t w us script budget tally n 0 (omega (arith, low)) in (
+      (λ e. fault-unit file t w us script (f .0 e) low high),
+      (λ u. f .1
+          (subst (λ k. PlayFault file t w us script k 0) (u .numbered)
+          (PlayFault.unit (u .rows) (u .refusal) (room-of (u .areas) (u .equal)) (record { units = u .units; visits = u .visits }) (u .form) (u .ok) (u .first)))),
+    )
+
+pub bad-script-exactly : BadScriptExactly
+bad-script-exactly file t w us script budget tally =
+    let f = play-faults file t w us script budget tally 22 0 (omega arith) in (
+      (λ e. fault-script file t w us script (f .0 e) refl),
+      (λ b. f .1 (PlayFault.script (b .rows) (b .line) (room-of (b .areas) (b .equal)) (record { units = b .units; visits = b .visits }) (b .form) (b .ok) (b .good) (b .among) (b .bad))),
+    )
+
+-- ---- two scripts exchanged
+
+pub plays-exchange : PlaysExchange
+plays-exchange file t w t₂ w₂ us a b budget tally areas areas₂ apart p q e e₂ =
+    let c : List ℕ = a ++ (10 ∷ []) in
+    let d : List ℕ = b ++ (10 ∷ []) in
+    let same = plays-exchanged us budget c d (c ++ d) (d ++ c) (lines-behind a d) (lines-behind b c) apart file t w t₂ w₂ tally (areas .long) (areas .wide) (areas₂ .long) (areas₂ .wide) in (
+      ap (λ (x : Play). x .answer) e ∙ ap (λ x. x .1) same ∙ ap (λ (x : Play). x .answer) (sym e₂),
+      ap (λ (x : Play). x .units) e ∙ ap (λ x. x .2) same ∙ ap (λ (x : Play). x .units) (sym e₂),
+      ap (λ (x : Play). x .tally) e ∙ ap (λ x. x .3) same ∙ ap (λ (x : Play). x .tally) (sym e₂),
+    )

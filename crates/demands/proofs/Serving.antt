@@ -47,13 +47,14 @@ unfolding check
 zero-says file t w e = ap answerOf (answer-zero (unless (short t w) (verdict file)) e .1)
 
 -- the rows that the lines of an accepted file are
-pub accepted-as : {file : List ℕ} → Accepted file → (rs : List Row) → InForm file rs → verdict file ≡ accepted rs
-accepted-as {file} a rs f =
-    let (qs, e) = accepted-rows a in
+pub same-rows : {file : List ℕ} {qs : List Row} → verdict file ≡ accepted qs → (rs : List Row) → InForm file rs → qs ≡ rs
+same-rows {file} {qs} e rs f =
     let g = accepted-form file qs e .0 in
     let same : rows qs ≡ rows rs = sym (g .reads) ∙ f .reads in
-    let p : qs ≡ rs = cc in
-    e ∙ ap accepted p
+    cc
+
+pub accepted-as : {file : List ℕ} → Accepted file → (rs : List Row) → InForm file rs → verdict file ≡ accepted rs
+accepted-as {file} a rs f = let (qs, e) = accepted-rows a in e ∙ ap accepted (same-rows e rs f)
 
 -- ---- Turn
 

@@ -6,7 +6,7 @@ use mathlib.Core.Bool.{true, false}
 use mathlib.Core.Option.{none, some}
 use mathlib.Core.List.{[], _∷_, _++_, map}
 use lib.ListN.{replicate}
-use Rattle.limits.specs.Limits.{maxBytes, maxLines, maxTypes, maxPatterns, maxIsos, maxClauses, maxLets, maxNodes, maxTags, variables, fieldBound, budgetBound, rowWidth, tableLength, workLength, resultLength, queryLength, maxQueries, maxValues, maxPairs, exportLength, importLength}
+use Rattle.limits.specs.Limits.{maxBytes, maxLines, maxTypes, maxPatterns, maxIsos, maxClauses, maxLets, maxNodes, maxTags, variables, fieldBound, budgetBound, rowWidth, tableLength, workLength, resultLength, queryLength, maxQueries, maxValues, maxPairs, exportLength, importLength, maxUnits, letterS}
 use Rattle.calculus.specs.Tools.{isSome}
 use Rattle.calculus.specs.Trees.{tunit, left, right, Pat, punit, pinj, vunit, vinj, vpair}
 use Rattle.calculus.specs.Refusals.{Kind, typeLine, patternLine, isoLine, clauseLine, letLine, number, shortArea, tooLong, badLine, misplaced, badField, badName, ceiling, variable, letShape, badType, overlap, gap, noIso, noValue, spent, tooMany, tooHigh, badList, idle, badScript}
@@ -18,6 +18,7 @@ use Rattle.model.specs.Services.{accepted, refused}
 use Rattle.model.specs.Desk.{queryOf, desk}
 use Rattle.model.specs.Sheet.{sheetVerdict}
 use Rattle.model.specs.Cases.{bytes}
+use Rattle.law_units.specs.Units.{plannedOf, playVerdict}
 
 -- the column "number" of the table of refusals, request 02's two, 07's, 11's and 12's
 numbered : (k : Kind)
@@ -33,10 +34,10 @@ ceilings : maxBytes ∷ maxLines ∷ maxTypes ∷ maxPatterns ∷ maxIsos ∷ ma
 ceilings = refl
 
 -- variables 0 to 31, fields 0 to 65,535, budgets 0 to 4,294,967,295, five numbers a line, the areas, a query's 200 bytes; of the requests 600 queries, 4,294,967,295
--- values, 4,096 pairs, and areas of 40,960 and 65,536 bytes for lists and their files
+-- values, 4,096 pairs, areas of 40,960 and 65,536 bytes for lists and their files, 1,000 units, and the letter S of a script
 bounds : variables ∷ fieldBound ∷ budgetBound ∷ rowWidth ∷ tableLength ∷ workLength ∷ resultLength ∷ queryLength ∷ maxQueries ∷ maxValues ∷ maxPairs ∷ exportLength
-    ∷ importLength ∷ []
-    ≡ 32 ∷ 65536 ∷ 4294967296 ∷ 5 ∷ 20480 ∷ 65536 ∷ 127 ∷ 200 ∷ 600 ∷ 4294967295 ∷ 4096 ∷ 40960 ∷ 65536 ∷ []
+    ∷ importLength ∷ maxUnits ∷ letterS ∷ []
+    ≡ 32 ∷ 65536 ∷ 4294967296 ∷ 5 ∷ 20480 ∷ 65536 ∷ 127 ∷ 200 ∷ 600 ∷ 4294967295 ∷ 4096 ∷ 40960 ∷ 65536 ∷ 1000 ∷ 83 ∷ []
 bounds = refl
 
 -- ---- lines
@@ -180,3 +181,25 @@ two-hundred = refl
 -- "over 600 queries is 2"
 six-hundred : map (λ n. sheetVerdict n (accepted [])) (600 ∷ 601 ∷ []) ≡ accepted [] ∷ refused tooLong 0 ∷ []
 six-hundred = refl
+
+-- ---- units and scripts
+
+-- `S,unit,iso,direction`: numbers 0 to 65,535 as the file writes them, a direction 0 or 1, either ending
+visits : map (λ l. isSome (plannedOf l))
+    (bytes "S,65535,65535,1\n" ∷ bytes "S,0,0,0\r\n" ∷ bytes "S,65536,0,0\n" ∷ bytes "S,0,65536,0\n" ∷ bytes "S,0,0,2\n" ∷ bytes "S,00,0,0\n" ∷ bytes "s,0,0,0\n" ∷ bytes "S,0,0\n"
+    ∷ bytes "S,0,0,0,0\n" ∷ bytes "S,0,0,0 \n" ∷ bytes "S,0,0,0" ∷ bytes "\n" ∷ [])
+    ≡ true ∷ true ∷ false ∷ false ∷ false ∷ false ∷ false ∷ false ∷ false ∷ false ∷ false ∷ false ∷ []
+unfolding plannedOf
+visits = refl
+
+-- unit first, then iso, then direction
+visit-fields : plannedOf (bytes "S,1,2,1\n") ≡ some (record { unit = 1; iso = 2; back = true })
+unfolding plannedOf
+visit-fields = refl
+
+-- "over 1,000 units or 4,096 lines 2"
+thousand : map (λ n. playVerdict (record { types = replicate n 0; settings = [] }) [] (accepted [])) (1000 ∷ 1001 ∷ []) ≡ accepted [] ∷ refused tooLong 0 ∷ []
+thousand = refl
+
+script-lines : map (λ n. playVerdict (record { types = []; settings = [] }) (replicate n 10) (accepted [])) (4096 ∷ 4097 ∷ []) ≡ accepted [] ∷ refused tooLong 0 ∷ []
+script-lines = refl

@@ -1,14 +1,14 @@
--- Promises of the requests that speak of more than one call, each of which gets areas of its own. What else the requests promise is said of one service, in the crates
+-- Promises of the requests that speak of more than one call, each of which gets areas of its own, and request 12's. What else the requests promise is said of one service, in the crates
 -- `model` (`Sheets`), `check_overlap` and those whose names begin with `law_`.
 use Prim.Native.Nat.{ℕ, _+_, _*_, _≤_, _<_}
 use mathlib.Core.Path.{_≡_}
-use mathlib.Core.Logic.{_↔_}
+use mathlib.Core.Logic.{_↔_, _⊎_}
 use mathlib.Core.Bool.{Bool, true, false}
 use mathlib.Core.Option.{some}
-use mathlib.Core.List.{List, [], _∷_}
+use mathlib.Core.List.{List, [], _∷_, _++_, List·Memᴰ}
 use lib.ListN.{length, take, drop, getD, getElem?}
 use Rattle.calculus.specs.Trees.{tunit, typeNodes, punit, nodes}
-use Rattle.calculus.specs.Refusals.{typeLine, patternLine}
+use Rattle.calculus.specs.Refusals.{Refusal, number, typeLine, patternLine}
 use Rattle.calculus.specs.Paper.{FileOk}
 use Rattle.format.specs.Lines.{Row, lines, withoutReturns}
 use Rattle.format.specs.Judge.{start, afterAll}
@@ -18,9 +18,15 @@ use Rattle.model.specs.Answers.{InForm}
 use Rattle.model.specs.Desk.{Query, queryOf}
 use Rattle.model.specs.Sheet.{sheet}
 use Rattle.law_costs.specs.Bounds.{boundsService}
+use Rattle.law_ranking.specs.Numbering.{numberService, settingService}
 use Rattle.law_witnesses.specs.Showing.{showService}
 use Rattle.law_witnesses.specs.Served.{sideAnswer, Given}
 use Rattle.law_pairlists.specs.PairLists.{Traded, importService, exportService}
+use Rattle.law_units.specs.Units.{Units, Holds, Tally, nothingYet, Play, playService}
+use Rattle.law_units.specs.Backward.{Backward, Alike}
+use Rattle.law_units.specs.Apart.{Apart}
+use Rattle.law_units.specs.Faults.{BadLine, FirstUnit, PlayFault}
+use Rattle.law_units.specs.Calls.{PlayServed}
 use Rattle.law_reordering.specs.Reordered.{SameButOrder}
 use Rattle.demands.specs.Words.{Areas, yes, Accepted, turnedBytes, Gives}
 
@@ -120,3 +126,117 @@ SizesLeft =
     → Sizes rs (check file t w .table)
     × ((output : List ℕ) → length file ≤ length output → Sizes rs (turn file t w output .table))
     × ((i : ℕ) (back : Bool) (budget : ℕ) (value result : List ℕ) → 127 ≤ length result → Sizes rs (runService file t w i back budget value result .table))
+
+-- … and every other service, the overlap of two P lines aside, which `overlaps` has: in areas of the stated lengths each leaves the table as Check does, whatever it answers
+abbrev pub TablesLeft : Type 0
+TablesLeft =
+    (file t w kept : List ℕ) → check file t w .table ≡ kept
+    → ((output : List ℕ) → length file ≤ length output → turn file t w output .table ≡ kept)
+    × ((i : ℕ) (back : Bool) (budget : ℕ) (value result : List ℕ) → 127 ≤ length result → runService file t w i back budget value result .table ≡ kept)
+    × ((queries numbers letters : List ℕ) → length (lines queries) ≤ 600 → length (lines queries) * 3 ≤ length numbers → length (lines queries) * 127 ≤ length letters
+    → sheet file t w queries numbers letters .table ≡ kept)
+    × ((i : ℕ) (value : List ℕ) → numberService file t w i value .table ≡ kept)
+    × ((i n : ℕ) (result : List ℕ) → 127 ≤ length result → settingService file t w i n result .table ≡ kept)
+    × ((i : ℕ) → boundsService file t w i .table ≡ kept)
+    × ((i j : ℕ) (list output : List ℕ) → 65536 ≤ length output → importService file t w i j list output .table ≡ kept)
+    × ((i budget : ℕ) (output : List ℕ) → 40960 ≤ length output → exportService file t w i budget output .table ≡ kept)
+    × ((result : List ℕ) → 127 ≤ length result → showService file t w result .table ≡ kept)
+    × ((us : Units) (script : List ℕ) (budget : ℕ) (tally : Tally) → length (us .types) ≡ length (us .settings) → length (us .types) ≤ 1000 → length (lines script) ≤ 4096
+    → playService file t w us script budget tally .table ≡ kept)
+
+-- Request 12: "A visit whose type does not match the unit is skipped, and one over budget is spent; both leave the unit. Any other is done: the unit then holds the T line that
+-- the iso's I line names at the other end, and the number of the setting that the run gives": line by line what a call for the unit's letters, a call to Run and a call for their number
+-- give one after the other, "counted from 0 in each play".
+abbrev pub PlayOfCalls : Type 0
+PlayOfCalls =
+    (file t w : List ℕ) (us : Units) (script : List ℕ) (budget : ℕ) (tally : Tally) (p : Play) → p ≡ playService file t w us script budget tally → p .answer ≡ yes
+    → (rs : List Row) → InForm file rs → PlayServed file rs budget (lines script) us nothingYet (p .units) (p .tally)
+
+-- "One record of visits done, skipped and spent": one for each line
+abbrev pub PlayCounts : Type 0
+PlayCounts =
+    (file t w : List ℕ) (us : Units) (script : List ℕ) (budget : ℕ) (tally : Tally) (p : Play) → p ≡ playService file t w us script budget tally → p .answer ≡ yes
+    → p .tally .done + p .tally .skipped + p .tally .spent ≡ length (lines script)
+
+-- every unit is left as one that passes the tests
+abbrev pub PlayGood : Type 0
+PlayGood =
+    (file t w : List ℕ) (us : Units) (script : List ℕ) (budget : ℕ) (tally : Tally) (p : Play) → p ≡ playService file t w us script budget tally → p .answer ≡ yes
+    → (rs : List Row) → InForm file rs → (k : ℕ) → k < length (us .types) → Holds rs (getD (p .units .types) k 0) (getD (p .units .settings) k 0)
+
+-- "If none was skipped or spent, playing the script last line first with directions exchanged, under the same budget, restores each type tree and number."
+abbrev pub PlayRestores : Type 0
+PlayRestores =
+    (file t w : List ℕ) (us : Units) (script : List ℕ) (budget : ℕ) (tally : Tally) (p : Play) → p ≡ playService file t w us script budget tally → p .answer ≡ yes
+    → p .tally .skipped ≡ 0 → p .tally .spent ≡ 0 → (other : List ℕ) → Backward script other → (t₂ w₂ : List ℕ) (tally₂ : Tally) → Areas t₂ w₂
+    → (q : Play) → q ≡ playService file t₂ w₂ (p .units) other budget tally₂ → (rs : List Row) → InForm file rs
+    → (q .answer ≡ yes) × Alike rs us (q .units) × (q .tally ≡ record { done = length (lines script); skipped = 0; spent = 0 })
+
+-- "a refusal leaves units and record unchanged"
+abbrev pub PlayRefused : Type 0
+PlayRefused =
+    (file t w : List ℕ) (us : Units) (script : List ℕ) (budget : ℕ) (tally : Tally) (p : Play) → p ≡ playService file t w us script budget tally → 0 < p .answer .number
+    → (p .units ≡ us) × (p .tally ≡ tally)
+
+-- number and line of each refusal, exactly where it is judged: 1, 2, Check's own, "the units in order and then the script"
+abbrev pub PlayRefusedExactly : Type 0
+PlayRefusedExactly =
+    (file t w : List ℕ) (us : Units) (script : List ℕ) (budget : ℕ) (tally : Tally) (n m : ℕ) → 0 < n
+    → (playService file t w us script budget tally .answer ≡ record { number = n; line = m }) ↔ PlayFault file t w us script n m
+
+-- "Unit areas of unequal length are 1"
+abbrev pub PlayShortExactly : Type 0
+PlayShortExactly =
+    (file t w : List ℕ) (us : Units) (script : List ℕ) (budget : ℕ) (tally : Tally)
+    → (playService file t w us script budget tally .answer ≡ record { number = 1; line = 0 }) ↔ (Areas t w × (length (us .types) ≡ length (us .settings)) → ⊥)
+
+-- "over 1,000 units or 4,096 lines 2", or a file that is too long
+abbrev pub PlayLongExactly : Type 0
+PlayLongExactly =
+    (file t w : List ℕ) (us : Units) (script : List ℕ) (budget : ℕ) (tally : Tally) → Areas t w → length (us .types) ≡ length (us .settings)
+    → (playService file t w us script budget tally .answer ≡ record { number = 2; line = 0 })
+    ↔ (((1000 < length (us .types)) ⊎ (4096 < length (lines script))) ⊎ ((65536 < length file) ⊎ (4096 < length (lines file))))
+
+-- "A starting unit with an absent T line is 15, a type too big to number 18, a number too high 19 … the units in order": everything before passes, and the first unit at fault is refused
+pub record UnitAtFault (file t w : List ℕ) (us : Units) (script : List ℕ) (n : ℕ) : Type 0 where
+  pub areas : Areas t w
+  pub equal : length (us .types) ≡ length (us .settings)
+  pub units : length (us .types) ≤ 1000
+  pub visits : length (lines script) ≤ 4096
+  pub rows : List Row
+  pub form : InForm file rows
+  pub ok : FileOk (isosOf rows)
+  pub refusal : Refusal
+  pub numbered : number refusal ≡ n
+  pub first : FirstUnit rows (us .types) (us .settings) refusal
+
+abbrev pub UnitExactly : Type 0
+UnitExactly =
+    (file t w : List ℕ) (us : Units) (script : List ℕ) (budget : ℕ) (tally : Tally) (n : ℕ) → 15 ≤ n → n ≤ 19
+    → (playService file t w us script budget tally .answer ≡ record { number = n; line = 0 }) ↔ UnitAtFault file t w us script n
+
+-- "22 "bad script", a line of another form or naming an absent unit or iso, after 19": everything before it passes, and some line is bad
+pub record BadScript (file t w : List ℕ) (us : Units) (script : List ℕ) : Type 0 where
+  pub areas : Areas t w
+  pub equal : length (us .types) ≡ length (us .settings)
+  pub units : length (us .types) ≤ 1000
+  pub visits : length (lines script) ≤ 4096
+  pub rows : List Row
+  pub form : InForm file rows
+  pub ok : FileOk (isosOf rows)
+  pub good : (k : ℕ) → k < length (us .types) → Holds rows (getD (us .types) k 0) (getD (us .settings) k 0)
+  pub line : List ℕ
+  pub among : List·Memᴰ line (lines script)
+  pub bad : BadLine (length (us .types)) (length (isosOf rows)) line
+
+abbrev pub BadScriptExactly : Type 0
+BadScriptExactly =
+    (file t w : List ℕ) (us : Units) (script : List ℕ) (budget : ℕ) (tally : Tally)
+    → (playService file t w us script budget tally .answer ≡ record { number = 22; line = 0 }) ↔ BadScript file t w us script
+
+-- two scripts that name different units, each ended by a line feed: in either order the same answer, units and record
+abbrev pub PlaysExchange : Type 0
+PlaysExchange =
+    (file t w t₂ w₂ : List ℕ) (us : Units) (a b : List ℕ) (budget : ℕ) (tally : Tally) → Areas t w → Areas t₂ w₂ → Apart (a ++ (10 ∷ [])) (b ++ (10 ∷ []))
+    → (p q : Play) → p ≡ playService file t w us ((a ++ (10 ∷ [])) ++ (b ++ (10 ∷ []))) budget tally → q ≡ playService file t₂ w₂ us ((b ++ (10 ∷ [])) ++ (a ++ (10 ∷ []))) budget tally
+    → (p .answer ≡ q .answer) × (p .units ≡ q .units) × (p .tally ≡ q .tally)

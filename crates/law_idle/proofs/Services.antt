@@ -5,7 +5,7 @@ use mathlib.Core.Path.{_≡_, sym, ap, ap₂, _∙_}
 use mathlib.Core.Bool.{Bool, false}
 use mathlib.Core.List.{List, []}
 use lib.ListN.{length}
-use Rattle.limits.specs.Limits.{tableLength, workLength, resultLength, exportLength, importLength, maxQueries, maxLines}
+use Rattle.limits.specs.Limits.{tableLength, workLength, resultLength, exportLength, importLength, maxQueries, maxLines, maxUnits}
 use Rattle.calculus.specs.Refusals.{Refusal, number}
 use Rattle.format.specs.Lines.{Row, lines}
 use Rattle.format.specs.Judge.{rows, start, readFrom}
@@ -17,7 +17,7 @@ use Rattle.law_ranking.specs.Numbering.{numberService, settingService}
 use Rattle.law_costs.specs.Bounds.{boundsService}
 use Rattle.law_witnesses.specs.Showing.{showService}
 use Rattle.law_pairlists.specs.PairLists.{exportRows, exportService, importRows, importService}
-use Rattle.law_units.specs.Units.{maxUnits, Units, Tally, playService}
+use Rattle.law_units.specs.Units.{Units, Tally, playService}
 use Rattle.check_overlap.specs.Overlap.{overlapService}
 use Rattle.law_refused.specs.ByVerdict.{numberWith, settingWith, overlapWith, boundsWith, exportWith, importWith, showWith, playWith}
 use Rattle.law_refused.specs.Refused.{zeroTable, zeroWork, turnRefused, runRefused, sheetRefused, deskRefused, numberRefused, settingRefused, overlapRefused, boundsRefused, tradeRefused, showRefused, playRefused}

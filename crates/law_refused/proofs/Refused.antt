@@ -6,7 +6,7 @@ use mathlib.Core.Option.{some}
 use mathlib.Core.List.{List, [], append-nil}
 use lib.Dec.{ltb, leb}
 use lib.ListN.{length}
-use Rattle.limits.specs.Limits.{tableLength, workLength, resultLength, maxQueries, maxLines}
+use Rattle.limits.specs.Limits.{tableLength, workLength, resultLength, maxQueries, maxLines, maxUnits}
 use Rattle.calculus.specs.Refusals.{Refusal, number, shortArea, tooLong}
 use Rattle.calculus.proofs.Basic.{not-leb, not-ltb, eq-eqb}
 use Rattle.format.specs.Lines.{Row, lines}
@@ -18,7 +18,7 @@ use Rattle.law_ranking.specs.Numbering.{numberRows, settingRows, numberedBy, le
 use Rattle.law_costs.specs.Bounds.{boundsRows, boundsBy}
 use Rattle.law_witnesses.specs.Showing.{Shown}
 use Rattle.law_pairlists.specs.PairLists.{tradedBy}
-use Rattle.law_units.specs.Units.{maxUnits, Units, Tally, playRows, playBy, unequal}
+use Rattle.law_units.specs.Units.{Units, Tally, playRows, playBy, unequal}
 use Rattle.check_overlap.specs.Overlap.{overlapRows, overlappedBy}
 use Rattle.law_refused.specs.ByVerdict.{numberWith, settingWith, overlapWith, boundsWith, tradeWith, showWith, playWith}
 use Rattle.law_refused.specs.Refused.{zeroTable, zeroWork, refusedAt, servedRefused, checkRefused, turnRefused, runRefused, sheetRefused, deskRefused, numberRefused, settingRefused, overlapRefused, boundsRefused, tradeRefused, showRefused, playRefused}

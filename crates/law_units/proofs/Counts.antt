@@ -1,5 +1,5 @@
 -- How many visits a script has, and what the record counts.
-use Prim.Native.Nat.{ℕ, zero, suc, _+_, _≤_}
+use Prim.Native.Nat.{ℕ, suc, _+_, _≤_}
 use native.Mathlib.Omega.{arith}
 use mathlib.Core.Path.{_≡_, refl, sym, ap, _∙_}
 use mathlib.Core.Option.{some}
@@ -7,8 +7,8 @@ use mathlib.Core.List.{List, [], _∷_, _++_}
 use lib.ListN.{length}
 use Rattle.format.specs.Lines.{Row}
 use Rattle.calculus.proofs.Basic.{some-inj}
-use Rattle.law_units.specs.Units.{Planned, scriptOf, Units, Visited, done, skipped, spent, visitTo, moved, outcomes, Tally, nothingYet, withVisit, counted}
-use Rattle.law_units.proofs.Playing.{script-first}
+use Rattle.law_units.specs.Units.{Planned, scriptOf, Units, Visited, done, skipped, spent, visitTo, moved, unitsAfter, outcomes, Tally, withVisit, counted}
+use Rattle.law_units.proofs.Playing.{moved-length, script-first}
 
 -- a visit a line
 pub script-length : (units isos : ℕ) (ls : List (List ℕ)) (ps : List Planned) → scriptOf units isos ls ≡ some ps → length ps ≡ length ls
@@ -20,6 +20,22 @@ script-length units isos (l ∷ ls) ps e =
 pub outcomes-length : (rs : List Row) (budget : ℕ) (ps : List Planned) (us : Units) → length (outcomes rs budget ps us) ≡ length ps
 outcomes-length rs budget [] us = refl
 outcomes-length rs budget (p ∷ ps) us = ap suc (outcomes-length rs budget ps (moved (visitTo rs budget us p) (p .unit) us))
+
+-- there are as many units as before
+pub after-length : (rs : List Row) (budget : ℕ) (ps : List Planned) (us : Units) → length (unitsAfter rs budget ps us .types) ≡ length (us .types)
+after-length rs budget [] us = refl
+after-length rs budget (p ∷ ps) us =
+    let v : Visited = visitTo rs budget us p in after-length rs budget ps (moved v (p .unit) us) ∙ moved-length v (p .unit) us
+
+-- the visits of two scripts, one behind the other
+pub after-append : (rs : List Row) (budget : ℕ) (ps qs : List Planned) (us : Units) → unitsAfter rs budget (ps ++ qs) us ≡ unitsAfter rs budget qs (unitsAfter rs budget ps us)
+after-append rs budget [] qs us = refl
+after-append rs budget (p ∷ ps) qs us = after-append rs budget ps qs (moved (visitTo rs budget us p) (p .unit) us)
+
+pub outcomes-append : (rs : List Row) (budget : ℕ) (ps qs : List Planned) (us : Units) → outcomes rs budget (ps ++ qs) us ≡ outcomes rs budget ps us ++ outcomes rs budget qs (unitsAfter rs budget ps us)
+outcomes-append rs budget [] qs us = refl
+outcomes-append rs budget (p ∷ ps) qs us =
+    ap (λ vs. visitTo rs budget us p ∷ vs) (outcomes-append rs budget ps qs (moved (visitTo rs budget us p) (p .unit) us))
 
 -- ---- the record
 

@@ -10,3 +10,9 @@ pub mod Counts
 pub mod Restoring
 -- the service
 pub mod Services
+-- the calls that a visit is
+pub mod Calling
+-- the refusals
+pub mod Faulting
+-- two scripts exchanged
+pub mod Exchanging

@@ -1,35 +1,34 @@
 -- The units from visit to visit: each stays one that passes the tests, and what a visit comes to, as the services tell it.
-use Prim.Native.Nat.{ℕ, zero, suc, _≤_, _<_}
+use Prim.Native.Nat.{ℕ, zero, suc, _<_}
 use native.Mathlib.Nat.{not-suc-le-zero, le-of-suc-le-suc}
 use native.Mathlib.Omega.{arith}
 use mathlib.Core.Path.{_≡_, refl, sym, ap, ap₂, _∙_, subst}
 use mathlib.Core.Logic.{_⊎_, inl, inr}
-use mathlib.Core.Bool.{Bool, true, false, cond, _&&_}
-use mathlib.Core.Option.{Option, none, some}
+use mathlib.Core.Bool.{Bool, true, false, cond}
+use mathlib.Core.Option.{none, some}
 use mathlib.Core.List.{List, [], _∷_}
 use lib.Dec.{leb, eqb, ltb}
 use lib.ListN.{length, getD, getElem?, set, length-set, length-map}
 use lib.Seq.{getD-set-same, getD-set-other}
 use Rattle.calculus.specs.Tools.{_>>=_, guard, orElse}
 use Rattle.calculus.specs.Trees.{Iso, invert, sameType}
-use Rattle.calculus.specs.Refusals.{Refusal, spent as overBudget}
+use Rattle.calculus.specs.Refusals.{spent as overBudget}
 use Rattle.format.specs.Lines.{Row}
 use Rattle.format.specs.Judge.{start}
 use Rattle.format.specs.Unfold.{isosOf}
 use Rattle.calculus.specs.Letters.{letters}
 use Rattle.model.specs.Services.{gives, fails, toward, runOn}
 use Rattle.model.specs.Answers.{GoodRows}
-use Rattle.calculus.proofs.Basic.{bind-some, some-inj, none≢some, guard-true, and-true, ltb-lt, orElse-none, bool-cases, eqb-eq, eqb-false, leb-le, leb-false, sameType-eq, sameType-refl, not-both}
+use Rattle.calculus.proofs.Basic.{bind-some, some-inj, guard-true, and-true, ltb-lt, orElse-none, bool-cases, eqb-eq, eqb-false, sameType-eq, sameType-refl, not-both}
 use Rattle.format.proofs.Passing.{Passes}
 use Rattle.format.proofs.Turning.{isos-turn}
 use Rattle.law_ranking.specs.Numbering.{rank, numberRows, settingRows}
 use Rattle.law_units.specs.Units.{Planned, plannedOf, names, plannedFor, scriptOf, Units, unitFault, Holds, unitsFault, Visited, done, skipped, spent, otherEnd, visit, visitTo, moved}
-use Rattle.law_units.proofs.Ends.{there}
 use Rattle.law_units.proofs.Visits.{no-fault, holds-fault, valueOf, spelled, end, visit-skips, reduced, ran, numbered, visit-sends, end-holds}
 
 -- ---- isos of either direction
 
-toward-length : (back : Bool) (rs : List Row) → Passes start rs → length (isosOf (toward back rs)) ≡ length (isosOf rs)
+pub toward-length : (back : Bool) (rs : List Row) → Passes start rs → length (isosOf (toward back rs)) ≡ length (isosOf rs)
 toward-length false rs ps = refl
 toward-length true rs ps = ap length (isos-turn rs ps) ∙ length-map (isosOf rs) invert
 
@@ -138,6 +137,12 @@ module _ (rs : List Row) (us : Units) (a : AllHold rs us) where
     -- "the unit then holds …": every unit stays one that passes
     pub visit-keeps : AllHold rs (moved (visitTo rs budget us p) (p .unit) us)
     visit-keeps = moved-holds unit-is
+
+-- there are as many units as before
+pub moved-length : (v : Visited) (u : ℕ) (us : Units) → length (moved v u us .types) ≡ length (us .types)
+moved-length (done j m) u us = length-set (us .types) u j
+moved-length skipped u us = refl
+moved-length spent u us = refl
 
 -- ---- the script
 

@@ -3,28 +3,28 @@ use Prim.Native.Nat.{ℕ, zero, suc, _<_}
 use native.Mathlib.Omega.{arith}
 use mathlib.Core.Path.{_≡_, refl, sym, ap, ap₂, _∙_, subst}
 use mathlib.Core.Bool.{Bool, true, false, cond, not}
-use mathlib.Core.Option.{Option, none, some}
-use mathlib.Core.List.{List, [], _∷_, _++_, map, reverse, reverse-cons}
-use lib.ListN.{length, getD, getElem?, set, length-set, length-map, List·getD-map}
+use mathlib.Core.Option.{Option, some}
+use mathlib.Core.List.{List, [], _∷_, _++_, map, reverse-cons}
+use lib.ListN.{length, getD, getElem?, set, List·getD-map}
 use lib.Seq.{set-set, set-getD, getD-set-same}
-use Rattle.calculus.specs.Trees.{Ty, Iso, invert, sameType}
+use Rattle.calculus.specs.Trees.{Iso, invert, sameType}
 use Rattle.format.specs.Lines.{Row}
 use Rattle.format.specs.Judge.{start}
 use Rattle.format.specs.Unfold.{isosOf, turnRows}
-use Rattle.model.specs.Services.{accepted, verdict, turned, gives, toward, runOn, run}
+use Rattle.model.specs.Services.{accepted, verdict, turned, gives, toward, runOn}
 use Rattle.model.specs.Answers.{GoodRows}
-use Rattle.calculus.proofs.Basic.{some-inj, index-map, index-of-map, sameType-refl}
+use Rattle.calculus.proofs.Basic.{index-map, index-of-map, sameType-refl}
 use Rattle.format.proofs.Passing.{Passes}
 use Rattle.format.proofs.Turning.{isos-turn, turn-turn}
 use Rattle.model.proofs.Files.{turned-accepted}
 use Rattle.model.proofs.Runs.{run-accepted, there-and-back, accepted-good}
-use Rattle.law_ranking.specs.Numbering.{typesOf, onType, toNumber, toSetting, numberRows, settingRows}
+use Rattle.law_ranking.specs.Numbering.{onType, toNumber, toSetting, numberRows, settingRows}
 use Rattle.law_ranking.proofs.Outcomes.{number-setting, setting-number}
-use Rattle.law_units.specs.Units.{Planned, Units, Holds, Visited, done, skipped, spent, matches, otherEnd, andThen, sent, cameTo, visitBy, visit, visitTo, moved, unitsAfter, outcomes}
+use Rattle.law_units.specs.Units.{Planned, Units, Visited, done, skipped, spent, matches, otherEnd, andThen, sent, cameTo, visitBy, visit, visitTo, moved, unitsAfter, outcomes}
 use Rattle.law_units.specs.Backward.{opposite, backward, treeAt, Alike}
 use Rattle.law_units.proofs.Ends.{end-type}
-use Rattle.law_units.proofs.Playing.{VisitIs, skips, spends, does, AllHold, by-iso, unit-is, visit-keeps}
-use Rattle.law_units.proofs.Counts.{AllDone, done-append}
+use Rattle.law_units.proofs.Playing.{VisitIs, skips, spends, does, AllHold, by-iso, unit-is, visit-keeps, moved-length}
+use Rattle.law_units.proofs.Counts.{after-append, outcomes-append, AllDone, done-append}
 
 map-set : {A B : Type 0} (f : A → B) (l : List A) (i : ℕ) (a : A) → map f (set l i a) ≡ set (map f l) i (f a)
 map-set f [] i a = refl
@@ -133,15 +133,6 @@ module _ (file : List ℕ) (rs : List Row) (acc : verdict file ≡ accepted rs) 
 
   -- ---- all visits
 
-  after-append : (ps qs : List Planned) (us : Units) → unitsAfter rs budget (ps ++ qs) us ≡ unitsAfter rs budget qs (unitsAfter rs budget ps us)
-  after-append [] qs us = refl
-  after-append (p ∷ ps) qs us = after-append ps qs (moved (visitTo rs budget us p) (p .unit) us)
-
-  outcomes-append : (ps qs : List Planned) (us : Units) → outcomes rs budget (ps ++ qs) us ≡ outcomes rs budget ps us ++ outcomes rs budget qs (unitsAfter rs budget ps us)
-  outcomes-append [] qs us = refl
-  outcomes-append (p ∷ ps) qs us =
-      ap (λ vs. visitTo rs budget us p ∷ vs) (outcomes-append ps qs (moved (visitTo rs budget us p) (p .unit) us))
-
   -- units that are alike, with one of them set
   set-alike : (us vs : Units) → Alike rs us vs → (u j j₂ m : ℕ) → treeAt rs j ≡ treeAt rs j₂
       → Alike rs (record { types = set (us .types) u j; settings = set (us .settings) u m }) (record { types = set (vs .types) u j₂; settings = set (vs .settings) u m })
@@ -200,21 +191,13 @@ module _ (file : List ℕ) (rs : List Row) (acc : verdict file ≡ accepted rs) 
   Named units [] = Unit {0}
   Named units (p ∷ ps) = (p .unit < units) × (p .iso < length (isosOf rs)) × Named units ps
 
-  kept-length : (us : Units) (p : Planned) → length (moved (visitTo rs budget us p) (p .unit) us .types) ≡ length (us .types)
-  kept-length us p = go (visitTo rs budget us p)
-    where
-      go : (v : Visited) → length (moved v (p .unit) us .types) ≡ length (us .types)
-      go (done j m) = length-set (us .types) (p .unit) j
-      go skipped = refl
-      go spent = refl
-
   pub restores : (ps : List Planned) (us : Units) → AllHold rs us → Named (length (us .types)) ps → AllDone (outcomes rs budget ps us) → (vs : Units) → Alike rs (unitsAfter rs budget ps us) vs
       → Alike rs us (unitsAfter rs budget (backward ps) vs) × AllDone (outcomes rs budget (backward ps) vs)
   restores [] us a named dones vs alike = (alike, tt)
   restores (p ∷ ps) us a named dones vs alike =
       first (visitTo rs budget us p) refl dones
       (λ rest. restores ps (moved (visitTo rs budget us p) (p .unit) us) (visit-keeps rs us a g budget p (named .0) (named .1))
-      (subst (λ k. Named k ps) (sym (kept-length us p)) (named .2)) rest vs alike)
+      (subst (λ k. Named k ps) (sym (moved-length (visitTo rs budget us p) (p .unit) us)) (named .2)) rest vs alike)
     where
       us₁ : Units
       us₁ = moved (visitTo rs budget us p) (p .unit) us
@@ -229,8 +212,8 @@ module _ (file : List ℕ) (rs : List Row) (acc : verdict file ≡ accepted rs) 
           let h = ih rest in
           let vs₁ : Units = unitsAfter rs budget (backward ps) vs in
           let undo = undoes us a p (named .0) (named .1) d vs₁ (h .0) in (
-            subst (Alike rs us) (sym (ap (λ qs. unitsAfter rs budget qs vs) last-one ∙ after-append (backward ps) (opposite p ∷ []) vs)) (restored us a p (named .0) (named .1) d vs₁ (h .0)),
-            subst AllDone (sym (ap (λ qs. outcomes rs budget qs vs) last-one ∙ outcomes-append (backward ps) (opposite p ∷ []) vs))
+            subst (Alike rs us) (sym (ap (λ qs. unitsAfter rs budget qs vs) last-one ∙ after-append rs budget (backward ps) (opposite p ∷ []) vs)) (restored us a p (named .0) (named .1) d vs₁ (h .0)),
+            subst AllDone (sym (ap (λ qs. outcomes rs budget qs vs) last-one ∙ outcomes-append rs budget (backward ps) (opposite p ∷ []) vs))
                 (done-append (outcomes rs budget (backward ps) vs) (visitTo rs budget vs₁ (opposite p) ∷ []) (h .1) (subst (λ v. AllDone (v ∷ [])) (sym undo) tt)),
           )
       first skipped d rest ih = absurd rest

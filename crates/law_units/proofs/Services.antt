@@ -1,33 +1,31 @@
 -- Request 12, said of the service: what a play that is not refused comes to, what a refusal leaves, the counts, and the way back.
-use Prim.Native.Nat.{ℕ, zero, suc, _+_, _≤_, _<_}
+use Prim.Native.Nat.{ℕ, suc, _+_, _≤_, _<_}
 use native.Mathlib.Nat.{zero-add}
 use native.Mathlib.Omega.{arith}
 use mathlib.Core.Path.{_≡_, refl, sym, ap, ap₂, _∙_, subst}
-use mathlib.Core.Bool.{Bool, true, false, cond, not, _&&_, _||_, or-false}
+use mathlib.Core.Bool.{Bool, true, false, cond, not, _||_, or-false}
 use mathlib.Core.Option.{Option, none, some}
-use mathlib.Core.List.{List, [], _∷_, _++_, map, reverse, reverse-cons, List·Memᴰ, List·Memᴰ·head, List·Memᴰ·tail, List·Memᴰ·not-nil}
+use mathlib.Core.List.{List, [], _∷_, map, reverse, List·Memᴰ, List·Memᴰ·head, List·Memᴰ·tail, List·Memᴰ·not-nil}
 use lib.Dec.{ltb, eqb}
-use lib.ListN.{length, getD, getElem?, drop, length-map, length-set, length-reverse}
-use Rattle.limits.specs.Limits.{tableLength, workLength, maxLines}
+use lib.ListN.{length, getD, drop, length-map, length-reverse}
+use Rattle.limits.specs.Limits.{tableLength, workLength, maxLines, maxUnits}
 use Rattle.calculus.specs.Tools.{_>>=_, guard}
-use Rattle.calculus.specs.Trees.{Iso}
-use Rattle.calculus.specs.Refusals.{Refusal, tooLong, spent as overBudget, badScript}
+use Rattle.calculus.specs.Refusals.{Refusal, tooLong}
 use Rattle.format.specs.Lines.{Row, lines}
 use Rattle.format.specs.Unfold.{isosOf}
-use Rattle.model.specs.Services.{Verdict, accepted, refused, verdict, short, unless, check, tableAfter, workAfter, Outcome, gives, fails, goOn, refusalNumber, served, serve, run}
+use Rattle.model.specs.Services.{accepted, refused, verdict, short, unless, check, tableAfter, workAfter, Outcome, gives, fails, goOn, refusalNumber, served, serve}
 use Rattle.model.specs.Answers.{GoodRows}
-use Rattle.calculus.proofs.Basic.{some-inj, none≢some, bool-cases, neither, ltb-false, not-ltb, lt-ltb, true-guard, true-and, eqb-eq, eq-eqb, not-both, map-reverse, mem-reverse, each-map}
+use Rattle.calculus.proofs.Basic.{some-inj, neither, ltb-false, not-ltb, lt-ltb, true-and, eqb-eq, eq-eqb, not-both, map-reverse, mem-reverse, each-map}
 use Rattle.model.proofs.Outcomes.{fails≢gives, gives-inj, given, past-short, given-accepted}
-use Rattle.model.proofs.Runs.{accepted-good, run-accepted}
+use Rattle.model.proofs.Runs.{accepted-good}
 use Rattle.model.proofs.Sheets.{long-enough}
-use Rattle.law_ranking.specs.Numbering.{numberOn, settingOn}
-use Rattle.law_units.specs.Units.{maxUnits, Planned, plannedOf, names, plannedFor, scriptOf, Units, unitsFault, Visited, done, skipped, spent, otherEnd, visitTo, moved, unitsAfter, outcomes, Tally, nothingYet, counted, Played, played, onScript, onUnits, playRows, unequal, playVerdict, unitsFrom, tallyFrom, Play, playBy, playServed, playService}
+use Rattle.law_units.specs.Units.{Planned, plannedOf, names, plannedFor, scriptOf, Units, unitsFault, done, skipped, spent, visitTo, moved, unitsAfter, outcomes, Tally, nothingYet, counted, Played, played, onScript, onUnits, playRows, unequal, playVerdict, unitsFrom, tallyFrom, Play, playBy, playService}
 use Rattle.law_units.specs.Backward.{opposite, backward, Backward, Alike}
-use Rattle.law_units.proofs.Playing.{VisitIs, AllHold, all-hold, hold-all, visit-keeps, by-iso, unit-is, script-first}
-use Rattle.law_units.proofs.Counts.{script-length, outcomes-length, total, counted-total, AllDone, all-done, done-counts}
+use Rattle.law_units.proofs.Playing.{AllHold, all-hold, hold-all, visit-keeps, moved-length, script-first}
+use Rattle.law_units.proofs.Counts.{script-length, outcomes-length, after-length, total, counted-total, all-done, done-counts}
 use Rattle.law_units.proofs.Restoring.{Named, restores}
 
-nil≢cons : {A : Type 0} {x : A} {xs : List A} → _≡_ {A = List A} [] (x ∷ xs) → ⊥
+pub nil≢cons : {A : Type 0} {x : A} {xs : List A} → _≡_ {A = List A} [] (x ∷ xs) → ⊥
 nil≢cons e = zero≢suc (ap length e)
   where
     zero≢suc : {n : ℕ} → 0 ≡ suc n → ⊥
@@ -64,7 +62,7 @@ played-of rs us script budget {x} e = on (unitsFault rs (us .types) (us .setting
     on (some z) u f = absurd (fails≢gives f)
 
 -- the other way round
-plays : (rs : List Row) (us : Units) (script : List ℕ) (budget : ℕ) (ps : List Planned) → unitsFault rs (us .types) (us .settings) ≡ none
+pub plays : (rs : List Row) (us : Units) (script : List ℕ) (budget : ℕ) (ps : List Planned) → unitsFault rs (us .types) (us .settings) ≡ none
     → scriptOf (length (us .types)) (length (isosOf rs)) (lines script) ≡ some ps → playRows us script budget rs ≡ gives (played rs budget us ps)
 unfolding playRows
 plays rs us script budget ps u s = ap (onUnits rs budget us (lines script)) u ∙ ap (onScript rs budget us) s
@@ -178,13 +176,13 @@ module _ (file t w : List ℕ) (us : Units) (script : List ℕ) (budget : ℕ) (
         let s = script-length (length (us .types)) (length (isosOf fileRows)) (lines script) visitsOf visits-read in
         ap total (play-gives .1) ∙ c ∙ zero-add (length (outcomes fileRows budget visitsOf us)) ∙ l ∙ s
 
-    holds : AllHold fileRows us
+    pub holds : AllHold fileRows us
     holds = all-hold fileRows us equal-areas (play-of .units)
 
     named : Named file fileRows accepts budget (length (us .types)) visitsOf
     named = script-named fileRows (length (us .types)) (lines script) visitsOf file accepts budget visits-read
 
-    goodRows : GoodRows fileRows
+    pub goodRows : GoodRows fileRows
     goodRows = accepted-good file fileRows accepts
 
     -- every unit stays good
@@ -192,35 +190,17 @@ module _ (file t w : List ℕ) (us : Units) (script : List ℕ) (budget : ℕ) (
     after-holds [] vs a n = a
     after-holds (p ∷ ps) vs a n =
         after-holds ps (moved (visitTo fileRows budget vs p) (p .unit) vs) (visit-keeps fileRows vs a goodRows budget p (n .0) (n .1))
-        (subst (λ k. Named file fileRows accepts budget k ps) (sym (kept (visitTo fileRows budget vs p))) (n .2))
-      where
-        kept : (v : Visited) → length (moved v (p .unit) vs .types) ≡ length (vs .types)
-        kept (done j m) = length-set (vs .types) (p .unit) j
-        kept skipped = refl
-        kept spent = refl
+        (subst (λ k. Named file fileRows accepts budget k ps) (sym (moved-length (visitTo fileRows budget vs p) (p .unit) vs)) (n .2))
 
-    -- "the unit then holds …": at the end every unit passes the tests that precede a play
+    -- "the unit then holds …": at the end there are as many units, and every one passes the tests that precede a play
+    pub play-many : length (answered .units .types) ≡ length (us .types)
+    play-many = ap (λ (z : Units). length (z .types)) (play-gives .0) ∙ after-length fileRows budget visitsOf us
+
+    pub play-holds : AllHold fileRows (answered .units)
+    play-holds = subst (AllHold fileRows) (sym (play-gives .0)) (after-holds visitsOf us holds named)
+
     pub play-good : unitsFault fileRows (answered .units .types) (answered .units .settings) ≡ none
-    play-good =
-        let a = after-holds visitsOf us holds named in
-        ap (λ (z : Units). unitsFault fileRows (z .types) (z .settings)) (play-gives .0) ∙ hold-all fileRows (unitsAfter fileRows budget visitsOf us) a
-
--- ---- a visit, as the services tell it
-
--- of a unit that passes the tests: skipped where the types differ, spent where the lone run is, and else what number to letters, run, and letters to number give
-pub data VisitServed (file : List ℕ) (rs : List Row) (budget : ℕ) (p : Planned) (i n : ℕ) : Visited → Type 0 where
-  skips : VisitServed file rs budget p i n skipped
-  spends : (ls : List ℕ) → settingOn (verdict file) i n ≡ gives ls → run file (p .iso) (p .back) budget ls ≡ fails overBudget → VisitServed file rs budget p i n spent
-  does : (ls us : List ℕ) (k j m : ℕ) → settingOn (verdict file) i n ≡ gives ls → run file (p .iso) (p .back) budget ls ≡ gives (k, us) → numberOn (verdict file) j us ≡ gives m
-      → VisitServed file rs budget p i n (done j m)
-
-pub visit-served : (file : List ℕ) (rs : List Row) → verdict file ≡ accepted rs → (budget : ℕ) (p : Planned) {i n : ℕ} {o : Iso} {v : Visited} → VisitIs rs budget p i n o v → VisitServed file rs budget p i n v
-visit-served file rs acc budget p (VisitIs.skips h d) = VisitServed.skips
-visit-served file rs acc budget p {i} {n} (VisitIs.spends h ls s x y) =
-    VisitServed.spends ls (ap (λ v. settingOn v i n) acc ∙ x) (run-accepted file rs acc (p .iso) (p .back) budget ls ∙ y)
-visit-served file rs acc budget p {i} {n} {o} (VisitIs.does h ls us k m s x y z new t) =
-    VisitServed.does ls us k (otherEnd rs (p .back) (some o)) m (ap (λ v. settingOn v i n) acc ∙ x) (run-accepted file rs acc (p .iso) (p .back) budget ls ∙ y)
-    (ap (λ v. numberOn v (otherEnd rs (p .back) (some o)) us) acc ∙ z)
+    play-good = hold-all fileRows (answered .units) play-holds
 
 -- ---- the way back
 
@@ -257,15 +237,6 @@ module _ (file : List ℕ) (rs : List Row) (acc : verdict file ≡ accepted rs) 
       reads-script units (length (isosOf rs)) (lines other) (backward ps)
       (b .reads ∙ ap reverse (planned-all units (length (isosOf rs)) (lines script) ps e) ∙ sym (map-reverse some (map opposite ps)))
       (λ q m. each-map (λ x. names units (length (isosOf rs)) x ≡ true) opposite ps (λ x k. named-each ps n x k) q (mem-reverse (map opposite ps) m))
-
-after-length : (rs : List Row) (budget : ℕ) (ps : List Planned) (us : Units) → length (unitsAfter rs budget ps us .types) ≡ length (us .types)
-after-length rs budget [] us = refl
-after-length rs budget (p ∷ ps) us = after-length rs budget ps (moved (visitTo rs budget us p) (p .unit) us) ∙ kept (visitTo rs budget us p)
-  where
-    kept : (v : Visited) → length (moved v (p .unit) us .types) ≡ length (us .types)
-    kept (done j m) = length-set (us .types) (p .unit) j
-    kept skipped = refl
-    kept spent = refl
 
 -- an accepted file, areas of the stated lengths, units that pass and a script: the play
 goes : (file t w : List ℕ) (us : Units) (script : List ℕ) (budget : ℕ) (tl : Tally) (rs : List Row) → verdict file ≡ accepted rs → tableLength ≤ length t → workLength ≤ length w

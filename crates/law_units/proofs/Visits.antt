@@ -1,32 +1,31 @@
 -- One visit to a unit that passes the tests: skipped where the types differ, else what the reduction gives, within the budget or not.
-use Prim.Native.Nat.{ℕ, _≤_, _<_}
+use Prim.Native.Nat.{ℕ, _<_}
 use native.Mathlib.Omega.{arith}
 use mathlib.Core.Path.{_≡_, refl, sym, ap, _∙_, subst}
-use mathlib.Core.Bool.{Bool, true, false, cond, not}
-use mathlib.Core.Option.{Option, none, some}
+use mathlib.Core.Bool.{Bool, true, false, cond}
+use mathlib.Core.Option.{none, some}
 use mathlib.Core.List.{List}
 use lib.Dec.{leb}
 use lib.ListN.{getElem?}
-use Rattle.limits.specs.Limits.{maxValues}
 use Rattle.calculus.specs.Tools.{_>>=_, guard}
-use Rattle.calculus.specs.Trees.{Ty, Val, Iso, sameType}
-use Rattle.calculus.specs.Refusals.{Refusal, spent as overBudget}
+use Rattle.calculus.specs.Trees.{Val, Iso, sameType}
+use Rattle.calculus.specs.Refusals.{spent as overBudget}
 use Rattle.format.specs.Lines.{Row}
 use Rattle.format.specs.Unfold.{isosOf}
 use Rattle.calculus.specs.Reduction.{reduce}
 use Rattle.calculus.specs.Letters.{letters, inhabits}
 use Rattle.calculus.specs.Paper.{Of}
-use Rattle.model.specs.Services.{accepted, Outcome, gives, fails, refusalOf, Ran, within, argument, from, onIso, runRows, toward, runOn}
+use Rattle.model.specs.Services.{Outcome, gives, fails, refusalOf, within, argument, from, onIso, runRows, toward, runOn}
 use Rattle.model.specs.Answers.{GoodRows}
-use Rattle.calculus.proofs.Basic.{some-bind, none≢some, not-both, sameType-refl, sameType-eq}
+use Rattle.calculus.proofs.Basic.{some-bind, none≢some, sameType-refl}
 use Rattle.calculus.proofs.Letters.{value-letters, of-inhabits, inhabits-of}
 use Rattle.model.proofs.Runs.{Good, good, good-invert, good-toward, results}
-use Rattle.law_ranking.specs.Numbering.{count, rank, unrank, typesOf, numberRows, settingRows}
-use Rattle.law_ranking.specs.Answers.{LineOf, LineFault, NumberIs, SettingIs}
+use Rattle.law_ranking.specs.Numbering.{count, rank, unrank, numberRows, settingRows}
+use Rattle.law_ranking.specs.Answers.{LineOf, NumberIs, SettingIs}
 use Rattle.law_ranking.proofs.Numbering.{rank-below, unrank-inhabits, rank-unrank}
 use Rattle.law_ranking.proofs.Outcomes.{number-in, setting-in, setting-case}
 use Rattle.law_pairlists.proofs.Exports.{counts-back}
-use Rattle.law_units.specs.Units.{Planned, unitFault, Holds, Visited, done, skipped, spent, matches, otherEnd, andThen, sent, cameTo, visitBy, visit}
+use Rattle.law_units.specs.Units.{Planned, unitFault, Holds, done, skipped, spent, matches, otherEnd, andThen, sent, cameTo, visitBy, visit}
 use Rattle.law_units.proofs.Ends.{end-type}
 
 -- ---- a unit that passes the tests

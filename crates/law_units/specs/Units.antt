@@ -1,12 +1,12 @@
 -- Request 12, "Six hundred units tried out": units that each hold a T line and a setting number, a script of visits, and what the service answers
 -- and leaves in every lent area.
 use Prim.Native.Nat.{ℕ, _+_, _-_, _<_}
-use mathlib.Core.Bool.{Bool, true, false, cond, not, _&&_, _||_}
+use mathlib.Core.Bool.{Bool, false, cond, not, _&&_, _||_}
 use mathlib.Core.Option.{Option, none, some}
 use mathlib.Core.List.{List, [], _∷_}
 use lib.Dec.{eqb, ltb}
 use lib.ListN.{length, getD, getElem?, set}
-use Rattle.limits.specs.Limits.{fieldBound, maxLines}
+use Rattle.limits.specs.Limits.{fieldBound, maxLines, maxUnits, letterS}
 use Rattle.calculus.specs.Tools.{_>>=_, guard, orElse}
 use Rattle.calculus.specs.Trees.{Ty, sameType, Iso}
 use Rattle.calculus.specs.Refusals.{Refusal, tooLong, badScript}
@@ -15,16 +15,6 @@ use Rattle.format.specs.Unfold.{isosOf, turnRows}
 use Rattle.model.specs.Services.{Verdict, refused, verdict, Answer, short, Outcome, gives, fails, refusalOf, Served, serve, answerFrom, toward, runRows, runOn}
 use Rattle.law_ranking.specs.Numbering.{count, typesOf, numberRows, settingRows}
 use Rattle.law_ranking.specs.Answers.{LineOf}
-
--- ---- numbers
-
--- "Up to 1,000 units"
-abbrev pub maxUnits : ℕ
-maxUnits = 1000
-
--- the letter of a script's lines
-abbrev pub letterS : ℕ
-letterS = 83
 
 -- ---- the script
 

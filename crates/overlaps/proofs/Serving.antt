@@ -23,6 +23,11 @@ use Rattle.check_overlap.specs.Overlap.{overlapRows, overlapOn, clashOf, pairsO
 use Rattle.overlaps.specs.OverlapSays.{OverlapAs, OverlapSays}
 use Rattle.overlaps.specs.declared.Overlapped as O
 
+-- table and work area are as after Check, whatever is answered
+pub overlap-areas : (file t w : List ℕ) (i j : ℕ) → (overlapService file t w i j .table ≡ check file t w .table) × (overlapService file t w i j .work ≡ check file t w .work)
+unfolding check overlapService
+overlap-areas file t w i j = (refl, refl)
+
 module _ (s t w : List ℕ) (i j : ℕ) (t′ w′ : List ℕ) where
   -- clash and pairs as an outcome says
   abbrev Own : O.Overlapped → Outcome Compared → Type 0

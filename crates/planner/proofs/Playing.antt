@@ -8,7 +8,7 @@ use mathlib.Core.Option.{none, some}
 use mathlib.Core.List.{List, [], _++_, map}
 use lib.Dec.{ltb}
 use lib.ListN.{length, take, drop, replicate, length-map, length-replicate, take-append-drop}
-use Rattle.limits.specs.Limits.{workLength, maxLines, runRoom}
+use Rattle.limits.specs.Limits.{workLength, maxLines, maxUnits, runRoom}
 use Rattle.calculus.specs.Tools.{isSome}
 use Rattle.calculus.specs.Refusals.{Refusal, shortArea, tooLong}
 use Rattle.format.specs.Lines.{Row, lines}
@@ -16,7 +16,7 @@ use Rattle.format.specs.Code.{numbered}
 use Rattle.model.specs.Services.{Verdict, accepted, refused, verdict, short, unless, workAfter, Outcome, gives, fails, goOn, refusalOf, Served}
 use Rattle.calculus.proofs.Basic.{neither, ltb-false}
 use Rattle.model.proofs.Outcomes.{fails≢gives, given-accepted}
-use Rattle.law_units.specs.Units.{maxUnits, Units, Tally, Visited, counted, Played, unitsFrom, tallyFrom, playRows, unequal, playVerdict, playServed, playService}
+use Rattle.law_units.specs.Units.{Units, Tally, Visited, counted, Played, unitsFrom, tallyFrom, playRows, unequal, playVerdict, playServed, playService}
 use Rattle.unit_tally.specs.declared.Tally as T
 use Rattle.unit_tally.specs.Count.{begunOf, zeros, tallied, emptied}
 use Rattle.unit_visits.specs.Visiting.{marked}

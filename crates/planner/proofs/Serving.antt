@@ -8,7 +8,7 @@ use mathlib.Core.Option.{Option, none, some}
 use mathlib.Core.List.{List, [], _++_, map}
 use lib.Dec.{ltb, eqb}
 use lib.ListN.{length, take, drop, replicate, length-map, take-append-drop}
-use Rattle.limits.specs.Limits.{tableLength, workLength, maxLines, runRoom}
+use Rattle.limits.specs.Limits.{tableLength, workLength, maxLines, maxUnits, runRoom}
 use Rattle.calculus.specs.Tools.{isSome, orElse}
 use Rattle.calculus.specs.Refusals.{Refusal, shortArea, tooLong}
 use Rattle.format.specs.Lines.{Row, lines}
@@ -21,7 +21,7 @@ use Rattle.checker.specs.CheckSays.{CheckSays, Accepted}
 use Rattle.checker.specs.declared.Checked as C
 use Rattle.checker.proofs.Going.{ServedAs, check-refused, check-accepted}
 use Rattle.checker.proofs.Whole.{whole}
-use Rattle.law_units.specs.Units.{maxUnits, Planned, scriptOf, Units, unitsFault, outcomes, Played, played, onScript, onUnits, unitsFrom, playRows, unequal, playVerdict, playServed}
+use Rattle.law_units.specs.Units.{Planned, scriptOf, Units, unitsFault, outcomes, Played, played, onScript, onUnits, unitsFrom, playRows, unequal, playVerdict, playServed}
 use Rattle.law_units.proofs.Counts.{script-length, outcomes-length}
 use Rattle.unit_visits.specs.Visiting.{marked}
 use Rattle.unit_plays.specs.Playing.{unitsIn, withMarks, marksFrom, Into, PlayedInto}

@@ -16,11 +16,11 @@ use unit_tally::count_visits;
 ghost use mathlib.Core.Path.{_≡_};
 ghost use mathlib.Core.Bool.{false, cond, not, _||_};
 ghost use lib.Dec.{ltb};
-ghost use Rattle.limits.specs.Limits.{maxLines};
+ghost use Rattle.limits.specs.Limits.{maxLines, maxUnits};
 ghost use Rattle.calculus.specs.Tools.{isSome};
 ghost use Rattle.format.specs.Code.{refusalView};
 ghost use Rattle.model.specs.Services.{short};
-ghost use Rattle.law_units.specs.Units.{maxUnits, unequal};
+ghost use Rattle.law_units.specs.Units.{unequal};
 ghost use Rattle.planner.specs.PlaySays.{VisitsSay, PlaySays};
 
 // An answer, how many visits are marked in the work area, and whether the script was played.

@@ -369,13 +369,13 @@ pub struct PlayAnswer {
 }
 
 // An answer, under document 01's numbers.
-fn told(answer: Answer) -> PlayAnswer
-    ensures { λ r. ⌜ (r .number ≡ numberOf (answer .refusal)) × (r .line ≡ answer .place) ⌝ }
+fn told(given: Answer) -> PlayAnswer
+    ensures { λ r. ⌜ (r .number ≡ numberOf (given .refusal)) × (r .line ≡ given .place) ⌝ }
 {
-    let f = answer.refusal;
+    let f = given.refusal;
     PlayAnswer {
         number: number_of(f) as u32,
-        line: answer.place,
+        line: given.place,
     }
 }
 

@@ -6,11 +6,11 @@ use mathlib.Core.Option.{Option, none, some}
 use mathlib.Core.List.{List, [], _∷_}
 use lib.Dec.{eqb, ltb}
 use lib.ListN.{getD, drop}
-use Rattle.limits.specs.Limits.{fieldBound}
+use Rattle.limits.specs.Limits.{fieldBound, letterS}
 use Rattle.calculus.specs.Tools.{_>>=_, guard, isSome}
 use Rattle.format.specs.Lines.{text, skip, fields, ended}
 use Rattle.calculus.proofs.Basic.{lt-ltb, not-ltb}
-use Rattle.law_units.specs.Units.{Planned, letterS, plannedIn, plannedOf, names, plannedFor}
+use Rattle.law_units.specs.Units.{Planned, plannedIn, plannedOf, names, plannedFor}
 use Rattle.read_fields.specs.declared.Cursor as C
 use Rattle.read_fields.specs.declared.Skipped as S
 use Rattle.read_fields.specs.declared.Skipped.the-variants as skips

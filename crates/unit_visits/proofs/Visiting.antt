@@ -1,21 +1,17 @@
 -- A visit on a checked table: the unit's type against the iso's, and the T line at the other end.
 use Prim.Native.Nat.{ℕ, suc, _-_, _<_}
 use native.Mathlib.Omega.{arith}
-use mathlib.Core.Path.{_≡_, refl, sym, ap, ap₂, _∙_, subst}
+use mathlib.Core.Path.{_≡_, refl, sym, ap, ap₂, _∙_}
 use mathlib.Core.Bool.{Bool, true, false, cond}
-use mathlib.Core.Option.{none, some}
+use mathlib.Core.Option.{some}
 use mathlib.Core.List.{List}
-use lib.ListN.{length, getElem?, length-map}
-use Rattle.calculus.specs.Trees.{Ty, Iso, invert, sameType}
+use lib.ListN.{getElem?}
+use Rattle.calculus.specs.Trees.{Ty, Iso, sameType}
 use Rattle.format.specs.Lines.{Row}
-use Rattle.format.specs.Judge.{start}
 use Rattle.format.specs.Unfold.{isosOf}
 use Rattle.model.specs.Services.{toward}
-use Rattle.calculus.proofs.Basic.{some-inj, index-below, sameType-eq, sameType-refl}
-use Rattle.format.proofs.Passing.{Passes}
-use Rattle.format.proofs.Turning.{isos-turn}
+use Rattle.calculus.proofs.Basic.{some-inj, index-below, sameType-eq}
 use Rattle.table_trees.specs.Unfolding.{cellOf, typeOf}
-use Rattle.table_walks.specs.Walk.{FileIn}
 use Rattle.number_values.proofs.TypeLines.{there}
 use Rattle.run_index.specs.Index.{placeAt, isoAt}
 use Rattle.run_reduction.specs.Frames.{sided}
@@ -24,13 +20,10 @@ use Rattle.law_ranking.specs.Numbering.{typesOf}
 use Rattle.law_units.specs.Units.{Planned, Holds, Visited, skipped, endOf, otherEnd, sent, cameTo, visit}
 use Rattle.law_units.proofs.Ends.{end-row}
 use Rattle.law_units.proofs.Visits.{visit-skips, visit-by}
+use Rattle.law_units.proofs.Playing.{toward-length}
 use Rattle.unit_script.specs.declared.Planned as P
 use Rattle.unit_script.specs.Views.{plannedView}
 use Rattle.unit_visits.specs.Visiting.{Playable}
-
-toward-length : (back : Bool) (rs : List Row) → Passes start rs → length (isosOf (toward back rs)) ≡ length (isosOf rs)
-toward-length false rs ps = refl
-toward-length true rs ps = ap length (isos-turn rs ps) ∙ length-map (isosOf rs) invert
 
 -- the types and the line of an iso in a direction
 sided-from : (back : Bool) (o : Iso) → sided back o .from ≡ cond back (o .to) (o .from)

@@ -1,0 +1,292 @@
+-- Two scripts that name different units may be exchanged: playing the lines of the one and then those of the other gives the same answer, units and record either way round.
+use Prim.Native.Nat.{ℕ, _≤_}
+use native.Mathlib.Omega.{arith}
+use mathlib.Core.Path.{_≡_, refl, sym, ap, ap₂, _∙_, subst}
+use mathlib.Core.Logic.{_⊎_, inl, inr}
+use mathlib.Core.Bool.{Bool, true, false, cond, _||_}
+use mathlib.Core.Option.{Option, none, some}
+use mathlib.Core.List.{List, [], _∷_, _++_, List·Memᴰ, List·Memᴰ·head, List·Memᴰ·tail, List·Memᴰ·not-nil}
+use lib.Dec.{ltb, eqb}
+use lib.ListN.{length, length-append}
+use lib.Seq.{getD-set-other, set-comm}
+use Rattle.limits.specs.Limits.{lineFeed, maxLines, maxUnits, tableLength, workLength}
+use Rattle.calculus.specs.Tools.{_>>=_}
+use Rattle.calculus.specs.Refusals.{Refusal, tooLong}
+use Rattle.format.specs.Lines.{Row, lines, ontoFirst}
+use Rattle.format.specs.Unfold.{isosOf}
+use Rattle.format.specs.Code.{numbered}
+use Rattle.model.specs.Services.{Verdict, accepted, refused, verdict, short, unless, tableAfter, workAfter, goOn, lineOf, Answer, Outcome, gives, refusalOf, refusalNumber, served, serve}
+use Rattle.calculus.proofs.Basic.{bool-cases, some-inj}
+use Rattle.model.proofs.Sheets.{long-enough}
+use Rattle.law_units.specs.Units.{Planned, plannedOf, plannedFor, scriptOf, Units, unitsFault, Visited, done, skipped, spent, visit, visitTo, moved, unitsAfter, outcomes, Tally, nothingYet, withVisit, counted, Played, played, onScript, onUnits, playRows, unequal, playVerdict, unitsFrom, tallyFrom, Play, playBy, playService}
+use Rattle.law_units.specs.Apart.{Apart}
+use Rattle.law_units.proofs.Playing.{script-first}
+use Rattle.law_units.proofs.Counts.{after-append, outcomes-append}
+use Rattle.law_units.proofs.Services.{nil≢cons}
+
+-- ---- lines of bytes behind bytes that end with a line feed
+
+-- bytes have a line
+has-line : (b : ℕ) (bs : List ℕ) → lines (b ∷ bs) ≡ [] → ⊥
+has-line b bs = go (eqb b lineFeed) (lines bs)
+  where
+    go : (c : Bool) (ls : List (List ℕ)) → cond c ((b ∷ []) ∷ ls) (ontoFirst b ls) ≡ [] → ⊥
+    go true ls e = nil≢cons (sym e)
+    go false [] e = nil≢cons (sym e)
+    go false (l ∷ ls) e = nil≢cons (sym e)
+
+some-line : (bs : List ℕ) → lines (bs ++ (lineFeed ∷ [])) ≡ [] → ⊥
+some-line [] = has-line lineFeed []
+some-line (b ∷ bs) = has-line b (bs ++ (lineFeed ∷ []))
+
+pub lines-behind : (bs cs : List ℕ) → lines ((bs ++ (lineFeed ∷ [])) ++ cs) ≡ lines (bs ++ (lineFeed ∷ [])) ++ lines cs
+lines-behind [] cs = refl
+lines-behind (b ∷ bs) cs = go (bool-cases (eqb b lineFeed)) (lines-behind bs cs)
+  where
+    ds : List ℕ
+    ds = bs ++ (lineFeed ∷ [])
+
+    onto : (ls ms : List (List ℕ)) → (ls ≡ [] → ⊥) → ontoFirst b (ls ++ ms) ≡ ontoFirst b ls ++ ms
+    onto [] ms h = absurd (h refl)
+    onto (l ∷ ls) ms h = refl
+
+    go : (eqb b lineFeed ≡ true) ⊎ (eqb b lineFeed ≡ false) → lines (ds ++ cs) ≡ lines ds ++ lines cs → lines (b ∷ (ds ++ cs)) ≡ lines (b ∷ ds) ++ lines cs
+    go (inl t) ih = rw t (ap (λ ls. (b ∷ []) ∷ ls) ih)
+    go (inr t) ih = rw t (ap (ontoFirst b) ih ∙ onto (lines ds) (lines cs) (some-line bs))
+
+-- ---- the record: two visits counted in either order
+
+with-with : (v w : Visited) (t : Tally) → withVisit v (withVisit w t) ≡ withVisit w (withVisit v t)
+with-with (done i n) (done j m) t = refl
+with-with (done i n) skipped t = refl
+with-with (done i n) spent t = refl
+with-with skipped (done j m) t = refl
+with-with skipped skipped t = refl
+with-with skipped spent t = refl
+with-with spent (done j m) t = refl
+with-with spent skipped t = refl
+with-with spent spent t = refl
+
+counted-append : (vs ws : List Visited) (t : Tally) → counted (vs ++ ws) t ≡ counted ws (counted vs t)
+counted-append [] ws t = refl
+counted-append (v ∷ vs) ws t = counted-append vs ws (withVisit v t)
+
+counted-with : (v : Visited) (vs : List Visited) (t : Tally) → counted vs (withVisit v t) ≡ withVisit v (counted vs t)
+counted-with v [] t = refl
+counted-with v (w ∷ vs) t = ap (counted vs) (with-with w v t) ∙ counted-with v vs (withVisit w t)
+
+counted-swap : (vs ws : List Visited) (t : Tally) → counted ws (counted vs t) ≡ counted vs (counted ws t)
+counted-swap [] ws t = refl
+counted-swap (v ∷ vs) ws t = counted-swap vs ws (withVisit v t) ∙ ap (counted vs) (counted-with v ws t)
+
+pub counted-either : (vs ws : List Visited) (t : Tally) → counted (vs ++ ws) t ≡ counted (ws ++ vs) t
+counted-either vs ws t = counted-append vs ws t ∙ counted-swap vs ws t ∙ sym (counted-append ws vs t)
+
+-- ---- visits to other units
+
+-- none of some visits names unit u
+abbrev pub Spares : ℕ → List Planned → Type 0
+Spares u ps = (p : Planned) → List·Memᴰ p ps → u ≡ p .unit → ⊥
+
+module _ (rs : List Row) (budget : ℕ) where
+  -- a visit sees its own unit alone
+  sees : (v : Visited) (u : ℕ) (us : Units) (p : Planned) → (u ≡ p .unit → ⊥) → visitTo rs budget (moved v u us) p ≡ visitTo rs budget us p
+  sees (done j m) u us p h =
+      ap₂ (visit rs budget p) (getD-set-other (us .types) u (p .unit) j 0 (λ e. h (sym e))) (getD-set-other (us .settings) u (p .unit) m 0 (λ e. h (sym e)))
+  sees skipped u us p h = refl
+  sees spent u us p h = refl
+
+  -- and changes it alone
+  moves : (v w : Visited) (u k : ℕ) (us : Units) → (u ≡ k → ⊥) → moved w k (moved v u us) ≡ moved v u (moved w k us)
+  moves (done i n) (done j m) u k us h =
+      ap₂ (λ x y. record { types = x; settings = y }) (set-comm (us .types) u k i j h) (set-comm (us .settings) u k n m h)
+  moves (done i n) skipped u k us h = refl
+  moves (done i n) spent u k us h = refl
+  moves skipped w u k us h = refl
+  moves spent w u k us h = refl
+
+  -- what comes of one unit goes past visits to others
+  past-units : (v : Visited) (u : ℕ) (ps : List Planned) (us : Units) → Spares u ps → unitsAfter rs budget ps (moved v u us) ≡ moved v u (unitsAfter rs budget ps us)
+  past-units v u [] us h = refl
+  past-units v u (p ∷ ps) us h =
+      let k = h p (List·Memᴰ·head refl) in
+      ap (λ w. unitsAfter rs budget ps (moved w (p .unit) (moved v u us))) (sees v u us p k)
+      ∙ ap (unitsAfter rs budget ps) (moves v (visitTo rs budget us p) u (p .unit) us k)
+      ∙ past-units v u ps (moved (visitTo rs budget us p) (p .unit) us) (λ q m. h q (List·Memᴰ·tail m))
+
+  past-outcomes : (v : Visited) (u : ℕ) (ps : List Planned) (us : Units) → Spares u ps → outcomes rs budget ps (moved v u us) ≡ outcomes rs budget ps us
+  past-outcomes v u [] us h = refl
+  past-outcomes v u (p ∷ ps) us h =
+      let k = h p (List·Memᴰ·head refl) in
+      ap (λ w. w ∷ outcomes rs budget ps (moved w (p .unit) (moved v u us))) (sees v u us p k)
+      ∙ ap (λ z. visitTo rs budget us p ∷ outcomes rs budget ps z) (moves v (visitTo rs budget us p) u (p .unit) us k)
+      ∙ ap (λ z. visitTo rs budget us p ∷ z) (past-outcomes v u ps (moved (visitTo rs budget us p) (p .unit) us) (λ q m. h q (List·Memᴰ·tail m)))
+
+  -- a visit after visits to other units
+  sees-after : (p : Planned) (qs : List Planned) (us : Units) → Spares (p .unit) qs → visitTo rs budget (unitsAfter rs budget qs us) p ≡ visitTo rs budget us p
+  sees-after p [] us h = refl
+  sees-after p (q ∷ qs) us h =
+      sees-after p qs (moved (visitTo rs budget us q) (q .unit) us) (λ x m. h x (List·Memᴰ·tail m))
+      ∙ sees (visitTo rs budget us q) (q .unit) us p (λ e. h q (List·Memᴰ·head refl) (sym e))
+
+  -- no visit of the one names a unit of the other
+  abbrev pub AllSpare : List Planned → List Planned → Type 0
+  AllSpare ps qs = (p : Planned) → List·Memᴰ p ps → Spares (p .unit) qs
+
+  units-swap : (ps qs : List Planned) (us : Units) → AllSpare ps qs → unitsAfter rs budget qs (unitsAfter rs budget ps us) ≡ unitsAfter rs budget ps (unitsAfter rs budget qs us)
+  units-swap [] qs us h = refl
+  units-swap (p ∷ ps) qs us h =
+      let v : Visited = visitTo rs budget us p in
+      let k = h p (List·Memᴰ·head refl) in
+      units-swap ps qs (moved v (p .unit) us) (λ x m. h x (List·Memᴰ·tail m))
+      ∙ ap (unitsAfter rs budget ps) (past-units v (p .unit) qs us k)
+      ∙ ap (λ w. unitsAfter rs budget ps (moved w (p .unit) (unitsAfter rs budget qs us))) (sym (sees-after p qs us k))
+
+  outcomes-alone : (ps qs : List Planned) (us : Units) → AllSpare ps qs → outcomes rs budget ps (unitsAfter rs budget qs us) ≡ outcomes rs budget ps us
+  outcomes-alone [] qs us h = refl
+  outcomes-alone (p ∷ ps) qs us h =
+      let v : Visited = visitTo rs budget us p in
+      let k = h p (List·Memᴰ·head refl) in
+      ap (λ w. w ∷ outcomes rs budget ps (moved w (p .unit) (unitsAfter rs budget qs us))) (sees-after p qs us k)
+      ∙ ap (λ z. v ∷ outcomes rs budget ps z) (sym (past-units v (p .unit) qs us k))
+      ∙ ap (λ z. v ∷ z) (outcomes-alone ps qs (moved v (p .unit) us) (λ x m. h x (List·Memᴰ·tail m)))
+
+  spare-sym : (ps qs : List Planned) → AllSpare ps qs → AllSpare qs ps
+  spare-sym ps qs h q m p k e = h p k q m (sym e)
+
+-- ---- two scripts
+
+module _ (units isos : ℕ) where
+  script-append : (ls ms : List (List ℕ)) → scriptOf units isos (ls ++ ms) ≡ (scriptOf units isos ls >>= λ ps. scriptOf units isos ms >>= λ qs. some (ps ++ qs))
+  script-append [] ms = go (scriptOf units isos ms)
+    where
+      go : (x : Option (List Planned)) → x ≡ (x >>= λ qs. some qs)
+      go none = refl
+      go (some qs) = refl
+  script-append (l ∷ ls) ms = ap (λ y. plannedFor units isos l >>= λ p. y >>= λ ps. some (p ∷ ps)) (script-append ls ms) ∙ go (plannedFor units isos l) (scriptOf units isos ls) (scriptOf units isos ms)
+    where
+      go : (x : Option Planned) (y z : Option (List Planned))
+          → (x >>= λ p. (y >>= λ ps. z >>= λ qs. some (ps ++ qs)) >>= λ rs. some (p ∷ rs))
+          ≡ ((x >>= λ p. y >>= λ ps. some (p ∷ ps)) >>= λ ps. z >>= λ qs. some (ps ++ qs))
+      go none y z = refl
+      go (some p) none z = refl
+      go (some p) (some ps) none = refl
+      go (some p) (some ps) (some qs) = refl
+
+  -- a visit of a script is that of one of its lines
+  from-line : (ls : List (List ℕ)) (ps : List Planned) → scriptOf units isos ls ≡ some ps → (p : Planned) → List·Memᴰ p ps → (l : List ℕ) × List·Memᴰ l ls × (plannedOf l ≡ some p)
+  from-line [] ps e p m = absurd (List·Memᴰ·not-nil (subst (λ qs. List·Memᴰ p qs) (sym (some-inj e)) m))
+  from-line (l ∷ ls) ps e p m =
+      let f = script-first units isos l ls ps e in go (f .0) (f .1) (f .3) (λ k. from-line ls (f .1) (f .6) p k) (subst (λ qs. List·Memᴰ p qs) (f .2) m)
+    where
+      go : (q : Planned) (qs : List Planned) → plannedOf l ≡ some q → (List·Memᴰ p qs → (n : List ℕ) × List·Memᴰ n ls × (plannedOf n ≡ some p)) → List·Memᴰ p (q ∷ qs)
+          → (n : List ℕ) × List·Memᴰ n (l ∷ ls) × (plannedOf n ≡ some p)
+      go q qs reads ih (List·Memᴰ·head e) = (l, List·Memᴰ·head refl, reads ∙ ap some (sym e))
+      go q qs reads ih (List·Memᴰ·tail k) = let (n, at, says) = ih k in (n, List·Memᴰ·tail at, says)
+
+module _ (us : Units) (budget : ℕ) (rs : List Row) (a b ab ba : List ℕ) (first : lines ab ≡ lines a ++ lines b) (second : lines ba ≡ lines b ++ lines a) (apart : Apart a b) where
+  abbrev readOf : List (List ℕ) → Option (List Planned)
+  readOf ls = scriptOf (length (us .types)) (length (isosOf rs)) ls
+
+  spared : (ps qs : List Planned) → readOf (lines a) ≡ some ps → readOf (lines b) ≡ some qs → AllSpare rs budget ps qs
+  spared ps qs e f p m q k same =
+      let (l, at, reads) = from-line (length (us .types)) (length (isosOf rs)) (lines a) ps e p m in
+      let (n, there, says) = from-line (length (us .types)) (length (isosOf rs)) (lines b) qs f q k in
+      apart .units l n at there p q reads says same
+
+  -- what is told of an outcome
+  abbrev toldOf : Tally → Outcome Played → Option Refusal × Units × Tally
+  toldOf t x = (refusalOf x, unitsFrom x us, tallyFrom x t)
+
+  played-either : (t : Tally) (ps qs : List Planned) → AllSpare rs budget ps qs → toldOf t (gives (played rs budget us (ps ++ qs))) ≡ toldOf t (gives (played rs budget us (qs ++ ps)))
+  played-either t ps qs h =
+      let h₂ = spare-sym rs budget ps qs h in
+      let u : unitsAfter rs budget (ps ++ qs) us ≡ unitsAfter rs budget (qs ++ ps) us =
+      after-append rs budget ps qs us ∙ units-swap rs budget ps qs us h ∙ sym (after-append rs budget qs ps us) in
+      let o₁ : outcomes rs budget (ps ++ qs) us ≡ outcomes rs budget ps us ++ outcomes rs budget qs us =
+      outcomes-append rs budget ps qs us ∙ ap (λ vs. outcomes rs budget ps us ++ vs) (outcomes-alone rs budget qs ps us h₂) in
+      let o₂ : outcomes rs budget (qs ++ ps) us ≡ outcomes rs budget qs us ++ outcomes rs budget ps us =
+      outcomes-append rs budget qs ps us ∙ ap (λ vs. outcomes rs budget qs us ++ vs) (outcomes-alone rs budget ps qs us h) in
+      let c : counted (outcomes rs budget (ps ++ qs) us) nothingYet ≡ counted (outcomes rs budget (qs ++ ps) us) nothingYet =
+      ap (λ vs. counted vs nothingYet) o₁ ∙ counted-either (outcomes rs budget ps us) (outcomes rs budget qs us) nothingYet ∙ ap (λ vs. counted vs nothingYet) (sym o₂) in
+      ap₂ (λ x y. (none, x, y)) u c
+
+  scripts-either : (t : Tally) → toldOf t (onScript rs budget us (readOf (lines ab))) ≡ toldOf t (onScript rs budget us (readOf (lines ba)))
+  scripts-either t =
+      ap (λ x. toldOf t (onScript rs budget us x)) (ap readOf first ∙ script-append (length (us .types)) (length (isosOf rs)) (lines a) (lines b))
+      ∙ go (readOf (lines a)) (readOf (lines b)) refl refl
+      ∙ ap (λ x. toldOf t (onScript rs budget us x)) (sym (ap readOf second ∙ script-append (length (us .types)) (length (isosOf rs)) (lines b) (lines a)))
+    where
+      go : (x y : Option (List Planned)) → readOf (lines a) ≡ x → readOf (lines b) ≡ y
+          → toldOf t (onScript rs budget us (x >>= λ ps. y >>= λ qs. some (ps ++ qs))) ≡ toldOf t (onScript rs budget us (y >>= λ ps. x >>= λ qs. some (ps ++ qs)))
+      go none none e f = refl
+      go none (some qs) e f = refl
+      go (some ps) none e f = refl
+      go (some ps) (some qs) e f = played-either t ps qs (spared ps qs e f)
+
+  pub rows-either : (t : Tally) → toldOf t (playRows us ab budget rs) ≡ toldOf t (playRows us ba budget rs)
+  unfolding playRows
+  rows-either t = go (unitsFault rs (us .types) (us .settings))
+    where
+      go : (x : Option Refusal) → toldOf t (onUnits rs budget us (lines ab) x) ≡ toldOf t (onUnits rs budget us (lines ba) x)
+      go none = scripts-either t
+      go (some f) = refl
+
+-- ---- the service
+
+-- what a play tells, but for the two areas
+abbrev pub told : Play → Option Refusal × Answer × Units × Tally
+told p = (p .refusal, p .answer, p .units, p .tally)
+
+-- a play does not depend on which table and work area it is lent
+pub play-anywhere : (file t w t₂ w₂ : List ℕ) (us : Units) (script : List ℕ) (budget : ℕ) (tl : Tally) → short t w ≡ short t₂ w₂
+    → told (playService file t w us script budget tl) ≡ told (playService file t₂ w₂ us script budget tl)
+unfolding playService
+play-anywhere file t w t₂ w₂ us script budget tl e =
+    ap (λ b. let v : Verdict = unless (b || unequal us) (playVerdict us script (verdict file)) in
+    let x : Outcome Played = goOn v (playRows us script budget) in
+    (refusalOf x, record { number = refusalNumber x; line = lineOf v }, unitsFrom x us, tallyFrom x tl)) e
+
+module _ (us : Units) (budget : ℕ) (a b ab ba : List ℕ) (first : lines ab ≡ lines a ++ lines b) (second : lines ba ≡ lines b ++ lines a) (apart : Apart a b) where
+  same-many : length (lines ab) ≡ length (lines ba)
+  same-many =
+      let n = length-append (lines a) (lines b) in
+      let m = length-append (lines b) (lines a) in
+      let p = ap length first in
+      let q = ap length second in
+      omega (arith, n, m, p, q)
+
+  served-either : (t w : List ℕ) (tl : Tally) (v : Verdict) → playBy us tl (served v (goOn v (playRows us ab budget)) t w) ≡ playBy us tl (served v (goOn v (playRows us ba budget)) t w)
+  served-either t w tl (accepted rs) =
+      ap {B = Play}
+      (λ z. record {
+        refusal = z .0;
+        answer = record { number = numbered (z .0); line = 0 };
+        table = tableAfter (accepted rs) t;
+        work = workAfter (accepted rs) w;
+        units = z .1;
+        tally = z .2;
+      })
+      (rows-either us budget rs a b ab ba first second apart tl)
+  served-either t w tl (refused f n) = refl
+
+  -- in the same areas the two plays are one
+  pub plays-either : (file t w : List ℕ) (tl : Tally) → playService file t w us ab budget tl ≡ playService file t w us ba budget tl
+  unfolding playService
+  plays-either file t w tl =
+      ap (λ n. playBy us tl (serve (short t w || unequal us) (cond (ltb maxUnits (length (us .types)) || ltb maxLines n) (refused tooLong 0) (verdict file)) (playRows us ab budget) t w)) same-many
+      ∙ served-either t w tl (unless (short t w || unequal us) (playVerdict us ba (verdict file)))
+
+  -- and in areas of their own they answer alike and leave the same units and record
+  pub plays-exchanged : (file t w t₂ w₂ : List ℕ) (tl : Tally) → tableLength ≤ length t → workLength ≤ length w → tableLength ≤ length t₂ → workLength ≤ length w₂
+      → told (playService file t w us ab budget tl) ≡ told (playService file t₂ w₂ us ba budget tl)
+  plays-exchanged file t w t₂ w₂ tl l₁ w₁ l₂ v₂ =
+      ap told (plays-either file t w tl) ∙ play-anywhere file t w t₂ w₂ us ba budget tl (long-enough t w l₁ w₁ ∙ sym (long-enough t₂ w₂ l₂ v₂))
+
+-- scripts that end with a line feed, one behind the other
+pub scripts-exchanged : (us : Units) (budget : ℕ) (c d : List ℕ) → Apart (c ++ (lineFeed ∷ [])) (d ++ (lineFeed ∷ [])) → (file t w : List ℕ) (tl : Tally)
+    → playService file t w us ((c ++ (lineFeed ∷ [])) ++ (d ++ (lineFeed ∷ []))) budget tl ≡ playService file t w us ((d ++ (lineFeed ∷ [])) ++ (c ++ (lineFeed ∷ []))) budget tl
+scripts-exchanged us budget c d apart file t w tl =
+    let a : List ℕ = c ++ (lineFeed ∷ []) in
+    let b : List ℕ = d ++ (lineFeed ∷ []) in
+    plays-either us budget a b (a ++ b) (b ++ a) (lines-behind c b) (lines-behind d a) apart file t w tl
