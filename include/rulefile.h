@@ -11,27 +11,29 @@
  * 0, or with the number of a refusal. What the caller owes:
  *   - each pointer leads to as many elements as the length behind it says, readable, and writable where
  *     it is not const; with length 0 any pointer will do, NULL too;
- *   - the table is aligned to 2 bytes, the numbers of a sheet, the areas of units and the record of visits to 4;
+ *   - the table is aligned to 2 bytes, the numbers of a sheet and the units and the tally of a play to 4;
  *   - a writable area overlaps no other area of the call;
  *   - nothing else writes to the areas before the call returns.
  *
  * The areas need not be cleared. After a call
- *   - the first RULEFILE_TABLE_LENGTH numbers of the table hold, if the file was accepted, five numbers a
- *     line: the letter's ASCII code, the fields, padded with 0, and the size of a T or P line, the nodes of the
- *     tree that it unfolds to (0 for other letters), and zeros behind the last line, so also where the call is
- *     refused with 15 to 20 or 22, or an import with 7 at line 0; on other refusals 3 to 14, and on 21, they are all 0;
+ *   - the first RULEFILE_TABLE_LENGTH numbers of the table hold, if the file was accepted, five numbers a line,
+ *     and zeros behind the last one: the letter's ASCII code; the fields, padded with 0 to three; the size, which
+ *     is the number of nodes of the tree that a T or P line unfolds to, and 0 for other letters. So they do where
+ *     the call is refused for something else than the file: with 15 to 20 or 22, or an import with 7 at line 0.
+ *     If the file was refused, with 3 to 14 or 21, they are all 0;
  *   - the first RULEFILE_WORK_LENGTH bytes of the work area are 0;
  *   - refusals 1 and 2 leave every area as it was;
  *   - any refusal of the call leaves output, result, the numbers and letters of a sheet, and the units and the
- *     record of a play as they were, but for the result of rulefile_witness, which is written on refusals 11 to 14;
+ *     tally of a play as they were, but for the result of rulefile_witness, which is written on refusals 11 to 14;
  *   - whatever lies behind these lengths, and behind what was written, keeps its contents.
  *
- * A line of a file or of a list ends with a line feed, or with a carriage return and a line feed; lengths
- * count both bytes. What Turn, an export and an import write ends with line feeds alone.
+ * A line of a file, of a list or of a script ends with a line feed, or with a carriage return and a line feed;
+ * lengths count both bytes. What Turn, an export and an import write ends with line feeds alone.
  *
- * A call needs at most 53,248 bytes of stack. Measured by painting it, over the deepest files (32 nested isos, types and
- * patterns of 127 nodes): an export 50 KB, an import 49 KB, rulefile_run and rulefile_sheet 41 KB, rulefile_bounds 35 KB, Check,
- * Turn, a witness, an overlap and settings as numbers 32 KB (1,000 bytes each).
+ * A call needs at most 65,536 bytes of stack. Measured by painting it, over the deepest files (32 nested isos, 128
+ * clauses, types and patterns of 127 nodes with a variable innermost): an import 62 KB, an export 61 KB,
+ * rulefile_play, rulefile_sheet and rulefile_run 55 KB, rulefile_bounds 48 KB, a witness 41 KB, Check, Turn, an
+ * overlap and settings as numbers 40 KB (1,000 bytes each).
  *
  * docs/REFUSALS.md says what each refusal means and what to ask the supplier.
  */
@@ -47,7 +49,7 @@ extern "C" {
 #endif
 
 /* The version of this header; rulefile_version() gives that of the library. */
-#define RULEFILE_VERSION "0.2.0"
+#define RULEFILE_VERSION "0.3.0"
 
 /* Lengths of the areas: at least so many elements, otherwise refusal 1. */
 #define RULEFILE_TABLE_LENGTH 20480 /* numbers of 16 bits, five for each of 4,096 lines */
@@ -78,7 +80,7 @@ enum rulefile_number {
     RULEFILE_MISPLACED = 4,      /* a line against the stated order */
     RULEFILE_BAD_FIELD = 5,      /* kind not listed, idle field not 0, variable above 31 */
     RULEFILE_BAD_NAME = 6,       /* a named line does not stand earlier, or an L line names its own iso */
-    RULEFILE_CEILING = 7,        /* any other ceiling passed */
+    RULEFILE_CEILING = 7,        /* any other ceiling passed, such as 128 C lines of an iso */
     RULEFILE_VARIABLE = 8,       /* a variable bound while live, used while not, or live at the end; line of the C */
     RULEFILE_LET_SHAPE = 9,      /* left or right in a let pattern; line of the C */
     RULEFILE_TYPE = 10,          /* no assignment of types fits; line of the C */
@@ -92,7 +94,7 @@ enum rulefile_number {
     RULEFILE_TOO_MANY = 18,      /* the T line has over 4,294,967,295 values, of a pair list 4,096; line 0 */
     RULEFILE_TOO_HIGH = 19,      /* the setting's number is not below the T line's count of values; line 0 */
     RULEFILE_BAD_LIST = 20,      /* the list's lines are not 0,to 1,to and so on, each to once; line 0 */
-    RULEFILE_IDLE_LINE = 21,     /* a T or P line that no I, C or L line reaches; its own line */
+    RULEFILE_IDLE_LINE = 21,     /* a T or P line that no I, C or L line reaches; the first such line */
     RULEFILE_BAD_SCRIPT = 22     /* a line of the script is no visit, or names an absent unit or iso; line 0 */
 };
 
@@ -165,7 +167,7 @@ struct rulefile_play_answer {
     size_t line;     /* the line of a refused file, 0 where none is named */
 };
 
-/* What came of the visits of a play, counted from 0 in each. */
+/* What became of the visits of a play. */
 struct rulefile_tally {
     uint32_t done;    /* the unit holds what the run gave */
     uint32_t skipped; /* the unit has another type than the iso begins at */
@@ -349,9 +351,8 @@ struct rulefile_export_answer rulefile_export(
  * line feed are a line too), 20 where a line is not two numbers, a comma between and its ending behind them,
  * the froms are not 0, 1, 2 and so on up to the counts of both types, or a to is repeated or not below the
  * count, and 7 where the written file would have over 1,024 P lines, or a value of over 40 left and right
- * nodes. Table and work area are left as
- * rulefile_check leaves them, so with these two 7 the table holds the file's lines; on refusal the output
- * is as it was.
+ * nodes. Table and work area are left as rulefile_check leaves them, so with these two 7 the table holds the
+ * file's lines; on refusal the output is as it was.
  */
 struct rulefile_import_answer rulefile_import(
     const uint8_t *file, size_t file_length,
@@ -362,21 +363,23 @@ struct rulefile_import_answer rulefile_import(
     uint8_t *output, size_t output_length);
 
 /*
- * Checks a file and plays a script of visits on units. Unit k holds T line types[k] and the setting of that
- * type with number settings[k], as rulefile_number_of numbers it. A line `S,unit,iso,direction` of the script
- * sends the unit's setting through the iso, there (0) or back (1), under the budget, which each visit has for
- * itself: where the unit's type is another tree than the one the iso begins at, the visit is skipped; where
- * the run would pass the budget, it is spent; both leave the unit. Any other is done: the unit then holds the
- * T line that the iso's I line names at the other end, and the number of the setting that the run gives. If
- * none was skipped or spent, a play of the script last line first with directions exchanged, under the same
- * budget, restores each type tree and number.
+ * Checks a file and plays a script of visits on units, which are numbered from 0. Unit k holds T line types[k]
+ * and the value of it that has the number settings[k], as rulefile_number_of numbers it. A line
+ * `S,unit,iso,direction` of the script is a visit: it sends the unit's setting through the iso, forward (0) or
+ * back (1), with the budget for itself. Where the type that the iso begins at is another tree than the unit's,
+ * the visit is skipped; where the run would pass the budget, it is spent; both leave the unit as it was. Any
+ * other visit is done: the unit then holds the T line that the I line names at the other end, and the number of
+ * the setting that the run gives. The tally then says how many visits were done, skipped and spent in this play,
+ * whatever it held before. If none was skipped or spent, playing the script last line first with directions
+ * exchanged, under the same budget, restores each unit's type tree and number.
  *
- * At most 1,000 units and 4,096 lines; types and settings have one length. The refusals in their order: 1,
- * also where these two lengths differ; 2, also for more units or lines; those of the file, which alone name a
- * line; then of the units in order, on each 15 where the T line is absent, 18 where its type has over
- * 4,294,967,295 values, 19 where the number is not below their count; then 22 where a line of the script is of
- * another form, lacks its line feed, or names an absent unit or iso. All of this is tested before the first
- * visit. Table and work area are left as rulefile_check leaves them. The record must not be NULL.
+ * At most RULEFILE_MAX_UNITS units and 4,096 lines (bytes behind the last line feed are a line too); both areas
+ * of units have the same length, and the tally must not be NULL. The refusals in their order: 1, also where
+ * these lengths differ; 2, also for more units or lines; those of the file, which alone name a line; of the units
+ * in order 15 where the T line is absent, 18 where it has over 4,294,967,295 values, 19 where the number is not
+ * below its count of values; 22 where a line of the script is of another form, has no line feed, or names an absent
+ * unit or iso. All this is tested before the first visit, so a refusal leaves units and tally as they were. Table
+ * and work area are left as rulefile_check leaves them.
  */
 struct rulefile_play_answer rulefile_play(
     const uint8_t *file, size_t file_length,

@@ -3,7 +3,7 @@
 use crate::lines::Row;
 
 /// The T and P lines that a line names, by their letter and number.
-fn names(row: &Row) -> Vec<(u8, u16)> {
+pub fn names(row: &Row) -> Vec<(u8, u16)> {
     let [x, y, z] = row.fields;
     match (row.letter, x) {
         (b'T', 1) | (b'T', 2) => vec![(b'T', y), (b'T', z)],
@@ -17,8 +17,6 @@ fn names(row: &Row) -> Vec<(u8, u16)> {
 }
 
 /// "A T or P line reached from no I, C or L line": the first, counted from 1.
-/// What is reached is gathered from the I, C and L lines on, until nothing new
-/// comes.
 pub fn first(rows: &[Row]) -> Option<usize> {
     all(rows).first().copied()
 }
@@ -28,7 +26,8 @@ pub fn last(rows: &[Row]) -> Option<usize> {
     all(rows).last().copied()
 }
 
-/// All of them.
+/// All of them. What is reached is gathered from the I, C and L lines on, until
+/// nothing new comes.
 fn all(rows: &[Row]) -> Vec<usize> {
     let place = |(letter, number): (u8, u16)| {
         let mut places = (0..rows.len()).filter(|at| rows[*at].letter == letter);

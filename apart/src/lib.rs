@@ -8,7 +8,7 @@ pub mod clause;
 pub mod cover;
 pub mod desk;
 pub mod generate;
-mod idle;
+pub mod idle;
 pub mod lines;
 pub mod numbering;
 pub mod overlap;

@@ -4,9 +4,9 @@ use crate::tree::{Pattern, Type};
 use crate::Refusal;
 use std::rc::Rc;
 
-/// "Ceilings: 65,536 bytes; 4,096 lines; 256 T; 1,024 P; 32 I; 32 C in an iso
-/// (request 13: 128 instead); 8 L in a clause; 127 nodes in an unfolded T or P; 40 left and right nodes
-/// in an unfolded P."
+/// "Ceilings: 65,536 bytes; 4,096 lines; 256 T; 1,024 P; 32 I; 32 C in an iso; 8
+/// L in a clause; 127 nodes in an unfolded T or P; 40 left and right nodes in an
+/// unfolded P." Request 13: "128 clauses an iso instead of 32".
 pub const BYTES: usize = 65_536;
 pub const LINES: usize = 4_096;
 pub const TYPES: usize = 256;

@@ -10,7 +10,8 @@ pub const UNITS: usize = 1_000;
 /// "a script of up to 4,096 lines".
 pub const LINES: usize = 4_096;
 
-/// "One record of visits done, skipped and spent".
+/// "One record of visits done, skipped and spent", in C's layout.
+#[repr(C)]
 #[derive(Debug, PartialEq, Eq, Clone, Copy, Default)]
 pub struct Tally {
     pub done: u32,
@@ -54,14 +55,17 @@ fn visit(line: &[u8], units: usize, isos: usize) -> Option<Visit> {
     (unit < units && usize::from(iso) < isos).then_some(Visit { unit, iso, back })
 }
 
+/// A unit: a T line and a setting number.
+type Unit = (u32, u32);
+
 /// Plays a script on units, of an accepted file: the units and the record
 /// afterwards.
 pub fn play_rules(
     rules: &Rules,
-    units: &[(u32, u32)],
+    units: &[Unit],
     script: &[u8],
     budget: u32,
-) -> Result<(Vec<(u32, u32)>, Tally), Refusal> {
+) -> Result<(Vec<Unit>, Tally), Refusal> {
     // "A starting unit with an absent T line is 15, a type too big to number
     // 18, a number too high 19. All tests precede the first visit, the units
     // in order and then the script".
@@ -76,39 +80,58 @@ pub fn play_rules(
     for line in split(script) {
         visits.push(visit(line, units.len(), rules.isos.len()).ok_or(bad)?);
     }
-    let ends: Vec<[u16; 3]> = rules
-        .rows
-        .iter()
-        .filter(|row| row.letter == b'I')
-        .map(|row| row.fields)
-        .collect();
     let mut units = units.to_vec();
     let mut tally = Tally::default();
-    for Visit { unit, iso, back } in visits {
-        let (ty, setting) = units[unit];
-        let [from, to, _] = ends[usize::from(iso)];
-        let (start, end) = if back { (to, from) } else { (from, to) };
-        // "A visit whose type does not match the unit is skipped".
-        if rules.types[ty as usize] != rules.types[usize::from(start)] {
-            tally.skipped += 1;
-            continue;
-        }
-        let letters = setting_of_rules(rules, ty, setting)?;
-        match run_rules(rules, iso, back, budget, &letters) {
-            // "Any other is done: the unit then holds the T line that the
-            // iso's I line names at the other end, and the number of the
-            // setting that the run gives."
-            Ok((_, given)) => {
-                let end = u32::from(end);
-                units[unit] = (end, number_of_rules(rules, end, &given)?);
+    for visit in visits {
+        let unit = &mut units[visit.unit];
+        match visited(rules, *unit, &visit, budget)? {
+            Visited::Done(now) => {
+                *unit = now;
                 tally.done += 1;
             }
-            // "and one over budget is spent; both leave the unit".
-            Err(refusal) if refusal.number == 17 => tally.spent += 1,
-            Err(refusal) => return Err(refusal),
+            Visited::Skipped => tally.skipped += 1,
+            Visited::Spent => tally.spent += 1,
         }
     }
     Ok((units, tally))
+}
+
+/// What comes of a visit.
+enum Visited {
+    Done(Unit),
+    Skipped,
+    Spent,
+}
+
+/// One visit of a unit.
+fn visited(
+    rules: &Rules,
+    (ty, setting): Unit,
+    visit: &Visit,
+    budget: u32,
+) -> Result<Visited, Refusal> {
+    let mut isos = rules.rows.iter().filter(|row| row.letter == b'I');
+    let row = isos.nth(visit.iso.into()).expect("an iso of the file");
+    let [from, to, _] = row.fields;
+    let (start, end) = if visit.back { (to, from) } else { (from, to) };
+    // "A visit whose type does not match the unit is skipped".
+    if rules.types[ty as usize] != rules.types[usize::from(start)] {
+        return Ok(Visited::Skipped);
+    }
+    let letters = setting_of_rules(rules, ty, setting)?;
+    match run_rules(rules, visit.iso, visit.back, budget, &letters) {
+        // "Any other is done: the unit then holds the T line that the iso's I
+        // line names at the other end, and the number of the setting that the
+        // run gives."
+        Ok((_, given)) => {
+            let end = u32::from(end);
+            let number = number_of_rules(rules, end, &given)?;
+            Ok(Visited::Done((end, number)))
+        }
+        // "and one over budget is spent; both leave the unit".
+        Err(refusal) if refusal.number == 17 => Ok(Visited::Spent),
+        Err(refusal) => Err(refusal),
+    }
 }
 
 /// A play with lent areas.
@@ -122,14 +145,8 @@ pub fn play(known: &Known, script: &[u8], budget: u32, lent: Lent) -> Played {
         return refused(Refusal { number: 2, line: 0 });
     }
     let entered = known.enter(short, lent.table, lent.work);
-    let pairs = |types: &[u32], settings: &[u32]| {
-        types
-            .iter()
-            .copied()
-            .zip(settings.iter().copied())
-            .collect::<Vec<_>>()
-    };
-    let units = pairs(lent.types, lent.settings);
+    let (types, settings) = (lent.types.iter(), lent.settings.iter());
+    let units: Vec<Unit> = types.copied().zip(settings.copied()).collect();
     match entered.and_then(|rules| play_rules(rules, &units, script, budget)) {
         // "a refusal leaves units and record unchanged".
         Err(refusal) => refused(refusal),

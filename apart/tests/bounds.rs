@@ -10,7 +10,7 @@ use apart::numbering::{setting_of_rules, values};
 use apart::{check, run_rules, turn_rules, Rules};
 
 mod common;
-use common::{lines, refused_files};
+use common::{lines, refused_files, REFUSED};
 
 /// "File S (one line each, parted here by blanks)".
 const S: &str = "T,0,0,0 T,1,0,0 T,2,1,1 P,0,0,0 P,2,0,0 P,3,0,0 P,1,0,0 P,1,1,0 \
@@ -235,9 +235,9 @@ fn refusals_give_zeros_unflagged() {
         assert_eq!(left(&file, table, work, 1), refused(1));
         assert_eq!(left(&file, table, work, 9), refused(1));
     }
-    for (place, file) in refused_files().iter().enumerate() {
+    for (file, number) in refused_files().iter().zip(REFUSED) {
         for iso in [0, u32::MAX] {
-            assert_eq!(left(file, TABLE, WORK, iso), refused(place as u8 + 2));
+            assert_eq!(left(file, TABLE, WORK, iso), refused(number));
         }
     }
 }

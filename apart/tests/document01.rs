@@ -92,12 +92,7 @@ fn checked(bytes: &[u8]) -> (u8, usize) {
 }
 
 fn of(words: &str) -> (u8, usize) {
-    let file = file(words);
-    // S without its last line is refused for its idle line on purpose.
-    if file == self::file(S.trim_end_matches(" C,7,7")) {
-        return checked(&file);
-    }
-    checked(&apart::generate::idle::used(&file))
+    checked(&file(words))
 }
 
 /// S with one of its lines (from 1) replaced by other lines, or by none.
@@ -133,6 +128,49 @@ fn wide_sum(leaves: usize) -> (String, Vec<usize>) {
         names.push(inner);
     }
     (words, names)
+}
+
+/// A product of so many sums of two units, which is the T line of that number,
+/// and the P lines of all its values.
+fn bits(count: usize) -> (String, Vec<usize>) {
+    let mut words = String::from("T,0,0,0 T,1,0,0");
+    for below in 1..count {
+        words += &format!(" T,2,1,{below}");
+    }
+    words += " P,0,0,0 P,2,0,0 P,3,0,0";
+    let (mut names, mut next) = (vec![1, 2], 3);
+    for _ in 1..count {
+        let longer: Vec<String> = [1, 2]
+            .into_iter()
+            .flat_map(|side| names.iter().map(move |name| format!(" P,4,{side},{name}")))
+            .collect();
+        words += &longer.concat();
+        names = (next..next + longer.len()).collect();
+        next += longer.len();
+    }
+    (words, names)
+}
+
+/// A C line for each of the P lines, on both sides.
+fn clauses(names: &[usize]) -> String {
+    let clauses: Vec<String> = names
+        .iter()
+        .map(|name| format!(" C,{name},{name}"))
+        .collect();
+    clauses.concat()
+}
+
+/// Lines in chains of 64, of one unit each and 63 pairs or products: the last
+/// of each chain has 127 nodes.
+fn chains(letter: char, kind: usize, count: usize) -> String {
+    let mut words = String::new();
+    for unit in (0..count).map(|chain| 64 * chain) {
+        words += &format!("{letter},0,0,0 ");
+        for below in unit..unit + 63 {
+            words += &format!("{letter},{kind},{unit},{below} ");
+        }
+    }
+    words
 }
 
 #[test]
@@ -176,7 +214,7 @@ fn the_further_examples() {
     assert_eq!(of(gap), (14, 5));
     let seven = "T,0,0,0 T,2,0,0 T,2,1,1 T,2,2,2 T,2,3,3 T,2,4,4 T,2,5,5";
     assert_eq!(of(&format!("{seven} P,1,0,0 I,6,6 C,0,0")), (0, 0));
-    assert_eq!(checked(&file(seven)), (21, 1));
+    assert_eq!(of(seven), (21, 1));
     assert_eq!(of(&format!("{seven} T,2,6,6")), (7, 8));
 }
 
@@ -283,7 +321,8 @@ fn refusal_5_by_kind_idle_and_variable() {
     ] {
         assert_eq!(of(&format!("P,0,0,0 {line}")), (5, 2), "{line}");
     }
-    assert_eq!(of("P,1,31,0"), (0, 0));
+    assert_eq!(of("P,1,31,0"), (21, 1));
+    assert_eq!(of("T,0,0,0 P,1,31,0 I,0,0 C,0,0"), (0, 0));
 }
 
 #[test]
@@ -309,10 +348,19 @@ fn refusal_6_by_name() {
 
 #[test]
 fn refusal_7_by_counts() {
-    assert_eq!(checked(&file(&"T,0,0,0 ".repeat(256))), (21, 1));
+    // Lines that nothing uses are read to the end.
+    assert_eq!(of(&"T,0,0,0 ".repeat(256)), (21, 1));
     assert_eq!(of(&"T,0,0,0 ".repeat(257)), (7, 257));
-    assert_eq!(of(&"P,0,0,0 ".repeat(1_024)), (0, 0));
+    assert_eq!(of(&"P,0,0,0 ".repeat(1_024)), (21, 1));
     assert_eq!(of(&"P,0,0,0 ".repeat(1_025)), (7, 1_025));
+    let types = chains('T', 2, 4) + "P,1,0,0";
+    let isos = [63, 127, 191, 255].map(|ty| format!(" I,{ty},{ty} C,0,0"));
+    assert_eq!(of(&(types + &isos.concat())), (0, 0));
+    let patterns = chains('T', 2, 1) + &chains('P', 4, 16);
+    let isos: Vec<String> = (0..16)
+        .map(|chain| format!("I,63,63{} ", clauses(&[64 * chain + 63])))
+        .collect();
+    assert_eq!(of(&(patterns + &isos.concat())), (0, 0));
     let start = "T,0,0,0 P,0,0,0 ";
     let iso = "I,0,0 C,0,0 ";
     assert_eq!(of(&format!("{start}{}", iso.repeat(32))), (0, 0));
@@ -324,46 +372,117 @@ fn refusal_7_by_counts() {
         of(&format!("{}C,0,0 {}", more(8), "L,0,0,0 ".repeat(8))),
         (11, 5)
     );
-    let (words, names) = wide_sum(32);
-    let clauses: Vec<String> = names.iter().map(|n| format!(" C,{n},{n}")).collect();
-    let full = format!("{words} I,31,31{}", clauses.concat());
+}
+
+/// Request 13: "128 clauses an iso instead of 32".
+#[test]
+fn refusal_7_by_clauses() {
+    for count in [32, 33, 40, 41] {
+        let (words, names) = wide_sum(count);
+        let ty = count - 1;
+        let full = format!("{words} I,{ty},{ty}{}", clauses(&names));
+        assert_eq!(of(&full), (0, 0), "{count}");
+    }
+    let (words, names) = bits(7);
+    assert_eq!(names.len(), 128);
+    let full = format!("{words} I,7,7{}", clauses(&names));
     assert_eq!(of(&full), (0, 0));
     let lines = full.split_whitespace().count();
     assert_eq!(of(&format!("{full} C,0,0")), (7, lines + 1));
     assert_eq!(of(&format!("{full} I,0,0 C,0,0")), (0, 0));
+    // One value left out, one twice, and a fault in the last clause.
+    let most = format!("{words} I,7,7{}", clauses(&names[..127]));
+    let (line, last) = (lines - 128, names[127]);
+    let used = format!(" I,7,7 C,{last},{last}");
+    assert_eq!(of(&(most.clone() + &used)), (13, line));
+    assert_eq!(
+        of(&format!("{most} C,{0},{last}{used}", names[0])),
+        (11, line)
+    );
+    assert_eq!(
+        of(&format!("{most} C,{last},{0}{used}", names[0])),
+        (12, line)
+    );
+    assert_eq!(of(&format!("{most} C,{last},0{used}")), (10, lines));
+}
+
+/// Forty left and right nodes one below the other, as P line 40, and the 41
+/// values of a type that has this one.
+fn forty_sides() -> (String, Vec<usize>) {
+    let side = |place: usize| 2 + place % 2;
+    let mut types = String::from("T,0,0,0");
+    let mut patterns = String::from(" P,0,0,0");
+    for below in 0..40 {
+        let [left, right] = if below % 2 == 0 {
+            [below, 0]
+        } else {
+            [0, below]
+        };
+        types += &format!(" T,1,{left},{right}");
+        patterns += &format!(" P,{},{below},0", side(below));
+    }
+    let (mut names, mut next) = (vec![40], 41);
+    for other in 0..40 {
+        patterns += &format!(" P,{},0,0", 5 - side(other));
+        for above in other + 1..40 {
+            patterns += &format!(" P,{},{next},0", side(above));
+            next += 1;
+        }
+        names.push(next);
+        next += 1;
+    }
+    (types + &patterns, names)
 }
 
 #[test]
 fn refusal_7_by_trees() {
-    let pairs = "P,0,0,0 P,4,0,0 P,4,1,1 P,4,2,2 P,4,3,3 P,4,4,4 P,4,5,5";
-    assert_eq!(of(pairs), (0, 0));
+    let doubled = |letter: char, kind: usize| {
+        let more: Vec<String> = (0..6)
+            .map(|below| format!(" {letter},{kind},{below},{below}"))
+            .collect();
+        format!("{letter},0,0,0{}", more.concat())
+    };
+    let (products, pairs) = (doubled('T', 2), doubled('P', 4));
+    assert_eq!(of(&format!("{products} {pairs} I,6,6 C,6,6")), (0, 0));
+    let both = format!("{products} T,2,0,5 {pairs} P,4,0,5");
+    assert_eq!(of(&format!("{both} I,6,6 C,6,6 I,7,7 C,7,7")), (0, 0));
     assert_eq!(of(&format!("{pairs} P,2,6,0")), (7, 8));
-    assert_eq!(of(&format!("{pairs} P,4,0,5")), (0, 0));
+    assert_eq!(of(&format!("{pairs} P,4,0,5")), (21, 1));
     assert_eq!(of(&format!("{pairs} P,4,0,6")), (7, 8));
-    let sums = "T,0,0,0 T,1,0,0 T,1,1,1 T,1,2,2 T,1,3,3 T,1,4,4 T,1,5,5";
-    assert_eq!(of(sums), (0, 0));
+    let sums = doubled('T', 1);
+    assert_eq!(of(&format!("{sums} P,1,0,0 I,6,6 C,0,0")), (0, 0));
     assert_eq!(of(&format!("{sums} T,1,0,6")), (7, 8));
     assert_eq!(of(&format!("{sums} T,1,6,6")), (7, 8));
+    let (words, names) = forty_sides();
+    assert_eq!(of(&format!("{words} I,40,40{}", clauses(&names))), (0, 0));
     let mut deep = String::from("P,0,0,0");
     for place in 0..40 {
         deep += &format!(" P,{},{place},0", 2 + place % 2);
     }
-    assert_eq!(of(&deep), (0, 0));
-    assert_eq!(of(&format!("{deep} P,4,40,0")), (0, 0));
+    assert_eq!(of(&deep), (21, 1));
+    assert_eq!(of(&format!("{deep} P,4,40,0")), (21, 1));
     assert_eq!(of(&format!("{deep} P,3,40,0")), (7, 42));
     assert_eq!(of(&format!("{deep} P,4,20,20 P,4,20,21")), (7, 43));
     assert_eq!(of(&format!("{deep} P,4,40,1")), (7, 42));
 }
 
-/// Unit, a sum of two units, and patterns: 0 unit, 1 x0, 2 x1, 3 left unit,
-/// 4 right unit, 5 pair x0 x1, 6 pair x0 x0, 7 pair x1 x0.
+/// Unit, a sum of two units, its pairs, and patterns: 0 unit, 1 x0, 2 x1, 3 left
+/// unit, 4 right unit, 5 pair x0 x1, 6 pair x0 x0, 7 pair x1 x0, 8 left x0, 9
+/// right x0.
 const HEAD: &str = "T,0,0,0 T,1,0,0 T,2,1,1 P,0,0,0 P,1,0,0 P,1,1,0 P,2,0,0 P,3,0,0 P,4,1,2 \
 P,4,1,1 P,4,2,1 P,2,1,0 P,3,1,0 ";
 
+/// The answer to `HEAD` and isos behind it of which one is refused: a last iso
+/// names all P lines, and is not looked at.
+fn headed(isos: &str) -> (u8, usize) {
+    of(&format!(
+        "{HEAD} {isos} I,2,2 C,0,1 C,2,3 C,4,5 C,6,7 C,8,9"
+    ))
+}
+
 #[test]
 fn refusal_8_by_variables() {
-    let plain = format!("{HEAD} I,1,1 C,3,4 C,4,3");
-    assert_eq!(of(&plain), (0, 0));
+    let swap = "I,1,1 C,3,4 C,4,3";
     for clause in [
         "C,6,6", // bound twice, used twice
         "C,5,6", // x0 used twice, x1 not used
@@ -371,35 +490,41 @@ fn refusal_8_by_variables() {
         "C,1,2", // x1 not bound
         "C,0,1", "C,1,0", "C,5,1",
     ] {
-        assert_eq!(of(&format!("{plain} I,2,2 {clause}")), (8, 18), "{clause}");
+        assert_eq!(
+            headed(&format!("{swap} I,2,2 {clause}")),
+            (8, 18),
+            "{clause}"
+        );
     }
-    let lets = [
-        ("C,1,1 L,1,0,1", 0),         // request 03: a used-up number is bound again
-        ("C,1,2 L,2,0,1", 0),         // sent through
-        ("C,1,1 L,2,0,1", 8),         // used twice, x1 not used
-        ("C,1,2 L,2,0,2", 8),         // used before bound
-        ("C,1,1 L,2,0,1 L,1,0,2", 0), // request 03: and by a later line
+    for (clause, number) in [
+        ("C,1,1 L,2,0,1", 8), // used twice, x1 not used
+        ("C,1,2 L,2,0,2", 8), // used before bound
         ("C,1,2 L,1,0,2 L,2,0,1", 8),
         ("C,1,2 L,2,0,1 L,2,0,1", 8),
         ("C,1,1 L,0,0,0", 10), // variables hold, types do not
-    ];
-    for (clause, number) in lets {
-        let line = if number == 0 { 0 } else { 18 };
-        assert_eq!(
-            of(&format!("{plain} I,1,1 {clause}")),
-            (number, line),
-            "{clause}"
-        );
+    ] {
+        let given = headed(&format!("{swap} I,1,1 {clause}"));
+        assert_eq!(given, (number, 18), "{clause}");
+    }
+    // The first P lines of `HEAD`, each used.
+    let first = "T,0,0,0 T,1,0,0 P,0,0,0 P,1,0,0 P,1,1,0 P,2,0,0 P,3,0,0";
+    for clause in [
+        "C,1,1 L,1,0,1",         // request 03: a used-up number is bound again
+        "C,1,2 L,2,0,1",         // sent through
+        "C,1,1 L,2,0,1 L,1,0,2", // request 03: and by a later line
+    ] {
+        let file = format!("{first} {swap} I,1,1 C,1,1 I,1,1 C,2,2 I,1,1 {clause}");
+        assert_eq!(of(&file), (0, 0), "{clause}");
     }
 }
 
 #[test]
 fn refusal_9_by_let_shape() {
-    let sum = format!("{HEAD} I,1,1 C,3,4 C,4,3 I,0,1");
-    assert_eq!(of(&format!("{sum} C,1,2 L,2,0,8")), (9, 18));
-    assert_eq!(of(&format!("{sum} C,1,2 L,9,0,1")), (8, 18));
-    assert_eq!(of(&format!("{sum} C,0,1 L,1,0,3")), (9, 18));
-    assert_eq!(of(&format!("{sum} C,1,0 L,3,0,1")), (9, 18));
+    let sum = "I,1,1 C,3,4 C,4,3 I,0,1";
+    assert_eq!(headed(&format!("{sum} C,1,2 L,2,0,8")), (9, 18));
+    assert_eq!(headed(&format!("{sum} C,1,2 L,9,0,1")), (8, 18));
+    assert_eq!(headed(&format!("{sum} C,0,1 L,1,0,3")), (9, 18));
+    assert_eq!(headed(&format!("{sum} C,1,0 L,3,0,1")), (9, 18));
     // below a pair as well
     let deep = "T,0,0,0 T,1,0,0 T,2,1,1 P,0,0,0 P,2,0,0 P,1,0,0 P,1,1,0 P,4,1,2 \
 I,2,2 C,2,2 I,1,2 C,2,3 L,3,0,4";
@@ -408,7 +533,7 @@ I,2,2 C,2,2 I,1,2 C,2,3 L,3,0,4";
 
 #[test]
 fn refusal_10_by_types() {
-    let plain = format!("{HEAD} I,1,1 C,3,4 C,4,3");
+    let swap = "I,1,1 C,3,4 C,4,3";
     for (iso, clause) in [
         ("I,1,0", "C,1,1"),
         ("I,1,1", "C,0,3"),
@@ -419,7 +544,8 @@ fn refusal_10_by_types() {
         ("I,2,2", "C,1,2 L,2,0,1"),
         ("I,2,1", "C,5,2 L,0,0,1"),
     ] {
-        assert_eq!(of(&format!("{plain} {iso} {clause}")), (10, 18), "{clause}");
+        let given = headed(&format!("{swap} {iso} {clause}"));
+        assert_eq!(given, (10, 18), "{clause}");
     }
     // "Types compared by line number" is a wrong reading.
     let twice = "T,0,0,0 T,0,0,0 T,1,0,1 T,1,1,0 P,1,0,0 I,2,3 C,0,0";
@@ -433,21 +559,21 @@ fn refusal_10_by_types() {
 
 #[test]
 fn refusals_11_to_14() {
-    let iso = format!("{HEAD} I,1,1");
-    assert_eq!(of(&format!("{iso} C,3,3 C,3,4")), (11, 14));
-    assert_eq!(of(&format!("{iso} C,3,3 C,4,3")), (12, 14));
-    assert_eq!(of(&format!("{iso} C,1,1 C,4,4")), (11, 14));
-    assert_eq!(of(&format!("{iso} C,3,3")), (13, 14));
-    assert_eq!(of(&iso), (13, 14));
-    assert_eq!(of(&format!("{HEAD} I,0,1 C,0,3")), (14, 14));
-    assert_eq!(of(&format!("{HEAD} I,0,1 C,0,3 C,0,4")), (11, 14));
-    assert_eq!(of(&format!("{HEAD} I,1,0 C,3,0 C,4,0")), (12, 14));
-    assert_eq!(of(&format!("{HEAD} I,0,0")), (13, 14));
+    let iso = "I,1,1";
+    assert_eq!(headed(&format!("{iso} C,3,3 C,3,4")), (11, 14));
+    assert_eq!(headed(&format!("{iso} C,3,3 C,4,3")), (12, 14));
+    assert_eq!(headed(&format!("{iso} C,1,1 C,4,4")), (11, 14));
+    assert_eq!(headed(&format!("{iso} C,3,3")), (13, 14));
+    assert_eq!(headed(iso), (13, 14));
+    assert_eq!(headed("I,0,1 C,0,3"), (14, 14));
+    assert_eq!(headed("I,0,1 C,0,3 C,0,4"), (11, 14));
+    assert_eq!(headed("I,1,0 C,3,0 C,4,0"), (12, 14));
+    assert_eq!(headed("I,0,0"), (13, 14));
     // a variable of unit type overlaps the unit pattern
-    assert_eq!(of(&format!("{HEAD} I,0,0 C,0,0 C,1,1")), (11, 14));
+    assert_eq!(headed("I,0,0 C,0,0 C,1,1"), (11, 14));
     // an earlier iso goes first, whole
-    assert_eq!(of(&format!("{iso} C,3,3 I,1,1 C,1,2")), (13, 14));
-    assert_eq!(of(&format!("{iso} C,3,3 C,3,4 C,1,2")), (8, 17));
+    assert_eq!(headed(&format!("{iso} C,3,3 I,1,1 C,1,2")), (13, 14));
+    assert_eq!(headed(&format!("{iso} C,3,3 C,3,4 C,1,2")), (8, 17));
 }
 
 /// Three sums: the five patterns that no splitting of one part alone gives.
@@ -463,7 +589,9 @@ fn covering_is_by_closed_values() {
     let all = "C,5,5 C,7,7 C,9,9 C,11,11 C,13,13";
     assert_eq!(of(&cyclic(all)), (0, 0));
     for gone in ["C,5,5", "C,7,7", "C,9,9", "C,11,11", "C,13,13"] {
-        assert_eq!(of(&cyclic(&all.replace(gone, ""))), (13, 19), "{gone}");
+        // A last iso uses its lines.
+        let fewer = format!("{} I,3,3 {gone}", all.replace(gone, ""));
+        assert_eq!(of(&cyclic(&fewer)), (13, 19), "{gone}");
     }
     assert_eq!(of(&cyclic("C,5,7 C,7,9 C,9,5 C,11,13 C,13,11")), (0, 0));
     assert_eq!(of(&cyclic("C,5,7 C,7,9 C,9,7 C,11,13 C,13,11")), (12, 19));
@@ -500,20 +628,61 @@ fn pairs_of_faults_in_clauses_and_isos() {
     assert_eq!(of(&format!("{HEAD} I,1,1 C,3,3 x")), (3, 16));
     assert_eq!(of(&format!("{HEAD} I,1,1 C,1,2 I,1,99")), (6, 16));
     // clauses: 8 in a later clause goes before 11 to 14 of the same iso
-    assert_eq!(of(&format!("{HEAD} I,1,1 C,3,3 C,3,3 C,1,2")), (8, 17));
-    assert_eq!(of(&format!("{HEAD} I,1,1 C,0,0 C,1,2")), (10, 15));
-    assert_eq!(of(&format!("{HEAD} I,1,1 C,1,2 C,0,0")), (8, 15));
+    assert_eq!(headed("I,1,1 C,3,3 C,3,3 C,1,2"), (8, 17));
+    assert_eq!(headed("I,1,1 C,0,0 C,1,2"), (10, 15));
+    assert_eq!(headed("I,1,1 C,1,2 C,0,0"), (8, 15));
     // isos: the lowest of 11 to 14
-    assert_eq!(of(&format!("{HEAD} I,1,1 C,3,3 C,3,3")), (11, 14));
-    assert_eq!(of(&format!("{HEAD} I,2,1 C,5,5")), (10, 15));
-    let four = "T,0,0,0 T,1,0,0 T,1,1,1 P,0,0,0 P,2,0,0 P,3,0,0 P,2,1,0 P,2,2,0 P,3,1,0";
-    assert_eq!(of(&format!("{four} I,2,2 C,3,3 C,4,3")), (12, 10));
-    assert_eq!(of(&format!("{four} I,2,2 C,3,3 C,4,4")), (13, 10));
-    assert_eq!(of(&format!("{four} I,1,2 C,1,3 C,2,4")), (14, 10));
-    assert_eq!(of(&format!("{four} I,1,2 C,1,3")), (13, 10));
+    assert_eq!(headed("I,1,1 C,3,3 C,3,3"), (11, 14));
+    assert_eq!(headed("I,2,1 C,5,5"), (10, 15));
+    let four = |isos: &str| {
+        let head = "T,0,0,0 T,1,0,0 T,1,1,1 P,0,0,0 P,2,0,0 P,3,0,0 P,2,1,0 P,2,2,0 P,3,1,0";
+        of(&format!("{head} {isos} I,2,2 C,0,1 C,2,3 C,4,5"))
+    };
+    assert_eq!(four("I,2,2 C,3,3 C,4,3"), (12, 10));
+    assert_eq!(four("I,2,2 C,3,3 C,4,4"), (13, 10));
+    assert_eq!(four("I,1,2 C,1,3 C,2,4"), (14, 10));
+    assert_eq!(four("I,1,2 C,1,3"), (13, 10));
     // isos one by one
-    assert_eq!(of(&format!("{four} I,1,2 C,1,3 I,1,1 C,0,0")), (13, 10));
-    assert_eq!(of(&format!("{four} I,1,1 C,0,0 I,1,2 C,1,3")), (10, 11));
+    assert_eq!(four("I,1,2 C,1,3 I,1,1 C,0,0"), (13, 10));
+    assert_eq!(four("I,1,1 C,0,0 I,1,2 C,1,3"), (10, 11));
+}
+
+/// Request 11: 21 comes "after 7 for the whole file and before 8", "at the first
+/// such line".
+#[test]
+fn idle_lines_before_and_behind_other_faults() {
+    let unit = "T,0,0,0 P,0,0,0 I,0,0 C,0,0";
+    assert_eq!(of(unit), (0, 0));
+    // T and P lines, named by nothing and by idle lines alone.
+    assert_eq!(of("T,0,0,0 T,0,0,0 P,0,0,0 I,0,0 C,0,0"), (21, 2));
+    assert_eq!(of("T,0,0,0 T,0,0,0 P,0,0,0 I,1,1 C,0,0"), (21, 1));
+    assert_eq!(of("T,0,0,0 P,0,0,0 P,2,0,0 I,0,0 C,0,0"), (21, 3));
+    assert_eq!(of("T,0,0,0 T,0,0,0 T,1,1,0 P,0,0,0 I,0,0 C,0,0"), (21, 2));
+    assert_eq!(of("T,0,0,0 P,0,0,0 P,1,7,0 P,3,1,0 I,0,0 C,0,0"), (21, 3));
+    // Used by an L line alone, from an iso that is at fault.
+    assert_eq!(of(&format!("{unit} I,0,0 C,0,0 L,0,0,0")), (0, 0));
+    let lets = "T,0,0,0 P,0,0,0 P,0,0,0 P,0,0,0 I,0,0 C,0,0 I,0,0 C,0,0";
+    assert_eq!(of(&format!("{lets} L,1,0,2")), (0, 0));
+    assert_eq!(of(&format!("{lets} L,1,0,0")), (21, 4));
+    assert_eq!(of(&format!("{lets} L,0,0,2")), (21, 3));
+    // 3 to 7 on any line go first, 8 to 14 come behind.
+    let idle = "T,0,0,0 T,1,0,0 P,0,0,0 P,1,0,0 P,1,1,0 P,2,0,0";
+    let nine = format!("I,0,0 C,0,0 I,0,0 C,0,0{}", " L,0,0,0".repeat(9));
+    for (isos, wanted) in [
+        ("x", (3, 7)),
+        ("T,0,0,0", (4, 7)),
+        ("P,9,0,0", (5, 7)),
+        ("I,0,2", (6, 7)),
+        (&nine, (7, 19)),
+        ("I,1,1 C,0,1", (21, 5)),
+        ("I,1,1 C,1,1 I,0,1 C,0,1 L,1,0,3", (21, 5)),
+        ("I,1,1 C,0,0", (21, 4)),
+        ("I,1,1 C,3,3 C,3,3", (21, 4)),
+        ("I,1,1 C,3,3 C,1,1", (21, 5)),
+        ("I,1,1", (21, 3)),
+    ] {
+        assert_eq!(of(&format!("{idle} {isos}")), wanted, "{isos}");
+    }
 }
 
 #[test]
@@ -797,8 +966,9 @@ fn the_area_of_turn_is_as_long_as_the_file() {
 }
 
 #[test]
-fn the_areas_of_refusals_3_to_14_are_zero() {
+fn the_areas_of_refusals_3_to_14_and_21_are_zero() {
     for words in [
+        "T,0,0,0",
         "x",
         "P,0,0,0 T,0,0,0",
         "T,9,0,0",

@@ -2,6 +2,7 @@
 //! document 01 that tie the services together.
 
 use apart::cover::{covers, orthogonal};
+use apart::generate::idle::{self, IDLES};
 use apart::generate::random::Random;
 use apart::generate::shape::{self, Sketch};
 use apart::generate::{accepted, any_file, ceiling, miss, pair, query};
@@ -47,10 +48,24 @@ fn there_and_back(random: &mut Random, rules: &Rules, turned: &Rules, iso: usize
     }
 }
 
+/// Files with idle lines name the first of them, and are accepted without them.
+#[test]
+fn idle_lines_are_made_and_taken_out() {
+    let mut random = Random::new(19);
+    for form in IDLES.repeat(8) {
+        let (file, line) = idle::file(&mut random, form);
+        let refusal = check(&file).err();
+        assert_eq!(refusal, Some(Refusal { number: 21, line }), "{form:?}");
+        assert!(check(&idle::pruned(&file)).is_ok(), "{form:?}");
+    }
+    let fine = accepted(&mut random);
+    assert_eq!(idle::pruned(&fine), fine);
+}
+
 #[test]
 fn each_refusal_of_a_file_is_hit_when_aimed_at() {
     let mut random = Random::new(12);
-    for number in 2..15 {
+    for number in (2..15).chain([21]) {
         for _ in 0..4 {
             let file = miss::aimed(&mut random, number);
             assert_eq!(

@@ -12,7 +12,7 @@ use apart::tree::{Pattern, Type};
 use apart::{check, Rules};
 
 mod common;
-use common::{lines, refused_files};
+use common::{lines, refused_files, typed, REFUSED};
 use std::collections::BTreeSet;
 use std::rc::Rc;
 
@@ -21,7 +21,12 @@ const S: &str = "T,0,0,0 T,1,0,0 T,2,1,1 P,0,0,0 P,2,0,0 P,3,0,0 P,1,0,0 P,1,1,0
 P,4,1,3 P,4,1,4 P,4,2,3 I,1,1 C,1,2 C,2,1 I,2,2 C,5,6 L,4,0,3 C,7,7";
 
 fn rules(words: &str) -> Rules {
-    check(&apart::generate::idle::used(&lines(words))).expect("accepted")
+    check(&lines(words)).expect("accepted")
+}
+
+/// A file of these T lines.
+fn types(words: &str) -> Rules {
+    check(&typed(words)).expect("accepted")
 }
 
 /// The number of a setting, or of the refusal.
@@ -64,7 +69,7 @@ fn written(ty: &Type, lines: &mut Vec<String>) -> usize {
 fn alone(ty: &Type) -> (Rules, u32) {
     let mut lines = Vec::new();
     let place = written(ty, &mut lines);
-    (rules(&lines.join(" ")), place as u32)
+    (types(&lines.join(" ")), place as u32)
 }
 
 /// So many two-valued types as one chain of products, and the place of the last.
@@ -140,7 +145,7 @@ fn the_types_of_document_01() {
 /// letters.
 #[test]
 fn the_longest_setting_has_number_0() {
-    let seven = rules("T,0,0,0 T,2,0,0 T,2,1,1 T,2,2,2 T,2,3,3 T,2,4,4 T,2,5,5");
+    let seven = types("T,0,0,0 T,2,0,0 T,2,1,1 T,2,2,2 T,2,3,3 T,2,4,4 T,2,5,5");
     let mut letters = "U".to_string();
     for ty in 0..7 {
         both(&seven, ty, 0, &letters);
@@ -243,7 +248,7 @@ fn neighbours_of_large_types_in_order() {
 #[test]
 fn products_of_31_and_32_two_valued_types() {
     let (words, place) = bits(31);
-    let file = rules(&words);
+    let file = types(&words);
     let (lowest, highest) = ("PLU".repeat(30) + "LU", "PRU".repeat(30) + "RU");
     both(&file, place, 0, &lowest);
     both(&file, place, (1 << 31) - 1, &highest);
@@ -254,7 +259,7 @@ fn products_of_31_and_32_two_valued_types() {
     assert_eq!(number(&file, place, &highest[3..]), Err(16));
 
     let (words, place) = bits(32);
-    let file = rules(&words);
+    let file = types(&words);
     assert_eq!(file.types[32].nodes(), NODES);
     assert_eq!(values(&file.types[32]), VALUES + 1);
     let letters = "PLU".repeat(31) + "LU";
@@ -396,11 +401,20 @@ fn absent_t_lines() {
     let empty = rules("");
     assert_eq!(number(&empty, 0, "U"), Err(15));
     assert_eq!(setting(&empty, 0, 0), Err(15));
-    let full = rules(&"T,0,0,0 ".repeat(256));
-    both(&full, 255, 0, "U");
+    // 256 T lines: four units, each followed by 63 products of it.
+    let mut words = String::new();
+    for unit in (0..256).step_by(64) {
+        words += "T,0,0,0 ";
+        for below in unit..unit + 63 {
+            words += &format!("T,2,{unit},{below} ");
+        }
+    }
+    let full = types(&words);
+    both(&full, 192, 0, "U");
+    both(&full, 255, 0, &("PU".repeat(63) + "U"));
     assert_eq!(setting(&full, 256, 0), Err(15));
-    // Types that are used by no iso have their numbers too.
-    both(&rules("T,0,0,0 T,1,0,0 T,1,0,1"), 2, 2, "RRU");
+    // Types that no I line names have their numbers too.
+    both(&types("T,0,0,0 T,1,0,0 T,1,0,1"), 1, 1, "RU");
 }
 
 /// Lent areas, filled with what no call leaves behind.
@@ -459,7 +473,7 @@ fn lettered(number: u8, length: usize) -> Lettered {
 #[test]
 fn areas_after_both_ways() {
     let (words, place) = bits(32);
-    let (s, large) = (lines(S), lines(&words));
+    let (s, large) = (lines(S), typed(&words));
     for extra in [0, 1, 500] {
         let before = Areas::of(EXACT.map(|length| length + extra));
         for (file, ty, letters, answer) in [
@@ -495,7 +509,7 @@ fn areas_after_both_ways() {
 fn areas_too_short_change_nothing() {
     let (words, place) = bits(32);
     let long = vec![b'T'; 65_537];
-    for file in [lines(S), lines(&words), lines("x"), long] {
+    for file in [lines(S), typed(&words), lines("x"), long] {
         for area in 0..3 {
             for length in [EXACT[area] - 1, EXACT[area] / 2, 0] {
                 let mut lengths = EXACT.map(|length| length + 5);
@@ -540,5 +554,5 @@ fn refused_files_come_first() {
             }
         }
     }
-    assert_eq!(numbers, (2..15).collect::<Vec<u8>>());
+    assert_eq!(numbers, REFUSED);
 }

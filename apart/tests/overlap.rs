@@ -16,7 +16,7 @@ const S: &str = "T,0,0,0 T,1,0,0 T,2,1,1 P,0,0,0 P,2,0,0 P,3,0,0 P,1,0,0 P,1,1,0
 P,4,1,3 P,4,1,4 P,4,2,3 I,1,1 C,1,2 C,2,1 I,2,2 C,5,6 L,4,0,3 C,7,7";
 
 fn rules(words: &str) -> Rules {
-    check(&apart::generate::idle::used(&lines(words))).expect("accepted")
+    check(&lines(words)).expect("accepted")
 }
 
 /// Both orders, since "left against right" is right against left.
@@ -47,8 +47,14 @@ fn nodes_of_different_shape() {
     for (one, two) in [(0, 1), (0, 5), (1, 5), (2, 7)] {
         both(&s, one, two, (false, 1));
     }
-    // 8 and 9: a unit, and a pair, before a left; 10: a left before a right.
-    let more = rules("P,0,0,0 P,2,0,0 P,3,0,0 P,4,0,1 P,4,3,1 P,4,3,2 P,4,1,2 P,4,0,2");
+    // 3 and 4: a unit, and a pair, before a left; 6: a left before a right. The P
+    // lines from 8 on cover with these.
+    let more = rules(
+        "T,0,0,0 T,1,0,0 T,2,0,1 T,2,1,1 T,2,2,1 \
+         P,0,0,0 P,2,0,0 P,3,0,0 P,4,0,1 P,4,3,1 P,4,3,2 P,4,1,2 P,4,0,2 \
+         P,1,0,0 P,4,1,1 P,4,2,8 P,4,7,8 \
+         I,2,2 C,3,3 C,7,7 I,3,3 C,6,6 C,9,9 C,10,10 I,4,4 C,4,4 C,5,5 C,11,11",
+    );
     both(&more, 3, 4, (false, 4));
     both(&more, 3, 5, (true, 3));
     both(&more, 4, 6, (true, 3));
@@ -60,8 +66,14 @@ fn nodes_of_different_shape() {
 /// the first parts of pairs before the second.
 #[test]
 fn the_first_clash_ends_it() {
-    // 3: left, right; 4: right, left; 5: left, left; 6: x, right; 7: left of left.
-    let more = rules("P,0,0,0 P,2,0,0 P,3,0,0 P,4,1,2 P,4,2,1 P,4,1,1 P,1,0,0 P,4,6,2 P,2,1,0");
+    // 3: left, right; 4: right, left; 5: left, left; 7: x, right; 8: left of left.
+    // The P lines from 9 on cover with these.
+    let more = rules(
+        "T,0,0,0 T,1,0,0 T,2,1,1 T,1,1,0 \
+         P,0,0,0 P,2,0,0 P,3,0,0 P,4,1,2 P,4,2,1 P,4,1,1 P,1,0,0 P,4,6,2 P,2,1,0 \
+         P,4,2,2 P,4,6,1 P,2,2,0 \
+         I,2,2 C,3,3 C,4,4 C,5,5 C,9,9 I,2,2 C,7,7 C,10,10 I,3,3 C,8,8 C,11,11 C,2,2",
+    );
     both(&more, 3, 4, (true, 2));
     both(&more, 3, 5, (true, 4));
     both(&more, 5, 7, (true, 3));
@@ -75,8 +87,12 @@ fn the_first_clash_ends_it() {
 /// reached.
 #[test]
 fn the_most_nodes() {
-    let doubled: Vec<String> = (0..6).map(|line| format!("P,4,{line},{line}")).collect();
-    let words = format!("P,0,0,0 {}", doubled.join(" "));
+    let doubled = |letter: &str| {
+        let lines = (0..6).map(|line| format!("{letter},{line},{line} "));
+        lines.collect::<String>()
+    };
+    let (types, patterns) = (doubled("T,2"), doubled("P,4"));
+    let words = format!("T,0,0,0 {types} P,0,0,0 {patterns} I,6,6 C,6,6");
     both(&rules(&words), 6, 6, (false, 127));
     both(&rules(&words), 6, 5, (false, 63));
 }

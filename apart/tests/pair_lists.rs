@@ -2,18 +2,20 @@
 
 use apart::areas::{check_areas, Known, TABLE, WORK};
 use apart::generate::accepted;
-use apart::generate::listed::{self, Flaw, COUNTS, FLAWS, LINES};
+use apart::generate::listed::{self, limits, Flaw, Limit, FLAWS};
 use apart::generate::random::Random;
+use apart::generate::shape::most_sides;
 use apart::lines::{split, Iso};
 use apart::numbering::{number_of_rules, setting_of_rules, values};
 use apart::pair_lists::{
     export, export_rules, import, import_rules, settings, unjudged, Written, FILE, LIST,
 };
+use apart::tree::Type;
 use apart::{check, run_rules, Rules};
 use std::collections::BTreeSet;
 
 mod common;
-use common::{lines, refused_files};
+use common::{lines, refused_files, typed, REFUSED};
 
 /// "File S (one line each, parted here by blanks)".
 const S: &str = "T,0,0,0 T,1,0,0 T,2,1,1 P,0,0,0 P,2,0,0 P,3,0,0 P,1,0,0 P,1,1,0 \
@@ -23,7 +25,12 @@ P,4,1,3 P,4,1,4 P,4,2,3 I,1,1 C,1,2 C,2,1 I,2,2 C,5,6 L,4,0,3 C,7,7";
 const TYPES: &str = "T,0,0,0 T,1,0,0 T,1,0,1 T,1,0,2 T,2,1,1 T,0,0,0 T,1,5,5";
 
 fn rules(words: &str) -> Rules {
-    check(&apart::generate::idle::used(&lines(words))).expect("accepted")
+    check(&lines(words)).expect("accepted")
+}
+
+/// A file of these T lines.
+fn types(words: &str) -> Rules {
+    check(&typed(words)).expect("accepted")
 }
 
 fn list_of(rules: &Rules, iso: u32, budget: u32) -> Result<Vec<u8>, u8> {
@@ -74,7 +81,7 @@ fn the_lists_of_s() {
 /// before wholes, no equal line twice".
 #[test]
 fn written_files_line_by_line() {
-    let types = rules(TYPES);
+    let types = types(TYPES);
     let two = "T,0,0,0 T,1,0,0 P,0,0,0 P,2,0,0 P,3,0,0 I,1,1 C,1,2 C,2,1";
     for (from, to, list, written) in [
         (0, 0, "0,0", "T,0,0,0 P,0,0,0 I,0,0 C,0,0"),
@@ -110,7 +117,7 @@ fn written_files_line_by_line() {
 /// so on up to the counts of both types, or a to is repeated or too high".
 #[test]
 fn bad_lists() {
-    let types = rules(TYPES);
+    let types = types(TYPES);
     let good = &b"0,1\n1,2\n2,0\n"[..];
     assert!(file_of(&types, 2, 2, good).is_ok());
     let returns = b"0,1\r\n1,2\n2,0\r\n";
@@ -151,7 +158,7 @@ fn bad_lists() {
 #[test]
 fn one_refusal_before_the_other() {
     let large = rules(&bits(12));
-    let (good, bad, long) = (identity(2), b"x".to_vec(), identity(33));
+    let (good, bad, long) = (identity(2), b"x".to_vec(), identity(129));
     // 4,096 values and one more.
     assert_eq!(list_of(&large, 0, 1), Ok(identity(4_096)));
     assert_eq!(list_of(&large, 1, 1), Err(18));
@@ -167,14 +174,21 @@ fn one_refusal_before_the_other() {
     }
     // Over 128 lines in the list is 7, before 20; a last line without a line
     // feed counts.
-    for list in [long, vec![b'\n'; 129], [identity(128), bad.clone()].concat()] {
+    for list in [
+        long,
+        vec![b'\n'; 129],
+        [identity(128), bad.clone()].concat(),
+    ] {
         assert_eq!(file_of(&large, 1, 1, &list), Err(7));
         assert_eq!(file_of(&large, 12, 12, &list), Err(7));
         assert_eq!(file_of(&large, 5, 5, &list), Err(7));
     }
-    assert_eq!(file_of(&large, 12, 12, &identity(32)), Err(20));
-    let most = file_of(&large, 5, 5, &identity(32)).expect("a list of 32 lines");
-    assert_eq!(list_of(&check(&most).unwrap(), 0, 1), Ok(identity(32)));
+    assert_eq!(file_of(&large, 12, 12, &identity(128)), Err(20));
+    for (ty, count) in [(5, 32), (6, 64), (7, 128)] {
+        let most = file_of(&large, ty, ty, &identity(count)).expect("a short list");
+        assert_eq!(list_of(&check(&most).unwrap(), 0, 1), Ok(identity(count)));
+        assert_eq!(file_of(&large, ty, ty, &identity(33)), Err(20));
+    }
 }
 
 /// A sum of 32 units nested to the right, under so many products with a unit.
@@ -186,7 +200,7 @@ fn under_products(count: usize) -> (Rules, u32) {
     for below in 31..31 + count {
         file += &format!("T,2,0,{below} ");
     }
-    (rules(&file), 31 + count as u32)
+    (types(&file), 31 + count as u32)
 }
 
 /// "another ceiling passed in the writing is 7 at line 0 too, tested last".
@@ -198,6 +212,52 @@ fn the_ceiling_of_p_lines() {
         let lines = |file: Vec<u8>| split(&file).iter().filter(|l| l[0] == b'P').count();
         assert_eq!(written.map(lines), wanted.ok_or(7), "{products}");
         assert_eq!(file_of(&rules, ty, ty, &identity(31)), Err(20));
+    }
+}
+
+/// A sum of so many units nested to the right: its last value has one left or
+/// right node fewer.
+fn right_sum(count: usize) -> (Rules, u32) {
+    let sums: String = (0..count - 1)
+        .map(|below| format!(" T,1,0,{below}"))
+        .collect();
+    (types(&format!("T,0,0,0{sums}")), count as u32 - 1)
+}
+
+/// Request 13: a list of up to 128 pairs may be of values with more than 40 left
+/// and right nodes, which is 7 too, tested last.
+#[test]
+fn the_ceiling_of_left_and_right_nodes() {
+    for (count, written) in [(40, true), (41, true), (42, false), (64, false)] {
+        let (rules, ty) = right_sum(count);
+        let given = file_of(&rules, ty, ty, &identity(count));
+        assert_eq!(given.is_ok(), written, "{count}");
+        if let Ok(file) = given {
+            assert_eq!(list_of(&check(&file).unwrap(), 0, 1), Ok(identity(count)));
+        } else {
+            assert_eq!(given, Err(7));
+        }
+        // 20 goes before.
+        assert_eq!(file_of(&rules, ty, ty, &identity(count - 1)), Err(20));
+        assert_eq!(file_of(&rules, ty, ty, b"x"), Err(20));
+        assert_eq!(file_of(&rules, ty, ty, &identity(129)), Err(7));
+        // Only the to-type has such values.
+        assert_eq!(file_of(&rules, 0, ty, b"0,0\n"), Err(20));
+    }
+    // Fewer P lines than 1,024 in both types of 42 values, one of them with few
+    // left and right nodes.
+    let mut words = String::from("T,0,0,0");
+    words.extend((0..41).map(|below| format!(" T,1,0,{below}")));
+    // 42: the pairs of six values and of seven.
+    words += " T,2,5,6";
+    let rules = types(&words);
+    let (flat, deep) = (42, 41);
+    assert!(file_of(&rules, flat, flat, &identity(42)).is_ok());
+    for (from, to) in [(flat, deep), (deep, flat), (deep, deep)] {
+        assert_eq!(file_of(&rules, from, to, &identity(42)), Err(7));
+        let file = unjudged(&rules, from, to, &identity(42)).expect("a good list");
+        let patterns = split(&file).iter().filter(|line| line[0] == b'P').count();
+        assert!(patterns < 1_000, "{patterns}");
     }
 }
 
@@ -223,7 +283,7 @@ fn settings_are_those_of_request_02() {
     }
 }
 
-/// Every iso of at most 32 values, exported and imported: the file is accepted,
+/// Every iso of at most 128 values, exported and imported: the file is accepted,
 /// no two lines of its letters are equal, every run counts 1 and gives what the
 /// iso gives, and it exports the list again.
 #[test]
@@ -237,7 +297,7 @@ fn there_and_back() {
             let (Some(from), Some(to)) = (line(&iso.from), line(&iso.to)) else {
                 unreachable!("an I line names both")
             };
-            if values(&iso.from) > 32 {
+            if values(&iso.from) > 128 {
                 continue;
             }
             let Ok(list) = list_of(&rules, place as u32, 2_000) else {
@@ -278,7 +338,7 @@ fn lent_areas_are_left_as_by_check() {
     let known = Known::of(&s);
     let (mut table, mut work, _) = areas(0);
     check_areas(&s, &mut table, &mut work);
-    let (four, long) = (lines("0,1 1,0 2,2 3,3"), identity(33));
+    let (four, long) = (lines("0,1 1,0 2,2 3,3"), identity(129));
     for (list, number) in [(&four[..], 0), (b"", 20), (&long, 7)] {
         let (mut own, mut worked, mut output) = areas(FILE + 9);
         let given = import(&known, &mut own, &mut worked, (2, 2, list), &mut output);
@@ -310,12 +370,12 @@ fn lent_areas_are_left_as_by_check() {
 /// 1 before all others, 2 to 14 before 15, as in Check; 1 and 2 change nothing.
 #[test]
 fn refusals_of_areas_and_files() {
-    for (place, file) in refused_files().iter().enumerate() {
+    for (file, refused) in refused_files().iter().zip(REFUSED) {
         let known = Known::of(file);
         for (table, work, short) in [(0, 0, 0), (1, 0, 0), (0, 1, 0), (0, 0, 1)] {
             let shorter = |full: usize, less: usize| full - less;
             let number = if (table, work, short) == (0, 0, 0) {
-                place as u8 + 2
+                refused
             } else {
                 1
             };
@@ -337,34 +397,64 @@ fn refusals_of_areas_and_files() {
     }
 }
 
-/// The files and lists that are made for request 07 are what they are to be.
+/// The T line of most weight.
+fn heaviest(rules: &Rules, weight: impl Fn(&Type) -> usize) -> u32 {
+    let lines = 0..rules.types.len();
+    let most = lines.max_by_key(|place| weight(&rules.types[*place]));
+    most.expect("a type") as u32
+}
+
+/// The P lines and the most left and right nodes of what an import would write,
+/// and whether it is written.
+fn weighed(rules: &Rules, ty: u32, list: &[u8]) -> (usize, usize, bool) {
+    let file = unjudged(rules, ty, ty, list).expect("a good list");
+    let patterns = split(&file).iter().filter(|line| line[0] == b'P').count();
+    let sides = |letters: Vec<u8>| {
+        letters
+            .iter()
+            .filter(|letter| b"LR".contains(letter))
+            .count()
+    };
+    let most = settings(&rules.types[ty as usize])
+        .into_iter()
+        .map(sides)
+        .max();
+    let given = file_of(rules, ty, ty, list);
+    assert!(matches!(given, Ok(_) | Err(7)));
+    (patterns, most.expect("a value"), given.is_ok())
+}
+
+/// The files and lists that are made for requests 07 and 13 are what they are to
+/// be.
 #[test]
 fn made_files_and_lists() {
     let mut random = Random::new(8);
-    for round in 0..3 * (COUNTS.len() + LINES.len()) {
-        let place = round % (COUNTS.len() + LINES.len());
-        let rules = check(&listed::file(&mut random, place)).expect("accepted");
-        let count = COUNTS.get(place).copied().unwrap_or(32);
-        let is = |iso: &Iso| values(&iso.from) == count;
-        assert!(rules.isos.iter().any(is), "{count}");
-        let Some(lines) = place.checked_sub(COUNTS.len()).map(|place| LINES[place]) else {
-            continue;
+    for limit in limits().repeat(3) {
+        let rules = check(&listed::file(&mut random, limit)).expect("accepted");
+        let is = |iso: &Iso| values(&iso.from) == limit.values();
+        assert!(rules.isos.iter().any(is), "{limit:?}");
+        let ty = match limit {
+            Limit::Values(_) => continue,
+            Limit::Lines(_) | Limit::Long(_) => heaviest(&rules, Type::nodes),
+            Limit::Sides(_) | Limit::Deep(_) => heaviest(&rules, most_sides),
         };
-        let ty = (0..rules.types.len()).max_by_key(|place| rules.types[*place].nodes());
-        let ty = ty.expect("a type") as u32;
-        let list = listed::list(&mut random, 32);
-        let file = unjudged(&rules, ty, ty, &list).expect("a good list");
-        let found = split(&file).iter().filter(|line| line[0] == b'P').count();
-        assert_eq!(found, lines);
-        let given = file_of(&rules, ty, ty, &list);
-        assert_eq!(given.is_ok(), lines <= 1_024);
+        let list = listed::list(&mut random, limit.values() as usize);
+        let (patterns, sides, written) = weighed(&rules, ty, &list);
+        let right = match limit {
+            Limit::Lines(lines) => patterns == lines && sides <= 40,
+            Limit::Long(_) => patterns > 1_024,
+            Limit::Sides(wanted) => patterns <= 1_024 && sides == wanted,
+            _ => patterns <= 1_024 && sides > 40,
+        };
+        assert!(right, "{limit:?}: {patterns} P lines, {sides} sides");
+        assert_eq!(written, patterns <= 1_024 && sides <= 40, "{limit:?}");
     }
 }
 
 #[test]
 fn made_flaws() {
     let mut random = Random::new(9);
-    let types = rules(TYPES);
+    let types = types(TYPES);
     for round in 0..3_000 {
         let (ty, count) = *random.pick(&[(0, 1), (1, 2), (2, 3), (3, 4)]);
         let flaw = FLAWS[round % FLAWS.len()];

@@ -7,7 +7,7 @@ use apart::lines::split;
 use apart::sheet::{sheet, Lent, NUMBERS, QUERIES};
 
 mod common;
-use common::{lines, refused_files};
+use common::{lines, refused_files, REFUSED};
 
 /// "File S (one line each, parted here by blanks)".
 const S: &str = "T,0,0,0 T,1,0,0 T,2,1,1 P,0,0,0 P,2,0,0 P,3,0,0 P,1,0,0 P,1,1,0 \
@@ -347,5 +347,5 @@ fn a_refused_file_leaves_numbers_and_letters() {
             assert!(after.work[WORK..].iter().all(|byte| *byte == 8));
         }
     }
-    assert_eq!(numbers, (2..15).collect::<Vec<u8>>());
+    assert_eq!(numbers, REFUSED);
 }

@@ -6,8 +6,9 @@ use apart::numbering::{Lettered, Numbered};
 use apart::overlap::Overlapped;
 use apart::pair_lists::Written;
 use apart::sheet::Sheet;
+use apart::units::{self, Played};
 use apart::witness;
-use rulefile::{Bounds, Overlap, Refused, Witnessed};
+use rulefile::{Bounds, Overlap, Refused, Tally, Witnessed};
 
 /// 0 and none where the service gives nothing of the kind.
 #[derive(Clone, Copy, PartialEq, Eq, Debug, Default)]
@@ -20,6 +21,7 @@ pub struct Answer {
     pub setting: u32,
     pub overlap: Option<Overlap>,
     pub bounds: Option<Bounds>,
+    pub tally: Option<Tally>,
 }
 
 impl Answer {
@@ -63,6 +65,31 @@ impl Answer {
         Answer {
             bounds: Some(bounds),
             ..Answer::default()
+        }
+    }
+
+    pub fn of_tally(tally: Tally) -> Self {
+        Answer {
+            tally: Some(tally),
+            ..Answer::default()
+        }
+    }
+
+    /// What the checker written apart gives for a play.
+    pub fn played(given: Played, tally: units::Tally) -> Self {
+        let units::Tally {
+            done,
+            skipped,
+            spent,
+        } = tally;
+        let tally = Tally {
+            done,
+            skipped,
+            spent,
+        };
+        Answer {
+            tally: (given.number == 0).then_some(tally),
+            ..Answer::lined(given.number, given.line, 0)
         }
     }
 

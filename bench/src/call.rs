@@ -2,10 +2,13 @@
 
 use crate::answer::Answer;
 use crate::service::{by_apart, by_proved, run_by_apart, run_by_proved, Asked, Service};
+use crate::service::{Play, Unit, Visit};
 use apart::bounds::bounds_rules;
+use apart::numbering::setting_of_rules;
 use apart::pair_lists;
+use apart::units::play_rules;
 use apart::witness::witness_of;
-use rulefile::{Overlap, MAX_QUERIES, NUMBERS_A_QUERY, RESULT_LENGTH};
+use rulefile::{Overlap, Tally, MAX_QUERIES, MAX_UNITS, NUMBERS_A_QUERY, RESULT_LENGTH};
 
 #[derive(Clone, Copy, PartialEq, Eq, Debug)]
 pub enum Implementation {
@@ -30,13 +33,16 @@ impl Implementation {
 
 const SOIL: u8 = 0xA5;
 
-/// The lent areas. The output is as long as the letters of the largest sheet, longer than any file.
+/// The lent areas. The output is as long as the letters of the largest sheet, longer than any file; the types and
+/// settings are those of the most units.
 #[derive(PartialEq, Eq)]
 pub struct Areas {
     pub table: Vec<u16>,
     pub work: Vec<u8>,
     pub output: Vec<u8>,
     pub numbers: Vec<u32>,
+    pub types: Vec<u32>,
+    pub settings: Vec<u32>,
 }
 
 impl Areas {
@@ -46,9 +52,26 @@ impl Areas {
             work: vec![0; rulefile::WORK_LENGTH],
             output: vec![0; MAX_QUERIES * RESULT_LENGTH],
             numbers: vec![0; MAX_QUERIES * NUMBERS_A_QUERY],
+            types: vec![0; MAX_UNITS],
+            settings: vec![0; MAX_UNITS],
         };
         areas.soil();
         areas
+    }
+
+    /// Puts units where a play finds them.
+    fn lend(&mut self, units: &[Unit]) {
+        let places = self.types.iter_mut().zip(&mut self.settings);
+        for ((ty, setting), unit) in places.zip(units) {
+            (*ty, *setting) = (unit.ty, unit.setting);
+        }
+    }
+
+    /// Whether a play has left these units.
+    fn hold(&self, units: &[Unit]) -> bool {
+        let places = self.types.iter().zip(&self.settings);
+        let mut held = places.zip(units);
+        held.all(|((ty, setting), unit)| [*ty, *setting] == [unit.ty, unit.setting])
     }
 
     /// Fills the areas with what no call leaves there.
@@ -57,6 +80,8 @@ impl Areas {
         self.work.fill(SOIL);
         self.output.fill(SOIL);
         self.numbers.fill(u32::from_ne_bytes([SOIL; 4]));
+        self.types.fill(u32::from_ne_bytes([SOIL; 4]));
+        self.settings.fill(u32::from_ne_bytes([SOIL; 4]));
     }
 }
 
@@ -194,16 +219,73 @@ impl Call {
         }
     }
 
+    /// A play of visits on as many units as there can be, none of them skipped or spent.
+    pub fn play(file: Vec<u8>, before: Vec<Unit>, visits: &[Visit], budget: u32) -> Self {
+        let rules = apart::check(&file).expect("the file is accepted");
+        let script = visits.iter().map(Visit::line).collect::<String>();
+        let script = script.into_bytes();
+        let pairs: Vec<(u32, u32)> = before.iter().map(|one| (one.ty, one.setting)).collect();
+        let played = play_rules(&rules, &pairs, &script, budget);
+        let (after, _) = played.expect("the play is not refused");
+        let after = after.into_iter().map(|(ty, setting)| Unit { ty, setting });
+        let tally = Tally {
+            done: visits.len() as u32,
+            ..Tally::default()
+        };
+        let play = Play {
+            script,
+            budget,
+            after: after.collect(),
+            before,
+        };
+        Call::answered(file, Service::Play(play), Answer::of_tally(tally))
+    }
+
+    /// The runs of the same visits, each a query, in as few sheets as can be.
+    pub fn sheets(file: Vec<u8>, before: Vec<Unit>, visits: &[Visit], budget: u32) -> Self {
+        let rules = apart::check(&file).expect("the file is accepted");
+        let letters = |unit: &Unit| setting_of_rules(&rules, unit.ty, unit.setting);
+        let mut held: Vec<Vec<u8>> = before.iter().flat_map(letters).collect();
+        let mut asked = Vec::new();
+        for Visit { unit, iso } in visits {
+            let ran = apart::run_rules(&rules, *iso, false, budget, &held[*unit]);
+            let (_, given) = ran.expect("the run is not refused");
+            let value = std::mem::replace(&mut held[*unit], given);
+            asked.push(Asked {
+                iso: *iso,
+                value,
+                budget,
+            });
+        }
+        let sheets = asked.chunks(MAX_QUERIES);
+        let sheets = sheets.map(|asked| Call::sheet(file.clone(), asked.to_vec()));
+        let sheets = Service::Sheets(sheets.collect());
+        Call::answered(file, sheets, Answer::of_queries(visits.len()))
+    }
+
     /// Makes the call and holds its answer to the expected one.
     pub fn make(&self, implementation: Implementation, areas: &mut Areas) {
+        if let Service::Play(play) = &self.service {
+            areas.lend(&play.before);
+        }
         let answer = match &self.service {
             Service::Runs(asked) => self.one_by_one(asked, implementation, areas),
+            Service::Sheets(sheets) => {
+                sheets
+                    .iter()
+                    .for_each(|sheet| sheet.make(implementation, areas));
+                self.answer
+            }
             _ => match implementation {
                 Proved => by_proved(&self.file, &self.service, areas),
                 Apart => by_apart(&self.file, &self.service, areas),
             },
         };
         assert_eq!(answer, self.answer, "{implementation:?}");
+        if let Service::Play(play) = &self.service {
+            let held = areas.hold(&play.after);
+            assert!(held, "{implementation:?} leaves other units");
+        }
         let written = &areas.output[..self.written.len()];
         assert!(
             written == self.written,
@@ -229,6 +311,10 @@ impl Call {
             three.copy_from_slice(&[ran.number, ran.count as u32, ran.length as u32]);
         }
         Answer::of_queries(asked.len())
+    }
+
+    pub fn file(&self) -> &[u8] {
+        &self.file
     }
 
     pub fn lines(&self) -> usize {
@@ -311,9 +397,36 @@ mod tests {
     #[test]
     #[should_panic(expected = "writes other bytes")]
     fn a_wrong_witness_is_noticed() {
-        let mut call = Call::witness(inputs::gap());
+        let mut call = Call::witness(inputs::s_with_gap());
         call.written[1] = b'L';
         call.make(Proved, &mut Areas::new());
+    }
+
+    /// A play of file S whose expectation is changed.
+    fn other_play(change: fn(&mut Call)) {
+        let units = inputs::units(2, [0, 1]);
+        let mut call = Call::play(inputs::s(), units, &inputs::visits(1, 5), 2);
+        call.agree();
+        change(&mut call);
+        call.make(Proved, &mut Areas::new());
+    }
+
+    #[test]
+    #[should_panic(expected = "Proved leaves other units")]
+    fn another_unit_is_noticed() {
+        other_play(|call| match &mut call.service {
+            Service::Play(play) => play.after[7].setting ^= 1,
+            _ => unreachable!("a play"),
+        });
+    }
+
+    #[test]
+    #[should_panic(expected = "Proved")]
+    fn another_tally_is_noticed() {
+        other_play(|call| {
+            let tally = call.answer.tally.as_mut();
+            tally.expect("a play").spent = 1;
+        });
     }
 
     #[test]

@@ -32,10 +32,6 @@ impl Draft {
         self.lines
     }
 
-    pub fn types(&self) -> usize {
-        self.types.count
-    }
-
     pub fn patterns(&self) -> usize {
         self.patterns.count
     }

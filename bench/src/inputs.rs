@@ -1,7 +1,7 @@
-//! The measured files, but for the worst cases.
+//! The measured files, but for the longest one and the worst cases. All their lines are used.
 
 use crate::draft::{Draft, LEFT, PAIR, PRODUCT, RIGHT, SUM, VARIABLE};
-use crate::service::Asked;
+use crate::service::{Asked, Unit, Visit};
 
 /// File S of document 01.
 pub fn s() -> Vec<u8> {
@@ -11,12 +11,18 @@ pub fn s() -> Vec<u8> {
     lines.replace(' ', "\n").into_bytes()
 }
 
-/// File S with its last line, a clause, so many times.
-pub fn s_with_last_line(times: usize) -> Vec<u8> {
+const LAST_CLAUSE: &[u8] = b"C,7,7\n";
+
+/// File S with its last line, a clause, twice: an overlap.
+pub fn s_overlapping() -> Vec<u8> {
+    [&s()[..], LAST_CLAUSE].concat()
+}
+
+/// File S with its last clause in an iso of its own: a gap in the iso before that.
+pub fn s_with_gap() -> Vec<u8> {
     let file = s();
-    let last = b"C,7,7\n";
-    let rest = file.strip_suffix(last).expect("the last line");
-    [rest, &last.repeat(times)[..]].concat()
+    let rest = file.strip_suffix(LAST_CLAUSE).expect("the last line");
+    [rest, b"I,2,2\n", LAST_CLAUSE].concat()
 }
 
 /// The types of nothing but bits: unit, one bit, then products up to `bits` bits.
@@ -43,18 +49,18 @@ fn with_bit(draft: &mut Draft, fronts: &[usize]) -> Vec<usize> {
 }
 
 /// The closed patterns of `bits` bits.
-fn closed_patterns(draft: &mut Draft, bits: usize) -> Vec<usize> {
+pub fn closed_patterns(draft: &mut Draft, bits: usize) -> Vec<usize> {
     let first = vec![bit_pattern(draft, false), bit_pattern(draft, true)];
     (1..bits).fold(first, |fronts, _| with_bit(draft, &fronts))
 }
 
-/// `isos` isos on a type of five bits, each with 2^bits clauses: the first bits closed, a variable for each
-/// of the others. With 5 bits all patterns are closed.
-pub fn wide(isos: usize, bits: usize) -> Vec<u8> {
+/// `isos` isos on a type of `bits` bits, each with 2^closed clauses: the first bits closed, a variable for each of
+/// the others.
+pub fn wide(isos: usize, bits: usize, closed: usize) -> Vec<u8> {
     let mut draft = Draft::default();
-    let ty = bit_types(&mut draft, 5);
-    let mut leaves = closed_patterns(&mut draft, bits);
-    for number in bits..5 {
+    let ty = bit_types(&mut draft, bits);
+    let mut leaves = closed_patterns(&mut draft, closed);
+    for number in closed..bits {
         let variable = draft.pattern(VARIABLE, number, 0);
         let pair = |front: &usize| draft.pattern(PAIR, *front, variable);
         leaves = leaves.iter().map(pair).collect();
@@ -68,51 +74,38 @@ pub fn wide(isos: usize, bits: usize) -> Vec<u8> {
     draft.into_bytes()
 }
 
-/// A file of `lines` lines, 256 to 4,096: one in sixteen a T line, one in four (at least 167) a P line, one
-/// in 128 an I line; but for the first, an iso has 16 clauses of three to six let steps.
-pub fn long(lines: usize) -> Vec<u8> {
-    let mut draft = Draft::default();
-    let bits = bit_types(&mut draft, 4);
-    let ty = draft.type_of(PRODUCT, bits, 0);
-    while draft.types() < lines / 16 {
-        draft.new_type(0, 0, 0);
-    }
-    let leaves = closed_patterns(&mut draft, 4);
-    let variables: Vec<usize> = (0..8).map(|n| draft.pattern(VARIABLE, n, 0)).collect();
-    let mut paired = Vec::new();
-    for variable in &variables {
-        let pair = |leaf: &usize| draft.pattern(PAIR, *leaf, *variable);
-        paired.push(leaves.iter().map(pair).collect::<Vec<_>>());
-    }
-    while draft.patterns() < lines / 4 {
-        draft.new_pattern(0, 0, 0);
-    }
-    draft.iso(0, 0);
-    draft.clause(variables[0], variables[0]);
-    let isos = lines / 128;
-    for iso in 1..isos {
-        let own = (lines - draft.lines()) / (isos - iso);
-        draft.iso(ty, ty);
-        long_clauses(&mut draft, own - 17, iso, &variables, &paired);
-    }
-    draft.into_bytes()
-}
+/// The isos of 128 clauses for which 4,096 lines have room, beside the P lines of 128 closed patterns.
+pub const MOST_ISOS_OF_128: usize = 29;
 
-/// Sixteen clauses with `steps` let steps among them.
-fn long_clauses(
-    draft: &mut Draft,
-    steps: usize,
-    iso: usize,
-    variables: &[usize],
-    paired: &[Vec<usize>],
-) {
-    for place in 0..16 {
-        let own = steps / 16 + usize::from(place < steps % 16);
-        draft.clause(paired[0][place], paired[own][(place + iso) % 16]);
-        for step in 0..own {
-            draft.step(variables[step + 1], 0, variables[step]);
+/// 256 T and 1,024 P lines of units and pairs: four types of 127 nodes, each as deep as can be in its own way, and
+/// four patterns of each, all of lines of their own; two isos of one clause on each.
+pub fn units_and_pairs() -> Vec<u8> {
+    let mut draft = Draft::default();
+    // whether the deeper part of a pair is the first
+    let ways: [fn(usize) -> bool; 4] = [|_| true, |_| false, |n| n % 2 == 0, |n| n % 2 == 1];
+    let types = ways.map(|first| {
+        let unit = draft.new_type(0, 0, 0);
+        (0..63).fold(unit, |deep, level| match first(level) {
+            true => draft.new_type(PRODUCT, deep, unit),
+            false => draft.new_type(PRODUCT, unit, deep),
+        })
+    });
+    let patterns = [(); 4].map(|()| {
+        ways.map(|first| {
+            let unit = draft.new_pattern(0, 0, 0);
+            (0..63).fold(unit, |deep, level| match first(level) {
+                true => draft.new_pattern(PAIR, deep, unit),
+                false => draft.new_pattern(PAIR, unit, deep),
+            })
+        })
+    });
+    for sides in [[0, 1], [2, 3]] {
+        for (way, ty) in types.into_iter().enumerate() {
+            draft.iso(ty, ty);
+            draft.clause(patterns[sides[0]][way], patterns[sides[1]][way]);
         }
     }
+    draft.into_bytes()
 }
 
 /// 31 isos of one clause with eight let steps, below one without; each pattern is a full tree of pairs and
@@ -134,16 +127,16 @@ pub fn nodes(nodes: usize) -> Vec<u8> {
     draft.into_bytes()
 }
 
-/// An iso of 32 clauses that have one pattern, a full tree of pairs and units with 127 nodes: every two of them
-/// overlap.
-pub fn overlap() -> Vec<u8> {
+/// An iso of `clauses` clauses that have one pattern, a full tree of pairs and units with 127 nodes: every two of
+/// them overlap.
+pub fn overlap(clauses: usize) -> Vec<u8> {
     let mut draft = Draft::default();
     let unit = draft.type_of(0, 0, 0);
     let ty = (0..6).fold(unit, |a, _| draft.type_of(PRODUCT, a, a));
     let unit = draft.pattern(0, 0, 0);
     let tree = (0..6).fold(unit, |a, _| draft.pattern(PAIR, a, a));
     draft.iso(ty, ty);
-    for _ in 0..32 {
+    for _ in 0..clauses {
         draft.clause(tree, tree);
     }
     draft.into_bytes()
@@ -178,25 +171,47 @@ pub fn gap() -> Vec<u8> {
     draft.into_bytes()
 }
 
-/// An iso on a tree of 107 nodes and five bits, a type of 127 nodes: each of 31 clauses has the tree and other
-/// bits, and the last bits are left out.
-pub fn late_gap() -> Vec<u8> {
-    let mut draft = Draft::default();
-    let bits = bit_types(&mut draft, 5);
-    let unit = draft.type_of(0, 0, 0);
-    let tree = (1..54).fold(unit, |rest, _| draft.type_of(PRODUCT, unit, rest));
-    let ty = draft.type_of(PRODUCT, tree, bits);
-    let unit = draft.pattern(0, 0, 0);
-    let tree = (1..54).fold(unit, |rest, _| draft.pattern(PAIR, unit, rest));
-    let leaves = closed_patterns(&mut draft, 5);
-    let sides: Vec<usize> = leaves[..31]
-        .iter()
-        .map(|leaf| draft.pattern(PAIR, tree, *leaf))
-        .collect();
+/// An iso with a clause for each of these sides but the last, which an iso behind it has alone.
+fn without_last(draft: &mut Draft, ty: usize, sides: &[usize]) {
+    let (last, others) = sides.split_last().expect("a side");
     draft.iso(ty, ty);
-    for side in sides {
-        draft.clause(side, side);
+    for side in others {
+        draft.clause(*side, *side);
     }
+    draft.iso(ty, ty);
+    draft.clause(*last, *last);
+}
+
+/// An iso on a tree of units and some bits behind it, a type of 127 nodes: each clause has the tree and other bits,
+/// and the last bits are left out.
+pub fn late_gap(bits: usize) -> Vec<u8> {
+    let mut draft = Draft::default();
+    let back = bit_types(&mut draft, bits);
+    let units = 64 - 2 * bits;
+    let unit = draft.type_of(0, 0, 0);
+    let tree = (1..units).fold(unit, |rest, _| draft.type_of(PRODUCT, unit, rest));
+    let ty = draft.type_of(PRODUCT, tree, back);
+    let unit = draft.pattern(0, 0, 0);
+    let tree = (1..units).fold(unit, |rest, _| draft.pattern(PAIR, unit, rest));
+    let leaves = closed_patterns(&mut draft, bits);
+    let side = |leaf: &usize| draft.pattern(PAIR, tree, *leaf);
+    let sides: Vec<usize> = leaves.iter().map(side).collect();
+    without_last(&mut draft, ty, &sides);
+    draft.into_bytes()
+}
+
+/// An iso on 25 bits and seven more behind them, a type of 127 nodes: each of 127 clauses has a variable before
+/// other bits, and the last bits are left out.
+pub fn gap_behind_variable() -> Vec<u8> {
+    let mut draft = Draft::default();
+    let front = bit_types(&mut draft, 25);
+    let back = bit_types(&mut draft, 7);
+    let ty = draft.type_of(PRODUCT, front, back);
+    let variable = draft.pattern(VARIABLE, 0, 0);
+    let leaves = closed_patterns(&mut draft, 7);
+    let side = |leaf: &usize| draft.pattern(PAIR, variable, *leaf);
+    let sides: Vec<usize> = leaves.iter().map(side).collect();
+    without_last(&mut draft, ty, &sides);
     draft.into_bytes()
 }
 
@@ -207,7 +222,15 @@ pub fn many_settings() -> (Vec<u8>, u32) {
     let bit = draft.type_of(SUM, unit, unit);
     let bits = (1..31).fold(bit, |rest, _| draft.type_of(PRODUCT, bit, rest));
     let ty = (0..2).fold(bits, |rest, _| draft.type_of(PRODUCT, unit, rest));
+    hand_on(&mut draft, ty);
     (draft.into_bytes(), ty as u32)
+}
+
+/// An iso that gives what it gets, so that its type's lines are used.
+fn hand_on(draft: &mut Draft, ty: usize) {
+    let variable = draft.pattern(VARIABLE, 0, 0);
+    draft.iso(ty, ty);
+    draft.clause(variable, variable);
 }
 
 /// The number and the letters of the last of these settings.
@@ -217,14 +240,19 @@ pub fn last_setting() -> Vec<u8> {
     ("PU".repeat(2) + &"PRU".repeat(30) + "RU").into_bytes()
 }
 
-/// Two P lines that are full trees of pairs and units with 127 nodes, each of lines of its own.
+/// Two P lines that are full trees of pairs and units with 127 nodes, each of lines of its own: the sides of a
+/// clause.
 pub fn two_trees() -> (Vec<u8>, u32, u32) {
     let mut draft = Draft::default();
+    let unit = draft.type_of(0, 0, 0);
+    let ty = (0..6).fold(unit, |a, _| draft.type_of(PRODUCT, a, a));
     let [left, right] = [(); 2].map(|()| {
         let unit = draft.new_pattern(0, 0, 0);
-        (0..6).fold(unit, |a, _| draft.new_pattern(PAIR, a, a)) as u32
+        (0..6).fold(unit, |a, _| draft.new_pattern(PAIR, a, a))
     });
-    (draft.into_bytes(), left, right)
+    draft.iso(ty, ty);
+    draft.clause(left, right);
+    (draft.into_bytes(), left as u32, right as u32)
 }
 
 /// 32 isos on one bit: the first exchanges left and right, each other applies the one before it twice. Iso k
@@ -257,18 +285,19 @@ pub fn swap(isos: usize) -> Vec<u8> {
     let two = (1..32).fold(unit, |a, _| draft.type_of(PRODUCT, unit, a));
     let there = draft.type_of(PRODUCT, one, two);
     let back = draft.type_of(PRODUCT, two, one);
-    let [a, b, c] = [0, 1, 2].map(|n| draft.pattern(VARIABLE, n, 0));
+    let [a, b] = [0, 1].map(|n| draft.pattern(VARIABLE, n, 0));
     let pair = draft.pattern(PAIR, a, b);
     let exchanged = draft.pattern(PAIR, b, a);
+    let given = (isos > 2).then(|| draft.pattern(VARIABLE, 2, 0));
     for (from, to) in [(there, back), (back, there)].into_iter().take(isos) {
         draft.iso(from, to);
         draft.clause(pair, exchanged);
     }
-    for iso in 2..isos {
+    for (iso, given) in (2..isos).zip(given.into_iter().cycle()) {
         draft.iso(there, there);
-        draft.clause(a, c);
+        draft.clause(a, given);
         draft.step(b, if iso == 2 { 0 } else { iso - 1 }, a);
-        draft.step(c, iso - 1, b);
+        draft.step(given, iso - 1, b);
     }
     draft.into_bytes()
 }
@@ -290,14 +319,14 @@ pub fn flips(bits: usize) -> Vec<u8> {
     let mut draft = Draft::default();
     let ty = bit_types(&mut draft, bits);
     let [left, right] = [false, true].map(|right| bit_pattern(&mut draft, right));
-    let variables: Vec<usize> = (0..bits + 8)
+    let steps = bits.min(8);
+    let variables: Vec<usize> = (0..bits + steps)
         .map(|n| draft.pattern(VARIABLE, n, 0))
         .collect();
     let all = |draft: &mut Draft, numbers: Vec<usize>| {
         let rest = numbers[1..].iter();
         rest.fold(numbers[0], |front, bit| draft.pattern(PAIR, front, *bit))
     };
-    let steps = bits.min(8);
     let given = [&variables[..bits - steps], &variables[bits..bits + steps]].concat();
     let value = all(&mut draft, variables[..bits].to_vec());
     let given = all(&mut draft, given);
@@ -320,7 +349,16 @@ pub fn sum(units: usize, products: usize) -> Vec<u8> {
     let mut draft = Draft::default();
     let unit = draft.type_of(0, 0, 0);
     let sum = (1..units).fold(unit, |sum, _| draft.type_of(SUM, unit, sum));
-    (0..products).fold(sum, |all, _| draft.type_of(PRODUCT, unit, all));
+    let all = (0..products).fold(sum, |all, _| draft.type_of(PRODUCT, unit, all));
+    hand_on(&mut draft, all);
+    draft.into_bytes()
+}
+
+/// The last T line of a file has 128 values: seven bits.
+pub fn seven_bits() -> Vec<u8> {
+    let mut draft = Draft::default();
+    let ty = bit_types(&mut draft, 7);
+    hand_on(&mut draft, ty);
     draft.into_bytes()
 }
 
@@ -339,6 +377,24 @@ pub fn asked_of_s() -> Asked {
     }
 }
 
+/// The most units of a play, one after the other in one of two settings of a T line.
+pub fn units(ty: u32, settings: [u32; 2]) -> Vec<Unit> {
+    let unit = |place: usize| Unit {
+        ty,
+        setting: settings[place % 2],
+    };
+    (0..rulefile::MAX_UNITS).map(unit).collect()
+}
+
+/// So many visits of an iso, each to another of the units.
+pub fn visits(iso: u16, count: usize) -> Vec<Visit> {
+    let visit = |place: usize| Visit {
+        unit: 7 * place % rulefile::MAX_UNITS,
+        iso,
+    };
+    (0..count).map(visit).collect()
+}
+
 /// A query of the long file of 4,096 lines: its last iso on four bits and a unit.
 pub fn asked_of_long() -> Asked {
     Asked {
@@ -347,6 +403,9 @@ pub fn asked_of_long() -> Asked {
         budget: 9,
     }
 }
+
+/// The T line of that iso.
+pub const TYPE_OF_LONG: u32 = 255;
 
 /// File S and `queries` queries of two applications each.
 pub fn desk(queries: usize) -> Vec<u8> {
@@ -364,22 +423,26 @@ mod tests {
     use crate::call::Call;
 
     #[test]
-    fn files_have_their_sizes_and_are_accepted_by_both() {
-        for lines in [256, 512, 1_024, 2_048, 4_096] {
-            let call = Call::check(long(lines));
-            assert_eq!(call.lines(), lines);
-            call.agree();
+    fn files_are_accepted_by_both() {
+        for (isos, bits, closed) in [(1, 5, 5), (32, 5, 1), (32, 5, 5), (1, 7, 2), (1, 7, 7)] {
+            Call::check(wide(isos, bits, closed)).agree();
         }
-        for (isos, bits) in [(1, 5), (32, 1), (32, 5)] {
-            Call::check(wide(isos, bits)).agree();
-        }
+        let most = Call::check(wide(MOST_ISOS_OF_128, 7, 7));
+        assert!((4_096 - 129..=4_096).contains(&most.lines()));
+        most.agree();
         for count in [7, 127] {
             Call::check(nodes(count)).agree();
         }
         for bits in [1, 8, 12] {
             Call::check(flips(bits)).agree();
         }
+        for isos in [1, 2, 32] {
+            Call::check(swap(isos)).agree();
+        }
         Call::check(sum(32, PRODUCTS)).agree();
+        let pairs = Call::check(units_and_pairs());
+        assert_eq!(pairs.lines(), 256 + 1_024 + 16);
+        pairs.agree();
     }
 
     #[test]

@@ -1,5 +1,6 @@
 //! The rows and the series that are measured.
 
+use crate::inputs::MOST_ISOS_OF_128;
 use crate::instructions::Counts;
 use crate::measure::Both;
 use crate::point::{Point, Series};
@@ -9,6 +10,8 @@ use crate::worst::CANDIDATES;
 const QUERIES: usize = 100_000;
 /// The most queries of a sheet.
 const SHEET: usize = rulefile::MAX_QUERIES;
+/// The most visits of a play.
+const VISITS: usize = 4_096;
 /// Instructions of longer runs are not counted.
 const COUNTED: usize = 1 << 16;
 
@@ -61,9 +64,9 @@ pub fn candidates() -> Vec<Point> {
         .collect()
 }
 
-/// The accepted candidate that costs the proved library the most: instructions or, where they are not counted,
-/// time.
-pub fn costliest(times: &[Both], counts: &Counts) -> Point {
+/// The accepted candidate, with or without many clauses an iso, that costs the proved library the most: instructions
+/// or, where they are not counted, time.
+pub fn costliest(many: bool, times: &[Both], counts: &Counts) -> Point {
     let cost = |(place, point): (usize, Point)| {
         let both = counts.get(&point).or(times.get(place));
         (both.expect("a cost of each candidate").proved, point)
@@ -71,6 +74,7 @@ pub fn costliest(times: &[Both], counts: &Counts) -> Point {
     let most = candidates()
         .into_iter()
         .enumerate()
+        .filter(|(place, _)| CANDIDATES[*place].has_many_clauses() == many)
         .filter(|(_, point)| point.call().is_accepted())
         .map(cost)
         .max_by(|one, two| one.0.total_cmp(&two.0));
@@ -80,7 +84,7 @@ pub fn costliest(times: &[Both], counts: &Counts) -> Point {
 /// The points whose instructions are counted, each once. The row of the worst case is one of the candidates.
 pub fn counted(growths: &[Growth]) -> Vec<Point> {
     let mut points = candidates();
-    let rows = rows(points[0], false);
+    let rows = rows([points[0]; 2], false);
     points.extend(rows.iter().map(|row| row.counted));
     points.extend(growths.iter().flat_map(Growth::points));
     let mut once = Vec::new();
@@ -93,40 +97,44 @@ pub fn counted(growths: &[Growth]) -> Vec<Point> {
 }
 
 /// The rows of the first table.
-pub fn rows(worst: Point, quick: bool) -> Vec<Row> {
-    let call = |label: &str, series, size| Row::new(label, "a call", series, size, size);
-    let runs = |label, series, size, counted| {
-        let each = "an application";
-        Row::new(label, each, series, size, counted)
-    };
+pub fn rows(worst: [Point; 2], quick: bool) -> Vec<Row> {
+    let call = |label, series, size| Row::new(label, "a call", series, size, size);
     let (tower, swaps) = if quick {
         (1 << 16, 1 << 12)
     } else {
         (1 << 23, 1 << 18)
     };
-    let label = format!("Check, worst case: {}", CANDIDATES[worst.size - 1].label);
+    let runs = |label, series, size| Row::new(label, "an application", series, size, 1 << 14);
+    let mut rows = rows_of_checks(worst);
+    rows.extend([
+        call("Turn, 4,096 lines", Series::Turn, 4_096),
+        runs("Run, tower of isos on one bit", Series::Applications, tower),
+        call("Run, one swap of a value of 127 letters", Series::Swap, 127),
+        runs("Run, tower of isos on 127 letters", Series::Swaps, swaps),
+    ]);
+    rows.extend(rows_of_queries());
+    rows.extend(rows_of_plays());
+    rows.extend(rows_of_singles());
+    rows
+}
+
+/// The rows of Check; the last two are candidates for the worst case.
+fn rows_of_checks(worst: [Point; 2]) -> Vec<Row> {
+    let call = |label: &str, series, size| Row::new(label, "a call", series, size, size);
+    let pairs = "Check, 256 T and 1,024 P lines of units and pairs";
+    let closed = "Check, 29 isos of 128 closed clauses";
     let mut rows = vec![
         call("Check, file S", Series::S, 18),
         call("Check, 4,096 lines", Series::Lines, 4_096),
         call("Check, 32 isos of 32 closed clauses", Series::Isos, 32),
-        call(&label, Series::Worst, worst.size),
-        call("Turn, 4,096 lines", Series::Turn, 4_096),
-        runs(
-            "Run, tower of isos on one bit",
-            Series::Applications,
-            tower,
-            1 << 14,
-        ),
-        call("Run, one swap of a value of 127 letters", Series::Swap, 127),
-        runs(
-            "Run, tower of isos on 127 letters",
-            Series::Swaps,
-            swaps,
-            1 << 14,
-        ),
+        call(closed, Series::Closed, MOST_ISOS_OF_128),
+        call(pairs, Series::Pairs, 1_024),
     ];
-    rows.extend(rows_of_queries());
-    rows.extend(rows_of_singles());
+    for (clauses, worst) in ["up to 32", "128"].into_iter().zip(worst) {
+        let file = CANDIDATES[worst.size - 1].label;
+        let label = format!("Check, worst case of {clauses} clauses: {file}");
+        rows.push(call(&label, worst.series, worst.size));
+    }
     rows
 }
 
@@ -147,6 +155,29 @@ fn rows_of_queries() -> [Row; 5] {
     ]
 }
 
+/// The rows for a play of 1,000 units, and for the same runs in sheets.
+fn rows_of_plays() -> [Row; 4] {
+    let row = |label, series| Row::new(label, "a visit", series, VISITS, VISITS);
+    [
+        row(
+            "1,000 units, 4,096 visits in one play, file S",
+            Series::Play,
+        ),
+        row(
+            "4,096 of these runs in seven sheets, file S",
+            Series::Sheets,
+        ),
+        row(
+            "1,000 units, 4,096 visits in one play, 4,096 lines",
+            Series::LongPlay,
+        ),
+        row(
+            "4,096 of these runs in seven sheets, 4,096 lines",
+            Series::LongSheets,
+        ),
+    ]
+}
+
 /// The rows of the later services.
 fn rows_of_singles() -> impl Iterator<Item = Row> {
     let row = |(place, label)| Row::new(label, "a call", Series::Single, place, place);
@@ -163,48 +194,29 @@ pub fn growths(quick: bool) -> Vec<Growth> {
         series,
         sizes,
     };
+    let clauses = "Check by clauses in each of 32 isos";
+    let one_iso = "Check by clauses of one iso";
+    let isos = "Check by isos of 32 clauses";
+    let nodes = "Check by nodes of each pattern";
     let runs = doubling(1 << 10, if quick { 1 << 14 } else { 1 << 22 });
-    let lines = doubling(256, 4_096);
-    let nodes = vec![7, 15, 31, 63, 127];
+    let lines = || doubling(256, 4_096);
+    let sheet = doubling(SHEET / 8, SHEET);
+    let desk = doubling(QUERIES / 16, QUERIES);
     vec![
-        growth("Check by lines", "lines", Series::Lines, lines.clone()),
-        growth(
-            "Check by clauses in each of 32 isos",
-            "clauses",
-            Series::Clauses,
-            doubling(2, 32),
-        ),
-        growth(
-            "Check by isos of 32 clauses",
-            "isos",
-            Series::Isos,
-            doubling(1, 32),
-        ),
+        growth("Check by lines", "lines", Series::Lines, lines()),
+        growth(clauses, "clauses", Series::Clauses, doubling(2, 32)),
+        growth(isos, "isos", Series::Isos, doubling(1, 32)),
         growth(
             "Run by applications",
             "applications",
             Series::Applications,
             runs,
         ),
-        growth(
-            "Check by nodes of each pattern",
-            "nodes",
-            Series::Nodes,
-            nodes,
-        ),
-        growth("Turn by lines", "lines", Series::Turn, lines),
-        growth(
-            "A sheet by queries",
-            "queries",
-            Series::Sheet,
-            doubling(SHEET / 8, SHEET),
-        ),
-        growth(
-            "`rules` by queries",
-            "queries",
-            Series::Desk,
-            doubling(QUERIES / 16, QUERIES),
-        ),
+        growth(nodes, "nodes", Series::Nodes, vec![7, 15, 31, 63, 127]),
+        growth(one_iso, "clauses", Series::Many, doubling(2, 128)),
+        growth("Turn by lines", "lines", Series::Turn, lines()),
+        growth("A sheet by queries", "queries", Series::Sheet, sheet),
+        growth("`rules` by queries", "queries", Series::Desk, desk),
     ]
 }
 

@@ -7,6 +7,7 @@ mod draft;
 mod inputs;
 mod instructions;
 mod list;
+mod long;
 mod measure;
 mod plot;
 mod point;
@@ -129,7 +130,8 @@ fn bench(desk: &Desk, mode: Mode) -> String {
         false => Vec::new(),
     };
     let candidate_times = timed(&candidates, short);
-    let rows = list::rows(list::costliest(&candidate_times, &counts), mode.quick);
+    let worst = [false, true].map(|many| list::costliest(many, &candidate_times, &counts));
+    let rows = list::rows(worst, mode.quick);
     let points: Vec<Point> = rows.iter().map(|row| row.point).collect();
     let row_times = timed(&points, long);
     let grow = |growth: &Growth| timed(&growth.points(), short);

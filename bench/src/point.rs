@@ -3,7 +3,9 @@
 use crate::call::Call;
 use crate::desk::{Desk, Queries};
 use crate::inputs;
+use crate::long::long;
 use crate::measure::{Lent, Timed};
+use crate::service::{Unit, Visit};
 use crate::single::SINGLES;
 use crate::worst::CANDIDATES;
 
@@ -13,6 +15,9 @@ pub enum Series {
     Lines,
     Clauses,
     Isos,
+    Many,
+    Closed,
+    Pairs,
     Nodes,
     Worst,
     Turn,
@@ -24,17 +29,25 @@ pub enum Series {
     Runs,
     LongSheet,
     LongRuns,
+    Play,
+    Sheets,
+    LongPlay,
+    LongSheets,
     Desk,
 }
 
 use Series::{Applications, Clauses, Isos, Lines, Nodes, Single, Swap, Swaps, Turn, Worst, S};
-use Series::{LongRuns, LongSheet, Runs, Sheet};
+use Series::{Closed, Many, Pairs};
+use Series::{LongPlay, LongRuns, LongSheet, LongSheets, Play, Runs, Sheet, Sheets};
 
-const NAMES: [(Series, &str); 16] = [
+const NAMES: [(Series, &str); 23] = [
     (S, "s"),
     (Lines, "lines"),
     (Clauses, "clauses"),
     (Isos, "isos"),
+    (Many, "many"),
+    (Closed, "closed"),
+    (Pairs, "pairs"),
     (Nodes, "nodes"),
     (Worst, "worst"),
     (Turn, "turn"),
@@ -46,6 +59,10 @@ const NAMES: [(Series, &str); 16] = [
     (Runs, "runs"),
     (LongSheet, "long-sheet"),
     (LongRuns, "long-runs"),
+    (Play, "play"),
+    (Sheets, "sheets"),
+    (LongPlay, "long-play"),
+    (LongSheets, "long-sheets"),
     (Series::Desk, "desk"),
 ];
 
@@ -60,8 +77,8 @@ impl Series {
     }
 }
 
-/// A series, and a size in it: lines, clauses, isos, nodes or queries; the place of a candidate or of a single
-/// call, from 1; or a power of two, one above the number of applications.
+/// A series, and a size in it: lines, clauses, isos, nodes, queries or visits; the place of a candidate or of a
+/// single call, from 1; or a power of two, one above the number of applications.
 #[derive(Clone, Copy, PartialEq, Eq, Hash, Debug)]
 pub struct Point {
     pub series: Series,
@@ -79,42 +96,51 @@ impl Point {
         let level = size.ilog2();
         match series {
             S => Call::check(inputs::s()),
-            Lines => Call::check(inputs::long(size)),
-            Clauses => Call::check(inputs::wide(32, level as usize)),
-            Isos => Call::check(inputs::wide(size, 5)),
+            Lines => Call::check(long(size)),
+            Clauses => Call::check(inputs::wide(32, 5, level as usize)),
+            Isos => Call::check(inputs::wide(size, 5, 5)),
+            Many => Call::check(inputs::wide(1, 7, level as usize)),
+            Closed => Call::check(inputs::wide(size, 7, 7)),
+            Pairs => Call::check(inputs::units_and_pairs()),
             Nodes => Call::check(inputs::nodes(size)),
             Worst => (CANDIDATES[size - 1].call)(),
-            Turn => Call::turn(inputs::long(size)),
+            Turn => Call::turn(long(size)),
             Single => (SINGLES[size - 1].call)(),
-            Applications => {
-                let value = b"LU".to_vec();
-                Call::run(
-                    inputs::tower(),
-                    level as u16 - 1,
-                    value.clone(),
-                    self.amount(),
-                    value,
-                )
-            }
+            Applications => self.tower(inputs::tower(), level as u16 - 1, b"LU".to_vec()),
             Swap => {
                 let [value, given] = [false, true].map(inputs::swap_value);
                 Call::run(inputs::swap(1), 0, value, 1, given)
             }
-            Swaps => {
-                let value = inputs::swap_value(false);
-                Call::run(
-                    inputs::swap(32),
-                    level as u16,
-                    value.clone(),
-                    self.amount(),
-                    value,
-                )
-            }
+            Swaps => self.tower(inputs::swap(32), level as u16, inputs::swap_value(false)),
             Sheet => Call::sheet(inputs::s(), vec![inputs::asked_of_s(); size]),
             Runs => Call::runs(inputs::s(), vec![inputs::asked_of_s(); size]),
-            LongSheet => Call::sheet(inputs::long(4_096), vec![inputs::asked_of_long(); size]),
-            LongRuns => Call::runs(inputs::long(4_096), vec![inputs::asked_of_long(); size]),
+            LongSheet => Call::sheet(long(4_096), vec![inputs::asked_of_long(); size]),
+            LongRuns => Call::runs(long(4_096), vec![inputs::asked_of_long(); size]),
+            Play | Sheets => {
+                let asked = inputs::asked_of_s();
+                let (units, visits) = (inputs::units(2, [0, 1]), inputs::visits(asked.iso, size));
+                self.played(inputs::s(), units, &visits, asked.budget)
+            }
+            LongPlay | LongSheets => {
+                let asked = inputs::asked_of_long();
+                let units = inputs::units(inputs::TYPE_OF_LONG, [0, 9]);
+                let visits = inputs::visits(asked.iso, size);
+                self.played(long(4_096), units, &visits, asked.budget)
+            }
             Series::Desk => unreachable!("the desk program is no call"),
+        }
+    }
+
+    /// A run of a tower, which gives its value again.
+    fn tower(self, file: Vec<u8>, iso: u16, value: Vec<u8>) -> Call {
+        Call::run(file, iso, value.clone(), self.amount(), value)
+    }
+
+    /// A play, or the same runs in sheets.
+    fn played(self, file: Vec<u8>, units: Vec<Unit>, visits: &[Visit], budget: u32) -> Call {
+        match self.series {
+            Play | LongPlay => Call::play(file, units, visits, budget),
+            _ => Call::sheets(file, units, visits, budget),
         }
     }
 
@@ -142,6 +168,7 @@ impl Point {
         match self.series {
             Applications | Swaps | Series::Desk => self.amount(),
             Sheet | Runs | LongSheet | LongRuns => self.amount(),
+            Play | Sheets | LongPlay | LongSheets => self.amount(),
             _ => 1,
         }
     }
@@ -170,5 +197,10 @@ mod tests {
             }
         }
         Point::new(Sheet, 600).call().agree();
+        for series in [Play, Sheets, LongPlay, LongSheets] {
+            for size in [1, 1_201] {
+                Point::new(series, size).call().agree();
+            }
+        }
     }
 }

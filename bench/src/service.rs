@@ -1,15 +1,16 @@
 //! The services, asked of either implementation.
 
 use crate::answer::Answer;
-use crate::call::Areas;
+use crate::call::{Areas, Call};
 use apart::areas::{check_areas, run_areas, turn_areas, Known};
 use apart::bounds::bounds;
 use apart::numbering::{number_of, setting_of};
 use apart::overlap::overlap;
 use apart::pair_lists::{export, import};
 use apart::sheet::{sheet, Lent};
+use apart::units;
 use apart::witness::witness;
-use rulefile::Direction;
+use rulefile::{Direction, Tally};
 
 /// What a run forward is asked.
 #[derive(Clone)]
@@ -27,6 +28,35 @@ impl Asked {
     }
 }
 
+/// A unit of a play.
+#[derive(Clone, Copy, PartialEq, Eq, Debug)]
+pub struct Unit {
+    pub ty: u32,
+    pub setting: u32,
+}
+
+/// A visit of a play, forward.
+#[derive(Clone, Copy)]
+pub struct Visit {
+    pub unit: usize,
+    pub iso: u16,
+}
+
+impl Visit {
+    /// The line of a script.
+    pub fn line(&self) -> String {
+        format!("S,{},{},0\n", self.unit, self.iso)
+    }
+}
+
+/// What a play is asked, and what is left of the units.
+pub struct Play {
+    pub script: Vec<u8>,
+    pub budget: u32,
+    pub before: Vec<Unit>,
+    pub after: Vec<Unit>,
+}
+
 pub enum Service {
     Check,
     Turn,
@@ -35,6 +65,10 @@ pub enum Service {
     Sheet(Vec<u8>),
     /// The same queries, each by a run of its own.
     Runs(Vec<Asked>),
+    /// Several sheets, one call after the other.
+    Sheets(Vec<Call>),
+    /// A script of visits in one call.
+    Play(Play),
     /// The number of a setting of a T line.
     Number(u32, Vec<u8>),
     /// The setting of a T line that has a number.
@@ -57,6 +91,7 @@ pub fn by_proved(file: &[u8], service: &Service, areas: &mut Areas) -> Answer {
         work,
         output,
         numbers,
+        ..
     } = areas;
     let given = match service {
         Service::Check => rulefile::check(file, table, work).map(|()| Answer::default()),
@@ -65,7 +100,8 @@ pub fn by_proved(file: &[u8], service: &Service, areas: &mut Areas) -> Answer {
         Service::Sheet(queries) => {
             rulefile::sheet(file, table, work, queries, numbers, output).map(Answer::of_queries)
         }
-        Service::Runs(_) => unreachable!("made one by one"),
+        Service::Runs(_) | Service::Sheets(_) => unreachable!("made one by one"),
+        Service::Play(play) => return play_by_proved(file, play, areas),
         Service::Number(ty, letters) => {
             rulefile::number_of(file, table, work, *ty, letters).map(Answer::of_setting)
         }
@@ -96,6 +132,7 @@ pub fn by_apart(file: &[u8], service: &Service, areas: &mut Areas) -> Answer {
         work,
         output,
         numbers,
+        ..
     } = areas;
     let known = || Known::of(file);
     match service {
@@ -111,7 +148,8 @@ pub fn by_apart(file: &[u8], service: &Service, areas: &mut Areas) -> Answer {
             };
             sheet(&known(), queries, lent).into()
         }
-        Service::Runs(_) => unreachable!("made one by one"),
+        Service::Runs(_) | Service::Sheets(_) => unreachable!("made one by one"),
+        Service::Play(play) => play_by_apart(file, play, areas),
         Service::Number(ty, letters) => number_of(&known(), table, work, *ty, letters).into(),
         Service::Setting(ty, setting) => {
             setting_of(&known(), table, work, *ty, *setting, output).into()
@@ -157,4 +195,33 @@ pub fn run_by_apart(
         value: &asked.value,
     };
     run_areas(file, table, work, query, result).into()
+}
+
+fn play_by_proved(file: &[u8], play: &Play, areas: &mut Areas) -> Answer {
+    let mut tally = Tally::default();
+    let Areas { table, work, .. } = areas;
+    let played = rulefile::play(
+        file,
+        table,
+        work,
+        &mut areas.types,
+        &mut areas.settings,
+        &play.script,
+        play.budget,
+        &mut tally,
+    );
+    played.map_or_else(Answer::from, |()| Answer::of_tally(tally))
+}
+
+fn play_by_apart(file: &[u8], play: &Play, areas: &mut Areas) -> Answer {
+    let mut tally = units::Tally::default();
+    let lent = units::Lent {
+        table: &mut areas.table,
+        work: &mut areas.work,
+        types: &mut areas.types,
+        settings: &mut areas.settings,
+        tally: &mut tally,
+    };
+    let played = units::play(&Known::of(file), &play.script, play.budget, lent);
+    Answer::played(played, tally)
 }

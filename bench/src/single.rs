@@ -3,6 +3,7 @@
 
 use crate::call::Call;
 use crate::inputs;
+use crate::long::long;
 use rulefile::Overlap;
 
 pub struct Single {
@@ -15,7 +16,7 @@ const BITS: u32 = 2;
 const ISO: u32 = 1;
 const SETTING: (&[u8], u32) = (b"PLURU", 1);
 
-pub const SINGLES: [Single; 18] = [
+pub const SINGLES: [Single; 22] = [
     Single {
         label: "Number of a setting, file S",
         call: || Call::number(inputs::s(), BITS, SETTING.0.to_vec(), SETTING.1),
@@ -63,7 +64,7 @@ pub const SINGLES: [Single; 18] = [
     },
     Single {
         label: "Bounds, 32 isos in 4,096 lines",
-        call: || Call::bounds(inputs::long(4_096), 31),
+        call: || Call::bounds(long(4_096), 31),
     },
     Single {
         label: "Export, file S",
@@ -85,12 +86,24 @@ pub const SINGLES: [Single; 18] = [
         },
     },
     Single {
-        label: "Witness of a gap, file S without its last line",
-        call: || Call::witness(inputs::s_with_last_line(0)),
+        label: "Import, 128 pairs, seven bits",
+        call: || Call::import(inputs::seven_bits(), inputs::turned_list(128)),
+    },
+    Single {
+        label: "Witness of a gap, file S with its last clause in another iso",
+        call: || Call::witness(inputs::s_with_gap()),
     },
     Single {
         label: "Witness of a gap, 31 clauses of 127 nodes",
-        call: || Call::witness(inputs::late_gap()),
+        call: || Call::witness(inputs::late_gap(5)),
+    },
+    Single {
+        label: "Witness of a gap, 127 clauses of 127 nodes",
+        call: || Call::witness(inputs::late_gap(7)),
+    },
+    Single {
+        label: "Witness of a gap, 127 clauses, 25 bits in a variable",
+        call: || Call::witness(inputs::gap_behind_variable()),
     },
     Single {
         label: "Witness of a gap, 1 of 4,294,967,296 settings, 32 clauses",
@@ -98,11 +111,15 @@ pub const SINGLES: [Single; 18] = [
     },
     Single {
         label: "Witness of an overlap, file S with its last line twice",
-        call: || Call::witness(inputs::s_with_last_line(2)),
+        call: || Call::witness(inputs::s_overlapping()),
     },
     Single {
         label: "Witness of an overlap, 32 clauses of 127 nodes",
-        call: || Call::witness(inputs::overlap()),
+        call: || Call::witness(inputs::overlap(32)),
+    },
+    Single {
+        label: "Witness of an overlap, 128 clauses of 127 nodes",
+        call: || Call::witness(inputs::overlap(128)),
     },
 ];
 

@@ -7,16 +7,41 @@ use std::collections::BTreeMap;
 const LINES: usize = 4_096;
 const NODES: usize = 127;
 const ISOS: usize = 32;
+/// The most clauses of an iso before request 13.
+const FEW: usize = 32;
 
 pub struct Candidate {
     pub label: &'static str,
     pub call: fn() -> Call,
 }
 
-/// All have 32 isos. In a late clash, the clauses of an iso differ only in the last nodes of patterns that
-/// fill a type of 127 nodes, so that each pair of clauses is walked nearly to the end. The let steps, as many
-/// as there is room for, have patterns of 127 nodes. Where no shape is named, trees are deep to the left.
-pub const CANDIDATES: [Candidate; 11] = [
+impl Candidate {
+    /// Whether an iso has more clauses than request 13 found.
+    pub fn has_many_clauses(&self) -> bool {
+        let call = (self.call)();
+        most_clauses(call.file()) > FEW
+    }
+}
+
+/// The clauses of the iso that has most.
+fn most_clauses(file: &[u8]) -> usize {
+    let mut most = 0;
+    let mut here = 0;
+    for line in file.split(|byte| *byte == b'\n') {
+        match line.first() {
+            Some(b'I') => here = 0,
+            Some(b'C') => here += 1,
+            _ => (),
+        }
+        most = most.max(here);
+    }
+    most
+}
+
+/// All have as many isos as the lines allow, up to 32. In a late clash, the clauses of an iso differ only in the last
+/// nodes of patterns that fill a type of 127 nodes. The let steps, as many as there is room for, have patterns of 127
+/// nodes. Where no number of clauses is named, an iso has 32; where no shape is named, trees are deep to the left.
+pub const CANDIDATES: [Candidate; 22] = [
     Candidate {
         label: "late clash, even trees",
         call: || {
@@ -77,15 +102,74 @@ pub const CANDIDATES: [Candidate; 11] = [
     },
     Candidate {
         label: "let steps over variables of 107 nodes",
-        call: || Call::check(threaded()),
+        call: || Call::check(threaded(5)),
     },
     Candidate {
         label: "clash in a nested sum, and let steps",
-        call: || Call::check(nested()),
+        call: || Call::check(nested(0, true)),
     },
     Candidate {
         label: "late clash and let steps, refused at the last iso",
-        call: refused,
+        call: || refused(late(DEEP)),
+    },
+    Candidate {
+        label: "let steps over trees around a variable",
+        call: || Call::check(around(5)),
+    },
+    Candidate {
+        label: "let steps over trees around a variable, 16 clauses an iso",
+        call: || Call::check(around(4)),
+    },
+    Candidate {
+        label: "late clash, 128 clauses",
+        call: || {
+            Call::check(late(Late {
+                steps: false,
+                ..MANY
+            }))
+        },
+    },
+    Candidate {
+        label: "late clash and let steps, 128 clauses",
+        call: || Call::check(late(MANY)),
+    },
+    Candidate {
+        label: "late clash and let steps, 128 clauses, even trees",
+        call: || {
+            Call::check(late(Late {
+                shape: Shape::Even,
+                ..MANY
+            }))
+        },
+    },
+    Candidate {
+        label: "late clash and let steps, 128 clauses, 1,024 P lines",
+        call: || {
+            Call::check(late(Late {
+                patterns: 1_024,
+                ..MANY
+            }))
+        },
+    },
+    Candidate {
+        label: "clash in a nested sum behind two bits, 128 clauses",
+        call: || Call::check(nested(2, false)),
+    },
+    Candidate {
+        label: "clash in a nested sum behind two bits, and let steps, 128 clauses",
+        call: || Call::check(nested(2, true)),
+    },
+    Candidate {
+        label: "let steps over variables of 99 nodes, 128 clauses",
+        call: || Call::check(threaded(7)),
+    },
+    Candidate {
+        label: "let steps over trees around a variable, 128 clauses",
+        call: || Call::check(around(7)),
+    },
+    Candidate {
+        label: "late clash and let steps, 128 clauses, refused at the last iso",
+        call: || refused(late(MANY)),
     },
 ];
 
@@ -138,6 +222,13 @@ impl Shape {
         })
     }
 
+    /// The same with another line for the whole.
+    fn of_pattern_again(self, draft: &mut Draft, nodes: usize) -> usize {
+        let left = self.left(nodes);
+        let [one, two] = [left, nodes - 1 - left].map(|part| self.of_patterns(draft, part));
+        draft.new_pattern(PAIR, one, two)
+    }
+
     /// The same of P lines that no other tree has.
     fn of_own_patterns(self, draft: &mut Draft, nodes: usize) -> usize {
         let mut known = BTreeMap::new();
@@ -177,28 +268,72 @@ const DEEP: Late = Late {
     ..EVEN
 };
 
+/// 128 clauses, with room for about as many let steps.
+const MANY: Late = Late { bits: 7, ..DEEP };
+
 fn late(plan: Late) -> Vec<u8> {
     let mut draft = Draft::default();
     let (front, back) = front_and_bits(&mut draft, plan.bits, plan.shape);
     let all = draft.type_of(PRODUCT, front, back);
-    let units = plan.shape.of_types(&mut draft, NODES);
-    let step = plan.shape.of_patterns(&mut draft, NODES);
-    let sides = late_sides(&mut draft, plan);
-    let half = plan.shape.of_patterns(&mut draft, NODES / 2);
-    while draft.patterns() < plan.patterns {
-        draft.new_pattern(PAIR, half, half);
-    }
+    let mut named = Named::default();
     if plan.steps {
-        draft.iso(units, units);
-        draft.clause(step, step);
+        let units = plan.shape.of_types(&mut draft, NODES);
+        let tree = plan.shape.of_patterns(&mut draft, NODES);
+        named = Named::new(units, tree);
     }
-    fill(&mut draft, all, sides.len(), |draft, place, steps| {
-        draft.clause(sides[place], sides[place]);
-        for _ in 0..if plan.steps { steps } else { 0 } {
-            draft.step(step, 0, step);
-        }
-    });
+    let sides = late_sides(&mut draft, plan);
+    while draft.patterns() < plan.patterns {
+        let line = plan.shape.of_pattern_again(&mut draft, NODES);
+        named.lines.push(line);
+    }
+    named.start(&mut draft);
+    let least = usize::from(plan.steps);
+    fill(
+        &mut draft,
+        all,
+        sides.len(),
+        least,
+        |draft, place, steps| {
+            draft.clause(sides[place], sides[place]);
+            named.steps(draft, least * steps);
+        },
+    );
     draft.into_bytes()
+}
+
+/// P lines of one type for let steps, which name them by turns and call the first iso.
+#[derive(Default)]
+struct Named {
+    ty: usize,
+    lines: Vec<usize>,
+    next: usize,
+}
+
+impl Named {
+    fn new(ty: usize, line: usize) -> Self {
+        let (lines, next) = (vec![line], 0);
+        Named { ty, lines, next }
+    }
+
+    /// The first iso, where there are any.
+    fn start(&self, draft: &mut Draft) {
+        if let Some(line) = self.lines.first() {
+            draft.iso(self.ty, self.ty);
+            draft.clause(*line, *line);
+        }
+    }
+
+    fn next(&mut self) -> usize {
+        self.next += 1;
+        self.lines[self.next % self.lines.len()]
+    }
+
+    fn steps(&mut self, draft: &mut Draft, count: usize) {
+        for _ in 0..count {
+            let (p, q) = (self.next(), self.next());
+            draft.step(p, 0, q);
+        }
+    }
 }
 
 /// The sides of the clauses.
@@ -243,11 +378,19 @@ fn bit_patterns(draft: &mut Draft, bits: usize) -> Vec<usize> {
     all
 }
 
-/// The isos up to the 32nd, each with as many let steps as fill the file; `clause` writes the clause at a
-/// place with a number of let steps.
-fn fill(draft: &mut Draft, ty: usize, clauses: usize, clause: impl Fn(&mut Draft, usize, usize)) {
-    for iso in draft.isos()..ISOS {
-        let lines = (LINES - draft.lines()) / (ISOS - iso);
+/// The isos up to the 32nd, or as many as there are lines for with `least` let steps a clause; each has as many let
+/// steps as fill the file. `clause` writes the clause at a place with a number of let steps.
+fn fill(
+    draft: &mut Draft,
+    ty: usize,
+    clauses: usize,
+    least: usize,
+    mut clause: impl FnMut(&mut Draft, usize, usize),
+) {
+    let room = LINES - draft.lines();
+    let isos = (room / (1 + clauses * (1 + least))).min(ISOS - draft.isos());
+    for left in (1..=isos).rev() {
+        let lines = (LINES - draft.lines()) / left;
         let steps = (lines - 1 - clauses).min(8 * clauses);
         draft.iso(ty, ty);
         for place in 0..clauses {
@@ -257,63 +400,116 @@ fn fill(draft: &mut Draft, ty: usize, clauses: usize, clause: impl Fn(&mut Draft
     }
 }
 
-/// The left side binds a variable of the tree's type, each let step hands it on, the right side uses it.
-fn threaded() -> Vec<u8> {
+/// The left side binds a variable of the tree's type, eight let steps hand it on, the right side uses it.
+fn threaded(bits: usize) -> Vec<u8> {
     let mut draft = Draft::default();
-    let (front, back) = front_and_bits(&mut draft, 5, Shape::Leftward);
+    let (front, back) = front_and_bits(&mut draft, bits, Shape::Leftward);
     let all = draft.type_of(PRODUCT, front, back);
-    let variables: Vec<usize> = (0..9).map(|n| draft.pattern(VARIABLE, n, 0)).collect();
-    let bits = bit_patterns(&mut draft, 5);
-    let mut sides = Vec::new();
-    for variable in &variables {
-        let pair = |bits: &usize| draft.pattern(PAIR, *variable, *bits);
-        sides.push(bits.iter().map(pair).collect::<Vec<_>>());
-    }
+    let variables = [0, 1].map(|n| draft.pattern(VARIABLE, n, 0));
+    let closed = bit_patterns(&mut draft, bits);
+    let side = |bits: &usize| draft.pattern(PAIR, variables[0], *bits);
+    let sides: Vec<usize> = closed.iter().map(side).collect();
     draft.iso(front, front);
     draft.clause(variables[0], variables[0]);
-    fill(&mut draft, all, bits.len(), |draft, place, steps| {
-        draft.clause(sides[0][place], sides[steps][place]);
-        for step in 0..steps {
-            draft.step(variables[step + 1], 0, variables[step]);
-        }
+    fill(&mut draft, all, sides.len(), 8, |draft, place, _| {
+        draft.clause(sides[place], sides[place]);
+        there_and_back(draft, variables);
     });
     draft.into_bytes()
 }
 
-/// The clauses part at the sides of one sum of 32 units, nested to the right.
-fn nested() -> Vec<u8> {
+/// The same with a variable of a unit, innermost in a tree: on both sides, and in each let step one of 127 nodes.
+fn around(bits: usize) -> Vec<u8> {
+    let mut draft = Draft::default();
+    let (front, back) = front_and_bits(&mut draft, bits, Shape::Leftward);
+    let all = draft.type_of(PRODUCT, front, back);
+    let units = Shape::Leftward.of_types(&mut draft, NODES);
+    let closed = bit_patterns(&mut draft, bits);
+    let unit = draft.pattern(0, 0, 0);
+    let mut tree = |number: usize, nodes: usize| {
+        let variable = draft.pattern(VARIABLE, number, 0);
+        (0..nodes / 2).fold(variable, |tree, _| draft.pattern(PAIR, tree, unit))
+    };
+    let front = tree(0, front_nodes(bits));
+    let trees = [0, 1].map(|number| tree(number, NODES));
+    let side = |bits: &usize| draft.pattern(PAIR, front, *bits);
+    let sides: Vec<usize> = closed.iter().map(side).collect();
+    draft.iso(units, units);
+    draft.clause(trees[0], trees[0]);
+    fill(&mut draft, all, sides.len(), 8, |draft, place, _| {
+        draft.clause(sides[place], sides[place]);
+        there_and_back(draft, trees);
+    });
+    draft.into_bytes()
+}
+
+/// Eight let steps, which send the first of two patterns to the second, and the second to the first.
+fn there_and_back(draft: &mut Draft, [one, two]: [usize; 2]) {
+    for _ in 0..4 {
+        draft.step(two, 0, one);
+        draft.step(one, 0, two);
+    }
+}
+
+/// The clauses part at the sides of one sum of 32 units, nested to the right, behind some closed bits.
+fn nested(bits: usize, steps: bool) -> Vec<u8> {
     let mut draft = Draft::default();
     let shape = Shape::Leftward;
+    let nodes = NODES / 2 - 4 * bits;
     let unit = draft.type_of(0, 0, 0);
-    let sum = (1..32).fold(unit, |sum, _| draft.type_of(SUM, unit, sum));
-    let front = shape.of_types(&mut draft, NODES / 2);
-    let all = draft.type_of(PRODUCT, front, sum);
-    let units = shape.of_types(&mut draft, NODES);
-    let step = shape.of_patterns(&mut draft, NODES);
-    let front = shape.of_patterns(&mut draft, NODES / 2);
-    let mut sides = Vec::new();
-    for depth in 0..32 {
-        let unit = draft.pattern(0, 0, 0);
-        let last = if depth < 31 {
-            draft.pattern(LEFT, unit, 0)
-        } else {
-            unit
-        };
-        let side = (0..depth).fold(last, |side, _| draft.pattern(RIGHT, side, 0));
-        sides.push(draft.pattern(PAIR, front, side));
+    let mut back = (1..32).fold(unit, |sum, _| draft.type_of(SUM, unit, sum));
+    for _ in 0..bits {
+        let bit = draft.type_of(SUM, unit, unit);
+        back = draft.type_of(PRODUCT, bit, back);
     }
-    draft.iso(units, units);
-    draft.clause(step, step);
-    fill(&mut draft, all, sides.len(), |draft, place, steps| {
-        draft.clause(sides[place], sides[place]);
-        (0..steps).for_each(|_| draft.step(step, 0, step));
-    });
+    let front = shape.of_types(&mut draft, nodes);
+    let all = draft.type_of(PRODUCT, front, back);
+    let mut named = Named::default();
+    if steps {
+        let units = shape.of_types(&mut draft, NODES);
+        named = Named::new(units, shape.of_patterns(&mut draft, NODES));
+    }
+    let sides = nested_sides(&mut draft, bits, nodes);
+    named.start(&mut draft);
+    let least = usize::from(steps);
+    fill(
+        &mut draft,
+        all,
+        sides.len(),
+        least,
+        |draft, place, steps| {
+            draft.clause(sides[place], sides[place]);
+            named.steps(draft, least * steps);
+        },
+    );
     draft.into_bytes()
 }
 
-/// The file without its last clause: a gap on the left of the last iso.
-fn refused() -> Call {
-    let mut file = late(DEEP);
+/// A tree of so many nodes, the bits and a side of the sum.
+fn nested_sides(draft: &mut Draft, bits: usize, nodes: usize) -> Vec<usize> {
+    let unit = draft.pattern(0, 0, 0);
+    let mut sides = Vec::new();
+    for depth in 0..32 {
+        let last = match depth {
+            31 => unit,
+            _ => draft.pattern(LEFT, unit, 0),
+        };
+        sides.push((0..depth).fold(last, |side, _| draft.pattern(RIGHT, side, 0)));
+    }
+    for _ in 0..bits {
+        let mut more = Vec::new();
+        for end in bit_patterns(draft, 1) {
+            more.extend(sides.iter().map(|side| draft.pattern(PAIR, end, *side)));
+        }
+        sides = more;
+    }
+    let front = Shape::Leftward.of_patterns(draft, nodes);
+    let side = |side: &usize| draft.pattern(PAIR, front, *side);
+    sides.iter().map(side).collect()
+}
+
+/// A file without its last clause: a gap on the left of the last iso.
+fn refused(mut file: Vec<u8>) -> Call {
     let last = |letter: u8| {
         let here = |two: &[u8]| two == [b'\n', letter];
         file.windows(2)
@@ -336,6 +532,8 @@ mod tests {
         for candidate in &CANDIDATES {
             let call = (candidate.call)();
             assert!(call.lines() <= LINES, "{}", candidate.label);
+            let many = candidate.label.contains("128 clauses");
+            assert_eq!(candidate.has_many_clauses(), many, "{}", candidate.label);
             call.agree();
         }
     }

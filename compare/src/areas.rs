@@ -2,6 +2,7 @@
 //! noise before a call and compared whole after it.
 
 use crate::service::Lent;
+use apart::areas::TABLE;
 use apart::generate::random::Random;
 use std::fmt::Display;
 
@@ -12,6 +13,8 @@ pub enum Kind {
     Longer,
     /// Too short by one.
     Short,
+    /// Too short by more, and not empty.
+    Fewer,
     Empty,
 }
 
@@ -22,7 +25,8 @@ impl Kind {
             _ if length == least => Kind::Exact,
             _ if length > least => Kind::Longer,
             _ if length + 1 == least => Kind::Short,
-            _ => Kind::Empty,
+            0 => Kind::Empty,
+            _ => Kind::Fewer,
         }
     }
 }
@@ -31,13 +35,15 @@ impl Kind {
 const MARGIN: usize = 64;
 /// The most by which a longer area is longer.
 const LONGER: usize = 500;
+/// The length of a table before request 10.
+pub const FORMER_TABLE: usize = 16_384;
 const NOISE: usize = 100_000;
 
 /// Random cells to fill the buffers with.
 pub struct Noise {
-    bytes: Vec<u8>,
-    narrow: Vec<u16>,
-    wide: Vec<u32>,
+    pub(crate) bytes: Vec<u8>,
+    pub(crate) narrow: Vec<u16>,
+    pub(crate) wide: Vec<u32>,
 }
 
 impl Noise {
@@ -65,6 +71,7 @@ impl Shape {
             Kind::Exact => least,
             Kind::Longer => least + 1 + random.below(LONGER),
             Kind::Short => least.saturating_sub(1),
+            Kind::Fewer => fewer(random, least),
             Kind::Empty => 0,
         };
         Shape {
@@ -72,6 +79,19 @@ impl Shape {
             length,
             behind: random.below(MARGIN),
             noise: random.below(NOISE),
+        }
+    }
+}
+
+/// A length between none and one too few; that of a table is often the one that
+/// it had before.
+fn fewer(random: &mut Random, least: usize) -> usize {
+    match least {
+        0..=2 => least.saturating_sub(1),
+        TABLE if random.chance(60) => FORMER_TABLE,
+        _ => {
+            let any = 1 + random.below(least - 2);
+            *random.pick(&[1, least / 2, least - 2, any])
         }
     }
 }
@@ -85,7 +105,7 @@ pub struct Buffer<T> {
 }
 
 impl<T: Copy + PartialEq + Display> Buffer<T> {
-    fn new() -> Buffer<T> {
+    pub(crate) fn new() -> Buffer<T> {
         Buffer {
             cells: Vec::new(),
             front: 0,
@@ -93,7 +113,7 @@ impl<T: Copy + PartialEq + Display> Buffer<T> {
         }
     }
 
-    fn fill(&mut self, shape: Shape, noise: &[T]) {
+    pub(crate) fn fill(&mut self, shape: Shape, noise: &[T]) {
         self.front = shape.front;
         self.length = shape.length;
         self.cells.clear();
@@ -112,7 +132,7 @@ impl<T: Copy + PartialEq + Display> Buffer<T> {
 
     /// The first element in which two buffers differ, lent or not; elements
     /// are counted from the first one lent.
-    fn difference(&self, other: &Buffer<T>, name: &str) -> Option<String> {
+    pub(crate) fn difference(&self, other: &Buffer<T>, name: &str) -> Option<String> {
         if self.cells == other.cells {
             return None;
         }

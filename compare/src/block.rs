@@ -6,8 +6,10 @@ use crate::case::{self, Case};
 use crate::ceilings;
 use crate::desk::{difference, numbers, Program};
 use crate::endings;
+use crate::idle;
 use crate::input::{self, Input};
 use crate::list;
+use crate::longer;
 use crate::service::{Ask, Call, Services};
 use crate::tally::{
     Tally, FILE, LIBRARY, QUERY, RULES, THERE_AND_BACK, TURNED_ACCEPTED, TURNED_TWICE,
@@ -16,6 +18,7 @@ use crate::trip::{Step, Trip};
 use crate::variables;
 use apart::areas::Known;
 use apart::desk::desk;
+use apart::generate::pair;
 use apart::generate::random::Random;
 use apart::{before, turn_rules, Rules};
 use std::io;
@@ -54,21 +57,15 @@ impl<P: Program, S: Services> Block<P, S> {
         let answered = self.desk(&input)?;
         self.tally.files += 1;
         variables::count(&mut self.tally, &known, variables::RULES);
+        idle::count(&mut self.tally, &known, idle::RULES);
         self.before(&known, &trips, &input);
         self.services(random, &known, &trips);
         variables::count(&mut self.tally, &known, variables::LIBRARY);
+        idle::count(&mut self.tally, &known, idle::LIBRARY);
+        longer::count_file(&mut self.tally, &known);
         let list = list::make(random, case, &known, &input.bytes[file.len()..]);
         self.calls.sheet(random, &mut self.tally, &known, &list);
-        self.calls.settings(random, &mut self.tally, case, &known);
-        self.calls.overlaps(random, &mut self.tally, &known);
-        if case == Case::Longest {
-            self.calls.late_clash(random, &mut self.tally);
-        }
-        self.calls.bounds(random, &mut self.tally, case, &known);
-        self.calls.witness(random, &mut self.tally, &known);
-        if matches!(case, Case::Counted(_)) {
-            self.calls.faults(random, &mut self.tally);
-        }
+        self.requests(random, case, &known);
         endings::count_queries(&mut self.tally, &known, &input.bytes, &list);
         if random.chance(20) {
             self.other_endings(random, &known, &input.bytes, &list)?;
@@ -80,10 +77,23 @@ impl<P: Program, S: Services> Block<P, S> {
             }
             self.turned(random, &known, &turn_rules(rules), &trips)?;
         }
-        self.calls.pair_lists(random, &mut self.tally, case, &known);
-        let often = matches!(case, Case::Counted(_));
-        self.calls.plays(random, &mut self.tally, &known, often);
         Ok(answered)
+    }
+
+    /// The services of later requests on a file.
+    fn requests(&mut self, random: &mut Random, case: Case, known: &Known) {
+        self.calls.settings(random, &mut self.tally, case, known);
+        self.calls.overlaps(random, &mut self.tally, known);
+        if case == Case::Longest {
+            self.calls.late_clash(random, &mut self.tally);
+        }
+        self.calls.bounds(random, &mut self.tally, case, known);
+        self.calls.witness(random, &mut self.tally, known);
+        if matches!(case, Case::Counted(_)) {
+            self.calls.faults(random, &mut self.tally);
+        }
+        self.calls.pair_lists(random, &mut self.tally, case, known);
+        self.calls.plays(random, &mut self.tally, case, known);
     }
 
     /// Compares the check of the file with what the case says beforehand.
@@ -97,7 +107,10 @@ impl<P: Program, S: Services> Block<P, S> {
                 let text = format!("{case:?} has to give {wanted:?}, here {given:?}");
                 self.tally.mismatch(text, known.file.to_vec());
             }
-            (_, Case::Pair(pair, 0)) => self.tally.pairs[pair] += 1,
+            (_, Case::Pair(pair, 0)) => {
+                self.tally.pairs[pair] += 1;
+                idle::count_pair(&mut self.tally, pair::all()[pair]);
+            }
             _ => {}
         }
     }

@@ -5,10 +5,10 @@ use crate::areas::{Areas, Kind, Noise, Shape};
 use crate::bounds;
 use crate::overlaps;
 use crate::pair_lists;
-use crate::play;
 use crate::service::{expected, query, Answer, Ask, Call, Services};
 use crate::settings;
 use crate::sheets::{self, Given};
+use crate::sizes;
 use crate::tally::{Tally, BY_SHEET, CHECK, ISO_ABOVE_65535, LETTERS, LIBRARY, RUN, SHORT, TURN};
 use crate::witness;
 use apart::areas::{Known, RESULT};
@@ -23,10 +23,10 @@ use apart::run_rules;
 use apart::sheet::{NUMBERS, QUERIES};
 
 pub struct Calls<S> {
-    services: S,
+    pub(crate) services: S,
     ours: Areas,
     theirs: Areas,
-    noise: Noise,
+    pub(crate) noise: Noise,
 }
 
 /// Kinds of areas that are long enough.
@@ -39,14 +39,20 @@ pub fn short(random: &mut Random, call: Call) -> [Kind; 4] {
     let mut kinds = fit(random);
     let more = usize::from(random.chance(10));
     for _ in 0..1 + more {
-        let kind = if random.chance(70) {
-            Kind::Short
-        } else {
-            Kind::Empty
-        };
-        kinds[random.below(call.areas())] = kind;
+        kinds[random.below(call.areas())] = too_short(random);
     }
     kinds
+}
+
+/// A kind of area that is not long enough, most often by one.
+pub fn too_short(random: &mut Random) -> Kind {
+    *random.pick(&[
+        Kind::Short,
+        Kind::Short,
+        Kind::Short,
+        Kind::Fewer,
+        Kind::Empty,
+    ])
 }
 
 impl<S: Services> Calls<S> {
@@ -76,6 +82,12 @@ impl<S: Services> Calls<S> {
         let theirs = self.services.call(known.file, call, self.theirs.lend());
         let lengths = shapes.map(|shape| shape.length);
         count(tally, known, call, lengths, &ours);
+        sizes::count(
+            tally,
+            sizes::column(call),
+            self.ours.table.lent(),
+            ours.number,
+        );
         settings::count(tally, known, call, &ours, &theirs);
         overlaps::count(tally, known, call, &ours, &theirs);
         bounds::count(tally, known, call, &ours, &theirs);
@@ -90,11 +102,6 @@ impl<S: Services> Calls<S> {
             tally.mismatch(text, input(known.file, call));
         }
         theirs
-    }
-
-    /// Plays on a file.
-    pub fn plays(&mut self, random: &mut Random, tally: &mut Tally, known: &Known, often: bool) {
-        play::plays(&mut self.services, random, tally, known, often);
     }
 
     /// What the services have written to the last call's output or result.

@@ -1,12 +1,14 @@
 //! Which files are made.
 
-use crate::{bounds, pair_lists, settings, shuffle, witness};
+use crate::{bounds, longer, pair_lists, settings, shuffle, witness};
 use apart::generate::ceiling::{self, Ceiling, CEILINGS};
 use apart::generate::idle::{self, IDLES};
 use apart::generate::life::SLIPS;
+use apart::generate::listed::{self, Limit};
+use apart::generate::longer::{weighed, Weight};
 use apart::generate::random::Random;
 use apart::generate::shown::Form;
-use apart::generate::{accepted, any_file, ending, miss, pair, query, thread, tower};
+use apart::generate::{self, accepted, any_file, ending, miss, pair, query, thread, tower};
 use apart::{check, Rules};
 
 #[derive(Debug, Clone, Copy, PartialEq, Eq)]
@@ -54,9 +56,12 @@ pub enum Case {
     Bounded(usize, bool),
     /// Eight calls of the iso below in each of 32 isos.
     Deep,
-    /// An accepted file with isos on types around the limits of pair lists, by
-    /// the place of the limit.
-    Listed(usize),
+    /// An accepted file with isos on types around a limit of pair lists.
+    Listed(Limit),
+    /// An iso of so many clauses, for which the number is given.
+    Longer(u8, usize),
+    /// An iso of patterns of these weights, for which the number is given.
+    Weighed(Weight, u8),
     /// Clauses of one iso at fault in different ways, 3 to 7 or 8 to 10.
     Several(bool),
     /// Refused with one of 11 to 14, by the values that show the fault.
@@ -74,6 +79,7 @@ pub fn always() -> Vec<Case> {
     cases.extend(bounds::cases());
     cases.extend(witness::cases());
     cases.extend(pair_lists::cases());
+    cases.extend(longer::cases());
     for over in [false, true].repeat(5) {
         cases.extend([Case::Stack, Case::Longest, Case::Bytes(over)]);
         cases.extend([Case::Several(over); 3]);
@@ -88,8 +94,11 @@ pub fn always() -> Vec<Case> {
         cases.extend([Case::ReturnBytes(over), Case::Across]);
     }
     cases.extend((3..15).chain([21]).map(Case::Returns));
-    for pair in 0..pair::all().len() {
-        cases.extend((0..3).map(|file| Case::Pair(pair, file)));
+    for (place, pair) in pair::all().iter().enumerate() {
+        let idle = [pair.first, pair.second].contains(&21);
+        for _ in 0..if idle { 4 } else { 1 } {
+            cases.extend((0..3).map(|file| Case::Pair(place, file)));
+        }
     }
     cases
 }
@@ -131,7 +140,9 @@ pub fn file(random: &mut Random, case: Case) -> (Vec<u8>, Option<(u8, usize)>) {
         Case::Across => (ending::across(random), Some((0, 0))),
         Case::Returns(number) => (ending::all_resaved(&miss::aimed(random, number)), None),
         Case::Bounded(..) | Case::Deep => (bounds::file(random, case), Some((0, 0))),
-        Case::Listed(place) => (pair_lists::file(random, place), Some((0, 0))),
+        Case::Listed(limit) => (listed::file(random, limit), Some((0, 0))),
+        Case::Longer(number, count) => (generate::longer::file(random, number, count), None),
+        Case::Weighed(weight, number) => (weighed(random, weight, number), None),
         Case::Several(form) => (shuffle::several(random, form), None),
         Case::Shown(..) => (witness::file(random, case), None),
         Case::Accepted | Case::Full(_) => (accepted(random), Some((0, 0))),
@@ -171,7 +182,9 @@ pub fn routes(random: &mut Random, case: Case, rules: &Rules) -> Vec<(u16, u32)>
     match case {
         Case::Stack => return vec![(last, 3_000)],
         // The clause in question is one of the last iso.
-        Case::Again | Case::Crowded => return vec![(last, 3_000); 4],
+        Case::Again | Case::Crowded | Case::Longer(..) | Case::Weighed(..) => {
+            return vec![(last, 3_000); 4]
+        }
         _ => {}
     }
     let count = 1 + usize::from(random.chance(30));

@@ -1,8 +1,7 @@
 //! Calls of settings as numbers with one fault and with two: which of the two
 //! is given, and what is given when either is mended.
 
-use crate::areas::Kind;
-use crate::calls::{fit, input, Calls};
+use crate::calls::{fit, input, too_short, Calls};
 use crate::grid::Grid;
 use crate::service::{Call, Services};
 use crate::tally::Tally;
@@ -10,11 +9,12 @@ use apart::areas::Known;
 use apart::generate::counted::{self, COUNTS};
 use apart::generate::query::sample;
 use apart::generate::random::Random;
+use apart::lines::split;
 use apart::numbering::{values, VALUES};
 use apart::{check, Rules};
 
-/// What may be wrong with a call, in the order of the refusals: 1, 2, 3 to 14,
-/// 15, 18, and 16 or 19.
+/// What may be wrong with a call, in the order of the refusals: 1, 2, 3 to 14
+/// and 21, 15, 18, and 16 or 19.
 #[derive(Debug, Clone, Copy, PartialEq, Eq, PartialOrd, Ord)]
 pub enum Fault {
     ShortArea,
@@ -47,7 +47,7 @@ fn number(fault: Fault, last: &str) -> &str {
     match fault {
         ShortArea => "1",
         LongFile => "2",
-        RefusedFile => "3 to 14",
+        RefusedFile => "3 to 14, 21",
         AbsentLine => "15",
         TooMany => "18",
         Last => last,
@@ -137,15 +137,22 @@ fn wrong(random: &mut Random, letters: &[u8]) -> Vec<u8> {
     wrong
 }
 
-/// What makes a file refused, behind all its lines, or too long.
-pub fn tail(random: &mut Random, fault: Fault) -> Vec<u8> {
-    let refused = *random.pick(&[&b"x\n"[..], b"T,0,0,0\n", b"I,0,0\n", b"P"]);
-    match fault {
-        RefusedFile => refused.to_vec(),
-        LongFile if random.chance(50) => vec![b'\n'; 4_096],
-        LongFile => vec![b'T'; 65_536],
-        _ => Vec::new(),
+/// The file with lines behind its own that make it too long.
+pub fn lengthened(random: &mut Random, file: &[u8]) -> Vec<u8> {
+    let lines = [vec![b'\n'; 4_096], vec![b'T'; 65_536]];
+    [file, &random.pick(&lines)[..]].concat()
+}
+
+/// The file with a line that makes it refused, behind all others or, where it is
+/// an idle one, behind the T lines.
+pub fn refused(random: &mut Random, file: &[u8]) -> Vec<u8> {
+    let lines = ["x\n", "T,0,0,0\n", "I,0,0\n", "P"];
+    if random.chance(75) {
+        return [file, random.pick(&lines).as_bytes()].concat();
     }
+    let types = split(file).into_iter().take_while(|line| line[0] == b'T');
+    let (above, below) = file.split_at(types.map(|line| line.len()).sum());
+    [above, b"T,0,0,0\n", below].concat()
 }
 
 /// The number of a T line that the file has not; all but the first would be one
@@ -197,8 +204,11 @@ impl<S: Services> Calls<S> {
         to_number: bool,
     ) {
         let has = |fault| faults.contains(&fault);
-        let tails = faults.iter().flat_map(|fault| tail(random, *fault));
-        let file: Vec<u8> = base.file.iter().copied().chain(tails).collect();
+        let file = match (has(LongFile), has(RefusedFile)) {
+            (true, _) => lengthened(random, &base.file),
+            (_, true) => refused(random, &base.file),
+            _ => base.file.clone(),
+        };
         let line = if has(TooMany) { &base.many } else { &base.good };
         let ty = if has(AbsentLine) {
             absent(random, base.types, line.place)
@@ -213,7 +223,7 @@ impl<S: Services> Calls<S> {
         };
         let mut kinds = fit(random);
         if has(ShortArea) {
-            kinds[random.below(call.areas())] = *random.pick(&[Kind::Short, Kind::Empty]);
+            kinds[random.below(call.areas())] = too_short(random);
         }
         let known = Known::of(&file);
         let answer = self.call(random, tally, &known, call, kinds);

@@ -3,8 +3,8 @@
 //! clash and pairs, and bounds on refusal too. This module has all `unsafe` of
 //! the package.
 
-use crate::play::Play;
 use crate::service::{Answer, Ask, Call, Lent};
+use apart::units;
 use std::ptr::{null, null_mut};
 
 #[repr(C)]
@@ -76,14 +76,6 @@ struct WrittenAnswer {
     number: u32,
     line: usize,
     length: usize,
-}
-
-/// What came of the visits of a play.
-#[repr(C)]
-struct PlayTally {
-    done: u32,
-    skipped: u32,
-    spent: u32,
 }
 
 extern "C" {
@@ -237,7 +229,7 @@ extern "C" {
         script: *const u8,
         script_length: usize,
         budget: u32,
-        tally: *mut PlayTally,
+        tally: *mut units::Tally,
     ) -> CheckAnswer;
 }
 
@@ -558,33 +550,25 @@ fn import(file: &[u8], [from, to]: [u32; 2], list: &[u8], lent: Lent) -> Answer 
     })
 }
 
-pub fn play(file: &[u8], play: &mut Play) -> (u32, usize) {
-    let mut tally = PlayTally {
-        done: play.tally.done,
-        skipped: play.tally.skipped,
-        spent: play.tally.spent,
-    };
+pub fn play(file: &[u8], script: &[u8], budget: u32, lent: units::Lent) -> (u32, usize) {
     // SAFETY: as for `check`; the record is one struct of C's layout.
     let given = unsafe {
         rulefile_play(
             begin(file),
             file.len(),
-            start(&mut play.table),
-            play.table.len(),
-            start(&mut play.work),
-            play.work.len(),
-            start(&mut play.types),
-            play.types.len(),
-            start(&mut play.settings),
-            play.settings.len(),
-            begin(&play.script),
-            play.script.len(),
-            play.budget,
-            &mut tally,
+            start(lent.table),
+            lent.table.len(),
+            start(lent.work),
+            lent.work.len(),
+            start(lent.types),
+            lent.types.len(),
+            start(lent.settings),
+            lent.settings.len(),
+            begin(script),
+            script.len(),
+            budget,
+            lent.tally,
         )
     };
-    play.tally.done = tally.done;
-    play.tally.skipped = tally.skipped;
-    play.tally.spent = tally.spent;
     (given.number, given.line)
 }

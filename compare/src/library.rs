@@ -2,7 +2,6 @@
 //! each call takes one at random.
 
 use crate::foreign;
-use crate::play::Play;
 use crate::service::{Answer, Ask, Call, Lent, Services};
 use apart::generate::random::Random;
 use apart::units;
@@ -29,34 +28,34 @@ impl Services for Library {
         }
     }
 
-    fn play(&mut self, file: &[u8], play: &mut Play) -> (u32, usize) {
+    fn play(
+        &mut self,
+        file: &[u8],
+        (script, budget): (&[u8], u32),
+        lent: units::Lent,
+    ) -> (u32, usize) {
         if self.random.chance(50) {
-            return foreign::play(file, play);
+            return foreign::play(file, script, budget, lent);
         }
-        let units::Tally {
-            done,
-            skipped,
-            spent,
-        } = play.tally;
-        let mut tally = rulefile::Tally {
-            done,
-            skipped,
-            spent,
+        let mut record = rulefile::Tally {
+            done: lent.tally.done,
+            skipped: lent.tally.skipped,
+            spent: lent.tally.spent,
         };
         let given = rulefile::play(
             file,
-            &mut play.table,
-            &mut play.work,
-            &mut play.types,
-            &mut play.settings,
-            &play.script,
-            play.budget,
-            &mut tally,
+            lent.table,
+            lent.work,
+            lent.types,
+            lent.settings,
+            script,
+            budget,
+            &mut record,
         );
-        play.tally = units::Tally {
-            done: tally.done,
-            skipped: tally.skipped,
-            spent: tally.spent,
+        *lent.tally = units::Tally {
+            done: record.done,
+            skipped: record.skipped,
+            spent: record.spent,
         };
         match given {
             Ok(()) => (0, 0),

@@ -1,9 +1,8 @@
 //! Calls for pair lists with one fault and with two: which of the two is given,
 //! whichever stands first, and what is given when either is mended.
 
-use crate::areas::Kind;
-use crate::calls::{fit, input, Calls};
-use crate::faults::{absent, tail, Fault};
+use crate::calls::{fit, input, too_short, Calls};
+use crate::faults::{absent, lengthened, refused};
 use crate::grid::Grid;
 use crate::service::{Call, Services};
 use crate::tally::Tally;
@@ -32,13 +31,15 @@ pub enum Slip {
     BadList,
     /// Over 1,024 P lines in the file that would be written.
     Writing,
+    /// Over 40 left and right nodes in one of them.
+    Deep,
 }
 
 use Slip::*;
 
 /// The slips of either way, in the order of the refusals.
 pub const OF_EXPORT: [Slip; 6] = [ShortArea, LongFile, RefusedFile, Absent, TooMany, Spent];
-pub const OF_IMPORT: [Slip; 8] = [
+pub const OF_IMPORT: [Slip; 9] = [
     ShortArea,
     LongFile,
     RefusedFile,
@@ -47,6 +48,7 @@ pub const OF_IMPORT: [Slip; 8] = [
     ManyLines,
     BadList,
     Writing,
+    Deep,
 ];
 
 /// Columns: both slips, both with their places exchanged, the first alone, the
@@ -55,13 +57,13 @@ const COLUMNS: &[&str] = &["both", "exchanged", "first", "second"];
 const EXCHANGED: usize = 1;
 
 /// All pairs of the slips, the one that is given first. Those of the file itself
-/// are Check's.
+/// are Check's; the two last ones are not told apart.
 pub fn pairs(slips: &[Slip]) -> Vec<[Slip; 2]> {
     let mut pairs = Vec::new();
     for (place, one) in slips.iter().enumerate() {
         pairs.extend(slips[place + 1..].iter().map(|other| [*one, *other]));
     }
-    pairs.retain(|pair| *pair != [LongFile, RefusedFile]);
+    pairs.retain(|pair| ![[LongFile, RefusedFile], [Writing, Deep]].contains(pair));
     pairs
 }
 
@@ -70,13 +72,14 @@ fn number(slip: Slip) -> &'static str {
     match slip {
         ShortArea => "1",
         LongFile => "2",
-        RefusedFile => "3 to 14",
+        RefusedFile => "3 to 14, 21",
         Absent => "15",
         TooMany => "18",
         Spent => "17",
         ManyLines => "7 for 129 lines",
         BadList => "20",
         Writing => "7 for P lines",
+        Deep => "7 for nodes",
     }
 }
 
@@ -113,12 +116,16 @@ struct Base {
     count: usize,
     many: u32,
     long: u32,
+    /// A T line with values of over 40 left and right nodes, and how many it has.
+    deep: u32,
+    deep_count: usize,
 }
 
 /// The places of the isos in a file of these.
 const GOOD_ISO: usize = 1;
 const MANY_ISO: usize = 2;
 const LONG_ISO: usize = 3;
+const DEEP_ISO: usize = 4;
 
 impl Base {
     fn new(random: &mut Random) -> Base {
@@ -136,6 +143,8 @@ impl Base {
             count: values(from) as usize,
             many: line(&rules.isos[MANY_ISO].from),
             long: line(&rules.isos[LONG_ISO].from),
+            deep: line(&rules.isos[DEEP_ISO].from),
+            deep_count: values(&rules.isos[DEEP_ISO].from) as usize,
             isos: rules.isos.len() as u32,
             types: rules.types.len() as u32,
             file,
@@ -154,12 +163,12 @@ impl Slips<'_> {
         self.all.contains(&slip)
     }
 
-    /// What makes a file refused or too long, behind all its lines.
-    fn tail(&self, random: &mut Random) -> Vec<u8> {
+    /// The file, too long or refused where that is a slip.
+    fn file(&self, random: &mut Random, file: &[u8]) -> Vec<u8> {
         match (self.has(LongFile), self.has(RefusedFile)) {
-            (true, _) => tail(random, Fault::LongFile),
-            (_, true) => tail(random, Fault::RefusedFile),
-            _ => Vec::new(),
+            (true, _) => lengthened(random, file),
+            (_, true) => refused(random, file),
+            _ => file.to_vec(),
         }
     }
 
@@ -188,6 +197,9 @@ impl Slips<'_> {
         if self.has(Writing) {
             types = [base.long; 2];
         }
+        if self.has(Deep) {
+            types = [base.deep; 2];
+        }
         let side = usize::from(self.exchanged);
         if self.has(TooMany) {
             types[side] = base.many;
@@ -200,10 +212,10 @@ impl Slips<'_> {
     }
 
     fn list(&self, random: &mut Random, base: &Base) -> Vec<u8> {
-        let mut count = if self.has(Writing) {
-            listed::SUMMED
-        } else {
-            base.count
+        let mut count = match (self.has(Writing), self.has(Deep)) {
+            (true, _) => listed::SUMMED,
+            (_, true) => base.deep_count,
+            _ => base.count,
         };
         if self.has(ManyLines) {
             count = CLAUSES + 1 + random.below(3);
@@ -233,7 +245,7 @@ impl Slips<'_> {
             (Absent, _) => 15,
             (TooMany, _) => 18,
             (Spent, _) => 17,
-            (ManyLines | Writing, _) => 7,
+            (ManyLines | Writing | Deep, _) => 7,
             (BadList, _) => 20,
         }
     }
@@ -282,10 +294,10 @@ impl<S: Services> Calls<S> {
         slips: &Slips,
         call: Call,
     ) {
-        let file = [base.file.clone(), slips.tail(random)].concat();
+        let file = slips.file(random, &base.file);
         let mut kinds = fit(random);
         if slips.has(ShortArea) {
-            kinds[random.below(call.areas())] = *random.pick(&[Kind::Short, Kind::Empty]);
+            kinds[random.below(call.areas())] = too_short(random);
         }
         let known = Known::of(&file);
         let answer = self.call(random, tally, &known, call, kinds);

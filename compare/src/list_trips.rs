@@ -61,7 +61,7 @@ fn repeats(file: &[u8]) -> bool {
     lines.windows(2).any(|two| two[0] == two[1])
 }
 
-/// An iso of at most 32 values, if there is one.
+/// An iso of at most 128 values, if there is one.
 fn short_iso(random: &mut Random, rules: &Rules) -> Option<u32> {
     let few = |iso: &usize| values(&rules.isos[*iso].from) <= CLAUSES as u64;
     let isos: Vec<usize> = (0..rules.isos.len()).filter(few).collect();
@@ -95,7 +95,7 @@ impl<S: Services> Calls<S> {
         tally.pair_lists.laws.hit(IMPORT_EXPORT, 0);
     }
 
-    /// An iso of at most 32 values exported, the list imported over the same T
+    /// An iso of at most 128 values exported, the list imported over the same T
     /// lines, and that exported: the list again.
     pub fn list_trip(&mut self, random: &mut Random, tally: &mut Tally, known: &Known) {
         let Ok(rules) = &known.checked else { return };

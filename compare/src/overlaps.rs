@@ -7,8 +7,10 @@ use crate::service::{Answer, Call, Services};
 use crate::settings::{GIVEN, HERE, SHORT, THERE};
 use crate::tally::{file_number, names, Tally};
 use apart::areas::Known;
+use apart::generate::draft::Draft;
 use apart::generate::idle::pruned;
 use apart::generate::random::Random;
+use apart::lines::NODES;
 use apart::overlap::{clash, compared, laid};
 use apart::tree::Pattern;
 use apart::Rules;
@@ -122,7 +124,7 @@ fn likeness() -> Grid {
 }
 
 /// The patterns that a call asks for, where the file has both.
-fn asked<'a>(rules: &'a Rules, left: u32, right: u32) -> Option<[&'a Pattern; 2]> {
+fn asked(rules: &Rules, left: u32, right: u32) -> Option<[&Pattern; 2]> {
     let line = |place: u32| rules.patterns.get(place as usize).map(|line| &**line);
     Some([line(left)?, line(right)?])
 }
@@ -246,58 +248,46 @@ fn of_clauses(random: &mut Random, rules: &Rules) -> Option<(u32, u32)> {
 
 /// A file whose last two P lines have the same nodes but one: below pairs with
 /// trees before and behind it, a left in one and a right in the other. They have
-/// up to 127 nodes.
+/// up to 127 nodes; in place of one tree the first may have a variable.
 fn late_file(random: &mut Random) -> Vec<u8> {
-    let mut lines = ["P,0,0,0", "P,2,0,0", "P,3,0,0"].map(str::to_string).to_vec();
-    let mut types = ["T,0,0,0", "T,1,0,0"].map(str::to_string).to_vec();
-    let (mut shapes, mut whole) = (vec![0], 1);
-    // Trees of 1, 3, 7, 15, 31 and 63 nodes.
-    let mut trees = vec![0];
-    for _ in 0..5 {
-        let tree = *trees.last().expect("there is one");
-        trees.push(lines.len());
-        let shape = *shapes.last().expect("there is one");
-        shapes.push(types.len());
-        types.push(format!("T,2,{shape},{shape}"));
-        lines.push(format!("P,4,{tree},{tree}"));
+    let mut draft = Draft(Vec::new());
+    let (unit, leaf) = (draft.unit(b'T'), draft.unit(b'P'));
+    // Trees of 1, 3, 7, 15, 31 and 63 nodes, each with its type.
+    let mut trees = vec![(unit, leaf)];
+    for below in 0..5 {
+        let (ty, tree) = trees[below];
+        let ty = draft.add(b'T', [2, ty, ty]);
+        trees.push((ty, draft.add(b'P', [4, tree, tree])));
     }
-    let (mut ends, mut nodes) = ([1, 2], 2);
-    for _ in 0..20 {
+    let variable = draft.add(b'P', [1, 0, 0]);
+    let mut whole = draft.add(b'T', [1, unit, unit]);
+    let mut ends = [2, 3].map(|kind| draft.add(b'P', [kind, leaf, 0]));
+    let (mut nodes, hidden) = (2, random.below(6));
+    for step in 0..20 {
         let place = random.below(trees.len());
-        let more = 2 << place;
-        if nodes + more > 127 {
+        if nodes + (2 << place) > NODES {
             continue;
         }
-        nodes += more;
+        nodes += 2 << place;
         let behind = random.chance(10);
-        let (one, two) = if behind {
-            (whole, shapes[place])
-        } else {
-            (shapes[place], whole)
-        };
-        whole = types.len();
-        types.push(format!("T,2,{one},{two}"));
-        ends = ends.map(|end| {
-            let (one, two) = if behind {
-                (end, trees[place])
+        let joined = |kind, one, two| {
+            if behind {
+                [kind, two, one]
             } else {
-                (trees[place], end)
-            };
-            lines.push(format!("P,4,{one},{two}"));
-            lines.len() - 1
-        });
+                [kind, one, two]
+            }
+        };
+        let (ty, tree) = trees[place];
+        let first = if step == hidden { variable } else { tree };
+        whole = draft.add(b'T', joined(2, ty, whole));
+        let both = [(first, ends[0]), (tree, ends[1])];
+        ends = both.map(|(tree, end)| draft.add(b'P', joined(4, tree, end)));
     }
-    let [left, right] = ends;
-    let iso = [
-        format!("I,{whole},{whole}"),
-        format!("C,{left},{left}"),
-        format!("C,{right},{right}"),
-    ];
-    let lines = types.iter().chain(&lines).chain(&iso);
-    let file: Vec<u8> = lines
-        .flat_map(|line| [line.as_bytes(), b"\n"].concat())
-        .collect();
-    pruned(&file)
+    draft.push(b'I', &[whole, whole]);
+    for end in ends {
+        draft.push(b'C', &[end, end]);
+    }
+    pruned(&draft.bytes())
 }
 
 impl<S: Services> Calls<S> {

@@ -5,14 +5,16 @@ use crate::calls::{fit, otherwise, short, Calls};
 use crate::case::Case;
 use crate::grid::Grid;
 use crate::list_faults;
+use crate::longer;
 use crate::service::{Answer, Call, Services};
 use crate::settings::{any_line, GIVEN, HERE, SHORT, THERE};
 use crate::tally::{names, Tally};
 use apart::areas::Known;
 use apart::bounds::exact;
-use apart::generate::listed::{self, Flaw, COUNTS, FLAWS, LINES, SUMMED};
+use apart::generate::listed::{self, Flaw, Limit, FLAWS, LINES};
 use apart::generate::random::Random;
-use apart::lines::{split, CLAUSES};
+use apart::generate::shape::most_sides;
+use apart::lines::{split, CLAUSES, SIDES};
 use apart::numbering::values;
 use apart::pair_lists::{settings, unjudged, VALUES};
 use apart::tree::Type;
@@ -23,7 +25,8 @@ use std::rc::Rc;
 pub const EXPORT: usize = 0;
 pub const IMPORT: usize = 1;
 
-/// Rows of the table of likeness; those of `LINES` follow.
+/// Rows of the table of likeness; those of `LINES` and of left and right nodes
+/// follow.
 pub const ONE: usize = 0;
 const FULL: usize = 1;
 const OVER_FULL: usize = 2;
@@ -46,6 +49,10 @@ pub const FEEDS: usize = 18;
 pub const RETURNS: usize = 19;
 const SOME_RETURNS: usize = 20;
 pub const FIRST_LINES: usize = 21;
+const ALL_SIDES: usize = FIRST_LINES + LINES.len();
+const OVER_SIDES: usize = ALL_SIDES + 1;
+const DEEP_FROM: usize = ALL_SIDES + 2;
+const DEEP_TO: usize = ALL_SIDES + 3;
 
 /// Rows of the table of laws.
 pub const IMPORT_EXPORT: usize = 0;
@@ -112,20 +119,12 @@ fn rows() -> Vec<String> {
 }
 
 fn export() -> Grid {
-    let needed = |number, column| match (number, column) {
-        (1, SHORT) => false,
-        (16 | 19 | 20, _) => false,
-        _ => true,
-    };
+    let needed = |number, column| !matches!((number, column), (1, SHORT) | (16 | 19 | 20, _));
     Grid::new("rulefile_export", rows(), GIVEN, needed)
 }
 
 fn import() -> Grid {
-    let needed = |number, column| match (number, column) {
-        (1, SHORT) => false,
-        (16 | 17 | 19, _) => false,
-        _ => true,
-    };
+    let needed = |number, column| !matches!((number, column), (1, SHORT) | (16 | 17 | 19, _));
     Grid::new("rulefile_import", rows(), GIVEN, needed)
 }
 
@@ -166,6 +165,12 @@ fn likeness() -> Grid {
         0..=1_024 => format!("{lines} P lines"),
         _ => format!("{lines} P lines: 7"),
     }));
+    rows.extend(names(&[
+        "40 left and right nodes",
+        "41 left and right nodes: 7",
+        "over 40 of the from-type alone: 7",
+        "over 40 of the to-type alone: 7",
+    ]));
     Grid::new("pair lists", rows, &["export", "import"], needed)
 }
 
@@ -185,15 +190,10 @@ fn laws() -> Grid {
     Grid::new("trips of pair lists", rows, &["trips"], |_, _| true)
 }
 
-/// The cases that every run has: each limit, twice.
+/// The cases that every run has: each limit, three times.
 pub fn cases() -> Vec<Case> {
-    let places = 0..COUNTS.len() + LINES.len();
-    places.map(Case::Listed).collect::<Vec<Case>>().repeat(2)
-}
-
-/// An accepted file of one of these cases.
-pub fn file(random: &mut Random, place: usize) -> Vec<u8> {
-    listed::file(random, place)
+    let limits = listed::limits().into_iter();
+    limits.map(Case::Listed).collect::<Vec<Case>>().repeat(3)
 }
 
 /// Counts what a call of either way is given, on both sides, and what it is
@@ -215,12 +215,15 @@ pub fn count(tally: &mut Tally, known: &Known, call: Call, ours: &Answer, theirs
     let Ok(rules) = &known.checked else { return };
     let rows = match call {
         Call::Export(iso, budget) => of_export(rules, iso, budget, ours.number),
-        Call::Import(from, to, list) => of_import(rules, [from, to], list, ours.number),
+        Call::Import(from, to, list) => {
+            longer::count_list(tally, rules, [from, to], list, ours.number);
+            of_import(rules, [from, to], list, ours.number)
+        }
         _ => return,
     };
     for (row, is) in rows {
         if is {
-            grids.likeness.hit(row, column);
+            tally.pair_lists.likeness.hit(row, column);
         }
     }
 }
@@ -289,6 +292,9 @@ fn of_import(rules: &Rules, [from, to]: [u32; 2], list: &[u8], number: u32) -> R
     if let ([Some(one), Some(other)], true) = (types, given || number == 7) {
         rows.extend(of_types([from, to], [one, other], given));
         rows.extend(of_lines(rules, [from, to], list));
+        if both(lines as u64) && lines <= CLAUSES {
+            rows.extend(of_sides([one, other], given));
+        }
     }
     if given {
         rows.extend(of_endings(list));
@@ -326,6 +332,17 @@ fn of_lines(rules: &Rules, [from, to]: [u32; 2], list: &[u8]) -> Rows {
     let patterns = split(&file).iter().filter(|line| line[0] == b'P').count();
     let row = |(place, lines)| (FIRST_LINES + place, lines == patterns);
     LINES.into_iter().enumerate().map(row).collect()
+}
+
+/// The most left and right nodes of a value of either type.
+fn of_sides(types: [&Rc<Type>; 2], given: bool) -> Rows {
+    let [one, other] = types.map(|ty| most_sides(ty));
+    vec![
+        (ALL_SIDES, given && one.max(other) == SIDES),
+        (OVER_SIDES, !given && one.max(other) == SIDES + 1),
+        (DEEP_FROM, !given && one > SIDES && other <= SIDES),
+        (DEEP_TO, !given && one <= SIDES && other > SIDES),
+    ]
 }
 
 fn of_endings(list: &[u8]) -> Rows {
@@ -435,9 +452,9 @@ impl<S: Services> Calls<S> {
             self.any_export(random, tally, known);
             self.any_import(random, tally, known);
         }
-        if let Case::Listed(place) = case {
+        if let Case::Listed(limit) = case {
             for _ in 0..3 {
-                self.at_limit(random, tally, known, place);
+                self.at_limit(random, tally, known, limit);
             }
             if random.chance(40) {
                 self.list_faults(random, tally);
@@ -491,24 +508,40 @@ impl<S: Services> Calls<S> {
         }
     }
 
-    /// Either way for a type of the limit that a file is made for.
-    fn at_limit(&mut self, random: &mut Random, tally: &mut Tally, known: &Known, place: usize) {
+    /// Either way for a type of the limit that a file is made for, and a list of
+    /// as many lines that has a flaw.
+    fn at_limit(&mut self, random: &mut Random, tally: &mut Tally, known: &Known, limit: Limit) {
         let Ok(rules) = &known.checked else { return };
-        let count = COUNTS.get(place).copied().unwrap_or(SUMMED as u64);
+        let count = limit.values();
         let iso = limit_iso(random, rules, count);
         let budget = any_budget(random, rules, iso);
         self.fit_or_short(random, tally, known, Call::Export(iso, budget));
-        let [from, to] = limit_types(random, rules, count, place >= COUNTS.len());
-        let lines = *random.pick(&[count.min(136), count.min(128)]);
-        let list = listed::list(random, lines as usize);
+        let [from, to] = limit_types(random, rules, limit);
+        let lines = *random.pick(&[count.min(136), count.min(128)]) as usize;
+        let list = listed::list(random, lines);
         let call = Call::Import(from, to, &list);
         let answer = self.fit_or_short(random, tally, known, call);
         if answer.number == 0 {
             let file = self.written(answer.length).to_vec();
             self.exported(random, tally, &file, &list);
         }
+        let flaw = *random.pick(&IN_LINES);
+        let place = *random.pick(&[0, lines / 2, lines - 1]);
+        let list = listed::flawed(random, lines, flaw, place);
+        self.fit_or_short(random, tally, known, Call::Import(from, to, &list));
     }
 }
+
+/// Flaws that leave the number of lines.
+const IN_LINES: [Flaw; 7] = [
+    Flaw::Form,
+    Flaw::Zero,
+    Flaw::Wide,
+    Flaw::Return,
+    Flaw::From,
+    Flaw::Repeated,
+    Flaw::High,
+];
 
 /// An iso whose from-type has so many values.
 fn limit_iso(random: &mut Random, rules: &Rules, count: u64) -> u32 {
@@ -517,18 +550,21 @@ fn limit_iso(random: &mut Random, rules: &Rules, count: u64) -> u32 {
     *random.pick(&isos) as u32
 }
 
-/// Two T lines, one of them at least of so many values, or the one of them with
-/// the most nodes.
-fn limit_types(random: &mut Random, rules: &Rules, count: u64, largest: bool) -> [u32; 2] {
-    let is = |ty: &usize| values(&rules.types[*ty]) == count;
-    let mut types: Vec<usize> = (0..rules.types.len()).filter(is).collect();
-    if largest {
-        types.sort_by_key(|ty| rules.types[*ty].nodes());
-        types.drain(..types.len() - 1);
-    }
-    let (from, other) = (*random.pick(&types), *random.pick(&types));
+/// Two T lines, one of them at least of the limit's values, and the one that the
+/// limit is about.
+fn limit_types(random: &mut Random, rules: &Rules, limit: Limit) -> [u32; 2] {
+    let is = |ty: &usize| values(&rules.types[*ty]) == limit.values();
+    let types: Vec<usize> = (0..rules.types.len()).filter(is).collect();
+    let weight = |ty: &usize| match limit {
+        Limit::Values(_) => random.below(types.len()),
+        Limit::Lines(_) | Limit::Long(_) => rules.types[*ty].nodes(),
+        Limit::Sides(_) | Limit::Deep(_) => most_sides(&rules.types[*ty]),
+    };
+    let mut types = types.clone();
+    types.sort_by_cached_key(weight);
+    let (other, from) = (types[0], types[types.len() - 1]);
     let any = random.below(rules.types.len());
-    let to = *random.pick(&[from, from, other, any]);
+    let to = *random.pick(&[from, other, other, any]);
     let mut sides = [from as u32, to as u32];
     random.shuffle(&mut sides);
     sides

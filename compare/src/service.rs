@@ -1,7 +1,6 @@
 //! The services with lent areas, as the library and the checker written apart
 //! both offer them.
 
-use crate::play::Play;
 use apart::areas::{Known, Query, RESULT, TABLE, WORK};
 use apart::bounds;
 use apart::lines::split;
@@ -78,10 +77,14 @@ pub struct Lent<'a> {
 pub trait Services {
     fn call(&mut self, file: &[u8], call: Call, lent: Lent) -> Answer;
 
-    /// Plays a script on units: the number and the line. The one written apart
-    /// where there is no other.
-    fn play(&mut self, file: &[u8], play: &mut Play) -> (u32, usize) {
-        let (lent, script, budget) = play.lend();
+    /// Plays a script on units under a budget: the number and the line. The one
+    /// written apart where there is no other.
+    fn play(
+        &mut self,
+        file: &[u8],
+        (script, budget): (&[u8], u32),
+        lent: units::Lent,
+    ) -> (u32, usize) {
         let played = units::play(&Known::of(file), script, budget, lent);
         (played.number.into(), played.line)
     }

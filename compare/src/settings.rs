@@ -82,20 +82,12 @@ fn rows() -> Vec<String> {
 }
 
 fn number_of() -> Grid {
-    let needed = |number, column| match (number, column) {
-        (1, SHORT) => false,
-        (17 | 19 | 20, _) => false,
-        _ => true,
-    };
+    let needed = |number, column| !matches!((number, column), (1, SHORT) | (17 | 19 | 20, _));
     Grid::new("rulefile_number_of", rows(), GIVEN, needed)
 }
 
 fn setting_of() -> Grid {
-    let needed = |number, column| match (number, column) {
-        (1, SHORT) => false,
-        (16 | 17 | 20, _) => false,
-        _ => true,
-    };
+    let needed = |number, column| !matches!((number, column), (1, SHORT) | (16 | 17 | 20, _));
     Grid::new("rulefile_setting_of", rows(), GIVEN, needed)
 }
 

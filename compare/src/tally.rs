@@ -3,12 +3,15 @@
 use crate::bounds;
 use crate::endings;
 use crate::grid::Grid;
+use crate::idle;
+use crate::longer;
 use crate::overlaps;
 use crate::pair_lists;
 use crate::play;
 use crate::settings;
 use crate::sheets;
 use crate::shuffle;
+use crate::sizes;
 use crate::variables;
 use crate::witness;
 use apart::generate::ceiling::CEILINGS;
@@ -74,6 +77,9 @@ pub struct Tally {
     pub witness: witness::Grids,
     pub pair_lists: pair_lists::Grids,
     pub plays: play::Grids,
+    pub idle: idle::Grids,
+    pub longer: longer::Grids,
+    pub sizes: Grid,
     pub ceilings: Grid,
     pub sheets: Grid,
     pub variables: Grid,
@@ -129,6 +135,14 @@ fn numbers() -> Grid {
     Grid::new("number", rows, columns, number_needed)
 }
 
+/// The first of the rows of a play in the table of areas.
+pub const PLAY_AREAS: usize = 26;
+
+/// Of two unit areas the shorter one is short, and neither is longer.
+fn area_needed(area: usize, column: usize) -> bool {
+    area < PLAY_AREAS + 2 || column != 1
+}
+
 fn areas() -> Grid {
     let rows = names(&[
         "table",
@@ -157,9 +171,13 @@ fn areas() -> Grid {
         "table of import",
         "work of import",
         "output of import",
+        "table of a play",
+        "work of a play",
+        "types of a play",
+        "settings of a play",
     ]);
-    let columns = &["exact", "longer", "one short", "empty"];
-    Grid::new("area", rows, columns, |_, _| true)
+    let columns = &["exact", "longer", "one short", "fewer", "empty"];
+    Grid::new("area", rows, columns, area_needed)
 }
 
 fn budgets() -> Grid {
@@ -214,6 +232,9 @@ impl Default for Tally {
             witness: witness::Grids::default(),
             pair_lists: pair_lists::Grids::default(),
             plays: play::Grids::default(),
+            idle: idle::Grids::default(),
+            longer: longer::Grids::default(),
+            sizes: sizes::grid(),
             ceilings: ceilings(),
             sheets: sheets::grid(),
             variables: variables::grid(),
@@ -246,6 +267,9 @@ impl Tally {
         self.witness.add(&other.witness);
         self.pair_lists.add(&other.pair_lists);
         self.plays.add(&other.plays);
+        self.idle.add(&other.idle);
+        self.longer.add(&other.longer);
+        self.sizes.add(&other.sizes);
         self.ceilings.add(&other.ceilings);
         self.sheets.add(&other.sheets);
         self.variables.add(&other.variables);
@@ -279,6 +303,7 @@ impl Tally {
         let own = [
             &self.numbers,
             &self.areas,
+            &self.sizes,
             &self.budgets,
             &self.laws,
             &self.ceilings,
@@ -292,6 +317,7 @@ impl Tally {
         let others = others.chain(self.overlaps.all()).chain(self.bounds.all());
         let others = others.chain(self.witness.all());
         let others = others.chain(self.pair_lists.all()).chain(self.plays.all());
+        let others = others.chain(self.idle.all()).chain(self.longer.all());
         own.into_iter().chain(others).collect()
     }
 

@@ -165,7 +165,8 @@ fn whole_files_are_compared() {
 /// Of a file of few P lines every pair is asked for, in both orders.
 #[test]
 fn every_pair_of_few_lines() {
-    let file = b"P,0,0,0\nP,1,0,0\nP,2,0,0\nP,3,0,0\nP,4,2,3\nP,4,3,2\n";
+    let file = b"T,0,0,0\nT,1,0,0\nT,2,1,1\nP,0,0,0\nP,1,0,0\nP,2,0,0\nP,3,0,0\nP,4,2,1\nP,4,3,1\n\
+I,2,2\nC,4,4\nC,5,5\n";
     let tally = asked(Spoiled(unspoiled), file, 1);
     assert_eq!(tally.mismatches, 0);
     // 36 pairs in both orders, and two calls more.

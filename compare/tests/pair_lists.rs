@@ -5,6 +5,7 @@ mod common;
 
 use apart::areas::{Known, TABLE, WORK};
 use apart::check;
+use apart::generate::listed;
 use apart::generate::random::Random;
 use apart::pair_lists::{FILE, LIST};
 use common::{unspoiled, Spoil, Spoiled, S};
@@ -14,9 +15,8 @@ use compare::case::Case;
 use compare::list_faults::{pairs, Slip, OF_EXPORT, OF_IMPORT};
 use compare::list_trips::{exchanged, tos, without_returns};
 use compare::pair_lists::{
-    cases, enough, file, AT_NEED, BELOW_NEED, BUDGET_0, EXPORT, EXPORT_IMPORT_EXPORT, FEEDS,
-    FIRST_LINES, IMPORT, IMPORTED_AGAIN, IMPORT_EXPORT, ONE, RETURNS, RUNS_ALIKE, SAME_LINE,
-    TURNED,
+    cases, enough, AT_NEED, BELOW_NEED, BUDGET_0, EXPORT, EXPORT_IMPORT_EXPORT, FEEDS, FIRST_LINES,
+    IMPORT, IMPORTED_AGAIN, IMPORT_EXPORT, ONE, RETURNS, RUNS_ALIKE, SAME_LINE, TURNED,
 };
 use compare::service::Call;
 use compare::settings::{HERE, SHORT, THERE};
@@ -208,8 +208,9 @@ fn broken_laws_are_reported() {
 #[test]
 fn pairs_of_faults() {
     assert_eq!(pairs(&OF_EXPORT).len(), 14);
-    assert_eq!(pairs(&OF_IMPORT).len(), 27);
+    assert_eq!(pairs(&OF_IMPORT).len(), 34);
     assert!(!pairs(&OF_IMPORT).contains(&[Slip::LongFile, Slip::RefusedFile]));
+    assert!(!pairs(&OF_IMPORT).contains(&[Slip::Writing, Slip::Deep]));
     let faults = |spoil: Spoil| {
         let mut random = Random::new(4);
         let mut calls = Calls::new(Spoiled(spoil), &mut random);
@@ -219,7 +220,7 @@ fn pairs_of_faults() {
     };
     let right = faults(unspoiled);
     assert_eq!(right.mismatches, 0);
-    assert_eq!(right.calls, 14 * 3 + 27 * 4);
+    assert_eq!(right.calls, 14 * 3 + 34 * 4);
     let missing = |tally: &Tally| tally.pair_lists.faults.missing().len();
     assert_eq!(missing(&right), 0);
     // 20 before 18, and 7 before 18: reported as another number than the checker
@@ -239,10 +240,10 @@ fn cases_at_the_limits() {
     for (seed, case) in cases().into_iter().enumerate() {
         let mut random = Random::new(seed as u64);
         let mut calls = Calls::new(Spoiled(unspoiled), &mut random);
-        let Case::Listed(place) = case else {
+        let Case::Listed(limit) = case else {
             unreachable!("all are of pair lists")
         };
-        let file = file(&mut random, place);
+        let file = listed::file(&mut random, limit);
         let known = Known::of(&file);
         calls.pair_lists(&mut random, &mut all, case, &known);
     }
@@ -254,6 +255,7 @@ fn cases_at_the_limits() {
         .iter()
         .filter(|name| !rare.iter().any(|word| name.contains(word)));
     assert_eq!(left.collect::<Vec<_>>(), Vec::<&String>::new());
+    assert_eq!(all.longer.pairs.missing(), Vec::<String>::new());
 }
 
 #[test]

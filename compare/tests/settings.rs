@@ -258,7 +258,7 @@ impl Services for Early {
         answer.number = match (answer.number, call) {
             (18, Call::SettingOf(_, u32::MAX)) => 19,
             (18, Call::NumberOf(..)) => 16,
-            (15, Call::NumberOf(_, letters)) if letters.is_empty() => 16,
+            (15, Call::NumberOf(_, [])) => 16,
             (15, Call::SettingOf(ty, 4_000_000_000..)) if !known(ty) => 19,
             (number, _) => number,
         };

@@ -24,6 +24,11 @@ fn with(clauses: &str) -> Vec<u8> {
     [HEAD, clauses].concat().into_bytes()
 }
 
+/// The same with a last iso that names all P lines.
+fn used(clauses: &str) -> Vec<u8> {
+    with(&(clauses.to_string() + "I,1,1\nC,0,1\nC,2,3\n"))
+}
+
 /// All files that are made of one.
 fn all(file: &[u8]) -> BTreeSet<Vec<u8>> {
     let mut random = Random::new(7);
@@ -95,13 +100,19 @@ fn refused_files_are_told_apart() {
         ("C,1,1\nC,2,2\nP,0,0,0\n", (4, 10), ELSEWHERE),
     ];
     for (clauses, (number, line), row) in files {
-        let file = with(clauses);
+        let file = used(clauses);
         let refusal = check(&file).err().expect("refused");
         assert_eq!((refusal.number, refusal.line), (number, line), "{clauses}");
         assert_eq!(kind(&file, refusal), row, "{clauses}");
     }
-    let many = with(&"C,1,1\n".repeat(33));
-    assert_eq!(kind(&many, check(&many).err().unwrap()), SEVERAL);
+    let many = used(&"C,1,1\n".repeat(129));
+    let refusal = check(&many).err().expect("refused");
+    assert_eq!((refusal.number, refusal.line), (7, 7 + 129));
+    assert_eq!(kind(&many, refusal), SEVERAL);
+    let idle = with("C,1,1\nC,2,2\n");
+    let refusal = check(&idle).err().expect("refused");
+    assert_eq!((refusal.number, refusal.line), (21, 6));
+    assert_eq!(kind(&idle, refusal), ELSEWHERE);
 }
 
 #[test]

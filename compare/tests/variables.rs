@@ -17,11 +17,14 @@ use compare::variables::{
     REFUSED_OTHERWISE, RULES, RUN,
 };
 
-/// S with other lines 16 and 17, or without line 17. With `L,3,0,3` and
-/// `C,5,5` variable 0 is bound again.
+/// Isos that use all P lines of S.
+const USES: &str = "I,1,1\nC,4,4\nI,2,2\nC,5,5\nC,7,7\nI,2,2\nC,6,6\nC,7,7\n";
+
+/// S with other lines 16 and 17, or without line 17, and these isos. With
+/// `L,3,0,3` and `C,5,5` variable 0 is bound again.
 fn s_with(line: &str, clause: &str) -> Vec<u8> {
-    let text = String::from_utf8(S.to_vec()).expect("letters");
-    let text = text.replace("C,5,6", clause);
+    let text = String::from_utf8(S.to_vec()).expect("letters") + USES;
+    let text = text.replacen("C,5,6", clause, 1);
     let line = line.to_string() + "\n";
     text.replace("L,4,0,3\n", line.trim_start()).into_bytes()
 }

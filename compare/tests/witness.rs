@@ -6,6 +6,7 @@ mod common;
 use apart::areas::{Known, RESULT, TABLE, WORK};
 use apart::generate::random::Random;
 use apart::generate::shown::Form;
+use apart::lines::CLAUSES;
 use apart::numbering::values;
 use apart::witness::{refused_iso, Side};
 use common::{unspoiled, Spoil, Spoiled, S};
@@ -19,10 +20,9 @@ use compare::witness::{broken, cases, file, hold, BY_FORCE};
 
 const KINDS: [Kind; 4] = [Kind::Exact, Kind::Longer, Kind::Short, Kind::Empty];
 
-/// S without line 18, refused 13 and shown by PRULU.
-fn gap() -> &'static [u8] {
-    &S[..S.len() - "C,7,7\n".len()]
-}
+/// S without line 18 and the P line that it uses, refused 13 and shown by PRULU.
+const GAP: &[u8] = b"T,0,0,0\nT,1,0,0\nT,2,1,1\nP,0,0,0\nP,2,0,0\nP,3,0,0\nP,1,0,0\nP,1,1,0\n\
+P,4,1,3\nP,4,1,4\nI,1,1\nC,1,2\nC,2,1\nI,2,2\nC,5,6\nL,4,0,3\n";
 
 /// The tally of one call.
 fn tally(spoil: Spoil, file: &[u8], kind: Kind) -> Tally {
@@ -39,7 +39,7 @@ fn tally(spoil: Spoil, file: &[u8], kind: Kind) -> Tally {
 /// All are reported with areas of these kinds, of a gap and of an accepted file.
 fn reported(spoils: &[Spoil], kinds: &[Kind]) {
     for (place, spoil) in spoils.iter().enumerate() {
-        for file in [gap(), S] {
+        for file in [GAP, S] {
             for kind in kinds {
                 let found = tally(*spoil, file, *kind).mismatches;
                 assert_eq!(found, 1, "{place} {kind:?}");
@@ -52,7 +52,7 @@ fn reported(spoils: &[Spoil], kinds: &[Kind]) {
 fn right_answers_agree() {
     for kind in KINDS {
         let short = matches!(kind, Kind::Short | Kind::Empty);
-        for (file, number) in [(S, 0), (gap(), 13)] {
+        for (file, number) in [(S, 0), (GAP, 13)] {
             let right = tally(unspoiled, file, kind);
             assert_eq!(right.mismatches, 0, "{kind:?}");
             let given = if short { 1 } else { number };
@@ -122,7 +122,7 @@ fn other_values_are_found() {
         ("PRUL", false),
         ("PRULUU", false),
     ] {
-        assert_eq!(breaks(gap(), letters), !holds, "{letters}");
+        assert_eq!(breaks(GAP, letters), !holds, "{letters}");
     }
     // A pair on the left, a unit on the right; then the pair first in byte order.
     let bare = b"T,0,0,0\nT,1,0,0\nT,2,1,1\nT,1,2,0\nI,3,0\n";
@@ -153,7 +153,7 @@ fn files_are_of_their_forms() {
             Form::One => shown.all == 1 && values(side.ty) > 1_000_000,
             Form::Several => true,
             Form::Sparse => values(side.ty) > 10,
-            Form::Full => iso.clauses.len() == 32,
+            Form::Full => iso.clauses.len() == CLAUSES,
             Form::Longest => shown.letters.len() == RESULT - usize::from(number == 14),
             Form::Bare => iso.clauses.is_empty(),
         };

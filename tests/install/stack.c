@@ -11,16 +11,16 @@
 #include <stdlib.h>
 #include <string.h>
 
-enum { STACK = 1 << 20, PAINT = 0xA5, LIMIT = 53248 };
+enum { STACK = 1 << 20, PAINT = 0xA5, LIMIT = 65536, ISOS = 32, CLAUSES = 128, BITS = 7 };
 
 static uint8_t stack[STACK] __attribute__((aligned(4096)));
 static uint16_t table[RULEFILE_TABLE_LENGTH];
 static uint8_t work[RULEFILE_WORK_LENGTH], output[RULEFILE_MAX_FILE_LENGTH], letters[600 * 127], result[127];
 static uint32_t numbers[1800];
-static uint8_t list[RULEFILE_LIST_LENGTH], pairs[1024];
-static char file[RULEFILE_MAX_FILE_LENGTH], value[128], query[256];
+static uint8_t list[RULEFILE_LIST_LENGTH], pairs[CLAUSES * sizeof "127,127"];
+static char file[RULEFILE_MAX_FILE_LENGTH], value[128], query[256], script[64];
 static size_t length, gap;
-static uint32_t last_type, last_pattern, last_iso;
+static uint32_t last_type, other_type, last_pattern, last_iso = ISOS - 1;
 static int settings;
 
 #define FILE_AREAS (const uint8_t *)file, length, table, sizeof table / sizeof table[0], work, sizeof work
@@ -64,6 +64,16 @@ static uint32_t import_list(void)
     return rulefile_import(FILE_AREAS, last_type, last_type, pairs, count, output, sizeof output).number;
 }
 static uint32_t bounds(void) { return rulefile_bounds(FILE_AREAS, last_iso).number; }
+static uint32_t play(void)
+{
+    /* there and back, both done */
+    uint32_t type = last_type, setting = (uint32_t)settings - 1;
+    struct rulefile_tally tally;
+    size_t played = strlen(script);
+    uint32_t number =
+        rulefile_play(FILE_AREAS, &type, 1, &setting, 1, (uint8_t *)script, played, UINT32_MAX, &tally).number;
+    return number == 0 && tally.done == 2 ? 0 : 1;
+}
 
 static const struct {
     const char *name;
@@ -82,6 +92,7 @@ static const struct {
     {"rulefile_witness", witness},
     {"rulefile_export", export_list},
     {"rulefile_import", import_list},
+    {"rulefile_play", play},
 };
 enum { CALLS = sizeof calls / sizeof calls[0] };
 
@@ -117,57 +128,143 @@ static void line(const char *form, int a, int b, int c)
     length += (size_t)snprintf(file + length, sizeof file - length, form, a, b, c);
 }
 
-/* A type and a pattern of 127 nodes: pairs, nested on one side. */
+/* T lines, or P lines: a unit, and so many pairs nested on one side. */
+static void add_pairs(char letter, int kind, int count, bool first)
+{
+    line("%c,0,0,0\n", letter, 0, 0);
+    for (int i = 0; i < count; i++) {
+        line("%c,%d,", letter, kind, 0);
+        line("%d,%d\n", first ? i : 0, first ? 0 : i, 0);
+    }
+}
+
+/* Behind the value's letters those of the pairs. */
+static void add_letters(int count, bool first)
+{
+    size_t at = strlen(value);
+    for (int i = 0; i <= 2 * count; i++)
+        value[at + (size_t)i] = first ? (i < count ? 'P' : 'U') : (i % 2 == 0 && i < 2 * count ? 'P' : 'U');
+}
+
+/* A type and a pattern of 127 nodes. */
 static void nested(bool first)
 {
-    line("T,0,0,0\n", 0, 0, 0);
-    for (int i = 0; i < 63; i++)
-        line("T,2,%d,%d\n", first ? i : 0, first ? 0 : i, 0);
-    line("P,0,0,0\n", 0, 0, 0);
-    for (int i = 0; i < 63; i++)
-        line("P,4,%d,%d\n", first ? i : 0, first ? 0 : i, 0);
-    last_type = last_pattern = 63;
+    add_pairs('T', 2, 63, first);
+    add_pairs('P', 4, 63, first);
+    add_letters(63, first);
+    last_type = other_type = last_pattern = 63;
     settings = 1;
-    for (int i = 0; i < 127; i++)
-        value[i] = first ? (i < 63 ? 'P' : 'U') : (i % 2 == 0 && i < 126 ? 'P' : 'U');
+}
+
+/* The same, but with a variable as the innermost part, and at the other end an equal type of T lines of its own. */
+static void variable(bool first)
+{
+    add_pairs('T', 2, 63, first);
+    line("T,0,0,0\n", 0, 0, 0);
+    for (int i = 64; i < 127; i++)
+        line("T,2,%d,%d\n", first ? i : 64, first ? 64 : i, 0);
+    line("P,0,0,0\nP,1,0,0\n", 0, 0, 0);
+    for (int i = 1; i < 64; i++)
+        line("P,4,%d,%d\n", first ? i : 0, first ? 0 : i, 0);
+    add_letters(63, first);
+    last_type = 63;
+    other_type = 127;
+    last_pattern = 64;
+    settings = 1;
 }
 
 /* A type of 31 sums, nested on one side; a setting of 31 left or right. */
 static void sums(bool first)
 {
-    line("T,0,0,0\n", 0, 0, 0);
-    for (int i = 0; i < 31; i++)
-        line("T,1,%d,%d\n", first ? i : 0, first ? 0 : i, 0);
+    add_pairs('T', 1, 31, first);
     line("P,1,0,0\n", 0, 0, 0);
-    last_type = 31;
+    last_type = other_type = 31;
     last_pattern = 0;
     settings = 32;
     memset(value, first ? 'L' : 'R', 31);
     value[31] = 'U';
 }
 
-/* 32 isos; with let steps, each calls the one before it. */
-static void isos(bool lets)
+/* Isos of one clause, the first with this number; with let steps, each of the others calls the one before it. */
+static void isos(int first, int end, bool lets)
 {
-    for (int i = 0; i < 32; i++) {
-        line("I,%d,%d\n", (int)last_type, (int)last_type, 0);
+    for (int i = first; i < end; i++) {
+        line("I,%d,%d\n", (int)last_type, (int)other_type, 0);
         gap = length;
         line("C,%d,%d\n", (int)last_pattern, (int)last_pattern, 0);
-        if (lets && i > 0)
+        if (lets && i > first)
             line("L,%d,%d,%d\n", (int)last_pattern, i - 1, (int)last_pattern);
     }
-    last_iso = 31;
-    snprintf(query, sizeof query, "Q,31,0,4294967295,%s\n", value);
-    /* the types have one setting, or one more than they have sums */
-    size_t at = 0;
-    for (int i = 0; i < settings && i < 32; i++)
-        at += (size_t)snprintf((char *)pairs + at, sizeof pairs - at, "%d,%d\n", i, i);
+}
+
+/* The values of seven bits: P lines behind so many, of which the first is a unit. Gives the first of 128 in a row. */
+static int closed_bits(int lines)
+{
+    int rest = lines, next = lines + 2;
+    line("P,2,0,0\nP,3,0,0\n", 0, 0, 0);
+    for (int values = 4; values <= CLAUSES; values *= 2) {
+        for (int i = 0; i < values; i++)
+            line("P,4,%d,%d\n", lines + i / (values / 2), rest + i % (values / 2), 0);
+        rest = next;
+        next += values;
+    }
+    return rest;
+}
+
+/* An iso with a clause for each of 128 P lines; where one is to be called, with a let step on the pairs. */
+static void clauses(int type, int patterns, int called)
+{
+    line("I,%d,%d\n", type, type, 0);
+    for (int i = 0; i < CLAUSES; i++) {
+        gap = length;
+        line("C,%d,%d\n", patterns + i, patterns + i, 0);
+        if (called > 0)
+            line("L,%d,%d,%d\n", (int)last_pattern, called, (int)last_pattern);
+    }
+}
+
+/*
+ * Seven bits before pairs, 127 nodes: the last iso has 128 clauses, each of which calls isos on the pairs, and so has
+ * the first, which calls none: without a clause of the last one all lines are used.
+ */
+static void many(bool first)
+{
+    enum { PAIRS = 49, BIT = PAIRS + 1, WHOLE = BIT + BITS };
+    add_pairs('T', 2, PAIRS, first);
+    line("T,1,0,0\n", 0, 0, 0);
+    for (int i = 1; i < BITS; i++)
+        line("T,2,%d,%d\n", BIT, BIT + i - 1, 0);
+    line("T,2,%d,%d\n", WHOLE - 1, PAIRS, 0);
+    add_pairs('P', 4, PAIRS, first);
+    int closed = closed_bits(PAIRS + 1);
+    for (int i = 0; i < CLAUSES; i++)
+        line("P,4,%d,%d\n", closed + i, PAIRS, 0);
+    last_type = other_type = last_pattern = PAIRS;
+    clauses(WHOLE, closed + CLAUSES, 0);
+    isos(1, ISOS - 1, true);
+    clauses(WHOLE, closed + CLAUSES, ISOS - 2);
+    last_type = WHOLE;
+    last_pattern = (uint32_t)(closed + 2 * CLAUSES - 1);
+    settings = CLAUSES;
+    strcpy(value, "PPRUPRUPRUPRUPRUPRURU");
+    add_letters(PAIRS, first);
 }
 
 static size_t most[CALLS];
 
+/* Asks for the last iso with the value, there and back, and for a list of every setting to itself. */
+static void ask(void)
+{
+    size_t at = 0;
+    snprintf(query, sizeof query, "Q,%u,0,4294967295,%s\n", last_iso, value);
+    snprintf(script, sizeof script, "S,0,%u,0\nS,0,%u,1\n", last_iso, last_iso);
+    for (int i = 0; i < settings; i++)
+        at += (size_t)snprintf((char *)pairs + at, sizeof pairs - at, "%d,%d\n", i, i);
+}
+
 static void measure(void)
 {
+    ask();
     for (size_t i = 0; i < CALLS; i++) {
         size_t bytes = used(i);
         if (bytes > most[i])
@@ -181,13 +278,18 @@ int main(void)
 {
     for (int first = 0; first < 2; first++) {
         nested(first);
-        isos(true);
+        isos(0, ISOS, true);
         measure();
         sums(first);
-        isos(true);
+        isos(0, ISOS, true);
         measure();
         nested(first);
-        isos(false);
+        isos(0, ISOS, false);
+        measure();
+        variable(first);
+        isos(0, ISOS, true);
+        measure();
+        many(first);
         measure();
     }
     int over = 0;

@@ -170,11 +170,12 @@ enum service {
     SERVICE_WITNESS,
     SERVICE_EXPORT,
     SERVICE_IMPORT,
+    SERVICE_PLAY,
     SERVICES
 };
 
 static const char *const service_names[SERVICES] = {"Check",   "Turn",   "Run",     "Sheet",  "Number of", "Setting of",
-                                                    "Overlap", "Bounds", "Witness", "Export", "Import"};
+                                                    "Overlap", "Bounds", "Witness", "Export", "Import",    "Play"};
 
 /* What a query of a sheet is to give. */
 struct reply {
@@ -190,9 +191,24 @@ struct sheet {
     const struct reply *replies;
 };
 
+/* A unit of a play. */
+struct unit {
+    uint32_t type; /* a T line */
+    uint32_t setting;
+};
+
+/* The units before a play and, where it is not refused, after it; the lengths stated for their two areas; the tally. */
+struct units {
+    const struct unit *before;
+    const struct unit *after;
+    size_t types;
+    size_t settings;
+    struct rulefile_tally tally;
+};
+
 /*
- * Only a call of Sheet has queries. The type is that of a setting, which goes in as a value or as a number. The
- * value of an import is its list.
+ * Only a call of Sheet has queries, and only one of Play units. The type is that of a setting, which goes in as a
+ * value or as a number. The value of an import is its list, that of a play its script.
  */
 struct call {
     enum service service;
@@ -206,6 +222,7 @@ struct call {
     uint32_t setting;
     uint32_t left; /* P lines to compare, or the T lines of an import */
     uint32_t right;
+    struct units units;
 };
 
 struct answer {
@@ -225,32 +242,43 @@ struct answer {
 
 /*
  * The areas that a call writes: the table and the work area; the output of Turn, an export or an import, the
- * result of Run, of a setting's number or of a witness, or the letters of a sheet; the numbers of a sheet.
+ * result of Run, of a setting's number or of a witness, or the letters of a sheet; the numbers of a sheet; the units
+ * and the tally of a play.
  */
 struct lent {
     struct area table;
     struct area work;
     struct area out;
     struct area numbers;
+    struct area types;
+    struct area settings;
+    struct area tally;
 };
 
-/* Table and numbers in numbers, the others in bytes. */
+/* Work area and output in bytes, the tally in structs, the others in numbers. */
 struct lengths {
     size_t table;
     size_t work;
     size_t out;
     size_t numbers;
+    size_t types;
+    size_t settings;
+    size_t tally;
 };
 
+enum { LAST_NUMBER = RULEFILE_BAD_SCRIPT };
+
 static const struct bytes nothing = {NULL, 0};
-static bool hit[SERVICES][RULEFILE_BAD_LIST + 1];
-static bool hit_by_query[RULEFILE_BAD_LIST + 1];
+static bool hit[SERVICES][LAST_NUMBER + 1];
+static bool hit_by_query[LAST_NUMBER + 1];
 
 /* For a sheet of so many queries. */
 static struct lengths sheet_lengths(size_t queries)
 {
-    return (struct lengths){RULEFILE_TABLE_LENGTH, RULEFILE_WORK_LENGTH, RULEFILE_RESULT_LENGTH * queries,
-                            RULEFILE_NUMBERS_A_QUERY * queries};
+    return (struct lengths){.table = RULEFILE_TABLE_LENGTH,
+                            .work = RULEFILE_WORK_LENGTH,
+                            .out = RULEFILE_RESULT_LENGTH * queries,
+                            .numbers = RULEFILE_NUMBERS_A_QUERY * queries};
 }
 
 static struct lengths exact_lengths(const struct call *call)
@@ -264,6 +292,9 @@ static struct lengths exact_lengths(const struct call *call)
         lengths.out = RULEFILE_LIST_LENGTH;
     if (call->service == SERVICE_IMPORT)
         lengths.out = RULEFILE_MAX_FILE_LENGTH;
+    lengths.types = call->units.types;
+    lengths.settings = call->units.settings;
+    lengths.tally = call->service == SERVICE_PLAY;
     return lengths;
 }
 
@@ -274,6 +305,9 @@ static struct lent lend(enum place place, struct lengths lengths)
         make_area(place, lengths.work, 1, pattern),
         make_area(place, lengths.out, 1, pattern),
         make_area(place, 4 * lengths.numbers, 4, pattern),
+        make_area(place, 4 * lengths.types, 4, pattern),
+        make_area(place, 4 * lengths.settings, 4, pattern),
+        make_area(place, lengths.tally * sizeof(struct rulefile_tally), 4, pattern),
     };
     return lent;
 }
@@ -284,6 +318,9 @@ static void give_back(struct lent *lent)
     free_area(&lent->work);
     free_area(&lent->out);
     free_area(&lent->numbers);
+    free_area(&lent->types);
+    free_area(&lent->settings);
+    free_area(&lent->tally);
 }
 
 static uint16_t *rows_of(uint8_t *bytes)
@@ -294,6 +331,32 @@ static uint16_t *rows_of(uint8_t *bytes)
 static uint32_t *numbers_of(uint8_t *bytes)
 {
     return (uint32_t *)(void *)bytes;
+}
+
+static struct rulefile_tally *tally_of(uint8_t *bytes)
+{
+    return (struct rulefile_tally *)(void *)bytes;
+}
+
+static void put_types(uint8_t *bytes, const struct unit *units, size_t count)
+{
+    for (size_t i = 0; i < count; i++)
+        numbers_of(bytes)[i] = units[i].type;
+}
+
+static void put_settings(uint8_t *bytes, const struct unit *units, size_t count)
+{
+    for (size_t i = 0; i < count; i++)
+        numbers_of(bytes)[i] = units[i].setting;
+}
+
+/* Puts the units that a play begins with into their areas. */
+static void lend_units(const struct units *units, const struct lent *lent)
+{
+    put_types(lent->types.start, units->before, units->types);
+    put_types(lent->types.mirror, units->before, units->types);
+    put_settings(lent->settings.start, units->before, units->settings);
+    put_settings(lent->settings.mirror, units->before, units->settings);
 }
 
 /* The list of a sheet, or the value of another service. */
@@ -366,9 +429,23 @@ static struct answer call_lists(const struct call *call, const struct area *file
     return (struct answer){.number = a.number, .line = a.line, .length = a.length};
 }
 
+/* The lengths of the units are those stated, also where their areas are longer. */
+static struct answer call_play(const struct call *call, const struct area *file, const struct area *input,
+                               const struct lent *lent)
+{
+    struct rulefile_play_answer a =
+        rulefile_play(file->start, file->length, rows_of(lent->table.start), lent->table.length / 2,
+                      lent->work.start, lent->work.length, numbers_of(lent->types.start), call->units.types,
+                      numbers_of(lent->settings.start), call->units.settings, input->start, input->length,
+                      call->budget, tally_of(lent->tally.start));
+    return (struct answer){.number = a.number, .line = a.line};
+}
+
 static struct answer make_call(const struct call *call, const struct area *file, const struct area *input,
                                const struct lent *lent)
 {
+    if (call->service == SERVICE_PLAY)
+        return call_play(call, file, input, lent);
     if (call->service == SERVICE_OVERLAP)
         return call_overlap(call, file, lent);
     if (call->service == SERVICE_BOUNDS)
@@ -473,6 +550,11 @@ static void foresee(const struct call *call, struct lent *lent, struct answer an
         put_rows(call->file, rows_of(lent->table.mirror));
     if (answer.number == RULEFILE_ACCEPTED)
         put_replies(&call->sheet, numbers_of(lent->numbers.mirror), lent->out.mirror);
+    if (answer.number == RULEFILE_ACCEPTED && call->service == SERVICE_PLAY) {
+        put_types(lent->types.mirror, call->units.after, call->units.types);
+        put_settings(lent->settings.mirror, call->units.after, call->units.settings);
+        *tally_of(lent->tally.mirror) = call->units.tally;
+    }
     if (text.length > 0)
         memcpy(lent->out.mirror, text.start, text.length);
 }
@@ -484,6 +566,8 @@ struct outcome {
     bool work;
     bool out;
     bool numbers;
+    bool units;
+    bool tally;
     bool inputs;
 };
 
@@ -492,12 +576,15 @@ static struct outcome perform(enum place place, struct lent *lent, const struct 
 {
     struct area file = make_input(place, call->file);
     struct area input = make_input(place, input_of(call));
+    lend_units(&call->units, lent);
     struct outcome outcome = {.answer = make_call(call, &file, &input, lent)};
     foresee(call, lent, expected, text);
     outcome.table = as_foreseen(&lent->table);
     outcome.work = as_foreseen(&lent->work);
     outcome.out = as_foreseen(&lent->out);
     outcome.numbers = as_foreseen(&lent->numbers);
+    outcome.units = as_foreseen(&lent->types) && as_foreseen(&lent->settings);
+    outcome.tally = as_foreseen(&lent->tally);
     outcome.inputs = as_foreseen(&file) && as_foreseen(&input);
     free_area(&file);
     free_area(&input);
@@ -523,11 +610,11 @@ static void print_answer(const char *label, struct answer a)
 
 static void mark(bool *numbers, uint32_t number)
 {
-    if (number <= RULEFILE_BAD_LIST)
+    if (number <= LAST_NUMBER)
         numbers[number] = true;
 }
 
-/* Records an outcome: six checks. */
+/* Records an outcome: six checks, and two more of a play. */
 static void judge(int at, const struct call *call, struct outcome outcome, struct answer expected)
 {
     struct answer found = outcome.answer;
@@ -538,6 +625,10 @@ static void judge(int at, const struct call *call, struct outcome outcome, struc
     CHECK_AT(at, outcome.out);
     CHECK_AT(at, outcome.numbers);
     CHECK_AT(at, outcome.inputs);
+    if (call->service == SERVICE_PLAY) {
+        CHECK_AT(at, outcome.units);
+        CHECK_AT(at, outcome.tally);
+    }
     if (failed > before) {
         printf("  in %s:\n", service_names[call->service]);
         print_answer("expected", expected);
@@ -574,6 +665,8 @@ static void try_call(int at, const struct setting *setting, const struct call *c
     lengths.work += setting->extra;
     lengths.out += setting->extra;
     lengths.numbers += setting->extra;
+    lengths.types += setting->extra;
+    lengths.settings += setting->extra;
     if (lent == NULL) {
         fresh = lend(setting->place, lengths);
         lent = &fresh;
@@ -595,6 +688,8 @@ static void try_call(int at, const struct setting *setting, const struct call *c
 #define SEVEN_TYPES "T,0,0,0\nT,2,0,0\nT,2,1,1\nT,2,2,2\nT,2,3,3\nT,2,4,4\nT,2,5,5\n"
 #define SEVEN_USED SEVEN_TYPES "P,1,0,0\nI,6,6\nC,0,0\n"
 #define TWO_UNITS "T,0,0,0\nT,0,0,0\nP,0,0,0\n"
+#define IDLE_UNIT TWO_UNITS /* where no line names T line 1 */
+#define LET_UNITS "T,0,0,0\nP,0,0,0\nP,0,0,0\nP,0,0,0\nI,0,0\nC,0,0\nI,0,0\nC,0,0\n"
 #define BIT "T,0,0,0\nT,1,0,0\nP,0,0,0\nP,2,0,0\nP,3,0,0\n"
 
 /* Three steps LU, RLU, RRU; iso 0: one further; 1: the first two exchanged; 2: 0, then 1; 3: 0 twice. */
@@ -652,6 +747,28 @@ static const struct file_case file_cases[] = {
     {__LINE__, 9, 13, TEXT(BIT "P,1,0,0\nP,1,1,0\nP,2,4,0\nI,1,1\nC,1,2\nC,2,1\nI,1,1\nC,3,4\nL,5,0,3\n"), TEXT("")},
     {__LINE__, 10, 5, TEXT("T,0,0,0\nT,1,0,0\nP,0,0,0\nI,0,1\nC,0,0\n"), TEXT("")},
     {__LINE__, 12, 6, TEXT(BIT "I,1,1\nC,1,1\nC,2,1\n"), TEXT("")},
+    /* idle lines: the first one, one that idle lines alone name, lines that one side or a let step alone names */
+    {__LINE__, 21, 1, TEXT(S_TREES), TEXT("")},
+    {__LINE__, 21, 3, TEXT("T,0,0,0\nT,1,0,0\nT,0,0,0\nP,1,0,0\nP,0,0,0\nI,1,1\nC,0,0\n"), TEXT("")},
+    {__LINE__, 21, 6, TEXT(BIT "P,1,0,0\nI,1,1\nC,1,2\nC,2,1\n"), TEXT("")},
+    {__LINE__, 21, 2, TEXT("T,0,0,0\nT,2,0,0\nT,2,1,1\nP,0,0,0\nI,0,0\nC,0,0\n"), TEXT("")},
+    {__LINE__, 21, 3, TEXT("T,0,0,0\nP,0,0,0\nP,0,0,0\nP,4,1,1\nI,0,0\nC,0,0\n"), TEXT("")},
+    {__LINE__, 21, 2, TEXT("T,0,0,0\r\nT,0,0,0\r\nP,0,0,0\nI,0,0\r\nC,0,0\n"), TEXT("")},
+    {__LINE__, 0, 0, TEXT(LET_UNITS "L,1,0,2\n"), TEXT(LET_UNITS "L,2,0,1\n")},
+    {__LINE__, 21, 4, TEXT(LET_UNITS "L,1,0,1\n"), TEXT("")},
+    /* 21 before 8 to 14, behind 3 to 7 of any line */
+    {__LINE__, 21, 12, TEXT(S_TREES "P,1,2,0\nI,1,1\nC,1,2\nC,2,1\nI,2,2\nC,5,6\nC,7,7\n"), TEXT("")},
+    {__LINE__, 21, 9,
+     TEXT(BIT "P,1,0,0\nP,1,1,0\nP,2,4,0\nP,1,2,0\nI,1,1\nC,1,2\nC,2,1\nI,1,1\nC,3,4\nL,5,0,3\n"), TEXT("")},
+    {__LINE__, 21, 3, TEXT("T,0,0,0\nT,1,0,0\nT,0,0,0\nP,0,0,0\nI,0,1\nC,0,0\n"), TEXT("")},
+    {__LINE__, 21, 4, TEXT("T,0,0,0\nT,1,0,0\nP,1,0,0\nP,0,0,0\nI,1,1\nC,0,0\nC,0,0\n"), TEXT("")},
+    {__LINE__, 21, 6, TEXT(BIT "P,0,0,0\nI,1,1\nC,1,1\nC,2,1\n"), TEXT("")},
+    {__LINE__, 21, 5, TEXT("T,0,0,0\nT,1,0,0\nP,0,0,0\nP,2,0,0\nP,3,0,0\nI,0,1\nC,0,1\n"), TEXT("")},
+    {__LINE__, 3, 6, TEXT(IDLE_UNIT "I,0,0\nC,0,0\nx\n"), TEXT("")},
+    {__LINE__, 4, 6, TEXT(IDLE_UNIT "I,0,0\nC,0,0\nT,0,0,0\n"), TEXT("")},
+    {__LINE__, 5, 4, TEXT(IDLE_UNIT "P,0,0,1\n"), TEXT("")},
+    {__LINE__, 6, 5, TEXT(IDLE_UNIT "I,0,0\nC,0,1\n"), TEXT("")},
+    {__LINE__, 21, 2, TEXT(IDLE_UNIT "I,0,0\nC,0,0\n"), TEXT("")},
     /* line ends and fields */
     {__LINE__, 3, 1, TEXT("\n"), TEXT("")},
     {__LINE__, 3, 1, TEXT("T"), TEXT("")},
@@ -1206,6 +1323,80 @@ static const struct import_case import_cases[] = {
     {__LINE__, TEXT(S "\n"), 2, 2, TEXT(S_LIST), 3, 19, TEXT("")},
 };
 
+/* One iso on all 32 bits, one on the first 31. */
+#define BITS_PLAYED BITS "P,1,0,0\nI,32,32\nC,0,0\nI,31,31\nC,0,0\n"
+
+enum { PLAY_CASE_UNITS = 3 };
+
+/* Units and a script, and what they are afterwards or the number that the call is refused with. */
+struct play_case {
+    int at;
+    struct bytes file;
+    uint32_t budget;
+    struct bytes script;
+    size_t units;
+    struct unit before[PLAY_CASE_UNITS];
+    uint32_t number;
+    size_t line;
+    struct unit after[PLAY_CASE_UNITS]; /* where accepted */
+    struct rulefile_tally tally;
+};
+
+static const struct play_case play_cases[] = {
+    /* done, skipped and spent; skipped comes first */
+    {__LINE__, TEXT(S), 9, TEXT("S,0,0,0\nS,1,1,0\nS,2,0,0\n"), 3, {{1, 0}, {2, 1}, {0, 0}}, 0, 0,
+     {{1, 1}, {2, 0}, {0, 0}}, {2, 1, 0}},
+    {__LINE__, TEXT(S), 1, TEXT("S,0,1,0\nS,1,1,1\nS,2,1,0\n"), 3, {{2, 1}, {2, 2}, {1, 1}}, 0, 0,
+     {{2, 1}, {2, 2}, {1, 1}}, {1, 1, 1}},
+    {__LINE__, TEXT(S), 0, TEXT("S,0,0,0\nS,0,1,0\nS,0,0,1\n"), 1, {{1, 1}}, 0, 0, {{1, 1}}, {0, 1, 2}},
+    {__LINE__, TEXT(S), 4294967295, TEXT("S,0,1,0\nS,0,1,1\nS,0,1,1\n"), 1, {{2, 0}}, 0, 0, {{2, 1}}, {3, 0, 0}},
+    {__LINE__, TEXT(S_RETURNS), 2, TEXT("S,1,1,0\n"), 2, {{2, 0}, {2, 0}}, 0, 0, {{2, 0}, {2, 1}}, {1, 0, 0}},
+    /* each visit has the whole budget */
+    {__LINE__, TEXT(STEPS), 3, TEXT("S,0,0,0\nS,0,3,1\n"), 1, {{2, 0}}, 0, 0, {{2, 2}}, {2, 0, 0}},
+    {__LINE__, TEXT(STEPS), 2, TEXT("S,0,0,0\nS,0,3,1\nS,0,0,0\n"), 1, {{2, 0}}, 0, 0, {{2, 2}}, {2, 0, 1}},
+    /* the other end's T line, there and back; trees that are equal under other lines */
+    {__LINE__, TEXT(WIDER), 1, TEXT("S,0,0,0\n"), 1, {{1, 0}}, 0, 0, {{2, 1}}, {1, 0, 0}},
+    {__LINE__, TEXT(WIDER), 1, TEXT("S,0,0,0\nS,0,0,0\nS,0,0,1\n"), 1, {{1, 0}}, 0, 0, {{1, 0}}, {2, 1, 0}},
+    {__LINE__, TEXT(TWO_UNITS "I,0,1\nC,0,0\n"), 1, TEXT("S,0,0,0\nS,1,0,1\n"), 2, {{1, 0}, {0, 0}}, 0, 0,
+     {{1, 0}, {0, 0}}, {2, 0, 0}},
+    {__LINE__, TEXT(TWO_UNITS "I,0,1\nC,0,0\n"), 1, TEXT("S,0,0,0\nS,0,0,1\n"), 1, {{1, 0}}, 0, 0, {{0, 0}},
+     {2, 0, 0}},
+    /* both endings; no visit, no unit, no line */
+    {__LINE__, TEXT(S), 1, TEXT("S,0,0,0\r\nS,0,0,1\nS,0,0,0\r\n"), 1, {{1, 0}}, 0, 0, {{1, 1}}, {3, 0, 0}},
+    {__LINE__, TEXT(S), 1, TEXT(""), 2, {{1, 1}, {2, 3}}, 0, 0, {{1, 1}, {2, 3}}, {0, 0, 0}},
+    {__LINE__, TEXT(S), 1, TEXT(""), 0, {{0, 0}}, 0, 0, {{0, 0}}, {0, 0, 0}},
+    {__LINE__, TEXT(""), 0, TEXT(""), 0, {{0, 0}}, 0, 0, {{0, 0}}, {0, 0, 0}},
+    /* the highest number of a type that can be numbered */
+    {__LINE__, TEXT(BITS_PLAYED), 1, TEXT("S,0,1,0\nS,0,0,0\n"), 1, {{31, 2147483647}}, 0, 0, {{31, 2147483647}},
+     {1, 1, 0}},
+    /* T lines that are absent; numbers that would be one with fewer bits */
+    {__LINE__, TEXT(S), 9, TEXT("S,0,1,0\n"), 1, {{3, 0}}, 15, 0, {{0, 0}}, {0, 0, 0}},
+    {__LINE__, TEXT(S), 9, TEXT("S,0,1,0\n"), 1, {{258, 1}}, 15, 0, {{0, 0}}, {0, 0, 0}},
+    {__LINE__, TEXT(S), 9, TEXT("S,0,1,0\n"), 1, {{65538, 1}}, 15, 0, {{0, 0}}, {0, 0, 0}},
+    {__LINE__, TEXT(S), 9, TEXT("S,0,1,0\n"), 1, {{2147483650, 1}}, 15, 0, {{0, 0}}, {0, 0, 0}},
+    {__LINE__, TEXT(""), 9, TEXT(""), 1, {{0, 0}}, 15, 0, {{0, 0}}, {0, 0, 0}},
+    /* too many values, by one; not below the count */
+    {__LINE__, TEXT(BITS_PLAYED), 1, TEXT(""), 1, {{32, 0}}, 18, 0, {{0, 0}}, {0, 0, 0}},
+    {__LINE__, TEXT(S), 9, TEXT("S,0,1,0\n"), 1, {{2, 4}}, 19, 0, {{0, 0}}, {0, 0, 0}},
+    {__LINE__, TEXT(S), 9, TEXT("S,0,1,0\n"), 1, {{2, 65537}}, 19, 0, {{0, 0}}, {0, 0, 0}},
+    {__LINE__, TEXT(S), 9, TEXT("S,0,1,0\n"), 1, {{2, 4294967295}}, 19, 0, {{0, 0}}, {0, 0, 0}},
+    {__LINE__, TEXT(BITS_PLAYED), 1, TEXT(""), 1, {{31, 2147483648}}, 19, 0, {{0, 0}}, {0, 0, 0}},
+    /* on one unit 15, 18, 19; of two units the first; then the script, before the first visit */
+    {__LINE__, TEXT(BITS_PLAYED), 1, TEXT("x"), 1, {{33, 4294967295}}, 15, 0, {{0, 0}}, {0, 0, 0}},
+    {__LINE__, TEXT(BITS_PLAYED), 1, TEXT("x"), 1, {{32, 4294967295}}, 18, 0, {{0, 0}}, {0, 0, 0}},
+    {__LINE__, TEXT(BITS_PLAYED), 1, TEXT("x"), 2, {{31, 4294967295}, {32, 0}}, 19, 0, {{0, 0}}, {0, 0, 0}},
+    {__LINE__, TEXT(BITS_PLAYED), 1, TEXT("x"), 2, {{32, 0}, {33, 0}}, 18, 0, {{0, 0}}, {0, 0, 0}},
+    {__LINE__, TEXT(BITS_PLAYED), 1, TEXT("x"), 3, {{31, 0}, {33, 0}, {31, 4294967295}}, 15, 0, {{0, 0}}, {0, 0, 0}},
+    {__LINE__, TEXT(S), 9, TEXT("S,0,0,0\nx\n"), 2, {{1, 0}, {1, 2}}, 19, 0, {{0, 0}}, {0, 0, 0}},
+    {__LINE__, TEXT(S), 9, TEXT("S,0,0,0\nx\n"), 2, {{1, 0}, {1, 1}}, 22, 0, {{0, 0}}, {0, 0, 0}},
+    {__LINE__, TEXT(S), 0, TEXT("S,0,0,0\nS,0,2,0\n"), 1, {{0, 0}}, 22, 0, {{0, 0}}, {0, 0, 0}},
+    {__LINE__, TEXT(S), 9, TEXT("S,0,0,0\n"), 0, {{0, 0}}, 22, 0, {{0, 0}}, {0, 0, 0}},
+    /* the file's refusal comes first */
+    {__LINE__, TEXT(S "C,7,7\n"), 9, TEXT("x"), 1, {{3, 0}}, 11, 15, {{0, 0}}, {0, 0, 0}},
+    {__LINE__, TEXT(S_TREES), 9, TEXT("x"), 1, {{2, 4}}, 21, 1, {{0, 0}}, {0, 0, 0}},
+    {__LINE__, TEXT(S "\n"), 9, TEXT(""), 1, {{2, 0}}, 3, 19, {{0, 0}}, {0, 0, 0}},
+};
+
 static struct call run_call(const struct query_case *c)
 {
     return (struct call){.service = SERVICE_RUN,
@@ -1226,37 +1417,45 @@ static bool has_witness(uint32_t number)
     return number >= RULEFILE_OVERLAP_LEFT && number <= RULEFILE_GAP_RIGHT;
 }
 
-/* A file through every service; of an accepted one an iso, a T line and a P line are asked for that are not there. */
-static void try_file(const struct setting *setting, const struct file_case *c)
+static const struct unit absent_unit = {UINT32_MAX, 0};
+
+/* A call that asks for an iso, a T line, a P line or the T line of a unit that no file has. */
+static struct call absent_call(enum service service, struct bytes file)
 {
     struct call call = {
-        .service = SERVICE_CHECK, .file = c->file, .iso = UINT32_MAX, .type = UINT32_MAX, .right = UINT32_MAX};
-    struct answer answer = {.number = c->number, .line = c->line};
-    try_call(c->at, setting, &call, answer, nothing);
-    call.service = SERVICE_TURN;
-    try_call(c->at, setting, &call, answer, c->number == RULEFILE_ACCEPTED ? c->turned : nothing);
-    struct call sheet = {.service = SERVICE_SHEET, .file = c->file, .sheet = unanswered_sheet};
-    try_call(c->at, setting, &sheet, answer, nothing);
-    call.service = SERVICE_WITNESS;
-    if (!has_witness(c->number))
-        try_call(c->at, setting, &call, answer, nothing);
-    if (answer.number == RULEFILE_ACCEPTED)
-        answer.number = RULEFILE_NO_ISO;
-    call.service = SERVICE_OVERLAP;
-    try_call(c->at, setting, &call, answer, nothing);
-    call.service = SERVICE_EXPORT;
-    try_call(c->at, setting, &call, answer, nothing);
-    call.service = SERVICE_IMPORT;
-    try_call(c->at, setting, &call, answer, nothing);
-    answer.line = 0;
-    call.service = SERVICE_RUN;
-    try_call(c->at, setting, &call, answer, nothing);
-    call.service = SERVICE_NUMBER_OF;
-    try_call(c->at, setting, &call, answer, nothing);
-    call.service = SERVICE_SETTING_OF;
-    try_call(c->at, setting, &call, answer, nothing);
-    call.service = SERVICE_BOUNDS;
-    try_call(c->at, setting, &call, answer, nothing);
+        .service = service, .file = file, .iso = UINT32_MAX, .type = UINT32_MAX, .right = UINT32_MAX};
+    if (service == SERVICE_SHEET)
+        call.sheet = unanswered_sheet;
+    if (service == SERVICE_PLAY)
+        call.units = (struct units){.before = &absent_unit, .types = 1, .settings = 1};
+    return call;
+}
+
+/* What such a call gives: refused as Check refuses the file, with its line where the service names one, or with 15. */
+static struct answer absent_answer(enum service service, const struct file_case *c)
+{
+    bool asks = service != SERVICE_CHECK && service != SERVICE_TURN && service != SERVICE_SHEET &&
+                service != SERVICE_WITNESS;
+    bool lineless = service == SERVICE_RUN || service == SERVICE_NUMBER_OF || service == SERVICE_SETTING_OF ||
+                    service == SERVICE_BOUNDS;
+    uint32_t number = c->number == RULEFILE_ACCEPTED && asks ? RULEFILE_NO_ISO : c->number;
+    return (struct answer){.number = number, .line = lineless ? 0 : c->line};
+}
+
+/* What such a call writes. */
+static struct bytes absent_text(enum service service, const struct file_case *c)
+{
+    return service == SERVICE_TURN && c->number == RULEFILE_ACCEPTED ? c->turned : nothing;
+}
+
+/* A file through every service, but for a witness that there is. */
+static void try_file(const struct setting *setting, const struct file_case *c)
+{
+    for (enum service service = 0; service < SERVICES; service++) {
+        struct call call = absent_call(service, c->file);
+        if (service != SERVICE_WITNESS || !has_witness(c->number))
+            try_call(c->at, setting, &call, absent_answer(service, c), absent_text(service, c));
+    }
 }
 
 static void try_query(const struct setting *setting, const struct query_case *c)
@@ -1353,6 +1552,30 @@ static void try_import(const struct setting *setting, const struct import_case *
     try_call(c->at, setting, &call, (struct answer){.number = c->number, .line = c->line}, c->written);
 }
 
+/* A play of so many units, both areas of that length. */
+static struct call units_call(struct bytes file, const struct unit *units, size_t count, struct bytes script)
+{
+    return (struct call){.service = SERVICE_PLAY,
+                         .file = file,
+                         .value = script,
+                         .units = {.before = units, .types = count, .settings = count}};
+}
+
+static struct call play_call(const struct play_case *c)
+{
+    struct call call = units_call(c->file, c->before, c->units, c->script);
+    call.budget = c->budget;
+    call.units.after = c->after;
+    call.units.tally = c->tally;
+    return call;
+}
+
+static void try_play(const struct setting *setting, const struct play_case *c)
+{
+    struct call call = play_call(c);
+    try_call(c->at, setting, &call, (struct answer){.number = c->number, .line = c->line}, nothing);
+}
+
 static void try_cases(const struct setting *setting)
 {
     for (size_t i = 0; i < COUNT_OF(file_cases); i++)
@@ -1375,11 +1598,13 @@ static void try_cases(const struct setting *setting)
         try_export(setting, &export_cases[i]);
     for (size_t i = 0; i < COUNT_OF(import_cases); i++)
         try_import(setting, &import_cases[i]);
+    for (size_t i = 0; i < COUNT_OF(play_cases); i++)
+        try_play(setting, &play_cases[i]);
 }
 
 /* Groups */
 
-/* The header's numbers are those of documents 01 and 02, its structs laid out as stated. */
+/* The header's numbers are those of documents 01 and 02; below, its structs are laid out as stated. */
 static void header_numbers(void)
 {
     static const uint32_t in_order[] = {
@@ -1398,8 +1623,13 @@ static void header_numbers(void)
     CHECK(RULEFILE_LIST_LENGTH == 40960);
     CHECK(RULEFILE_NUMBERS_A_QUERY == 3);
     CHECK(RULEFILE_MAX_QUERIES == 600);
+    CHECK(RULEFILE_MAX_UNITS == 1000);
     CHECK(RULEFILE_MAX_FILE_LENGTH == 65536);
     CHECK(RULEFILE_MAX_LINES == 4096);
+}
+
+static void header_structs(void)
+{
     CHECK(sizeof(struct rulefile_number_answer) == 8);
     CHECK(offsetof(struct rulefile_number_answer, setting) == 4);
     CHECK(sizeof(struct rulefile_setting_answer) == 2 * sizeof(size_t));
@@ -1422,6 +1652,12 @@ static void header_numbers(void)
     CHECK(sizeof(struct rulefile_import_answer) == 3 * sizeof(size_t));
     CHECK(offsetof(struct rulefile_import_answer, line) == sizeof(size_t));
     CHECK(offsetof(struct rulefile_import_answer, length) == 2 * sizeof(size_t));
+    CHECK(sizeof(struct rulefile_play_answer) == 2 * sizeof(size_t));
+    CHECK(offsetof(struct rulefile_play_answer, line) == sizeof(size_t));
+    CHECK(sizeof(struct rulefile_tally) == 12);
+    CHECK(offsetof(struct rulefile_tally, done) == 0);
+    CHECK(offsetof(struct rulefile_tally, skipped) == 4);
+    CHECK(offsetof(struct rulefile_tally, spent) == 8);
 }
 
 static void exact_areas(void)
@@ -1448,8 +1684,13 @@ static void longer_areas(void)
 /* The same areas through every case twice, never cleared. */
 static void reused_areas(void)
 {
-    struct lengths lengths = {RULEFILE_TABLE_LENGTH + 50, RULEFILE_WORK_LENGTH + 50, RULEFILE_MAX_FILE_LENGTH + 50,
-                              RULEFILE_NUMBERS_A_QUERY * SHEET_CASE_QUERIES + 50};
+    struct lengths lengths = {RULEFILE_TABLE_LENGTH + 50,
+                              RULEFILE_WORK_LENGTH + 50,
+                              RULEFILE_MAX_FILE_LENGTH + 50,
+                              RULEFILE_NUMBERS_A_QUERY * SHEET_CASE_QUERIES + 50,
+                              PLAY_CASE_UNITS + 50,
+                              PLAY_CASE_UNITS + 60,
+                              1};
     struct lent kept = lend(HEAP, lengths);
     struct setting setting = {HEAP, 0, &kept};
     try_cases(&setting);
@@ -1469,16 +1710,15 @@ static size_t chosen_length(size_t exact, size_t choice)
 static void try_lengths(int at, enum place place, const struct call *call, struct answer usual, struct bytes text)
 {
     static const struct answer short_area = {.number = RULEFILE_SHORT_AREA};
-    static const size_t choices[SERVICES] = {16, 64, 64, 256, 16, 64, 16, 16, 64, 64, 64};
+    static const size_t choices[SERVICES] = {16, 64, 64, 256, 16, 64, 16, 16, 64, 64, 64, 16};
     struct lengths exact = exact_lengths(call);
     usual = with_lengths(usual, call, text);
     for (size_t choice = 0; choice < choices[call->service]; choice++) {
-        struct lengths lengths = {
-            chosen_length(exact.table, choice % 4),
-            chosen_length(exact.work, choice / 4 % 4),
-            chosen_length(exact.out, choice / 16 % 4),
-            chosen_length(exact.numbers, choice / 64),
-        };
+        struct lengths lengths = exact;
+        lengths.table = chosen_length(exact.table, choice % 4);
+        lengths.work = chosen_length(exact.work, choice / 4 % 4);
+        lengths.out = chosen_length(exact.out, choice / 16 % 4);
+        lengths.numbers = chosen_length(exact.numbers, choice / 64);
         bool is_short = lengths.table < exact.table || lengths.work < exact.work || lengths.out < exact.out ||
                         lengths.numbers < exact.numbers;
         struct answer expected = is_short ? short_area : usual;
@@ -1499,35 +1739,12 @@ static void short_areas(void)
         {__LINE__, 2, 0, {pattern, RULEFILE_MAX_FILE_LENGTH + 1}, TEXT("")},
     };
     static const enum place places[] = {NULL_IF_EMPTY, BEFORE_GUARD};
-    for (size_t i = 0; i < COUNT_OF(places) * COUNT_OF(cases); i++) {
-        const struct file_case *c = &cases[i / COUNT_OF(places)];
-        enum place place = places[i % COUNT_OF(places)];
-        struct call call = {.service = SERVICE_CHECK, .file = c->file, .iso = 2, .type = 3, .left = 8};
-        struct answer answer = {.number = c->number, .line = c->line};
-        try_lengths(c->at, place, &call, answer, nothing);
-        call.service = SERVICE_TURN;
-        try_lengths(c->at, place, &call, answer, c->turned);
-        struct call sheet = {.service = SERVICE_SHEET, .file = c->file, .sheet = unanswered_sheet};
-        try_lengths(c->at, place, &sheet, answer, nothing);
-        call.service = SERVICE_WITNESS;
-        if (!has_witness(c->number))
-            try_lengths(c->at, place, &call, answer, nothing);
-        answer.number = c->number == RULEFILE_ACCEPTED ? RULEFILE_NO_ISO : c->number;
-        call.service = SERVICE_OVERLAP;
-        try_lengths(c->at, place, &call, answer, nothing);
-        call.service = SERVICE_EXPORT;
-        try_lengths(c->at, place, &call, answer, nothing);
-        call.service = SERVICE_IMPORT;
-        try_lengths(c->at, place, &call, answer, nothing);
-        answer.line = 0;
-        call.service = SERVICE_RUN;
-        try_lengths(c->at, place, &call, answer, nothing);
-        call.service = SERVICE_NUMBER_OF;
-        try_lengths(c->at, place, &call, answer, nothing);
-        call.service = SERVICE_SETTING_OF;
-        try_lengths(c->at, place, &call, answer, nothing);
-        call.service = SERVICE_BOUNDS;
-        try_lengths(c->at, place, &call, answer, nothing);
+    for (size_t i = 0; i < COUNT_OF(places) * COUNT_OF(cases) * SERVICES; i++) {
+        const struct file_case *c = &cases[i / COUNT_OF(places) / SERVICES];
+        enum service service = (enum service)(i / COUNT_OF(places) % SERVICES);
+        struct call call = absent_call(service, c->file);
+        if (service != SERVICE_WITNESS || !has_witness(c->number))
+            try_lengths(c->at, places[i % COUNT_OF(places)], &call, absent_answer(service, c), absent_text(service, c));
     }
 }
 
@@ -1626,6 +1843,43 @@ static void short_areas_of_lists(void)
     }
 }
 
+/* Plays that are not refused, and one of each refusal of their own, with every choice of lengths. */
+static void short_areas_of_plays(void)
+{
+    static const enum place places[] = {NULL_IF_EMPTY, BEFORE_GUARD};
+    bool tried[LAST_NUMBER + 1] = {false};
+    for (size_t i = 0; i < COUNT_OF(play_cases); i++) {
+        const struct play_case *c = &play_cases[i];
+        struct call call = play_call(c);
+        struct answer answer = {.number = c->number, .line = c->line};
+        if (i > 0 && tried[c->number])
+            continue;
+        tried[c->number] = i > 0; /* two that are not refused */
+        for (size_t k = 0; k < COUNT_OF(places); k++)
+            try_lengths(c->at, places[k], &call, answer, nothing);
+    }
+}
+
+/* Areas of units whose lengths are not the same are refused with 1, whatever else is wrong. */
+static void unequal_units(void)
+{
+    static const size_t lengths[][2] = {{0, 1},       {1, 0},       {2, 3},       {3, 2},
+                                        {1000, 999}, {1000, 1001}, {1001, 1000}, {1001, 1002}};
+    static const struct bytes files[] = {TEXT(S), TEXT(S "C,7,7\n"), {pattern, RULEFILE_MAX_FILE_LENGTH + 1}};
+    static const struct bytes scripts[] = {TEXT(""), TEXT("S,0,0,0\n"), TEXT("x")};
+    static const enum place places[] = {NULL_IF_EMPTY, BEFORE_GUARD};
+    static const struct unit units[1002];
+    for (size_t i = 0; i < COUNT_OF(lengths) * COUNT_OF(files); i++) {
+        struct call call = units_call(files[i % COUNT_OF(files)], units, 0, scripts[i % COUNT_OF(scripts)]);
+        call.units.types = lengths[i / COUNT_OF(files)][0];
+        call.units.settings = lengths[i / COUNT_OF(files)][1];
+        for (size_t k = 0; k < COUNT_OF(places); k++) {
+            struct setting setting = {places[k], 0, NULL};
+            try_call(__LINE__, &setting, &call, (struct answer){.number = RULEFILE_SHORT_AREA}, nothing);
+        }
+    }
+}
+
 /* Sheets that are answered, one of them without a query, with every choice of lengths. */
 static void short_areas_of_sheets(void)
 {
@@ -1717,7 +1971,8 @@ static void null_areas_of_witnesses(void)
 /* The same for pair lists. */
 static void null_areas_of_lists(void)
 {
-    struct lengths lengths = {RULEFILE_TABLE_LENGTH, RULEFILE_WORK_LENGTH, RULEFILE_MAX_FILE_LENGTH, 0};
+    struct lengths lengths = sheet_lengths(0);
+    lengths.out = RULEFILE_MAX_FILE_LENGTH;
     struct lent lent = lend(HEAP, lengths);
     uint16_t *table = rows_of(lent.table.start);
     struct rulefile_export_answer e =
@@ -1737,6 +1992,26 @@ static void null_areas_of_lists(void)
     CHECK(m.number == RULEFILE_BAD_LIST && m.line == 0 && m.length == 0 && as_foreseen(&lent.out));
     m = rulefile_import(NULL, 0, NULL, 0, NULL, 0, 0, 0, NULL, 0, NULL, 0);
     CHECK(m.number == RULEFILE_SHORT_AREA && m.line == 0 && m.length == 0);
+    give_back(&lent);
+}
+
+/* The same for plays: no unit and no line, on areas of both lengths; the record is there. */
+static void null_areas_of_plays(void)
+{
+    static const struct rulefile_tally held = {7, 8, 9};
+    struct lent lent = lend(HEAP, sheet_lengths(0));
+    struct rulefile_tally tally = held;
+    struct rulefile_play_answer a = rulefile_play(NULL, 0, NULL, 0, NULL, 0, NULL, 0, NULL, 0, NULL, 0, 1, &tally);
+    CHECK(a.number == RULEFILE_SHORT_AREA && a.line == 0);
+    CHECK(memcmp(&tally, &held, sizeof tally) == 0);
+    a = rulefile_play(NULL, 0, rows_of(lent.table.start), RULEFILE_TABLE_LENGTH, lent.work.start, RULEFILE_WORK_LENGTH,
+                      NULL, 0, NULL, 0, (const uint8_t *)"\n", 1, 1, &tally);
+    CHECK(a.number == RULEFILE_BAD_SCRIPT && a.line == 0);
+    CHECK(memcmp(&tally, &held, sizeof tally) == 0);
+    a = rulefile_play(NULL, 0, rows_of(lent.table.start), RULEFILE_TABLE_LENGTH, lent.work.start, RULEFILE_WORK_LENGTH,
+                      NULL, 0, NULL, 0, NULL, 0, 1, &tally);
+    CHECK(a.number == RULEFILE_ACCEPTED && a.line == 0);
+    CHECK(tally.done == 0 && tally.skipped == 0 && tally.spent == 0);
     give_back(&lent);
 }
 
@@ -2273,6 +2548,204 @@ static void setting_lengths(void)
     }
 }
 
+/* Tables of five numbers a line */
+
+/* A call of each service that is not refused. */
+static const struct {
+    struct call call;
+    struct answer answer;
+    struct bytes text;
+} usual_calls[SERVICES] = {
+    [SERVICE_CHECK] = {{.file = TEXT(S)}, {0}, TEXT("")},
+    [SERVICE_TURN] = {{.file = TEXT(S)}, {0}, TEXT(S_TURNED)},
+    [SERVICE_RUN] = {{.file = TEXT(S), .iso = 1, .budget = 2, .value = TEXT("PLURU")}, {.count = 2}, TEXT("PLULU")},
+    [SERVICE_SHEET] = {{.file = TEXT(S), .sheet = {TEXT(S_QUERIES), 7, sheet_cases[0].replies}}, {0}, TEXT("")},
+    [SERVICE_NUMBER_OF] = {{.file = TEXT(S), .type = 2, .value = TEXT("PRULU")}, {.setting = 2}, TEXT("")},
+    [SERVICE_SETTING_OF] = {{.file = TEXT(S), .type = 2, .setting = 2}, {0}, TEXT("PRULU")},
+    [SERVICE_OVERLAP] = {{.file = TEXT(S), .left = 5, .right = 7}, {.clash = true, .pairs = 2}, TEXT("")},
+    [SERVICE_BOUNDS] = {{.file = TEXT(S), .iso = 1}, {.least = 1, .greatest = 2}, TEXT("")},
+    [SERVICE_WITNESS] = {{.file = TEXT(S)}, {0}, TEXT("")},
+    [SERVICE_EXPORT] = {{.file = TEXT(S), .iso = 1, .budget = 2}, {0}, TEXT(S_LIST)},
+    [SERVICE_IMPORT] = {{.file = TEXT(S), .left = 2, .right = 2, .value = TEXT(S_LIST)}, {0}, TEXT(S_IMPORTED)},
+    [SERVICE_PLAY] = {{.file = TEXT(S),
+                       .budget = 9,
+                       .value = TEXT("S,0,0,0\nS,1,1,0\nS,2,0,0\n"),
+                       .units = {play_cases[0].before, play_cases[0].after, 3, 3, {2, 1, 0}}},
+                      {0},
+                      TEXT("")},
+};
+
+/* Tables of 16,384 numbers, as long as they were with four a line, and of others around 20,480. */
+static void table_lengths(void)
+{
+    static const size_t tables[] = {0, 1, 16383, 16384, 16385, 20479, 20480, 20481, 40960};
+    for (size_t i = 0; i < SERVICES * COUNT_OF(tables); i++) {
+        struct call call = usual_calls[i / COUNT_OF(tables)].call;
+        call.service = (enum service)(i / COUNT_OF(tables));
+        struct bytes text = usual_calls[call.service].text;
+        struct answer expected = with_lengths(usual_calls[call.service].answer, &call, text);
+        struct lengths lengths = exact_lengths(&call);
+        lengths.table = tables[i % COUNT_OF(tables)];
+        if (lengths.table < 20480) {
+            expected = (struct answer){.number = RULEFILE_SHORT_AREA};
+            text = nothing;
+        }
+        struct lent lent = lend(BEFORE_GUARD, lengths);
+        judge(__LINE__, &call, perform(BEFORE_GUARD, &lent, &call, expected, text), expected);
+        give_back(&lent);
+    }
+}
+
+/* The nodes of the tree that a T or P line unfolds to, one by one; `first` is its letter's first row. */
+static uint32_t count_nodes(const uint16_t *row, const uint16_t *first)
+{
+    bool type = row[0] == 'T';
+    if (row[1] == 0 || (!type && row[1] == 1))
+        return 1;
+    uint32_t below = count_nodes(first + 5 * row[2], first);
+    return 1 + below + (type || row[1] == 4 ? count_nodes(first + 5 * row[3], first) : 0);
+}
+
+/* Every fifth number of an accepted file's table: the nodes of T and P lines, 0 for others and behind the last line. */
+static void try_sizes(int at, struct bytes file)
+{
+    struct lent lent = lend(HEAP, sheet_lengths(0));
+    uint16_t *table = rows_of(lent.table.start);
+    const uint16_t *first = table;
+    struct rulefile_check_answer a =
+        rulefile_check(file.start, file.length, table, RULEFILE_TABLE_LENGTH, lent.work.start, RULEFILE_WORK_LENGTH);
+    bool sized = a.number == RULEFILE_ACCEPTED;
+    for (const uint16_t *row = table; sized && row < table + RULEFILE_TABLE_LENGTH; row += 5) {
+        first = row[0] == first[0] ? first : row;
+        bool tree = row[0] == 'T' || row[0] == 'P';
+        sized = row[4] == (tree ? count_nodes(row, first) : 0);
+    }
+    CHECK_AT(at, sized);
+    give_back(&lent);
+}
+
+static void sizes_in_tables(void)
+{
+    static const struct bytes files[] = {TEXT(S), TEXT(S_RETURNS), TEXT(STEPS), TEXT(COMPARED), TEXT(BITS_USED),
+                                         TEXT(SEVEN_USED), TEXT(SEVEN_PATTERNS)};
+    static const uint16_t sizes[] = {1, 3, 7, 15, 31, 63, 127, 1, 3, 7, 15, 31, 63, 127, 0, 0, 0};
+    static uint16_t table[RULEFILE_TABLE_LENGTH];
+    static uint8_t work[RULEFILE_WORK_LENGTH];
+    for (size_t i = 0; i < COUNT_OF(files); i++)
+        try_sizes(__LINE__, files[i]);
+    build_longest();
+    try_sizes(__LINE__, built_file());
+    struct bytes last = files[COUNT_OF(files) - 1];
+    CHECK(rulefile_check(last.start, last.length, table, COUNT_OF(table), work, sizeof work).number == 0);
+    for (size_t i = 0; i < COUNT_OF(sizes); i++)
+        CHECK(table[5 * i + 4] == sizes[i]);
+}
+
+/* A file of 127 nodes in the table, and then one that is refused: nothing of the first is left. */
+static void cleared_sizes(void)
+{
+    static const struct bytes full = TEXT(SEVEN_PATTERNS);
+    static const struct setting fresh = {HEAP, 0, NULL};
+    struct lent kept = lend(HEAP, sheet_lengths(0));
+    struct setting setting = fresh;
+    setting.kept = &kept;
+    for (size_t i = 0; i < COUNT_OF(file_cases); i++) {
+        const struct file_case *c = &file_cases[i];
+        struct call call = {.service = SERVICE_CHECK, .file = full};
+        try_call(c->at, &setting, &call, (struct answer){0}, nothing);
+        call.file = c->file;
+        try_call(c->at, &setting, &call, (struct answer){.number = c->number, .line = c->line}, nothing);
+        size_t held = 0;
+        for (size_t k = 0; k < RULEFILE_TABLE_LENGTH; k++)
+            held += rows_of(kept.table.start)[k] != 0;
+        CHECK_AT(c->at, c->number == RULEFILE_ACCEPTED ? held >= c->file.length / 100 : held == 0);
+    }
+    give_back(&kept);
+}
+
+/* Isos of 128 clauses */
+
+enum { CLOSED_BITS = 7, CLOSED = 128 };
+
+/* The T lines of up to seven bits: line n has n of them, the first before the others. */
+static void add_bit_types(void)
+{
+    add("T,0,0,0\nT,1,0,0\n");
+    for (int type = 2; type <= CLOSED_BITS; type++)
+        add_line('T', 2, 1, type - 1);
+}
+
+/* The P lines of all values of seven bits, parts before wholes; gives the first of the 128 in a row. */
+static int add_closed_values(void)
+{
+    int rest = 1; /* the first P line of the values with a bit less */
+    int next = 3;
+    add("P,0,0,0\nP,2,0,0\nP,3,0,0\n");
+    for (int bits = 2; bits <= CLOSED_BITS; bits++) {
+        int values = 1 << bits;
+        for (int value = 0; value < values; value++)
+            add_line('P', 4, value < values / 2 ? 1 : 2, rest + value % (values / 2));
+        rest = next;
+        next += values;
+    }
+    return rest;
+}
+
+/* An iso of so many clauses, clause k for value k but the last one for another; behind it isos with all 128 values. */
+static void build_closed(int clauses, int last, int others)
+{
+    begin();
+    add_bit_types();
+    int first = add_closed_values();
+    add_line('I', CLOSED_BITS, CLOSED_BITS, -1);
+    for (int clause = 0; clause < clauses; clause++) {
+        int value = first + (clause < clauses - 1 ? clause : last);
+        add_line('C', value, value, -1);
+    }
+    for (int clause = 0; clause < CLOSED * others; clause++) {
+        if (clause % CLOSED == 0)
+            add_line('I', CLOSED_BITS, CLOSED_BITS, -1);
+        add_line('C', first + clause % CLOSED, first + clause % CLOSED, -1);
+    }
+}
+
+/* The letters of a value of seven bits. */
+static struct bytes closed_letters(uint8_t *letters, int value)
+{
+    size_t length = 0;
+    for (int bit = CLOSED_BITS - 1; bit >= 0; bit--) {
+        if (bit > 0)
+            letters[length++] = 'P';
+        letters[length++] = (value >> bit) % 2 == 0 ? 'L' : 'R';
+        letters[length++] = 'U';
+    }
+    return (struct bytes){letters, length};
+}
+
+/* 128 clauses are accepted and run, 129 refused; 127 leave a value out, and one twice among 128 overlaps. */
+static void many_clauses(void)
+{
+    enum { LINE = CLOSED_BITS + 1 + 255 + 1 }; /* of the first iso, behind the T and P lines */
+    uint8_t letters[3 * CLOSED_BITS];
+    build_closed(CLOSED, CLOSED - 1, 1);
+    try_built(__LINE__, 0, 0);
+    for (int value = 0; value < CLOSED; value += quick ? 127 : 1) {
+        struct bytes text = closed_letters(letters, value);
+        try_built_run(__LINE__, 0, value % 2 == 0, 1, text, (struct answer){.count = 1}, text);
+    }
+    build_closed(CLOSED, CLOSED - 1, 28);
+    CHECK(built_lines() == LINE - 1 + 29 * (CLOSED + 1));
+    try_built(__LINE__, 0, 0);
+    build_closed(CLOSED + 1, 0, 1);
+    try_built(__LINE__, RULEFILE_CEILING, LINE + CLOSED + 1);
+    build_closed(CLOSED - 1, CLOSED - 2, 1);
+    try_built(__LINE__, RULEFILE_GAP_LEFT, LINE);
+    try_built_witness(__LINE__, RULEFILE_GAP_LEFT, LINE, closed_letters(letters, CLOSED - 1));
+    build_closed(CLOSED, 0, 1);
+    try_built(__LINE__, RULEFILE_OVERLAP_LEFT, LINE);
+    try_built_witness(__LINE__, RULEFILE_OVERLAP_LEFT, LINE, closed_letters(letters, 0));
+}
+
 /* Lists of queries that are built */
 
 struct line_case {
@@ -2792,6 +3265,90 @@ static void lists_at_the_ceilings(void)
     }
 }
 
+/* The P lines of an import, each of them once. */
+static struct {
+    int lines[RULEFILE_MAX_LINES][3];
+    int count;
+} entered;
+
+/* The line with these fields, added where it is not there yet. */
+static int enter(int kind, int a, int b)
+{
+    for (int line = 0; line < entered.count; line++) {
+        const int *fields = entered.lines[line];
+        if (fields[0] == kind && fields[1] == a && fields[2] == b)
+            return line;
+    }
+    int *fields = entered.lines[entered.count];
+    fields[0] = kind;
+    fields[1] = a;
+    fields[2] = b;
+    add_line('P', kind, a, b);
+    return entered.count++;
+}
+
+/* A value of so many bits: the first part before the second, parts before wholes. */
+static int enter_value(int bits, int value)
+{
+    int rest = 1 << (bits - 1);
+    if (bits == 1)
+        return enter(value == 0 ? 2 : 3, enter(0, 0, 0), 0);
+    int first = enter_value(1, value / rest);
+    return enter(4, first, enter_value(bits - 1, value % rest));
+}
+
+/* The list that sends value k of 128 to value 127 - k. */
+static struct bytes turned_list(void)
+{
+    static char list[CLOSED * sizeof "127,127\n"];
+    size_t length = 0;
+    for (int value = 0; value < CLOSED; value++)
+        length += (size_t)snprintf(list + length, sizeof list - length, "%d,%d\n", value, CLOSED - 1 - value);
+    return (struct bytes){(const uint8_t *)list, length};
+}
+
+/* The file that an import makes of that list, seven bits to seven bits. */
+static void build_imported(void)
+{
+    int sides[CLOSED][2];
+    begin();
+    add_bit_types();
+    entered.count = 0;
+    for (int value = 0; value < CLOSED; value++) {
+        sides[value][0] = enter_value(CLOSED_BITS, value);
+        sides[value][1] = enter_value(CLOSED_BITS, CLOSED - 1 - value);
+    }
+    add_line('I', CLOSED_BITS, CLOSED_BITS, -1);
+    for (int value = 0; value < CLOSED; value++)
+        add_line('C', sides[value][0], sides[value][1], -1);
+}
+
+/* 128 pairs in and out again; 129 are refused with 7, also where there are as many values. */
+static void lists_of_128_pairs(void)
+{
+    static uint8_t written[RULEFILE_MAX_FILE_LENGTH];
+    struct bytes list = turned_list();
+    build_imported();
+    struct bytes text = {written, built.length};
+    memcpy(written, built.bytes, built.length);
+    try_built_list(__LINE__, (struct call){.service = SERVICE_EXPORT, .budget = 1}, 0, list);
+    begin();
+    add_bit_types();
+    add("T,1,0,7\nP,1,0,0\nI,8,8\nC,0,0\n"); /* line 8 has 129 values */
+    struct call call = {.service = SERVICE_IMPORT, .left = 7, .right = 7, .value = list};
+    try_built_list(__LINE__, call, 0, text);
+    call.value.length--; /* the last line without its line feed */
+    try_built_list(__LINE__, call, RULEFILE_BAD_LIST, nothing);
+    call = (struct call){.service = SERVICE_IMPORT, .left = 8, .right = 8, .value = identity(128)};
+    try_built_list(__LINE__, call, RULEFILE_BAD_LIST, nothing);
+    call.value = identity(129);
+    try_built_list(__LINE__, call, RULEFILE_CEILING, nothing);
+    call.left = call.right = 7;
+    try_built_list(__LINE__, call, RULEFILE_CEILING, nothing);
+    call.value = identity(127);
+    try_built_list(__LINE__, call, RULEFILE_BAD_LIST, nothing);
+}
+
 /* S's list with one byte replaced by one that no list has. */
 static void damaged_lists(void)
 {
@@ -2807,6 +3364,401 @@ static void damaged_lists(void)
         }
         list[i] = byte;
     }
+}
+
+/* Scripts that are built */
+
+struct visit {
+    uint32_t unit;
+    uint32_t iso;
+    bool back;
+};
+
+static struct {
+    struct visit visits[RULEFILE_MAX_LINES];
+    size_t count;
+    uint8_t bytes[RULEFILE_MAX_LINES * sizeof "S,999,31,0\r"];
+    size_t length;
+} script;
+
+static void begin_script(void)
+{
+    script.count = 0;
+    script.length = 0;
+}
+
+static void add_script(struct bytes text)
+{
+    require(text.length <= sizeof script.bytes - script.length);
+    memcpy(script.bytes + script.length, text.start, text.length);
+    script.length += text.length;
+}
+
+/* Adds a visit as a line, every third with a carriage return. */
+static void add_visit(struct visit visit)
+{
+    char line[32];
+    int length = snprintf(line, sizeof line, "S,%lu,%lu,%d%s", (unsigned long)visit.unit, (unsigned long)visit.iso,
+                          visit.back ? 1 : 0, script.count % 3 == 0 ? "\r\n" : "\n");
+    require(script.count < COUNT_OF(script.visits));
+    script.visits[script.count++] = visit;
+    add_script((struct bytes){(const uint8_t *)line, (size_t)length});
+}
+
+static struct bytes built_script(void)
+{
+    return (struct bytes){script.bytes, script.length};
+}
+
+/* A play that is refused, on areas of all kinds. */
+static void try_refused_play(int at, struct call call, uint32_t number)
+{
+    static const struct setting settings[] = {{HEAP, 0, NULL}, {BEFORE_GUARD, 0, NULL}, {ODD, 5, NULL}};
+    for (size_t i = 0; i < COUNT_OF(settings); i++)
+        try_call(at, &settings[i], &call, (struct answer){.number = number}, nothing);
+}
+
+/* For file S and two units; each but the first would convert a unit if it were read with less care. */
+static const struct bytes bad_lines[] = {
+    TEXT("\n"),
+    /* too few or too many fields, other letters, other marks */
+    TEXT("S\n"), TEXT("S,\n"), TEXT("S,0\n"), TEXT("S,0,0\n"), TEXT("S,0,0,\n"), TEXT("S,0,0,0,\n"),
+    TEXT("S,0,0,0,0\n"), TEXT(",0,0,0\n"), TEXT("0,0,0\n"), TEXT("s,0,0,0\n"), TEXT("SS,0,0,0\n"), TEXT("Q,0,0,0\n"),
+    TEXT("T,0,0,0\n"), TEXT(" S,0,0,0\n"), TEXT("S,0,0,0 \n"), TEXT("S 0,0,0\n"), TEXT("S,0;0,0\n"), TEXT("S,0,0.0\n"),
+    TEXT("\0\n"), TEXT("\377\n"), TEXT("S,0,0,0\0\n"), TEXT("\0S,0,0,0\n"),
+    /* numbers */
+    TEXT("S,,0,0\n"), TEXT("S,0,,0\n"), TEXT("S,00,0,0\n"), TEXT("S,0,00,0\n"), TEXT("S,0,0,00\n"), TEXT("S,0,0,01\n"),
+    TEXT("S,+0,0,0\n"), TEXT("S,0,-0,0\n"), TEXT("S, 0,0,0\n"), TEXT("S,0,0,2\n"), TEXT("S,0,0,10\n"),
+    TEXT("S,0,0,256\n"), TEXT("S,0,0,65536\n"), TEXT("S,0,0,4294967296\n"),
+    /* units and isos that are absent, also with fewer bits */
+    TEXT("S,2,0,0\n"), TEXT("S,0,2,0\n"), TEXT("S,256,0,0\n"), TEXT("S,0,256,0\n"), TEXT("S,1000,0,0\n"),
+    TEXT("S,0,32,0\n"), TEXT("S,65535,0,0\n"), TEXT("S,0,65535,0\n"), TEXT("S,65536,0,0\n"), TEXT("S,0,65536,0\n"),
+    TEXT("S,4294967296,0,0\n"), TEXT("S,0,4294967296,0\n"), TEXT("S,18446744073709551616,0,0\n"),
+    TEXT("S,0,18446744073709551616,0\n"),
+    /* carriage returns elsewhere than before a line feed */
+    TEXT("\r\n"), TEXT("\rS,0,0,0\n"), TEXT("S,0,0,0\r\r\n"), TEXT("S,0\r,0,0\n"), TEXT("S,0,0,\r\n"),
+    TEXT("S,0,0\r\n"),
+};
+
+static const struct unit two_units[] = {{1, 0}, {2, 1}};
+
+/* Each bad line alone, before, between and behind lines that are none; a good one whose line feed is missing. */
+static void bad_scripts(void)
+{
+    static const struct bytes good = TEXT("S,0,0,0\nS,1,1,0\r\n");
+    static const struct bytes endless[] = {TEXT("S,0,0,0"), TEXT("S,0,0,0\r"), TEXT("S"), TEXT("\r"), TEXT("\0")};
+    for (size_t i = 0; i < 4 * COUNT_OF(bad_lines); i++) {
+        begin_script();
+        if (i % 4 > 1)
+            add_script(good);
+        add_script(bad_lines[i / 4]);
+        if (i % 4 % 2 == 1)
+            add_script(good);
+        struct call call = units_call(file_s, two_units, 2, built_script());
+        call.budget = 9;
+        try_refused_play(__LINE__, call, RULEFILE_BAD_SCRIPT);
+    }
+    for (size_t i = 0; i < 2 * COUNT_OF(endless); i++) {
+        begin_script();
+        if (i % 2 == 1)
+            add_script(good);
+        add_script(endless[i / 2]);
+        try_refused_play(__LINE__, units_call(file_s, two_units, 2, built_script()), RULEFILE_BAD_SCRIPT);
+    }
+}
+
+/* A script with one byte replaced by one that no script has there. */
+static void damaged_scripts(void)
+{
+    static const struct setting setting = {BEFORE_GUARD, 0, NULL};
+    static const uint8_t bytes[] = {0, 255, ' ', '-', 'Q', '\r', 'a'};
+    uint8_t text[] = "S,0,0,0\nS,1,1,0\nS,0,0,1\n";
+    struct call call = units_call(file_s, two_units, 2, (struct bytes){text, sizeof text - 1});
+    struct answer answer = {.number = RULEFILE_BAD_SCRIPT};
+    for (size_t i = 0; i < sizeof text - 1; i++) {
+        uint8_t byte = text[i];
+        for (size_t k = 0; k < COUNT_OF(bytes); k++) {
+            text[i] = bytes[k];
+            try_call(__LINE__, &setting, &call, answer, nothing);
+        }
+        text[i] = byte;
+    }
+}
+
+static struct unit many_units[RULEFILE_MAX_UNITS + 1];
+static struct unit units_after[RULEFILE_MAX_UNITS];
+
+/* So many units that hold a bit, and so many visits that exchange it, one unit after the other. */
+static struct call exchanges(size_t units, size_t visits)
+{
+    struct call call = units_call(file_s, many_units, units, nothing);
+    for (size_t i = 0; i < units; i++)
+        many_units[i] = (struct unit){1, i % 2};
+    memcpy(units_after, many_units, sizeof units_after);
+    begin_script();
+    for (size_t i = 0; i < visits; i++) {
+        uint32_t unit = (uint32_t)(7 * i % units);
+        add_visit((struct visit){unit, 0, i % 5 == 0});
+        units_after[unit].setting ^= 1;
+    }
+    call.value = built_script();
+    call.budget = 1;
+    call.units.after = units_after;
+    call.units.tally = (struct rulefile_tally){(uint32_t)visits, 0, 0};
+    return call;
+}
+
+/* 1,000 units and 4,096 visits are played; one more of either is refused with 2, before the file is looked at. */
+static void most_units_and_lines(void)
+{
+    static const struct setting settings[] = {{HEAP, 0, NULL}, {BEFORE_GUARD, 0, NULL}, {ODD, 5, NULL}};
+    static const struct bytes refused_file = TEXT(S "C,7,7\n");
+    static const struct bytes more[] = {TEXT("S,0,0,0\n"), TEXT("\n"), TEXT("x")};
+    struct call call = exchanges(RULEFILE_MAX_UNITS, RULEFILE_MAX_LINES);
+    for (size_t i = 0; i < COUNT_OF(settings); i++)
+        try_call(__LINE__, &settings[i], &call, (struct answer){0}, nothing);
+    for (size_t i = 0; i < COUNT_OF(more); i++) {
+        size_t before = script.length;
+        add_script(more[i]);
+        call.value = built_script();
+        call.file = file_s;
+        try_refused_play(__LINE__, call, RULEFILE_TOO_LONG);
+        call.file = refused_file;
+        try_refused_play(__LINE__, call, RULEFILE_TOO_LONG);
+        script.length = before;
+    }
+    call = exchanges(RULEFILE_MAX_UNITS, 3);
+    call.units.types = call.units.settings = RULEFILE_MAX_UNITS + 1;
+    try_refused_play(__LINE__, call, RULEFILE_TOO_LONG);
+    call.value = nothing;
+    call.file = refused_file;
+    try_refused_play(__LINE__, call, RULEFILE_TOO_LONG);
+}
+
+/* Scripts of line feeds and of one long line. */
+static void script_lengths(void)
+{
+    static uint8_t bytes[1 << 20];
+    struct call call = units_call(file_s, two_units, 2, (struct bytes){bytes, RULEFILE_MAX_LINES});
+    memset(bytes, '\n', sizeof bytes);
+    try_refused_play(__LINE__, call, RULEFILE_BAD_SCRIPT);
+    call.value.length++;
+    try_refused_play(__LINE__, call, RULEFILE_TOO_LONG);
+    bytes[RULEFILE_MAX_LINES] = 'x'; /* line 4,097, and no line feed */
+    try_refused_play(__LINE__, call, RULEFILE_TOO_LONG);
+    bytes[RULEFILE_MAX_LINES - 1] = 'x';
+    try_refused_play(__LINE__, call, RULEFILE_BAD_SCRIPT);
+    call.value.length = sizeof bytes;
+    try_refused_play(__LINE__, call, RULEFILE_TOO_LONG);
+    memset(bytes, 'S', sizeof bytes);
+    try_refused_play(__LINE__, call, RULEFILE_BAD_SCRIPT);
+    bytes[sizeof bytes - 1] = '\n';
+    try_refused_play(__LINE__, call, RULEFILE_BAD_SCRIPT);
+}
+
+/* 1 comes before 2, both before the refusal of the file, that before those of units and script. */
+static void order_of_refusals_of_plays(void)
+{
+    static const struct bytes refused_file = TEXT(S "C,7,7\n");
+    static const struct bytes long_file = {pattern, RULEFILE_MAX_FILE_LENGTH + 1};
+    static const struct bytes bad = TEXT("x");
+    static const struct answer too_long = {.number = RULEFILE_TOO_LONG};
+    for (size_t i = 0; i < COUNT_OF(many_units); i++)
+        many_units[i] = absent_unit;
+    for (size_t units = RULEFILE_MAX_UNITS; units <= RULEFILE_MAX_UNITS + 1; units++) {
+        struct call call = units_call(refused_file, many_units, units, bad);
+        struct answer overlap = {.number = RULEFILE_OVERLAP_LEFT, .line = 15};
+        try_lengths(__LINE__, HEAP, &call, units == RULEFILE_MAX_UNITS ? overlap : too_long, nothing);
+        call.file = file_s;
+        struct answer absent = {.number = RULEFILE_NO_ISO};
+        try_lengths(__LINE__, HEAP, &call, units == RULEFILE_MAX_UNITS ? absent : too_long, nothing);
+        call.file = long_file;
+        try_lengths(__LINE__, HEAP, &call, too_long, nothing);
+    }
+    many_units[RULEFILE_MAX_UNITS - 1] = (struct unit){2, 4}; /* the last of many units is tested too */
+    for (size_t i = 0; i + 1 < RULEFILE_MAX_UNITS; i++)
+        many_units[i] = (struct unit){2, 3};
+    try_refused_play(__LINE__, units_call(file_s, many_units, RULEFILE_MAX_UNITS, bad), RULEFILE_TOO_HIGH);
+    many_units[RULEFILE_MAX_UNITS - 1].setting = 3;
+    try_refused_play(__LINE__, units_call(file_s, many_units, RULEFILE_MAX_UNITS, bad), RULEFILE_BAD_SCRIPT);
+}
+
+/* Plays against runs of their own */
+
+/* The rows of the file that is played. */
+static uint16_t played_rows[RULEFILE_TABLE_LENGTH];
+
+/* Whether two T lines unfold to the same tree. */
+static bool same_tree(uint32_t one, uint32_t two)
+{
+    const uint16_t *a = played_rows + 5 * one;
+    const uint16_t *b = played_rows + 5 * two;
+    return a[1] == b[1] && (a[1] == 0 || (same_tree(a[2], b[2]) && same_tree(a[3], b[3])));
+}
+
+/* The values of a T line. */
+static uint64_t count_values(uint32_t type)
+{
+    const uint16_t *row = played_rows + 5 * type;
+    if (row[1] == 0)
+        return 1;
+    uint64_t first = count_values(row[2]);
+    uint64_t second = count_values(row[3]);
+    return row[1] == 1 ? first + second : first * second;
+}
+
+/* Lines of a letter. */
+static uint32_t count_rows(char letter)
+{
+    uint32_t count = 0;
+    for (size_t i = 0; i < RULEFILE_TABLE_LENGTH; i += 5)
+        count += played_rows[i] == letter;
+    return count;
+}
+
+/* The T line that an iso's I line names first or second. */
+static uint32_t end_of(uint32_t iso, bool second)
+{
+    const uint16_t *row = played_rows;
+    while (row[0] != 'I' || iso > 0) {
+        iso -= row[0] == 'I';
+        row += 5;
+    }
+    return row[second ? 2 : 1];
+}
+
+/* One visit, by the three services that it stands for. */
+static void visit_alone(struct bytes file, struct visit visit, uint32_t budget, struct unit *unit,
+                        struct rulefile_tally *tally)
+{
+    static uint16_t table[RULEFILE_TABLE_LENGTH];
+    static uint8_t work[RULEFILE_WORK_LENGTH];
+    uint8_t letters[RULEFILE_RESULT_LENGTH], result[RULEFILE_RESULT_LENGTH];
+    if (!same_tree(unit->type, end_of(visit.iso, visit.back))) {
+        tally->skipped++;
+        return;
+    }
+    struct rulefile_setting_answer s =
+        rulefile_setting_of(file.start, file.length, table, COUNT_OF(table), work, sizeof work, unit->type,
+                            unit->setting, letters, sizeof letters);
+    struct rulefile_run_answer r =
+        rulefile_run(file.start, file.length, table, COUNT_OF(table), work, sizeof work, visit.iso, visit.back, budget,
+                     letters, s.length, result, sizeof result);
+    if (r.number == RULEFILE_SPENT) {
+        tally->spent++;
+        return;
+    }
+    unit->type = end_of(visit.iso, !visit.back);
+    struct rulefile_number_answer n = rulefile_number_of(file.start, file.length, table, COUNT_OF(table), work,
+                                                         sizeof work, unit->type, result, r.length);
+    CHECK(s.number == 0 && r.number == 0 && n.number == 0);
+    unit->setting = n.setting;
+    tally->done++;
+}
+
+/* A number below a bound; the same ones in every run. */
+static uint32_t drawn(uint64_t below)
+{
+    static uint64_t state = 12;
+    state = state * UINT64_C(6364136223846793005) + UINT64_C(1442695040888963407);
+    return (uint32_t)((state >> 33) % below);
+}
+
+/* Draws units of types that can be numbered. */
+static void draw_units(size_t count)
+{
+    for (size_t i = 0; i < count; i++) {
+        uint64_t values = 0;
+        do {
+            many_units[i].type = drawn(count_rows('T'));
+            values = count_values(many_units[i].type);
+        } while (values > UINT32_MAX);
+        many_units[i].setting = drawn(values);
+    }
+    memcpy(units_after, many_units, count * sizeof many_units[0]);
+}
+
+/* Draws visits and makes each alone; where it asks for visits that match, others are drawn again. */
+static struct rulefile_tally draw_visits(struct bytes file, size_t units, size_t visits, uint32_t budget, bool match)
+{
+    struct rulefile_tally tally = {0, 0, 0};
+    uint32_t isos = count_rows('I');
+    begin_script();
+    for (size_t tries = 0; tries < 20 * visits && script.count < visits; tries++) {
+        struct visit visit = {drawn(units), drawn(isos), drawn(2) == 1};
+        if (match && !same_tree(units_after[visit.unit].type, end_of(visit.iso, visit.back)))
+            continue;
+        add_visit(visit);
+        visit_alone(file, visit, budget, &units_after[visit.unit], &tally);
+    }
+    return tally;
+}
+
+/* The same script last line first with directions exchanged. */
+static void turn_script(void)
+{
+    static struct visit visits[RULEFILE_MAX_LINES];
+    size_t count = script.count;
+    memcpy(visits, script.visits, count * sizeof visits[0]);
+    begin_script();
+    for (size_t i = count; i > 0; i--)
+        add_visit((struct visit){visits[i - 1].unit, visits[i - 1].iso, !visits[i - 1].back});
+}
+
+/* Plays back what was played, with each visit made alone; every unit has its tree and its number again. */
+static void try_back(int at, const struct setting *setting, struct call call)
+{
+    static struct unit held[RULEFILE_MAX_UNITS];
+    static struct unit restored[RULEFILE_MAX_UNITS];
+    struct rulefile_tally tally = {0, 0, 0};
+    size_t count = call.units.types;
+    memcpy(held, units_after, sizeof held);
+    memcpy(restored, held, sizeof held);
+    turn_script();
+    for (size_t i = 0; i < script.count; i++)
+        visit_alone(call.file, script.visits[i], call.budget, &restored[script.visits[i].unit], &tally);
+    call.value = built_script();
+    call.units = (struct units){held, restored, count, count, tally};
+    try_call(at, setting, &call, (struct answer){0}, nothing);
+    CHECK_AT(at, tally.done == script.count && tally.skipped == 0 && tally.spent == 0);
+    for (size_t i = 0; i < count; i++)
+        CHECK_AT(at, same_tree(restored[i].type, many_units[i].type) && restored[i].setting == many_units[i].setting);
+}
+
+/* A play of drawn units and visits, and where none was skipped or spent the way back; gives whether there was one. */
+static bool try_drawn(int at, struct bytes file, size_t units, size_t visits, bool match)
+{
+    static const struct setting setting = {BEFORE_GUARD, 0, NULL};
+    memset(played_rows, 0, sizeof played_rows);
+    put_rows(file, played_rows);
+    draw_units(units);
+    struct call call = units_call(file, many_units, units, nothing);
+    call.budget = match ? 65536 : drawn(6);
+    call.units.tally = draw_visits(file, units, visits, call.budget, match);
+    call.units.after = units_after;
+    call.value = built_script();
+    try_call(at, &setting, &call, (struct answer){0}, nothing);
+    bool back = call.units.tally.done == script.count;
+    if (back)
+        try_back(at, &setting, call);
+    return back && script.count > 0;
+}
+
+/* Plays of several files, each visit made alone too. */
+static void plays_as_runs(void)
+{
+    static const struct bytes files[] = {TEXT(S), TEXT(S_RETURNS), TEXT(STEPS), TEXT(STEPS_TURNED), TEXT(WIDER),
+                                         TEXT(COSTS), TEXT(COMPARED), TEXT(BITS_PLAYED), TEXT(S_IMPORTED),
+                                         TEXT(TWO_UNITS "I,0,1\nC,0,0\n"), TEXT(LIST_TYPES)};
+    size_t rounds = quick ? 2 : 20;
+    size_t restored = 0;
+    for (size_t i = 0; i < rounds * COUNT_OF(files); i++) {
+        bool match = i / COUNT_OF(files) % 2 == 1;
+        restored += try_drawn(__LINE__, files[i % COUNT_OF(files)], 1 + drawn(9), drawn(40), match);
+    }
+    CHECK(restored >= rounds * COUNT_OF(files) / 3);
+    if (!quick)
+        CHECK(try_drawn(__LINE__, file_s, RULEFILE_MAX_UNITS, RULEFILE_MAX_LINES, true));
 }
 
 /* A file's bytes and a zero behind them. */
@@ -2929,6 +3881,8 @@ static void try_uninitialized(int at, const struct call *call, struct answer exp
     renew(&lent.work);
     renew(&lent.out);
     renew(&lent.numbers);
+    renew(&lent.tally);
+    lend_units(&call->units, &lent);
     struct answer found = make_call(call, &file, &input, &lent);
     expected = with_lengths(expected, call, text);
     foresee(call, &lent, expected, text);
@@ -2937,6 +3891,8 @@ static void try_uninitialized(int at, const struct call *call, struct answer exp
     CHECK_AT(at, as_foreseen(&lent.work));
     CHECK_AT(at, as_foreseen(&lent.numbers));
     CHECK_AT(at, starts_with(lent.out.start, text));
+    if (call->service == SERVICE_PLAY && expected.number == RULEFILE_ACCEPTED)
+        CHECK_AT(at, as_foreseen(&lent.types) && as_foreseen(&lent.settings) && as_foreseen(&lent.tally));
     for (size_t i = 0; i < expected.queries; i++)
         CHECK_AT(at, starts_with(lent.out.start + RULEFILE_RESULT_LENGTH * i, call->sheet.replies[i].letters));
     give_back(&lent);
@@ -2982,6 +3938,11 @@ static void uninitialized_areas(void)
         call = (struct call){.service = SERVICE_WITNESS, .file = c->file};
         try_uninitialized(c->at, &call, (struct answer){.number = c->number, .line = c->line}, c->letters);
     }
+}
+
+static void uninitialized_areas_of_lists_and_plays(void)
+{
+    struct call call;
     for (size_t i = 0; i < COUNT_OF(export_cases); i++) {
         const struct export_case *c = &export_cases[i];
         call = export_call(c);
@@ -2991,6 +3952,11 @@ static void uninitialized_areas(void)
         const struct import_case *c = &import_cases[i];
         call = import_call(c);
         try_uninitialized(c->at, &call, (struct answer){.number = c->number, .line = c->line}, c->written);
+    }
+    for (size_t i = 0; i < COUNT_OF(play_cases); i++) {
+        const struct play_case *c = &play_cases[i];
+        call = play_call(c);
+        try_uninitialized(c->at, &call, (struct answer){.number = c->number, .line = c->line}, nothing);
     }
 }
 
@@ -3014,7 +3980,7 @@ static void try_quietly(struct worker *worker, const struct call *call, struct a
 {
     expected = with_lengths(expected, call, text);
     struct outcome o = perform(HEAP, &worker->lent, call, expected, text);
-    bool areas = o.table && o.work && o.out && o.numbers && o.inputs;
+    bool areas = o.table && o.work && o.out && o.numbers && o.units && o.tally && o.inputs;
     worker->wrong += !areas || !same_answer(o.answer, expected);
     worker->calls++;
 }
@@ -3058,6 +4024,9 @@ static void *work_through(void *argument)
         const struct import_case *m = &import_cases[(worker->first_sheet + i) % COUNT_OF(import_cases)];
         struct call written = import_call(m);
         try_quietly(worker, &written, (struct answer){.number = m->number, .line = m->line}, m->written);
+        const struct play_case *p = &play_cases[(worker->first_sheet + i) % COUNT_OF(play_cases)];
+        struct call play = play_call(p);
+        try_quietly(worker, &play, (struct answer){.number = p->number, .line = p->line}, nothing);
     }
     return NULL;
 }
@@ -3072,6 +4041,8 @@ static void threads_at_once(void)
     };
     struct lengths lengths = sheet_lengths(SHEET_CASE_QUERIES);
     lengths.out = RULEFILE_MAX_FILE_LENGTH; /* for imports */
+    lengths.types = lengths.settings = PLAY_CASE_UNITS;
+    lengths.tally = 1;
     struct worker workers[THREADS];
     pthread_t threads[THREADS];
     pthread_barrier_t start;
@@ -3085,7 +4056,7 @@ static void threads_at_once(void)
     }
     for (size_t i = 0; i < THREADS; i++) {
         require(pthread_join(threads[i], NULL) == 0);
-        CHECK_AT(queries[i].at, workers[i].calls == 12 * workers[i].rounds);
+        CHECK_AT(queries[i].at, workers[i].calls == 13 * workers[i].rounds);
         CHECK_AT(queries[i].at, workers[i].wrong == 0);
         give_back(&workers[i].lent);
     }
@@ -3096,7 +4067,7 @@ static void threads_at_once(void)
 /* Whether a service can give a number. */
 static bool can_give(size_t service, size_t number)
 {
-    if (number <= RULEFILE_GAP_RIGHT)
+    if (number <= RULEFILE_GAP_RIGHT || number == RULEFILE_IDLE_LINE)
         return true;
     if (service == SERVICE_RUN)
         return number <= RULEFILE_SPENT;
@@ -3107,6 +4078,8 @@ static bool can_give(size_t service, size_t number)
         return of_type || number == RULEFILE_SPENT;
     if (service == SERVICE_IMPORT)
         return of_type || number == RULEFILE_BAD_LIST;
+    if (service == SERVICE_PLAY)
+        return of_type || number == RULEFILE_TOO_HIGH || number == RULEFILE_BAD_SCRIPT;
     return (service == SERVICE_NUMBER_OF && (of_type || number == RULEFILE_NO_VALUE)) ||
            (service == SERVICE_SETTING_OF && (of_type || number == RULEFILE_TOO_HIGH));
 }
@@ -3114,7 +4087,7 @@ static bool can_give(size_t service, size_t number)
 /* Every number was given by every service that can give it, and by no other; the same for the queries of sheets. */
 static void every_number(void)
 {
-    for (size_t number = 0; number <= RULEFILE_BAD_LIST; number++) {
+    for (size_t number = 0; number <= LAST_NUMBER; number++) {
         bool of_queries = number == RULEFILE_ACCEPTED || number == RULEFILE_BAD_LINE ||
                           (number >= RULEFILE_NO_ISO && number <= RULEFILE_SPENT);
         if (!CHECK(hit_by_query[number] == of_queries))
@@ -3133,6 +4106,7 @@ struct group {
 
 static const struct group groups[] = {
     {"header_numbers", header_numbers},
+    {"header_structs", header_structs},
     {"exact_areas", exact_areas},
     {"guarded_areas", guarded_areas},
     {"longer_areas", longer_areas},
@@ -3144,6 +4118,8 @@ static const struct group groups[] = {
     {"short_areas_of_bounds", short_areas_of_bounds},
     {"short_areas_of_witnesses", short_areas_of_witnesses},
     {"short_areas_of_lists", short_areas_of_lists},
+    {"short_areas_of_plays", short_areas_of_plays},
+    {"unequal_units", unequal_units},
     {"short_areas_of_sheets", short_areas_of_sheets},
     {"null_areas", null_areas},
     {"null_areas_of_settings", null_areas_of_settings},
@@ -3151,6 +4127,7 @@ static const struct group groups[] = {
     {"null_areas_of_bounds", null_areas_of_bounds},
     {"null_areas_of_witnesses", null_areas_of_witnesses},
     {"null_areas_of_lists", null_areas_of_lists},
+    {"null_areas_of_plays", null_areas_of_plays},
     {"file_lengths", file_lengths},
     {"longest_file", longest_file},
     {"ceilings", ceilings},
@@ -3165,6 +4142,10 @@ static const struct group groups[] = {
     {"one_of_many", one_of_many},
     {"steps_in_order", steps_in_order},
     {"setting_lengths", setting_lengths},
+    {"table_lengths", table_lengths},
+    {"sizes_in_tables", sizes_in_tables},
+    {"cleared_sizes", cleared_sizes},
+    {"many_clauses", many_clauses},
     {"query_lines", query_lines},
     {"damaged_queries", damaged_queries},
     {"query_lengths", query_lengths},
@@ -3177,9 +4158,17 @@ static const struct group groups[] = {
     {"sheet_of_counts", sheet_of_counts},
     {"longest_lists", longest_lists},
     {"lists_at_the_ceilings", lists_at_the_ceilings},
+    {"lists_of_128_pairs", lists_of_128_pairs},
     {"damaged_lists", damaged_lists},
+    {"bad_scripts", bad_scripts},
+    {"damaged_scripts", damaged_scripts},
+    {"most_units_and_lines", most_units_and_lines},
+    {"script_lengths", script_lengths},
+    {"order_of_refusals_of_plays", order_of_refusals_of_plays},
+    {"plays_as_runs", plays_as_runs},
     {"stored_examples", stored_examples},
     {"uninitialized_areas", uninitialized_areas},
+    {"uninitialized_areas_of_lists_and_plays", uninitialized_areas_of_lists_and_plays},
     {"threads_at_once", threads_at_once},
     {"every_number", every_number},
 };

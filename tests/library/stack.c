@@ -3,8 +3,8 @@
  *
  * Each call is made by a thread whose stack was painted before; the deepest byte that is no paint any more
  * says how much was needed. The types are nested as deep as they can be: sums, pairs, and both by turns, to
- * the left and to the right, with as many clauses as an iso may have. Prints what the dearest calls need, a
- * line for each failure, and the counts last.
+ * the left and to the right, with as many clauses as patterns for them; and behind seven bits, with 128 clauses.
+ * Prints what the dearest calls need, a line for each failure, and the counts last.
  */
 #define _DEFAULT_SOURCE /* MAP_ANONYMOUS */
 #include "rulefile.h"
@@ -21,7 +21,10 @@ enum {
     MOST = 1 << 16,  /* what a call may need */
     PAINT = 0xA5,
     NESTED = 63, /* two nodes each and a unit: 127 */
-    CLAUSES = 32,
+    BEHIND = 47, /* the same behind eight bits */
+    BITS = 7,
+    CLAUSES = 128, /* a value of seven bits for each */
+    STEPS = 32,
     SIDES = 40
 };
 
@@ -97,14 +100,25 @@ static void build_sums(const struct shape *shape, int number)
     begin(shape);
     add_steps(shape);
     /* T line 31 has 32 values, of which the last one is the unit 31 deep. */
-    add("I,%d,%d\n", number == 14 ? CLAUSES - 1 : NESTED, NESTED);
-    for (int clause = 0; clause < CLAUSES; clause++) {
+    add("I,%d,%d\n", number == 14 ? STEPS - 1 : NESTED, NESTED);
+    for (int clause = 0; clause < STEPS; clause++) {
         int step = 2 + clause;
-        bool twice = clause >= CLAUSES - 2;
-        int left = number == 11 && twice ? last : number == 14 && clause == CLAUSES - 1 ? 72 : step;
+        bool twice = clause >= STEPS - 2;
+        int left = number == 11 && twice ? last : number == 14 && clause == STEPS - 1 ? 72 : step;
         add("C,%d,%d\n", left, number == 12 && twice ? last : step);
     }
     add("I,%d,%d\nC,0,1\nC,41,81\n", NESTED, NESTED); /* all lines are used, behind the fault */
+}
+
+/* P lines 4 to 66, where the types are pairs alone: they, and a variable as the innermost part; and an iso with it. */
+static void add_deep_iso(const struct shape *shape)
+{
+    for (int nested = 1; shape->even == 2 && nested <= NESTED; nested++) {
+        int below = nested == 1 ? 1 : 2 + nested;
+        add("P,4,%d,%d\n", shape->right ? 0 : below, shape->right ? below : 0);
+    }
+    if (shape->even == 2)
+        add("I,%d,%d\nC,%d,%d\n", NESTED, NESTED, 3 + NESTED, 3 + NESTED);
 }
 
 /* Other types: a variable in every clause, of one type or of both sides of a sum of smaller ones; or no clause. */
@@ -115,6 +129,7 @@ static void build_others(const struct shape *shape, int number)
     if (number == 12)
         add("T,1,%d,%d\n", half, half);
     add("P,0,0,0\nP,1,0,0\nP,2,1,0\nP,3,1,0\n");
+    add_deep_iso(shape);
     if (number == 12)
         add("I,%d,%d\nC,2,1\nC,3,1\n", NESTED + 1, half);
     else
@@ -129,6 +144,59 @@ static void build_gap(const struct shape *shape)
 {
     begin(shape);
     add("T,1,0,%d\nP,0,0,0\nP,2,0,0\nI,0,%d\nC,0,1\nI,%d,%d\n", NESTED - 1, NESTED + 1, NESTED, NESTED);
+}
+
+/* Behind P lines 0 to 3 those of all values of seven bits; gives the first of 128 in a row. */
+static int add_values(void)
+{
+    int rest = 2;
+    int next = 4;
+    for (int values = 4; values <= CLAUSES; values *= 2) {
+        for (int value = 0; value < values; value++)
+            add("P,4,%d,%d\n", 2 + value / (values / 2), rest + value % (values / 2));
+        rest = next;
+        next += values;
+    }
+    return rest;
+}
+
+/* T lines behind those of `begin`: a bit, two bits and so on; seven of them before the nested type, and eight. */
+static void add_bits(bool eight)
+{
+    int bit = NESTED + 1;
+    add("T,1,0,0\n");
+    for (int bits = 2; bits <= BITS + eight; bits++)
+        add("T,2,%d,%d\n", bit, bit + bits - 2);
+    for (int bits = BITS; bits <= BITS + eight; bits++)
+        add("T,2,%d,%d\n", bit + bits - 1, BEHIND);
+}
+
+/*
+ * 128 clauses, each with its own value of seven bits before a variable; but for 11 and 12 the last one has that of the
+ * one before, and for 13 and 14 a left stands before the bits, so that the rights are left out.
+ */
+static void build_many(const struct shape *shape, int number)
+{
+    bool eight = number > 12;
+    int seven = NESTED + 1 + BITS + eight; /* the T line of seven bits and the nested type */
+    begin(shape);
+    add_bits(eight);
+    add("P,0,0,0\nP,1,0,0\nP,2,0,0\nP,3,0,0\n");
+    int values = add_values();
+    int sides = values + CLAUSES;
+    for (int value = 0; value < CLAUSES; value++)
+        add("P,4,%d,1\n", values + value);
+    for (int value = 0; eight && value < CLAUSES; value++)
+        add("P,4,2,%d\n", values + value);
+    for (int value = 0; eight && value < CLAUSES; value++)
+        add("P,4,%d,1\n", sides + CLAUSES + value);
+    add("I,%d,%d\n", number == 13 ? seven + 1 : seven, number == 14 ? seven + 1 : seven);
+    for (int clause = 0; clause < CLAUSES; clause++) {
+        bool last = clause == CLAUSES - 1;
+        int left = sides + clause - (number == 11 && last) + (number == 13 ? 2 * CLAUSES : 0);
+        add("C,%d,%d\n", left, sides + clause - (number == 12 && last) + (number == 14 ? 2 * CLAUSES : 0));
+    }
+    add("I,%d,%d\nC,1,1\n", NESTED, NESTED);
 }
 
 static void build(const struct shape *shape, int number)
@@ -180,23 +248,31 @@ static size_t needed(void)
     return bytes;
 }
 
+/* Whether the file that is built is refused with a number, shown by a setting; raises `most` to what the call needs. */
+static void try_built(const char *name, uint32_t number, size_t *most)
+{
+    size_t bytes = needed();
+    bool holds = answer.number == number && answer.length > 0 && bytes < MOST;
+    if (!holds)
+        printf("stack: %s: number %lu in place of %lu at line %zu, length %zu, %zu bytes\n", name,
+               (unsigned long)answer.number, (unsigned long)number, answer.line, answer.length, bytes);
+    passed += holds;
+    failed += !holds;
+    *most = bytes > *most ? bytes : *most;
+}
+
 int main(void)
 {
     for (size_t i = 0; i < sizeof shapes / sizeof shapes[0]; i++) {
-        size_t most = 0;
+        size_t few = 0;
+        size_t many = 0;
         for (uint32_t number = RULEFILE_OVERLAP_LEFT; number <= RULEFILE_GAP_RIGHT; number++) {
             build(&shapes[i], (int)number);
-            size_t bytes = needed();
-            bool holds = answer.number == number && answer.length > 0 && bytes < MOST;
-            if (holds)
-                passed++;
-            else
-                printf("stack: %s: number %lu in place of %lu at line %zu, length %zu, %zu bytes\n", shapes[i].name,
-                       (unsigned long)answer.number, (unsigned long)number, answer.line, answer.length, bytes);
-            failed += !holds;
-            most = bytes > most ? bytes : most;
+            try_built(shapes[i].name, number, &few);
+            build_many(&shapes[i], (int)number);
+            try_built(shapes[i].name, number, &many);
         }
-        printf("stack: %s: %zu bytes at the most\n", shapes[i].name, most);
+        printf("stack: %s: %zu bytes at the most, %zu with 128 clauses\n", shapes[i].name, few, many);
     }
     printf("%zu passed, %zu failed\n", passed, failed);
     return failed == 0 ? 0 : 1;

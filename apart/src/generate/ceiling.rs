@@ -6,7 +6,7 @@ use super::random::Random;
 use super::scribe;
 use super::shape::exact_type;
 use crate::check;
-use crate::lines::{BYTES, ISOS, LETS, LINES, PATTERNS, SIDES, TYPES};
+use crate::lines::{BYTES, ISOS, LETS, LINES, NODES, PATTERNS, SIDES, TYPES};
 use crate::tree::Type;
 
 /// The ceilings of document 01 that an accepted file can stand at. None has
@@ -78,45 +78,46 @@ pub fn base(random: &mut Random, most: usize) -> Vec<u8> {
 /// Lines up to the ceiling, in trees of 127 nodes at most of which no two nodes
 /// share a line, each used by an iso of its own.
 fn fill(draft: &mut Draft, letter: u8, ceiling: usize, over: bool) {
-    let units = |draft: &mut Draft, letter, count, kind| {
-        let mut whole = draft.add(letter, [0, 0, 0]);
-        for _ in 1..count {
-            let one = draft.add(letter, [0, 0, 0]);
-            whole = draft.add(letter, [kind, one, whole]);
-        }
-        whole
-    };
-    let mut ladder = vec![draft.unit(b'T')];
     let variable = draft.add(b'P', [1, 0, 0]);
-    if letter == b'P' {
-        for _ in 1..64 {
-            let last = ladder[ladder.len() - 1];
-            ladder.push(draft.add(b'T', [2, ladder[0], last]));
-        }
-        let last = ladder[63];
-        draft.push(b'I', &[last, last]);
-        draft.push(b'C', &[variable, variable]);
-    }
-    loop {
-        let due = (ceiling + usize::from(over)).saturating_sub(draft.count(letter));
-        if due == 0 {
-            break;
-        }
-        let count = (due.min(127) + 1) / 2;
-        let count = if due % 2 == 0 && due < 127 {
-            count.min(due / 2)
-        } else {
-            count
-        };
-        let count = count.max(1);
-        let (ty, pattern) = if letter == b'T' {
-            (units(draft, b'T', count, 2), variable)
-        } else {
-            (ladder[count - 1], units(draft, b'P', count, 4))
+    let ladder = match letter {
+        b'P' => ladder(draft, variable),
+        _ => Vec::new(),
+    };
+    let wanted = ceiling + usize::from(over);
+    while draft.count(letter) < wanted {
+        let due = wanted - draft.count(letter);
+        let leaves = due.min(NODES).div_ceil(2);
+        let (ty, pattern) = match letter {
+            b'T' => (units(draft, b'T', leaves, 2), variable),
+            _ => (ladder[leaves - 1], units(draft, b'P', leaves, 4)),
         };
         draft.push(b'I', &[ty, ty]);
         draft.push(b'C', &[pattern, pattern]);
     }
+}
+
+/// Adds a tree of so many units, with a line for each node.
+fn units(draft: &mut Draft, letter: u8, leaves: usize, kind: u32) -> u32 {
+    let mut whole = draft.add(letter, [0, 0, 0]);
+    for _ in 1..leaves {
+        let one = draft.add(letter, [0, 0, 0]);
+        whole = draft.add(letter, [kind, one, whole]);
+    }
+    whole
+}
+
+/// Adds the types of 1 to 64 units, and an iso that uses the last.
+fn ladder(draft: &mut Draft, variable: u32) -> Vec<u32> {
+    let unit = draft.unit(b'T');
+    let mut ladder = vec![unit];
+    for below in 0..63 {
+        let last = ladder[below];
+        ladder.push(draft.add(b'T', [2, unit, last]));
+    }
+    let last = ladder[63];
+    draft.push(b'I', &[last, last]);
+    draft.push(b'C', &[variable, variable]);
+    ladder
 }
 
 fn many_isos(draft: &mut Draft, over: bool) {

@@ -57,7 +57,8 @@ fn idle(random: &mut Random) -> Part {
         ];
         (Zone::Patterns, lines)
     };
-    Part::new(zone, *random.pick(lines), 0)
+    let lines = *random.pick(lines);
+    Part::new(zone, lines, 0)
 }
 
 /// Lines of none of the five forms.

@@ -1,12 +1,12 @@
-//! Request 07: files with types of few values and with types around its limits,
-//! pair lists, and lists with a flaw.
+//! Requests 07 and 13: files with types of few values and with types around
+//! their limits, pair lists, and lists with a flaw.
 
 use super::ending::resaved;
 use super::random::Random;
 use super::scribe;
-use super::shape::closed;
+use super::shape::{closed, most_sides};
 use crate::check;
-use crate::lines::{Clause, Iso, Let, CLAUSES, NODES};
+use crate::lines::{Clause, Iso, Let, CLAUSES, NODES, PATTERNS, SIDES};
 use crate::numbering::values;
 use crate::pair_lists::settings;
 use crate::tree::{Pattern, Type};
@@ -22,6 +22,46 @@ pub const LINES: [usize; 4] = [1_023, 1_024, 1_025, 1_055];
 
 /// The values of those types.
 pub const SUMMED: usize = 32;
+
+/// Left and right nodes that the values of a type have at the most: with over 40
+/// no file can be written.
+pub const DEPTHS: [usize; 3] = [40, 41, 63];
+
+/// What the types of a file are made for.
+#[derive(Debug, Clone, Copy, PartialEq, Eq)]
+pub enum Limit {
+    /// So many values.
+    Values(u64),
+    /// So many P lines for 32 values.
+    Lines(usize),
+    /// So many values with too many P lines.
+    Long(u64),
+    /// So many left and right nodes in a value, and none with more.
+    Sides(usize),
+    /// So many values, and more than 40 left and right nodes in one of them.
+    Deep(u64),
+}
+
+/// All limits that files are made for.
+pub fn limits() -> Vec<Limit> {
+    let mut limits: Vec<Limit> = COUNTS.into_iter().map(Limit::Values).collect();
+    limits.extend(LINES.map(Limit::Lines));
+    limits.extend([33, 127, 128].map(Limit::Long));
+    limits.extend(DEPTHS.map(Limit::Sides));
+    limits.extend([127, 128].map(Limit::Deep));
+    limits
+}
+
+impl Limit {
+    /// How many values the types have.
+    pub fn values(self) -> u64 {
+        match self {
+            Limit::Values(count) | Limit::Long(count) | Limit::Deep(count) => count,
+            Limit::Lines(_) => SUMMED as u64,
+            Limit::Sides(sides) => sides as u64 + 1,
+        }
+    }
+}
 
 fn unit() -> Rc<Type> {
     Rc::new(Type::Unit)
@@ -54,7 +94,9 @@ fn grown(random: &mut Random, count: u64) -> Rc<Type> {
     if count == 1 {
         return unit();
     }
-    let factors: Vec<u64> = (2..count).filter(|one| count % one == 0).collect();
+    let factors: Vec<u64> = (2..count)
+        .filter(|one| count.is_multiple_of(*one))
+        .collect();
     if !factors.is_empty() && (count > 60 || random.chance(60)) {
         let one = *random.pick(&factors);
         let (first, second) = (grown(random, one), grown(random, count / one));
@@ -96,21 +138,102 @@ pub fn with_lines(random: &mut Random, lines: usize) -> Rc<Type> {
     }
 }
 
-/// An accepted file with isos on types of a count, by its place; the places
-/// behind those of the counts are those of `LINES`.
-pub fn file(random: &mut Random, place: usize) -> Vec<u8> {
+/// P lines that the settings of a type take, in a file that has no line twice.
+fn lines_of(ty: &Type) -> usize {
+    let all = settings(ty);
+    let tree = |letters: &[u8]| {
+        let mut due = 1;
+        let ends = |letter: &u8| {
+            due = due + usize::from(*letter == b'P') - usize::from(*letter == b'U');
+            due == 0
+        };
+        letters.iter().position(ends).expect("a whole tree") + 1
+    };
+    let parts = |letters| {
+        let starts = 0..Vec::len(letters);
+        starts.map(|start| &letters[start..start + tree(&letters[start..])])
+    };
+    all.iter().flat_map(parts).collect::<BTreeSet<_>>().len()
+}
+
+/// A type of so many values whose settings take over 1,024 P lines.
+fn long(random: &mut Random, count: u64) -> Rc<Type> {
     loop {
-        let (from, to) = types(random, place);
+        let mut ty = of(random, count);
+        while ty.nodes() + 2 <= NODES && lines_of(&ty) <= PATTERNS {
+            ty = with_unit(random, ty);
+        }
+        if lines_of(&ty) > PATTERNS {
+            return ty;
+        }
+    }
+}
+
+/// Sums one below the other, a unit beside each, most often on one side; not too
+/// many P lines for its values.
+fn nested(random: &mut Random, sums: usize) -> Rc<Type> {
+    loop {
+        let share = *random.pick(&[0, 5, 50, 95, 100]);
+        let mut ty = unit();
+        for _ in 0..sums {
+            ty = Rc::new(if random.chance(share) {
+                Type::Sum(unit(), ty)
+            } else {
+                Type::Sum(ty, unit())
+            });
+        }
+        if lines_of(&ty) < PATTERNS / 2 {
+            return ty;
+        }
+    }
+}
+
+/// A type of so many values, over 82, one of which has over 40 left and right
+/// nodes.
+fn deep(random: &mut Random, count: u64) -> Rc<Type> {
+    loop {
+        let (sums, two) = (nested(random, 40), nested(random, 1));
+        let pairs = Rc::new(Type::Product(sums, two));
+        let others = of(random, count - values(&pairs));
+        let ty = if random.chance(50) {
+            Type::Sum(pairs, others)
+        } else {
+            Type::Sum(others, pairs)
+        };
+        if ty.nodes() <= NODES {
+            return Rc::new(ty);
+        }
+    }
+}
+
+/// A type of so many values with at most 40 left and right nodes in each.
+fn flat(random: &mut Random, count: u64) -> Rc<Type> {
+    loop {
+        let ty = of(random, count);
+        if most_sides(&ty) <= SIDES {
+            return ty;
+        }
+    }
+}
+
+/// An accepted file with isos on types of a limit.
+pub fn file(random: &mut Random, limit: Limit) -> Vec<u8> {
+    loop {
+        let (from, to) = types(random, limit);
         let mut isos = vec![same(random, &unit())];
         for _ in 0..random.below(3) {
             let count = 1 + random.below(8) as u64;
             let (from, to) = (of(random, count), of(random, count));
             isos.push(conversion(random, &from, &to));
         }
-        isos.push(conversion(random, &from, &to));
-        if random.chance(50) {
-            let called = calling(isos.len() - 1, &from, &to);
-            isos.push(called);
+        if matches!(limit, Limit::Values(_) | Limit::Lines(_)) {
+            isos.push(conversion(random, &from, &to));
+            if random.chance(50) {
+                let called = calling(isos.len() - 1, &from, &to);
+                isos.push(called);
+            }
+        } else {
+            isos.extend([&from, &to].map(|ty| same(random, ty)));
         }
         let file = scribe::file(random, &isos);
         if check(&file).is_ok() {
@@ -123,9 +246,9 @@ pub fn file(random: &mut Random, place: usize) -> Vec<u8> {
     }
 }
 
-/// An accepted file of four isos: one on a unit, one on types of a few values,
-/// one on a type of over 4,096, and one on a type whose import passes the
-/// ceiling of P lines.
+/// An accepted file of five isos: one on a unit, one on types of a few values,
+/// one on a type of over 4,096, one on a type whose import passes the ceiling of
+/// P lines, and one on a type whose import passes that of left and right nodes.
 pub fn mixed(random: &mut Random) -> Vec<u8> {
     loop {
         let count = 2 + random.below(7) as u64;
@@ -134,11 +257,14 @@ pub fn mixed(random: &mut Random) -> Vec<u8> {
         let many = of(random, many);
         let lines = LINES[2 + random.below(2)];
         let long = with_lines(random, lines);
+        let sums = SIDES + 1 + random.below(20);
+        let deep = nested(random, sums);
         let isos = [
             same(random, &unit()),
             conversion(random, &from, &to),
             same(random, &many),
             same(random, &long),
+            same(random, &deep),
         ];
         let file = scribe::file(random, &isos);
         if check(&file).is_ok() {
@@ -147,18 +273,26 @@ pub fn mixed(random: &mut Random) -> Vec<u8> {
     }
 }
 
-/// The from-type and the to-type of a place, equal or not.
-fn types(random: &mut Random, place: usize) -> (Rc<Type>, Rc<Type>) {
-    let Some(count) = COUNTS.get(place) else {
-        let ty = with_lines(random, LINES[place - COUNTS.len()]);
-        return (Rc::clone(&ty), ty);
+/// The from-type and the to-type of a limit, equal or not.
+fn types(random: &mut Random, limit: Limit) -> (Rc<Type>, Rc<Type>) {
+    let from = match limit {
+        Limit::Values(count) => of(random, count),
+        Limit::Lines(lines) => with_lines(random, lines),
+        Limit::Long(count) => long(random, count),
+        Limit::Sides(sides) => nested(random, sides),
+        Limit::Deep(count) => deep(random, count),
     };
-    let from = of(random, *count);
-    let many = *count > CLAUSES as u64;
-    let to = if many || random.chance(40) {
-        Rc::clone(&from)
-    } else {
-        of(random, *count)
+    let count = limit.values();
+    let equal = match limit {
+        Limit::Lines(_) => 100,
+        _ if count > CLAUSES as u64 => 100,
+        Limit::Values(_) => 40,
+        _ => 15,
+    };
+    let to = match limit {
+        _ if random.chance(equal) => Rc::clone(&from),
+        Limit::Values(_) => of(random, count),
+        _ => flat(random, count),
     };
     (from, to)
 }

@@ -544,7 +544,7 @@ pub fn wide(random: &mut Random) -> Iso {
 
 /// An iso of so many clauses of closed values.
 pub fn wide_of(random: &mut Random, count: usize) -> Iso {
-    if count > 30 && count % 2 == 0 {
+    if count > 30 && count.is_multiple_of(2) {
         let half = wide_of(random, count / 2).from;
         let parts = if random.chance(50) {
             (half, two())

@@ -2,7 +2,7 @@
 
 use super::random::Random;
 use crate::cover::orthogonal;
-use crate::lines::NODES;
+use crate::lines::{NODES, SIDES};
 use crate::tree::{Pattern, Type};
 use std::rc::Rc;
 
@@ -52,6 +52,60 @@ impl Sketch {
 
     pub fn clashes(&self, other: &Sketch) -> bool {
         orthogonal(&self.pattern(&mut |_| 0), &other.pattern(&mut |_| 0))
+    }
+
+    /// The cases that come of looking into one hole: two where it is a sum.
+    fn opened(&self, random: &mut Random) -> Vec<Sketch> {
+        let hole = |ty: &Rc<Type>| Sketch::Hole(Rc::clone(ty));
+        match self {
+            Sketch::Unit => vec![Sketch::Unit],
+            Sketch::Hole(ty) => match &**ty {
+                Type::Unit => vec![Sketch::Unit],
+                Type::Sum(a, b) => vec![left(hole(a)), right(hole(b))],
+                Type::Product(a, b) => vec![pair(hole(a), hole(b))],
+            },
+            Sketch::Left(a) => a.opened(random).into_iter().map(left).collect(),
+            Sketch::Right(a) => a.opened(random).into_iter().map(right).collect(),
+            Sketch::Pair(a, b) => {
+                let [first, second] = [a, b].map(|part| !part.holes().is_empty());
+                if first && (!second || random.chance(50)) {
+                    let parts = a.opened(random).into_iter();
+                    parts.map(|part| pair(part, (**b).clone())).collect()
+                } else {
+                    let parts = b.opened(random).into_iter();
+                    parts.map(|part| pair((**a).clone(), part)).collect()
+                }
+            }
+        }
+    }
+}
+
+/// Holes of the cases opened, of two cases in the smaller one, until there are
+/// so many cases, which match the same values; `None` where that does not come
+/// about.
+pub fn refined(random: &mut Random, mut cases: Vec<Sketch>, count: usize) -> Option<Vec<Sketch>> {
+    for _ in 0..20 * count {
+        if cases.len() >= count {
+            break;
+        }
+        let two = [0; 2].map(|_| random.below(cases.len()));
+        let pattern = |place: usize| cases[place].pattern(&mut |_| 0);
+        let [one, other] = two.map(|place| pattern(place).nodes());
+        let place = two[usize::from(other < one)];
+        if pattern(place).sides() < SIDES {
+            let opened = cases[place].opened(random);
+            cases.splice(place..=place, opened);
+        }
+    }
+    (cases.len() == count).then_some(cases)
+}
+
+/// The most left and right nodes of a closed value of the type.
+pub fn most_sides(ty: &Type) -> usize {
+    match ty {
+        Type::Unit => 0,
+        Type::Sum(a, b) => 1 + most_sides(a).max(most_sides(b)),
+        Type::Product(a, b) => most_sides(a) + most_sides(b),
     }
 }
 

@@ -5,7 +5,7 @@ use super::counted;
 use super::plan::{self, closed_by_merge, open, permuted, Open};
 use super::random::Random;
 use super::scribe;
-use super::shape::{longest_type, one_case, products, random_type, scattered, Sketch};
+use super::shape::{longest_type, most_sides, one_case, products, random_type, scattered, Sketch};
 use crate::check;
 use crate::lines::{Clause, Iso, CLAUSES, NODES};
 use crate::reduce::turned;
@@ -18,7 +18,7 @@ pub enum Form {
     One,
     /// Several do, now and then of one length.
     Several,
-    /// The iso has 128 clauses, or many.
+    /// The iso has 128 clauses.
     Full,
     /// The value has as many letters as there can be.
     Longest,
@@ -70,7 +70,10 @@ fn iso(random: &mut Random, form: Form, number: u8) -> Option<Iso> {
         (Form::One, 11..=13) if random.chance(70) => one_deep(random, number),
         (Form::One, _) => one_of_sum(random, number),
         (Form::Several, _) => several(random, number),
-        (Form::Full, _) => full(random, number),
+        (Form::Full, _) => {
+            let iso = plan::wide(random);
+            Some(spoiled(random, iso, number))
+        }
         (Form::Longest, _) => longest(random, number),
         (Form::Sparse, _) => sparse(random, number),
         (Form::Bare, _) => Some(bare(random)),
@@ -126,27 +129,30 @@ fn one_of_sum(random: &mut Random, number: u8) -> Option<Iso> {
     sided(random, ty, &cases, number)
 }
 
-/// Cases around one value of a type: they cover all others, and the last one is
-/// that value.
-fn around(random: &mut Random, ty: &Rc<Type>) -> Vec<Sketch> {
+/// Cases around one value of a type, one with the most left and right nodes
+/// where `deep` says so: they cover all others, and the last one is that value.
+pub(super) fn around(random: &mut Random, ty: &Rc<Type>, deep: bool) -> Vec<Sketch> {
     let left = |case: Sketch| Sketch::Left(Box::new(case));
     let right = |case: Sketch| Sketch::Right(Box::new(case));
     match &**ty {
         Type::Unit => vec![Sketch::Unit],
-        Type::Sum(a, b) if random.chance(50) => {
-            let mut cases = vec![right(Sketch::Hole(Rc::clone(b)))];
-            cases.extend(around(random, a).into_iter().map(left));
-            cases
-        }
         Type::Sum(a, b) => {
-            let mut cases = vec![left(Sketch::Hole(Rc::clone(a)))];
-            cases.extend(around(random, b).into_iter().map(right));
-            cases
+            let (first, second) = (most_sides(a), most_sides(b));
+            let even = !deep || first == second;
+            if first > second && deep || even && random.chance(50) {
+                let mut cases = vec![right(Sketch::Hole(Rc::clone(b)))];
+                cases.extend(around(random, a, deep).into_iter().map(left));
+                cases
+            } else {
+                let mut cases = vec![left(Sketch::Hole(Rc::clone(a)))];
+                cases.extend(around(random, b, deep).into_iter().map(right));
+                cases
+            }
         }
         Type::Product(a, b) => {
             let flip = random.chance(50);
             let (one, two) = if flip { (b, a) } else { (a, b) };
-            let (mut outer, inner) = (around(random, one), around(random, two));
+            let (mut outer, inner) = (around(random, one, deep), around(random, two, deep));
             let value = outer.pop().expect("the value itself");
             let pair = |case: &Sketch, other: &Sketch| {
                 let (case, other) = (Box::new(case.clone()), Box::new(other.clone()));
@@ -169,7 +175,7 @@ fn around(random: &mut Random, ty: &Rc<Type>) -> Vec<Sketch> {
 fn one_deep(random: &mut Random, number: u8) -> Option<Iso> {
     let built = *random.pick(&["2^20", "2^24", "3^13", "2^4 (2^16)", "2^6 3^9"]);
     let ty = counted::of(random, built);
-    let cases = around(random, &ty);
+    let cases = around(random, &ty, false);
     let mut iso = permuted(random, &ty, &cases, &[])?;
     let value = |case: &Sketch| case.pattern(&mut |_| unreachable!("no holes"));
     let (last, other) = (value(cases.last()?), value(&one_case(random, &ty, 0)));
@@ -225,32 +231,42 @@ fn several(random: &mut Random, number: u8) -> Option<Iso> {
     sided(random, ty, &cases, number)
 }
 
-/// As many clauses as an iso may have, or some fewer: one value twice, or a type
-/// with one value more.
-fn full(random: &mut Random, number: u8) -> Option<Iso> {
-    let count = *random.pick(&[33, 64, 127, CLAUSES, CLAUSES, CLAUSES]);
-    let mut iso = plan::wide_of(random, count);
-    let one = random.below(count);
-    let two = (one + 1 + random.below(count - 1)) % count;
-    let more = |ty: &Rc<Type>| Rc::new(Type::Sum(Rc::clone(ty), Rc::new(Type::Unit)));
-    let below = |side: &Rc<Pattern>| Rc::new(Pattern::Left(Rc::clone(side)));
-    match number {
-        11 => iso.clauses[one].left = Rc::clone(&iso.clauses[two].left),
-        12 => iso.clauses[one].right = Rc::clone(&iso.clauses[two].right),
-        13 => {
-            iso.from = more(&iso.from);
-            for clause in &mut iso.clauses {
-                clause.left = below(&clause.left);
-            }
+/// An iso of closed values: one side has some of them alone, each once or more,
+/// or a type of more values.
+pub(super) fn spoiled(random: &mut Random, mut iso: Iso, number: u8) -> Iso {
+    let left = matches!(number, 11 | 13);
+    let (ty, mut side): (&mut Rc<Type>, Vec<&mut Rc<Pattern>>) = if left {
+        let side = iso.clauses.iter_mut().map(|clause| &mut clause.left);
+        (&mut iso.from, side.collect())
+    } else {
+        let side = iso.clauses.iter_mut().map(|clause| &mut clause.right);
+        (&mut iso.to, side.collect())
+    };
+    if overlaps(number) {
+        let few = *random.pick(&[1, 3, 10, 30, side.len() - 1]);
+        for place in few..side.len() {
+            *side[place] = Rc::clone(side[random.below(few)]);
         }
-        _ => {
-            iso.to = more(&iso.to);
-            for clause in &mut iso.clauses {
-                clause.right = below(&clause.right);
-            }
-        }
+        return iso;
     }
-    Some(iso)
+    let built = *random.pick(&["1", "3", "3", "2 3"]);
+    let more = counted::of(random, built);
+    let before = random.chance(50);
+    let inner = Rc::clone(ty);
+    *ty = Rc::new(if before {
+        Type::Sum(more, inner)
+    } else {
+        Type::Sum(inner, more)
+    });
+    for pattern in side {
+        let below = Rc::clone(pattern);
+        *pattern = Rc::new(if before {
+            Pattern::Right(below)
+        } else {
+            Pattern::Left(below)
+        });
+    }
+    iso
 }
 
 /// A value of 127 letters; of 126 where another value has to be covered.

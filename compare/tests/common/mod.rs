@@ -1,5 +1,8 @@
 //! File S, and the services of the checker written apart, spoiled.
 
+// Each test takes some of them.
+#![allow(dead_code)]
+
 use apart::areas::Known;
 use compare::service::{expected, Answer, Call, Lent, Services};
 
