@@ -3,6 +3,7 @@ use Prim.Native.Nat.{ℕ}
 use native.Mathlib.Omega.{arith}
 use mathlib.Core.Path.{_≡_, refl, sym, ap, _∙_, subst}
 use mathlib.Core.List.{List}
+use mathlib.Core.Bool.{true, false}
 use mathlib.Core.Option.{some}
 use lib.ListN.{getElem?}
 use Rattle.calculus.specs.Trees.{Val, Iso}
@@ -20,9 +21,9 @@ use Rattle.calculus.proofs.Letters.{letters-injective}
 use Rattle.model.proofs.Files.{answer-iff, refused-iff, turned-accepted}
 use Rattle.calculus.proofs.Steps.{unique, LeftsApart}
 use Rattle.model.proofs.Runs as Runs
-use Rattle.model.proofs.Runs.{Good, good, good-toward, accepted-good, results, run-iff, there-and-back, onto, one-clause}
+use Rattle.model.proofs.Runs.{Good, good, good-toward, accepted-good, results, run-iff, run-back, there-and-back, onto, one-clause}
 use Rattle.demands.specs.Words.{turnedBytes}
-use Rattle.demands.specs.Demands.{AcceptedExactly, AcceptedAnywhere, RefusedExactly, RunExactly, TurnedAccepted, RunsBackwards, OneClause, ReachedOnce}
+use Rattle.demands.specs.Demands.{AcceptedExactly, AcceptedAnywhere, RefusedExactly, RunExactly, TurnedAccepted, RunsBackwards, RunBack, OneClause, ReachedOnce}
 use Rattle.demands.proofs.Serving.{check-says, accepted-rows, accepted-as, turn-writes, turn-says, run-shows, gives-run, run-gives}
 use Rattle.calculus.proofs.Way.{steps-on-way}
 
@@ -76,6 +77,13 @@ runs-backwards file a t w output areas h i back budget k x y t₁ w₁ r₁ t₂
       (λ g. run-gives file r₁ i back budget x k y a₁ l₁
           (law .1 (sym (ap (λ bs. run bs i back budget y) same) ∙ gives-run (turnedBytes file t w output) t₂ w₂ r₂ i back budget y k x g))),
     )
+
+pub back-is-turned : RunBack
+back-is-turned file a t w output areas h i budget x t₁ w₁ r₁ t₂ w₂ r₂ a₁ l₁ a₂ l₂ =
+    let (rs, e) = accepted-rows a in
+    run-shows file r₁ i true budget x a₁ l₁
+    ∙ ap answerOfRun (run-back file rs e i budget x ∙ sym (ap (λ bs. run bs i false budget x) (turn-writes file output areas h)))
+    ∙ sym (run-shows (turnedBytes file t w output) r₂ i false budget x a₂ l₂)
 
 pub one-clause-matches : OneClause
 one-clause-matches file a rs f back i o known v h u k s j w next =

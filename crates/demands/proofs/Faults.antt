@@ -18,18 +18,18 @@ use Rattle.calculus.specs.Clauses.{Sigs, fault}
 use Rattle.format.specs.Unfold.{isosOf}
 use Rattle.format.specs.Idle.{FirstIdle, idleFault}
 use Rattle.format.proofs.Idling.{idle-some}
-use Rattle.model.specs.Services.{Verdict, accepted, refused, judged, afterReading, over, verdict, short, unless, Answer, answerOf, check, turn, Ran, runOf, run, answerOfRun, runService}
+use Rattle.model.specs.Services.{Verdict, accepted, refused, judged, afterReading, over, verdict, short, unless, Answer, answerOf, check, turn, Ran, runOn, runOf, run, answerOfRun, runService}
 use Rattle.calculus.specs.Faulty.{ClauseFault, variables, shapes, SideFault, overlapLeft, overlapRight, gapLeft, gapRight, FirstClause, IsoFault, inClause, inSides, FirstIso}
 use Rattle.model.specs.Answers.{RunIs, absent, strange, passed, done}
 use Rattle.calculus.proofs.Basic.{none≢some, some-inj, bool-cases, neither, ltb-lt, lt-ltb, ltb-false, not-ltb, or-true, true-or-left, true-or-right}
 use Rattle.format.proofs.Passing.{Passes, Passes.done, Passes.next, judge-fit, fit-judge}
 use Rattle.model.proofs.Files.{passes, refused-iff, passes-read, verdict-read, ReadCases, read-cases}
-use Rattle.model.proofs.Outcomes.{turn-answer}
+use Rattle.model.proofs.Outcomes.{turn-answer, refused-first}
 use Rattle.model.proofs.Runs.{run-iff}
 use Rattle.demands.specs.Words.{Areas}
 use Rattle.demands.proofs.Serving.{check-says, turn-says, run-shows}
 use Rattle.demands.proofs.Leaving.{says-tells}
-use Rattle.demands.specs.Faults.{UpTo, NumberedAnswers, IdleExactly, ShortExactly, TurnShortExactly, RunShortExactly, LongExactly, LinesExactly, LineFault, LinePasses, FirstLine, here, later, Place, types, patterns, clauses, lets, Stand, type, noType, pattern, noPattern, iso, clause, noClause, let-step, noLet, end, RowsInOrder}
+use Rattle.demands.specs.Faults.{UpTo, NumberedAnswers, IdleExactly, ShortExactly, TurnShortExactly, RunShortExactly, LongExactly, TurnAsCheck, RunAsCheck, LinesExactly, LineFault, LinePasses, FirstLine, here, later, Place, types, patterns, clauses, lets, Stand, type, noType, pattern, noPattern, iso, clause, noClause, let-step, noLet, end, RowsInOrder}
 use Rattle.law_reordering.proofs.Unmoved.{withRow-faulty}
 
 -- ---- one line
@@ -324,6 +324,16 @@ long-exactly file t w a = (
     two (refused f m) e h =
         let z = ap (λ x. x .number) h in
         ⊎-elim (λ (o, p, q). o) (λ (o, p, q). absurd (omega arith)) (verdict-high file e)
+
+pub turn-as-check : TurnAsCheck
+turn-as-check file t w output a h = turn-says file output a h ∙ sym (check-says file a)
+
+pub run-as-check : RunAsCheck
+unfolding run
+run-as-check file t w i back budget value result a h p =
+    ap (λ x. x .number) (run-shows file result i back budget value a h)
+    ∙ refused-first (verdict file) (runOn i back budget value) (subst (λ x. 0 < x .number) (check-says file a) p) .0
+    ∙ sym (ap (λ x. x .number) (check-says file a))
 
 pub lines-exactly : LinesExactly
 unfolding over

@@ -4,7 +4,7 @@
 use Prim.Native.Nat.{ℕ, _-_, _≤_, _<_}
 use mathlib.Core.Path.{_≡_}
 use mathlib.Core.Logic.{_↔_, _⊎_}
-use mathlib.Core.Bool.{Bool}
+use mathlib.Core.Bool.{Bool, true, false}
 use mathlib.Core.Option.{some}
 use mathlib.Core.List.{List, _++_}
 use lib.ListN.{length, take, drop, replicate, getElem?}
@@ -115,6 +115,13 @@ RunsBackwards =
     → (t₁ w₁ result₁ t₂ w₂ result₂ : List ℕ) → Areas t₁ w₁ → 127 ≤ length result₁ → Areas t₂ w₂ → 127 ≤ length result₂
     → Gives (runService file t₁ w₁ i back budget x result₁) k y
     ↔ Gives (runService (turnedBytes file t w output) t₂ w₂ i back budget y result₂) k x
+
+-- "A run back is a run forward of the turned file": what the one call shows, refusals included, the other shows for the bytes that Turn wrote.
+abbrev pub RunBack : Type 0
+RunBack =
+    (file : List ℕ) → Accepted file → (t w output : List ℕ) → Areas t w → length file ≤ length output → (i budget : ℕ) (x : List ℕ)
+    → (t₁ w₁ result₁ t₂ w₂ result₂ : List ℕ) → Areas t₁ w₁ → 127 ≤ length result₁ → Areas t₂ w₂ → 127 ≤ length result₂
+    → shown (runService file t₁ w₁ i true budget x result₁) ≡ shown (runService (turnedBytes file t w output) t₂ w₂ i false budget x result₂)
 
 -- "exactly one clause matches at each application": wherever the steps of Table 3 lead from iso i and a closed value of its from-type, in either direction, if
 -- the next application is iso j and w, then iso j is there, w is of its from-type, and exactly one of its clauses matches w. No budget bounds the steps: "also

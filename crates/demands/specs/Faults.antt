@@ -44,6 +44,15 @@ abbrev pub LongExactly : Type 0
 LongExactly =
     (file t w : List ℕ) → Areas t w → (check file t w .answer ≡ record { number = 2; line = 0 }) ↔ ((65536 < length file) ⊎ (4096 < length (lines file)))
 
+-- "Order: 1, then 2. … For a run, 15, 16, 17 follow": Check's own refusals, 2 to 14 and 21, come before those of Turn and Run, which refuse the file as Check does, Turn at the same line.
+abbrev pub TurnAsCheck : Type 0
+TurnAsCheck = (file t w output : List ℕ) → Areas t w → length file ≤ length output → turn file t w output .answer ≡ check file t w .answer
+
+abbrev pub RunAsCheck : Type 0
+RunAsCheck =
+    (file t w : List ℕ) (i : ℕ) (back : Bool) (budget : ℕ) (value result : List ℕ) → Areas t w → 127 ≤ length result → 0 < check file t w .answer .number
+    → runService file t w i back budget value result .number ≡ check file t w .answer .number
+
 -- What is wrong with a line, where `s` is what the rows above tell: "on each the lowest of 3 to 7".
 pub data LineFault (s : Seen) (l : List ℕ) : Refusal → Type 0 where
   form : rowOf l ≡ none → LineFault s l badLine

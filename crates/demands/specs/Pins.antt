@@ -8,11 +8,11 @@ use mathlib.Core.List.{[], _∷_, _++_, map}
 use lib.ListN.{replicate}
 use Rattle.limits.specs.Limits.{maxBytes, maxLines, maxTypes, maxPatterns, maxIsos, maxClauses, maxLets, maxNodes, maxTags, variables, fieldBound, budgetBound, rowWidth, tableLength, workLength, resultLength, queryLength, maxQueries, maxValues, maxPairs, exportLength, importLength, maxUnits, letterS}
 use Rattle.calculus.specs.Tools.{isSome}
-use Rattle.calculus.specs.Trees.{tunit, left, right, Pat, punit, pinj, vunit, vinj, vpair}
+use Rattle.calculus.specs.Trees.{tunit, tsum, tprod, left, right, Pat, punit, pvar, pinj, ppair, vunit, vinj, vpair, typeNodes, nodes}
 use Rattle.calculus.specs.Refusals.{Kind, typeLine, patternLine, isoLine, clauseLine, letLine, number, shortArea, tooLong, badLine, misplaced, badField, badName, ceiling, variable, letShape, badType, overlap, gap, noIso, noValue, spent, tooMany, tooHigh, badList, idle, badScript}
 use Rattle.format.specs.Lines.{Row, rowOf}
 use Rattle.format.specs.Table.{numbers, tableOf}
-use Rattle.format.specs.Judge.{Seen, start, inOrder, fieldsFit, named, withinCeilings}
+use Rattle.format.specs.Judge.{Seen, start, inOrder, fieldsFit, named, withinCeilings, after}
 use Rattle.calculus.specs.Letters.{letters}
 use Rattle.model.specs.Services.{accepted, refused}
 use Rattle.model.specs.Desk.{queryOf, desk}
@@ -128,6 +128,20 @@ first-too-many : withinCeilings (above 256 0 0 0 0) typeLine (row typeLine 0 0 0
     ≡ false ∷ false ∷ false ∷ false ∷ false ∷ []
 first-too-many = refl
 
+-- "32 C in an iso" (128 since request 13); "8 L in a clause": an I line begins the count of C lines anew, a C line that of L lines, and no other line does
+clauses-anew : map (λ s. withinCeilings s clauseLine (row clauseLine 0 0 0))
+    (after (above 0 0 1 128 8) (row isoLine 0 0 0) ∷ after (above 0 0 1 127 8) (row clauseLine 0 0 0) ∷ after (above 0 0 1 128 7) (row letLine 0 0 0) ∷ [])
+    ≡ true ∷ false ∷ false ∷ []
+clauses-anew = refl
+
+lets-anew : map (λ s. withinCeilings s letLine (row letLine 0 0 0)) (after (above 0 0 1 1 8) (row clauseLine 0 0 0) ∷ after (above 0 0 1 1 7) (row letLine 0 0 0) ∷ []) ≡ true ∷ false ∷ []
+lets-anew = refl
+
+-- "nodes in an unfolded T or P": each unit, variable, left, right, sum, product and pair is one
+node-counts : typeNodes tunit ∷ typeNodes (tsum tunit tunit) ∷ typeNodes (tprod tunit tunit) ∷ nodes punit ∷ nodes (pvar 0) ∷ nodes (pinj left punit) ∷ nodes (pinj right punit) ∷ nodes (ppair punit punit) ∷ []
+    ≡ 1 ∷ 3 ∷ 3 ∷ 1 ∷ 1 ∷ 2 ∷ 2 ∷ 3 ∷ []
+node-counts = refl
+
 -- "One unit and products of each line with itself: the seventh T has 127 nodes and passes, the eighth has 255: `7,8`"
 -- (with an iso that uses it: request 11)
 doubled : desk (bytes "T,0,0,0\nT,2,0,0\nT,2,1,1\nT,2,2,2\nT,2,3,3\nT,2,4,4\nT,2,5,5\nP,1,0,0\nI,6,6\nC,0,0\n") ≡ bytes "0,0\n"
@@ -146,6 +160,17 @@ idle-lines : map desk
     ≡ bytes "21,1\n" ∷ bytes "21,2\n" ∷ bytes "21,3\n" ∷ bytes "6,2\n" ∷ bytes "8,5\n" ∷ bytes "21,2\n" ∷ bytes "0,0\n" ∷ []
 unfolding desk
 idle-lines = refl
+
+-- request 11: each field that names a line reaches it, where nothing else does: the parts of a sum and of a product, of a left, of a right and of a pair, both types of an I
+-- line, both sides of a C line, p and q of an L line
+idle-named : map desk
+    (bytes "T,0,0,0\nT,0,0,0\nT,1,0,1\nP,1,0,0\nI,2,2\nC,0,0\n" ∷ bytes "T,0,0,0\nT,0,0,0\nT,2,0,1\nP,1,0,0\nI,2,2\nC,0,0\n"
+    ∷ bytes "T,0,0,0\nT,1,0,0\nP,0,0,0\nP,0,0,0\nP,2,0,0\nP,3,1,0\nI,1,1\nC,2,3\nC,3,2\n" ∷ bytes "T,0,0,0\nT,2,0,0\nP,1,0,0\nP,1,1,0\nP,4,0,1\nI,1,1\nC,2,2\n"
+    ∷ bytes "T,0,0,0\nT,0,0,0\nP,0,0,0\nP,0,0,0\nI,0,1\nC,0,1\n"
+    ∷ bytes "T,0,0,0\nP,1,0,0\nP,1,1,0\nP,1,1,0\nP,1,0,0\nI,0,0\nC,0,0\nI,0,0\nC,0,2\nL,1,0,3\n" ∷ [])
+    ≡ bytes "0,0\n" ∷ bytes "0,0\n" ∷ bytes "0,0\n" ∷ bytes "0,0\n" ∷ bytes "0,0\n" ∷ bytes "0,0\n" ∷ []
+unfolding desk
+idle-named = refl
 
 -- n left nodes
 abbrev lefts : ℕ → Pat

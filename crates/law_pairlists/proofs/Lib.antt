@@ -16,5 +16,9 @@ pub mod Exports
 pub mod Runs
 -- no equal line twice
 pub mod Once
+-- what is wrong with a bad list
+pub mod BadLists
 -- the services
 pub mod Services
+-- lists with other endings
+pub mod Endings

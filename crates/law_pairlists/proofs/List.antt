@@ -202,7 +202,7 @@ unfolding pairLine
 pairLine-shape k t = refl
 
 -- the text of a line
-abbrev pairText : ℕ → ℕ → List ℕ
+abbrev pub pairText : ℕ → ℕ → List ℕ
 pairText k t = decimal k ++ (comma ∷ decimal t)
 
 line-text : (k t : ℕ) → pairLine k t ≡ pairText k t ++ feed
@@ -211,8 +211,8 @@ line-text k t = pairLine-shape k t ∙ sym (append-assoc (decimal k) (comma ∷ 
 returnless-text : (k t : ℕ) → Returnless (pairText k t)
 returnless-text k t = each-append NoReturn (decimal k) (decimal-plain k) (each-cons NoReturn refl (decimal-plain t))
 
--- a text that reads is what is printed
-to-in : (k : ℕ) (bs : List ℕ) (t : ℕ) → toIn k bs ≡ some t → bs ≡ pairText k t
+-- a text that reads is what is printed, of numbers of 32 bits
+pub to-in : (k : ℕ) (bs : List ℕ) (t : ℕ) → toIn k bs ≡ some t → (bs ≡ pairText k t) × (k < budgetBound) × (t < budgetBound)
 to-in k bs t e =
     let f = bind-some (numeral budgetBound bs) _ e in
     let g = bind-some (guard (eqb (f .0 .0) k)) _ (f .2) in
@@ -221,15 +221,19 @@ to-in k bs t e =
     let d = bind-some (ended (n .0 .1)) _ (n .2) in
     let p = read-numeral budgetBound (omega arith) (omega arith) bs (f .1) in
     let q = read-numeral budgetBound (omega arith) (omega arith) (c .0) (n .1) in
-    p .0
-    ∙ ap₂ (λ m rest. decimal m ++ rest) (eqb-eq (f .0 .0) k (guard-true (eqb (f .0 .0) k) (g .1)))
-    (skip-some comma (f .0 .1) (c .1) ∙ ap (λ x. comma ∷ x) (q .0 ∙ ap₂ (λ m rest. decimal m ++ rest) (some-inj (d .2)) (ended-some (n .0 .1) (d .1)) ∙ append-nil (decimal t)))
+    let from = eqb-eq (f .0 .0) k (guard-true (eqb (f .0 .0) k) (g .1)) in (
+      p .0
+          ∙ ap₂ (λ m rest. decimal m ++ rest) from
+          (skip-some comma (f .0 .1) (c .1) ∙ ap (λ x. comma ∷ x) (q .0 ∙ ap₂ (λ m rest. decimal m ++ rest) (some-inj (d .2)) (ended-some (n .0 .1) (d .1)) ∙ append-nil (decimal t))),
+      subst (λ m. m < budgetBound) from (p .1),
+      subst (λ m. m < budgetBound) (some-inj (d .2)) (q .1),
+    )
 
 -- a line that reads is what is printed, but for a carriage return
 pub to-of : (k : ℕ) (l : List ℕ) (t : ℕ) → toOf k l ≡ some t → withoutReturns l ≡ pairLine k t
 to-of k l t e =
     let f = bind-some (text l) (toIn k) e in
-    without-line (text-ended l (f .1 ∙ ap some (to-in k (f .0) t (f .2)))) (returnless-text k t) ∙ sym (line-text k t)
+    without-line (text-ended l (f .1 ∙ ap some (to-in k (f .0) t (f .2) .0))) (returnless-text k t) ∙ sym (line-text k t)
 
 pub tos-printed : (k : ℕ) (ls : List (List ℕ)) (ts : List ℕ) → tosOf k ls ≡ some ts → withoutReturns (concat ls) ≡ pairLines k ts
 tos-printed k [] ts e = ap (pairLines k) (some-inj e)
@@ -246,13 +250,14 @@ tos-length k (l ∷ ls) ts e =
     ap suc (tos-length (suc k) ls (g .0) (g .1)) ∙ ap length (some-inj (g .2))
 
 -- what is printed reads back
-of-to : (k t : ℕ) → k < budgetBound → t < budgetBound → toOf k (pairLine k t) ≡ some t
-of-to k t h l =
-    ap (toOf k) (line-text k t)
-    ∙ some-bind (toIn k) (text-feed (pairText k t) (returnless-text k t))
-    ∙ some-bind _ (numeral-decimal budgetBound k (comma ∷ decimal t) (omega arith) h refl)
+pub in-to : (k t : ℕ) → k < budgetBound → t < budgetBound → toIn k (pairText k t) ≡ some t
+in-to k t h l =
+    some-bind _ (numeral-decimal budgetBound k (comma ∷ decimal t) (omega arith) h refl)
     ∙ some-bind _ (true-guard (eq-eqb {m = k} refl))
     ∙ some-bind _ (ap (numeral budgetBound) (sym (append-nil (decimal t))) ∙ numeral-decimal budgetBound t [] (omega arith) l tt)
+
+of-to : (k t : ℕ) → k < budgetBound → t < budgetBound → toOf k (pairLine k t) ≡ some t
+of-to k t h l = ap (toOf k) (line-text k t) ∙ some-bind (toIn k) (text-feed (pairText k t) (returnless-text k t)) ∙ in-to k t h l
 
 pub lines-pairs : (k t : ℕ) (rest : List ℕ) → lines (pairLine k t ++ rest) ≡ pairLine k t ∷ lines rest
 lines-pairs k t rest =

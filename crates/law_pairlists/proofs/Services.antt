@@ -11,7 +11,7 @@ use lib.ListN.{length, take, drop, getElem?}
 use lib.Seq.{take-append-seam}
 use Rattle.limits.specs.Limits.{maxPairs, tableLength, workLength, exportLength, importLength, maxClauses}
 use Rattle.calculus.specs.Trees.{Iso}
-use Rattle.calculus.specs.Refusals.{number, shortArea, noValue, spent}
+use Rattle.calculus.specs.Refusals.{Refusal, number, shortArea, noValue, spent}
 use Rattle.format.specs.Lines.{Row, lines, withoutReturns}
 use Rattle.format.specs.Unfold.{isosOf}
 use Rattle.calculus.specs.Letters.{letters}
@@ -23,12 +23,14 @@ use Rattle.law_ranking.specs.Numbering.{count, unrank, typesOf}
 use Rattle.model.proofs.Outcomes.{past-short, given-accepted}
 use Rattle.law_ranking.proofs.Outcomes.{small-type}
 use Rattle.law_pairlists.specs.PairLists.{pairLines, tosOf, settings, toFrom, upwards, onPairs, exportRows, importRows, exportOn, importOn, Traded, tradedBy, exportService, importService}
+use Rattle.law_pairlists.specs.BadLists.{BadImport}
 use Rattle.law_pairlists.proofs.File.{closedIso}
 use Rattle.law_pairlists.proofs.List.{Taken, tos-length}
 use Rattle.law_pairlists.proofs.Imports.{Imported, imported, Trades, import-accepted, written-ceiling, import-export}
 use Rattle.law_pairlists.proofs.Exports.{Exported, exported, export-taken, export-reads}
 use Rattle.law_pairlists.proofs.Runs.{import-run, answers-alike, answers-back, answers-only, answers-only-back, refuses-alike, export-few, export-spent}
 use Rattle.law_pairlists.proofs.Once.{lines-once}
+use Rattle.law_pairlists.proofs.BadLists.{bad-import-iff}
 
 -- ---- outcomes and verdicts
 
@@ -89,6 +91,28 @@ module _ (file t w : List ℕ) (i j : ℕ) (list o : List ℕ) where
       go : (v : Verdict) → 0 < answerOf v .number → tradedBy o (served v (importOn v i j list) t w) .answer ≡ answerOf v
       go (accepted rs) k = absurd (omega arith)
       go (refused f n) k = refl
+
+  -- Import's own refusals, 15, 18, 7 and 20, "at line 0": of an accepted file's rows, in areas of the stated lengths
+  pub import-answers : (rs : List Row) → verdict file ≡ accepted rs → tableLength ≤ length t → workLength ≤ length w → importLength ≤ length o
+      → (f : Refusal) → importRows rs i j list ≡ fails f
+      → importService file t w i j list o
+      ≡ record { refusal = some f; answer = record { number = number f; line = 0 }; length = 0; table = tableAfter (accepted rs) t; work = workAfter (accepted rs) w; output = o }
+  unfolding importService
+  import-answers rs e long wide room f p =
+      ap (λ b. tradedBy o (serve b (verdict file) (λ rs. importRows rs i j list) t w)) (room-enough t w o importLength long wide room)
+      ∙ ap (λ v. tradedBy o (served v (importOn v i j list) t w)) e
+      ∙ ap (λ x. tradedBy o (served (accepted rs) x t w)) p
+
+  -- 20 exactly where both T lines are there and have few values, and the list, of no more lines than an iso clauses, is bad in the request's words
+  pub import-bad-exactly : (rs : List Row) → verdict file ≡ accepted rs → tableLength ≤ length t → workLength ≤ length w → importLength ≤ length o
+      → (importService file t w i j list o .answer ≡ record { number = 20; line = 0 }) ↔ BadImport rs i j (lines list)
+  unfolding importService
+  import-bad-exactly rs e long wide room =
+      let s =
+      ap (λ b. tradedBy o (serve b (verdict file) (λ rs. importRows rs i j list) t w) .answer) (room-enough t w o importLength long wide room)
+      ∙ ap (λ v. tradedBy o (served v (importOn v i j list) t w) .answer) e in
+      let h = bad-import-iff rs i j list in
+      (λ a. h .0 (ap (λ x. x .number) (sym s ∙ a)), λ b. s ∙ ap (λ n. record { number = n; line = 0 }) (h .1 b))
 
   module _ (done : importService file t w i j list o .answer .number ≡ 0) where
     -- an accepted file, and what its list comes to
@@ -186,6 +210,17 @@ module _ (file t w : List ℕ) (i budget : ℕ) (o : List ℕ) where
   export-areas room =
       let e : (short t w || ltb (length o) exportLength) ≡ short t w = ap (λ b. short t w || b) (not-ltb room) ∙ or-false (short t w) in
       (ap (λ b. tableAfter (unless b (verdict file)) t) e, ap (λ b. workAfter (unless b (verdict file)) w) e)
+
+  -- Export's own refusals, 15, 18 and 17, at line 0
+  pub export-answers : (rs : List Row) → verdict file ≡ accepted rs → tableLength ≤ length t → workLength ≤ length w → exportLength ≤ length o
+      → (f : Refusal) → exportRows rs i budget ≡ fails f
+      → exportService file t w i budget o
+      ≡ record { refusal = some f; answer = record { number = number f; line = 0 }; length = 0; table = tableAfter (accepted rs) t; work = workAfter (accepted rs) w; output = o }
+  unfolding exportService
+  export-answers rs e long wide room f p =
+      ap (λ b. tradedBy o (serve b (verdict file) (λ rs. exportRows rs i budget) t w)) (room-enough t w o exportLength long wide room)
+      ∙ ap (λ v. tradedBy o (served v (exportOn v i budget) t w)) e
+      ∙ ap (λ x. tradedBy o (served (accepted rs) x t w)) p
 
   -- export's 17 is that of some lone run, and of no other: of an accepted file with areas of the stated lengths, for an iso that is there and has few values
   pub export-17 : (rs : List Row) → verdict file ≡ accepted rs → (x : Iso) → getElem? (isosOf rs) i ≡ some x → count (x .from) ≤ maxPairs

@@ -1,2 +1,3 @@
 pub mod PairLists
+pub mod BadLists
 pub mod Examples

@@ -5,7 +5,7 @@ use native.Mathlib.Omega.{arith}
 use mathlib.Core.Path.{_≡_, refl, sym, ap, ap₂, _∙_, subst}
 use mathlib.Core.Logic.{_⊎_, ⊎-elim}
 use mathlib.Core.Bool.{Bool, true, false, cond, _||_}
-use mathlib.Core.List.{List, [], _++_, append-assoc, append-nil}
+use mathlib.Core.List.{List, [], _∷_, _++_, append-assoc, append-nil}
 use lib.Dec.{ltb, eqb}
 use lib.ListN.{length}
 use Rattle.limits.specs.Limits.{maxNodes, maxValues}
@@ -13,7 +13,7 @@ use Rattle.calculus.specs.Trees.{Ty, tunit, tsum, tprod, left, right, Val, vinj
 use Rattle.calculus.specs.Letters.{letters, inhabits}
 use Rattle.calculus.specs.Paper.{Of}
 use Rattle.law_ranking.specs.Numbering.{count, rank, unrank, before}
-use Rattle.calculus.proofs.Basic.{true-and, true-or-left, eq-eqb, not-eqb, lt-ltb, not-ltb, le-or-lt}
+use Rattle.calculus.proofs.Basic.{true-and, true-or-left, true-or-right, eq-eqb, not-eqb, lt-ltb, not-ltb, le-or-lt}
 use Rattle.calculus.proofs.Letters.{inhabits-of}
 use Rattle.model.proofs.Sizes.{of-small}
 
@@ -187,6 +187,12 @@ rank-order v w a h k =
     sym (ahead-end (rank v a) (rank w a))
     ∙ sym (of-order (inhabits-of v a h) (inhabits-of w a k) [] [])
     ∙ ap₂ before (append-nil (letters v)) (append-nil (letters w))
+
+-- letters stand before those that go on behind them
+pub prefix-before : (bs : List ℕ) (c : ℕ) (cs : List ℕ) → before bs (bs ++ (c ∷ cs)) ≡ true
+prefix-before [] c cs = refl
+prefix-before (b ∷ bs) c cs =
+    ap₂ (λ x y. ltb b b || cond x y false) (eq-eqb {m = b} refl) (prefix-before bs c cs) ∙ true-or-right (ltb b b) refl
 
 -- "letters written into 127 lent bytes": a value has at most as many letters as its type has nodes
 pub letters-bound : (v : Val) (a : Ty) → inhabits v a ≡ true → length (letters v) ≤ typeNodes a

@@ -8,6 +8,7 @@ pub mod Files
 pub mod Services
 pub mod Refused
 pub mod Unmoved
+pub mod OneFault
 pub mod Witnesses
 -- how far the relation reaches
 pub mod Orders

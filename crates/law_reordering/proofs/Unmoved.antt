@@ -66,13 +66,13 @@ of-stops (Stops.past {s} {n} {ls = ls} r h j t) =
     ∙ ap (withRow r) (of-stops t)
 
 -- lines that pass, and others behind them
-record Beyond (s : Seen) (n : ℕ) (xs ys : List (List ℕ)) (f : Refusal) (m : ℕ) (l : List ℕ) : Type 0 where
-  above : List Row
-  rowsAre : Rows xs above
-  passes : Passes s above
-  stops : Stops (afterAll s above) (length xs + n) ys f m l
+pub record Beyond (s : Seen) (n : ℕ) (xs ys : List (List ℕ)) (f : Refusal) (m : ℕ) (l : List ℕ) : Type 0 where
+  pub above : List Row
+  pub rowsAre : Rows xs above
+  pub passes : Passes s above
+  pub stops : Stops (afterAll s above) (length xs + n) ys f m l
 
-split : (s : Seen) (n : ℕ) (xs ys : List (List ℕ)) {f : Refusal} {m : ℕ} {l : List ℕ} → Stops s n (xs ++ ys) f m l → Stops s n xs f m l ⊎ Beyond s n xs ys f m l
+pub split : (s : Seen) (n : ℕ) (xs ys : List (List ℕ)) {f : Refusal} {m : ℕ} {l : List ℕ} → Stops s n (xs ++ ys) f m l → Stops s n xs f m l ⊎ Beyond s n xs ys f m l
 split s n [] ys {f} {m} {l} t =
     let z : n ≡ 0 + n = omega arith in inr (record { above = []; rowsAre = Rows.no; passes = done; stops = subst (λ k. Stops s k ys f m l) z t })
 split s n (x ∷ xs) ys (Stops.bad h e p k) = inl (Stops.bad h e p k)
@@ -85,12 +85,12 @@ split s n (x ∷ xs) ys {f} {m} {l} (Stops.past r h j t) = go (split (after s r)
         let z : length xs + suc n ≡ suc (length xs) + n = omega arith in
         inr (record { above = r ∷ b .above; rowsAre = Rows.more h (b .rowsAre); passes = next j (b .passes); stops = subst (λ k. Stops (afterAll (after s r) (b .above)) k ys f m l) z (b .stops) })
 
-join-front : (s : Seen) (n : ℕ) (xs ys : List (List ℕ)) {f : Refusal} {m : ℕ} {l : List ℕ} → Stops s n xs f m l → Stops s n (xs ++ ys) f m l
+pub join-front : (s : Seen) (n : ℕ) (xs ys : List (List ℕ)) {f : Refusal} {m : ℕ} {l : List ℕ} → Stops s n xs f m l → Stops s n (xs ++ ys) f m l
 join-front s n (x ∷ xs) ys (Stops.bad h e p k) = Stops.bad h e p k
 join-front s n (x ∷ xs) ys (Stops.judged r h j p k) = Stops.judged r h j p k
 join-front s n (x ∷ xs) ys (Stops.past r h j t) = Stops.past r h j (join-front (after s r) (suc n) xs ys t)
 
-join : (s : Seen) (n : ℕ) (xs ys : List (List ℕ)) (rs : List Row) {f : Refusal} {m : ℕ} {l : List ℕ} → Rows xs rs → Passes s rs
+pub join : (s : Seen) (n : ℕ) (xs ys : List (List ℕ)) (rs : List Row) {f : Refusal} {m : ℕ} {l : List ℕ} → Rows xs rs → Passes s rs
     → Stops (afterAll s rs) (length xs + n) ys f m l → Stops s n (xs ++ ys) f m l
 join s n [] ys [] {f} {m} {l} Rows.no p t = let z : 0 + n ≡ n = omega arith in subst (λ k. Stops s k ys f m l) z t
 join s n (x ∷ xs) ys (r ∷ rs) {f} {m} {l} (Rows.more h q) p t =
@@ -226,7 +226,7 @@ module _ {f : Refusal} {m : ℕ} {l : List ℕ} (still : Moves l ≡ false) wher
       (stops-four (x .before) (x .one) (x .two) (x .behind) (x .oneBlock) (x .twoBlock) (x .whole) (subst (λ z. Stops start 1 z f m l) (x .here) t)))
 
 -- the line where reading stops
-stops-line : {s : Seen} {n : ℕ} {xs : List (List ℕ)} {f : Refusal} {m : ℕ} {l : List ℕ} → Stops s n xs f m l → (k : ℕ) × (m ≡ k + n) × (getElem? xs k ≡ some l)
+pub stops-line : {s : Seen} {n : ℕ} {xs : List (List ℕ)} {f : Refusal} {m : ℕ} {l : List ℕ} → Stops s n xs f m l → (k : ℕ) × (m ≡ k + n) × (getElem? xs k ≡ some l)
 stops-line (Stops.bad {n = n} h e p k) = let z : n ≡ 0 + n = omega arith in (0, p ∙ z, ap some (sym k))
 stops-line (Stops.judged {n = n} r h j p k) = let z : n ≡ 0 + n = omega arith in (0, p ∙ z, ap some (sym k))
 stops-line (Stops.past {n = n} r h j t) =

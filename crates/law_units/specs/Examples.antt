@@ -20,6 +20,13 @@ play-skips : playS two (bytes "S,0,0,0\nS,0,1,0\nS,1,1,0\n") 2
 unfolding verdict playRows
 play-skips = refl
 
+-- types are compared as trees: a unit with another T line of the same tree is visited, and then holds the one that the I line names
+play-matches : goOn (verdict (bytes "T,0,0,0\nT,1,0,0\nT,1,0,0\nP,0,0,0\nP,2,0,0\nP,3,0,0\nI,1,2\nC,1,2\nC,2,1\n"))
+    (playRows (record { types = 2 ∷ []; settings = 0 ∷ [] }) (bytes "S,0,0,0\nS,0,0,1\n") 1)
+    ≡ gives (record { units = record { types = 1 ∷ []; settings = 0 ∷ [] }; visits = done 2 1 ∷ done 1 0 ∷ [] })
+unfolding verdict playRows
+play-matches = refl
+
 -- one budget a visit: unit 1 needs two applications, and is left as it was
 play-spends : playS two (bytes "S,1,1,0\nS,0,0,1\n") 1
     ≡ gives (record { units = record { types = 1 ∷ 2 ∷ []; settings = 1 ∷ 1 ∷ [] }; visits = spent ∷ done 1 1 ∷ [] })

@@ -11,7 +11,9 @@ use Rattle.query_lines.proofs.Streaming.{next-append}
 use Rattle.desk.specs.DeskSays.{DeskAt, Took, FeedSays}
 use Rattle.desk.specs.declared.Desk as D
 use Rattle.desk.specs.declared.Fed as F
-use Rattle.rules.specs.Running.{Lent, Ready, TookAll, ChunkSays, Reached}
+use Rattle.rules.specs.Running.{Lent, Ready, TookAll, ChunkSays, Kept, InputSays, Reached}
+use Rattle.stdio.specs.declared.Input as I
+use Rattle.stdio.specs.declared.Input.the-variants as inputs
 use Rattle.rules.specs.declared.Progress as P
 use Rattle.rules.specs.declared.Progress.the-variants as progress
 
@@ -129,6 +131,45 @@ reached-some bs chunk progress.Failed r h = tt
 pub reached-chunk : {f₀ l₀ t₀ w₀ i₀ o₀ f l t w i o : List ℕ} {d₀ : D.Desk} (chunk : List ℕ) (p : P.Progress) → Ready d₀ f₀ l₀ t₀ w₀ i₀ o₀
     → Lengths f₀ l₀ t₀ w₀ i₀ o₀ f l t w i o → ChunkSays d₀ chunk f₀ l₀ t₀ i₀ f l t i p → Reached f l t w i o p
 reached-chunk chunk p ready same took = reached-some (ready .bytes) chunk p (lent-kept same (ready .lent)) (took _ (ready .desk))
+
+-- ---- what a read gave
+
+same-areas : (f l t x : List ℕ) → Kept f l t x f l t x
+same-areas f l t x = record { files = refl; lines = refl; tables = refl; indices = refl }
+
+pub input-bytes : (d : D.Desk) (i : I.Input) (chunk f l t x f′ l′ t′ x′ : List ℕ) (r : P.Progress) {n : ℕ} {part : List ℕ} → i ≡ inputs.Bytes n → part ≡ take n chunk
+    → ChunkSays d part f l t x f′ l′ t′ x′ r → InputSays d i chunk f l t x f′ l′ t′ x′ r
+input-bytes d i chunk f l t x f′ l′ t′ x′ r e p h =
+    subst (λ j. InputSays d j chunk f l t x f′ l′ t′ x′ r) (sym e) (subst (λ bs. ChunkSays d bs f l t x f′ l′ t′ x′ r) p h)
+
+module _ (d : D.Desk) (i : I.Input) (chunk f l t x : List ℕ) where
+  pub input-again : i ≡ inputs.Again → InputSays d i chunk f l t x f l t x (progress.More d)
+  input-again e = subst (λ j. InputSays d j chunk f l t x f l t x (progress.More d)) (sym e) (refl, same-areas f l t x)
+
+  pub input-end : i ≡ inputs.End → InputSays d i chunk f l t x f l t x (progress.Done d)
+  input-end e = subst (λ j. InputSays d j chunk f l t x f l t x (progress.Done d)) (sym e) (refl, same-areas f l t x)
+
+  pub input-failed : i ≡ inputs.Failed → InputSays d i chunk f l t x f l t x progress.Failed
+  input-failed e = subst (λ j. InputSays d j chunk f l t x f l t x progress.Failed) (sym e) refl
+
+kept-ready : {f₀ l₀ t₀ w₀ i₀ o₀ f l t w i o : List ℕ} {d : D.Desk} → Kept f₀ l₀ t₀ i₀ f l t i → Lengths f₀ l₀ t₀ w₀ i₀ o₀ f l t w i o → Ready d f₀ l₀ t₀ w₀ i₀ o₀ → Ready d f l t w i o
+kept-ready {f₀} {l₀} {t₀} {w₀} {i₀} {o₀} {f} {l} {t} {w} {i} {o} {d} k same ready =
+    record {
+      bytes = ready .bytes;
+      desk =
+          let s : State = steps (collecting []) (ready .bytes) .next in
+          subst (λ x. DeskAt d x l t i s) (sym (k .files))
+          (subst (λ x. DeskAt d f₀ x t i s) (sym (k .lines))
+          (subst (λ x. DeskAt d f₀ l₀ x i s) (sym (k .tables)) (subst (λ x. DeskAt d f₀ l₀ t₀ x s) (sym (k .indices)) (ready .desk))));
+      lent = lent-kept same (ready .lent);
+    }
+
+pub reached-input : {f₀ l₀ t₀ w₀ i₀ o₀ f l t w i o : List ℕ} {d₀ : D.Desk} (input : I.Input) (chunk : List ℕ) (p : P.Progress) → Ready d₀ f₀ l₀ t₀ w₀ i₀ o₀
+    → Lengths f₀ l₀ t₀ w₀ i₀ o₀ f l t w i o → InputSays d₀ input chunk f₀ l₀ t₀ i₀ f l t i p → Reached f l t w i o p
+reached-input (inputs.Bytes n) chunk p ready same h = reached-chunk (take n chunk) p ready same h
+reached-input {f = f} {l} {t} {w} {i} {o} inputs.Again chunk p ready same h = subst (Reached f l t w i o) (sym (h .0)) (kept-ready (h .1) same ready)
+reached-input {f = f} {l} {t} {w} {i} {o} inputs.End chunk p ready same h = subst (Reached f l t w i o) (sym (h .0)) (kept-ready (h .1) same ready)
+reached-input {f = f} {l} {t} {w} {i} {o} inputs.Failed chunk p ready same h = subst (Reached f l t w i o) (sym h) tt
 
 -- before the first read
 pub ready-start : {d : D.Desk} {f l t w i o : List ℕ} → ((file line table index : List ℕ) → DeskAt d file line table index (collecting [])) → Lent f l t w i o → Ready d f l t w i o

@@ -20,7 +20,7 @@ ghost use mathlib.Core.List.{List};
 ghost use Prim.Native.Nat.{ℕ};
 ghost use Rattle.query_lines.specs.Stream.{State};
 ghost use Rattle.desk.specs.DeskSays.{DeskAt};
-ghost use Rattle.rules.specs.Running.{Lent, Ready, TookAll, ChunkSays, Reached};
+ghost use Rattle.rules.specs.Running.{Lent, Ready, TookAll, ChunkSays, InputSays, Reached};
 
 // How far a run has come: the input goes on; or all was read that its answers depend on, and only what
 // the end of the input gives is still to be printed; or a read or a write failed.
@@ -73,6 +73,32 @@ fn answer_chunk(
     behind(desk)
 }
 
+// Answers what a read gave into a chunk.
+fn answer_input(
+    d: Desk,
+    i: Input,
+    chunk: &[u8],
+    file: &mut [u8],
+    line: &mut [u8],
+    table: &mut [u16],
+    work: &mut [u8],
+    index: &mut [u16],
+    out: &mut [u8],
+) -> Progress
+    requires { ⌜ Ready d (now file) (now line) (now table) (now work) (now index) (now out) ⌝ }
+    ensures { λ r. ⌜
+        InputSays d i (now (chunk .entry)) (now (file .entry)) (now (line .entry)) (now (table .entry))
+        (now (index .entry)) (now (file .exit)) (now (line .exit)) (now (table .exit)) (now (index .exit)) r
+        ⌝ }
+{
+    match i {
+        Input::Bytes(n) => answer_chunk(d, front(chunk, n), file, line, table, work, index, out),
+        Input::Again => Progress::More(d),
+        Input::End => Progress::Done(d),
+        Input::Failed => Progress::Failed,
+    }
+}
+
 // Reads once and answers what came.
 fn answer_some(
     d: Desk,
@@ -91,12 +117,7 @@ fn answer_some(
 {
     let mut chunk = [0u8; 4096];
     let i = read_some(&mut chunk);
-    match i {
-        Input::Bytes(n) => answer_chunk(d, front(&chunk, n), file, line, table, work, index, out),
-        Input::Again => Progress::More(d),
-        Input::End => Progress::Done(d),
-        Input::Failed => Progress::Failed,
-    }
+    answer_input(d, i, &chunk, file, line, table, work, index, out)
 }
 
 // Writes what the end of the input gives.

@@ -1,5 +1,5 @@
--- A read's answer by its sign.
-use Prim.Native.Nat.{ℕ, _≤_, min}
+-- A read's answer by its sign, and what it comes to behind the bytes that are there.
+use Prim.Native.Nat.{ℕ, _+_, _^_, _≤_, _<_, min}
 use native.Mathlib.Nat.{min-le-right}
 use native.Mathlib.Omega.{arith}
 use mathlib.Core.Path.{_≡_, refl, sym, ap, subst}
@@ -13,7 +13,8 @@ use Rattle.stdio.specs.declared.Input as I
 use Rattle.stdio.specs.declared.Input.the-variants as inputs
 use Rattle.stdio.specs.declared.Step as S
 use Rattle.stdio.specs.declared.Step.the-variants as steps
-use Rattle.stdio.specs.Reading.{inputOf, Within, Stays}
+use Rattle.stdio.specs.declared.Filled as F
+use Rattle.stdio.specs.Reading.{inputOf, Within, Room, stepOf, Stays, Fits}
 
 -- true is not false
 not-both : {b : Bool} → b ≡ true → b ≡ false → ⊥
@@ -51,10 +52,28 @@ input-within (negsuc k) i n = signalled i n
 pub with-within : (r : I.Input) (z : ℤ) (i : Bool) (n : ℕ) → r ≡ inputOf z i n → (r ≡ inputOf z i n) × Within n r
 with-within r z i n e = (e, subst (Within n) (sym e) (input-within z i n))
 
--- the bytes that a read gave
-pub bytes-within : (r : I.Input) {k : ℕ} (n : ℕ) → r ≡ inputs.Bytes k → Within n r → k ≤ n
-bytes-within r n e h = subst (Within n) e h
+-- so many bytes behind others: as many in all
+pub room-of : (d : ℕ) (i : I.Input) {k : ℕ} → i ≡ inputs.Bytes k → Room d i → d + k < 2 ^ 64
+room-of d i e h = subst (Room d) e h
 
--- and those of all reads
+pub within-room : (d m n : ℕ) (i : I.Input) → Within m i → d + m ≤ n → n < 2 ^ 64 → Room d i
+within-room d m n (inputs.Bytes k) h l b = omega (arith, h)
+within-room d m n inputs.Again h l b = tt
+within-room d m n inputs.End h l b = tt
+within-room d m n inputs.Failed h l b = tt
+
+step-stays : (d m n : ℕ) (i : I.Input) → Within m i → d + m ≤ n → Stays n (stepOf d i)
+step-stays d m n (inputs.Bytes k) h l = omega (arith, h)
+step-stays d m n inputs.Again h l = omega arith
+step-stays d m n inputs.End h l = omega arith
+step-stays d m n inputs.Failed h l = tt
+
+pub read-stays : (d m n : ℕ) (i : I.Input) {r : S.Step} → Within m i → d + m ≤ n → r ≡ stepOf d i → Stays n r
+read-stays d m n i h l e = subst (Stays n) (sym e) (step-stays d m n i h l)
+
+-- the bytes of all reads lie within
 pub more-within : (r : S.Step) {k : ℕ} (n : ℕ) → r ≡ steps.More k → Stays n r → k ≤ n
 more-within r n e h = subst (Stays n) e h
+
+pub over-within : (r : S.Step) {f : F.Filled} (n : ℕ) → r ≡ steps.Over f → Stays n r → Fits n f
+over-within r n e h = subst (Stays n) e h

@@ -5,7 +5,8 @@ use area_parts::front;
 ghost use mathlib.Core.Path.{_≡_};
 ghost use Prim.Native.Nat.{_≤_};
 ghost use lib.ListN.{length};
-ghost use Rattle.stdio.specs.Reading.{inputOf, Within, Stays, Fits};
+ghost use Rattle.stdio.specs.Reading.{isInterrupt, inputOf, Within, Room, stepOf, Stays, Fits};
+ghost use Rattle.stdio.specs.declared.Step.the-variants as steps;
 ghost use Rattle.stdio.specs.declared.Filled.the-variants as filled;
 ghost use mathlib.Core.Bool.{true};
 
@@ -24,17 +25,23 @@ pub enum Filled {
     Failed,
 }
 
-// What one read more gave: so many bytes in all, the end, or a failure.
+// What one read more gave: so many bytes in all, or what came of reading.
 enum Step {
     More(usize),
-    End,
-    Failed,
+    Over(Filled),
+}
+
+// Whether a signal interrupted a call that failed, by its error's number.
+fn interrupted(error: i32) -> bool
+    ensures { λ r. ⌜ r ≡ isInterrupt error ⌝ }
+{
+    error == libc::EINTR
 }
 
 // What a read into an area gave, by its answer and by whether a signal interrupted it. A failure is said
 // at once, as long as the error's number stands.
-fn input_of(got: isize, interrupted: bool, area: &[u8]) -> Input
-    ensures { λ r. ⌜ (r ≡ inputOf got interrupted (length (now (area .entry)))) × Within (length (now (area .entry))) r ⌝ }
+fn input_of(got: isize, signal: bool, area: &[u8]) -> Input
+    ensures { λ r. ⌜ (r ≡ inputOf got signal (length (now (area .entry)))) × Within (length (now (area .entry))) r ⌝ }
 {
     if got > 0 {
         return Input::Bytes(io::count(got, area));
@@ -42,7 +49,7 @@ fn input_of(got: isize, interrupted: bool, area: &[u8]) -> Input
     if got >= 0 {
         return Input::End;
     }
-    if interrupted {
+    if signal {
         return Input::Again;
     }
     os::fail(b"cannot read standard input");
@@ -54,8 +61,8 @@ pub fn read_some(area: &mut [u8]) -> Input
     ensures { λ r. ⌜ Within (length (now (area .exit))) r ⌝ }
 {
     let got = libc::read(0, area);
-    let interrupted = os::errno() == libc::EINTR;
-    input_of(got, interrupted, area)
+    let signal = interrupted(os::errno());
+    input_of(got, signal, area)
 }
 
 // Says that a loop over the input, which has to end, has used up its turns: no run does. What came of
@@ -67,21 +74,30 @@ pub fn endless() -> Filled
     Filled::Failed
 }
 
-// One read more behind the first `done` bytes of an area.
-fn read_more(area: &mut [u8], done: usize) -> Step
-    requires { ⌜ done ≤ length (now area) ⌝ }
-    ensures { λ r. ⌜ Stays (length (now (area .entry))) r ⌝ }
+// What a read behind the first `done` bytes of an area comes to, by what it gave.
+fn step_of(i: Input, done: usize) -> Step
+    requires { ⌜ Room done i ⌝ }
+    ensures { λ r. ⌜ r ≡ stepOf done i ⌝ }
 {
-    if done >= area.len() {
-        return Step::End;
-    }
-    let i = read_some(&mut area[done..]);
     match i {
         Input::Bytes(n) => Step::More(done + n),
         Input::Again => Step::More(done),
-        Input::End => Step::End,
-        Input::Failed => Step::Failed,
+        Input::End => Step::Over(Filled::Bytes(done)),
+        Input::Failed => Step::Over(Filled::Failed),
     }
+}
+
+// One read more behind the first `done` bytes of an area, unless it is full.
+fn read_more(area: &mut [u8], done: usize) -> Step
+    requires { ⌜ done ≤ length (now area) ⌝ }
+    ensures { λ r. ⌜ Stays (length (now (area .entry))) r ⌝ }
+    ensures { λ r. ⌜ (length (now (area .entry)) ≤ done → r ≡ steps.Over (filled.Bytes done)) ⌝ }
+{
+    if done >= area.len() {
+        return Step::Over(Filled::Bytes(done));
+    }
+    let i = read_some(&mut area[done..]);
+    step_of(i, done)
 }
 
 // Reads until an area is full or the input ends.
@@ -94,26 +110,31 @@ pub fn read_area(area: &mut [u8]) -> Filled
         let s = read_more(area, done);
         match s {
             Step::More(n) => done = n,
-            Step::End => return Filled::Bytes(done),
-            Step::Failed => return Filled::Failed,
+            Step::Over(f) => return f,
         }
         turns -= 1;
     }
     endless()
 }
 
+// Answers what a write answered: whether all was written. Where it was not, standard error says why.
+fn report_write(written: bool) -> bool
+    ensures { λ r. ⌜ r ≡ written ⌝ }
+{
+    if !written {
+        os::fail(b"cannot write standard output");
+    }
+    written
+}
+
 // Writes the first n bytes of an area, all of them where there are fewer. Answers whether all were
-// written; where they were not, standard error says why. What reaches standard output no contract can
-// say; where there is nothing to write, nothing can fail.
+// written. What reaches standard output no contract can say; where there is nothing to write, nothing
+// can fail.
 pub fn write_front(area: &[u8], n: usize) -> bool
     ensures { λ r. ⌜ (n ≡ 0 → r ≡ true) ⌝ }
 {
     if n == 0 {
         return true;
     }
-    if io::write_all(1, front(area, n)) {
-        return true;
-    }
-    os::fail(b"cannot write standard output");
-    false
+    report_write(io::write_all(1, front(area, n)))
 }

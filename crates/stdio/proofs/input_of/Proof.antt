@@ -24,17 +24,17 @@ count-requires c κs = search needs
 returns : tie.Need-returns
 returns c =
     let a = c .before .before .before .args in
-    with-within _ (a .got) (a .interrupted) _ (some-bytes (a .got) (a .interrupted) _ (read-back (ltZ (pos 0)) (c .before .before .before .fits .got) (c .before .if1 .taken)) (c .count .ensures .1 ∙ ap (λ z. clamped z (length (a .area .now))) (toZ-ofZ (c .before .before .before .fits .got))))
+    with-within _ (a .got) (a .signal) _ (some-bytes (a .got) (a .signal) _ (read-back (ltZ (pos 0)) (c .before .before .before .fits .got) (c .before .if1 .taken)) (c .count .ensures .1 ∙ ap (λ z. clamped z (length (a .area .now))) (toZ-ofZ (c .before .before .before .fits .got))))
 
 returns-2 : tie.Need-returns-2
 returns-2 c =
     let a = c .before .before .before .args in
-    with-within _ (a .got) (a .interrupted) _ (let f = c .before .before .before .fits .got in the-end (a .got) (a .interrupted) _ (read-back (ltZ (pos 0)) f (c .before .if1 .left)) (read-back (leZ (pos 0)) f (c .if2 .taken)))
+    with-within _ (a .got) (a .signal) _ (let f = c .before .before .before .fits .got in the-end (a .got) (a .signal) _ (read-back (ltZ (pos 0)) f (c .before .if1 .left)) (read-back (leZ (pos 0)) f (c .if2 .taken)))
 
 returns-3 : tie.Need-returns-3
 returns-3 c =
     let a = c .before .before .before .before .args in
-    with-within _ (a .got) (a .interrupted) _ (sym (ap (λ i. cond i inputs.Again inputs.Failed) (c .if3 .taken)) ∙ below (a .got) (a .interrupted) _ (read-back (leZ (pos 0)) (c .before .before .before .before .fits .got) (c .before .if2 .left)))
+    with-within _ (a .got) (a .signal) _ (sym (ap (λ i. cond i inputs.Again inputs.Failed) (c .if3 .taken)) ∙ below (a .got) (a .signal) _ (read-back (leZ (pos 0)) (c .before .before .before .before .fits .got) (c .before .if2 .left)))
 
 slice-aggregate-fail : tie.Need-slice-aggregate-fail
 slice-aggregate-fail c = search needs
@@ -45,7 +45,7 @@ fail-requires c κs = search needs
 returns-4 : tie.Need-returns-4
 returns-4 c =
     let a = c .before .before .before .before .before .before .args in
-    with-within _ (a .got) (a .interrupted) _ (sym (ap (λ i. cond i inputs.Again inputs.Failed) (c .before .before .if3 .left)) ∙ below (a .got) (a .interrupted) _ (read-back (leZ (pos 0)) (c .before .before .before .before .before .before .fits .got) (c .before .before .before .if2 .left)))
+    with-within _ (a .got) (a .signal) _ (sym (ap (λ i. cond i inputs.Again inputs.Failed) (c .before .before .if3 .left)) ∙ below (a .got) (a .signal) _ (read-back (leZ (pos 0)) (c .before .before .before .before .before .before .fits .got) (c .before .before .before .if2 .left)))
 
 pub input-of-spec : {M : Type 1} → statement M
 input-of-spec =

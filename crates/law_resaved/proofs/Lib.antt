@@ -1,0 +1,2 @@
+-- overlap, bounds, export, import and play
+pub mod Alike
