@@ -1,7 +1,12 @@
-//! Notes the identity of the kit that proved the library, which every verdict states.
+//! Notes what judges: the kit that proved the library, and the SHA-256 of the archive that is linked. Every verdict
+//! states both.
+
+#[path = "src/sha256.rs"]
+mod sha256;
 
 use std::env;
-use std::process::Command;
+use std::fs;
+use std::process::{self, Command};
 
 /// What `rt version` says, `unknown` where the command is not there.
 fn kit() -> String {
@@ -14,10 +19,23 @@ fn kit() -> String {
     }
 }
 
+/// The SHA-256 of the archive; without it there would be no telling what judged.
+fn archive(path: &str) -> String {
+    match fs::read(path) {
+        Ok(bytes) => sha256::digits(&bytes),
+        Err(error) => {
+            eprintln!("cannot read {path}: {error}");
+            process::exit(1);
+        }
+    }
+}
+
 fn main() {
     // the crate over the library says where the archive stands
-    if let Ok(archive) = env::var("DEP_RULEFILE_ARCHIVE") {
-        println!("cargo:rerun-if-changed={archive}");
-    }
+    let path = env::var("DEP_RULEFILE_ARCHIVE").unwrap_or_default();
+    println!("cargo:rerun-if-changed={path}");
+    println!("cargo:rerun-if-changed=src/sha256.rs");
+    println!("cargo:rerun-if-changed=build.rs");
     println!("cargo:rustc-env=RULEFILE_KIT={}", kit());
+    println!("cargo:rustc-env=RULEFILE_ARCHIVE={}", archive(&path));
 }

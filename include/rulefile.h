@@ -30,10 +30,10 @@
  * A line of a file, of a list or of a script ends with a line feed, or with a carriage return and a line feed;
  * lengths count both bytes. What Turn, an export and an import write ends with line feeds alone.
  *
- * A call needs at most 65,536 bytes of stack. Measured by painting it, over the deepest files (32 nested isos, 128
- * clauses, types and patterns of 127 nodes with a variable innermost): an import 62 KB, an export 61 KB,
- * rulefile_play, rulefile_sheet and rulefile_run 55 KB, rulefile_bounds 48 KB, a witness 41 KB, Check, Turn, an
- * overlap and settings as numbers 40 KB (1,000 bytes each).
+ * A call needs at most 73,728 bytes of stack. Measured by painting it, over the deepest files (32 nested isos, 128
+ * clauses, types and patterns of 127 nodes with a variable innermost): an import 71 KB, an export 70 KB,
+ * rulefile_play 64 KB, rulefile_sheet and rulefile_run 62 KB, rulefile_bounds 55 KB, settings as numbers 49 KB, a
+ * witness 48 KB, Check, Turn and an overlap 47 KB (1,000 bytes each).
  *
  * docs/REFUSALS.md says what each refusal means and what to ask the supplier.
  */
@@ -71,7 +71,8 @@ extern "C" {
 #define RULEFILE_MAX_FILE_LENGTH 65536
 #define RULEFILE_MAX_LINES 4096
 
-/* The numbers of an answer. The line is counted over the whole file from 1. */
+/* The numbers of an answer. The line is counted over the whole file from 1; where an answer has none,
+   rulefile_check names the line of a refused file. */
 enum rulefile_number {
     RULEFILE_ACCEPTED = 0,       /* no refusal; line 0 */
     RULEFILE_SHORT_AREA = 1,     /* a lent area is shorter than stated; line 0 */

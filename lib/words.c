@@ -9,6 +9,9 @@ static const char *const words[] = {
 #include "words.inc"
 };
 
+/* The version where a build finds it that does not call the library: build.rs of the Rust crate reads it. */
+__attribute__((used)) static const char mark[] = "librulefile.a, version " VERSION ";";
+
 const char *rulefile_version(void)
 {
     return VERSION;

@@ -41,7 +41,7 @@ fn most_clauses(file: &[u8]) -> usize {
 /// All have as many isos as the lines allow, up to 32. In a late clash, the clauses of an iso differ only in the last
 /// nodes of patterns that fill a type of 127 nodes. The let steps, as many as there is room for, have patterns of 127
 /// nodes. Where no number of clauses is named, an iso has 32; where no shape is named, trees are deep to the left.
-pub const CANDIDATES: [Candidate; 22] = [
+pub const CANDIDATES: [Candidate; 28] = [
     Candidate {
         label: "late clash, even trees",
         call: || {
@@ -170,6 +170,57 @@ pub const CANDIDATES: [Candidate; 22] = [
     Candidate {
         label: "late clash and let steps, 128 clauses, refused at the last iso",
         call: || refused(late(MANY)),
+    },
+    Candidate {
+        label: "let steps over trees around a variable, two T lines by turns",
+        call: || Call::check(turned(Turned { types: 2, ..AROUND })),
+    },
+    Candidate {
+        label: "let steps over trees around a variable, 16 T lines by turns",
+        call: || {
+            Call::check(turned(Turned {
+                types: 16,
+                ..AROUND
+            }))
+        },
+    },
+    Candidate {
+        label: "let steps over trees around 32 variables",
+        call: || {
+            Call::check(turned(Turned {
+                variables: 32,
+                ..AROUND
+            }))
+        },
+    },
+    Candidate {
+        label: "let steps over 800 trees around a variable",
+        call: || {
+            Call::check(turned(Turned {
+                lines: 800,
+                ..AROUND
+            }))
+        },
+    },
+    Candidate {
+        label: "let steps over 128 trees around a variable, 16 T lines by turns",
+        call: || {
+            Call::check(turned(Turned {
+                types: 16,
+                lines: 128,
+                ..AROUND
+            }))
+        },
+    },
+    Candidate {
+        label: "let steps over trees around 32 variables, 128 clauses",
+        call: || {
+            Call::check(turned(Turned {
+                bits: 7,
+                variables: 32,
+                ..AROUND
+            }))
+        },
     },
 ];
 
@@ -441,6 +492,76 @@ fn around(bits: usize) -> Vec<u8> {
         there_and_back(draft, trees);
     });
     draft.into_bytes()
+}
+
+/// A file like the one above, whose let steps name their P lines by turns, and those all over again with each T line.
+#[derive(Clone, Copy)]
+struct Turned {
+    /// Bits behind the tree; an iso has 2^bits clauses.
+    bits: usize,
+    /// T lines of 127 nodes, each with an iso of its own.
+    types: usize,
+    /// P lines of 127 nodes.
+    lines: usize,
+    /// Variables of each tree.
+    variables: usize,
+}
+
+const AROUND: Turned = Turned {
+    bits: 5,
+    types: 1,
+    lines: 1,
+    variables: 1,
+};
+
+fn turned(plan: Turned) -> Vec<u8> {
+    let mut draft = Draft::default();
+    let shape = Shape::Leftward;
+    let (front, back) = front_and_bits(&mut draft, plan.bits, shape);
+    let all = draft.type_of(PRODUCT, front, back);
+    let most = shape.of_types(&mut draft, NODES - 2);
+    let unit = draft.type_of(0, 0, 0);
+    let types: Vec<usize> = (0..plan.types)
+        .map(|_| draft.new_type(PRODUCT, most, unit))
+        .collect();
+    let closed = bit_patterns(&mut draft, plan.bits);
+    let front = tree_around(&mut draft, plan.variables, front_nodes(plan.bits));
+    let sides: Vec<usize> = closed
+        .iter()
+        .map(|bits| draft.pattern(PAIR, front, *bits))
+        .collect();
+    let most = tree_around(&mut draft, plan.variables, NODES - 2);
+    let unit = draft.pattern(0, 0, 0);
+    let lines: Vec<usize> = (0..plan.lines)
+        .map(|_| draft.new_pattern(PAIR, most, unit))
+        .collect();
+    for ty in &types {
+        draft.iso(*ty, *ty);
+        draft.clause(lines[0], lines[0]);
+    }
+    let mut named = 0;
+    fill(&mut draft, all, sides.len(), 8, |draft, place, steps| {
+        draft.clause(sides[place], sides[place]);
+        for _ in 0..steps {
+            let [p, q] = [named, named + 1].map(|number| lines[number % lines.len()]);
+            draft.step(p, named / lines.len() % types.len(), q);
+            named += 1;
+        }
+    });
+    draft.into_bytes()
+}
+
+/// A tree of so many nodes, deep to the left, with variables innermost.
+fn tree_around(draft: &mut Draft, variables: usize, nodes: usize) -> usize {
+    let unit = draft.pattern(0, 0, 0);
+    let first = draft.pattern(VARIABLE, 0, 0);
+    (1..nodes.div_ceil(2)).fold(first, |tree, number| {
+        let leaf = match number < variables {
+            true => draft.pattern(VARIABLE, number, 0),
+            false => unit,
+        };
+        draft.pattern(PAIR, tree, leaf)
+    })
 }
 
 /// Eight let steps, which send the first of two patterns to the second, and the second to the first.

@@ -97,6 +97,11 @@ impl Given {
         self.words.get(place).map(OsString::as_os_str)
     }
 
+    /// All words besides options.
+    pub fn words(&self) -> &[OsString] {
+        &self.words
+    }
+
     /// Whether an option was given.
     pub fn flag(&self, name: &str) -> bool {
         self.value(name).is_some()

@@ -1,9 +1,12 @@
 //! `check`: the verdict on a file, in numbers and in words.
 
 use crate::arguments::Given;
+use crate::files::{self, Many, Row};
 use crate::input::{self, Input};
+use crate::look::asked::Told;
 use crate::{explain, output, Failure, Outcome, Status};
 use rulefile::{Desk, Refused};
+use std::ffi::OsStr;
 
 /// The lines of a file by their letters.
 pub fn counts(bytes: &[u8]) -> String {
@@ -13,26 +16,21 @@ pub fn counts(bytes: &[u8]) -> String {
     format!("{t} T, {p} P, {i} I, {c} C, {l} L")
 }
 
-/// A file that is accepted, or nothing: then why is said on standard error.
-pub fn accepted(desk: &mut Desk, file: &Input) -> bool {
+/// A file that is accepted, or nothing: then why is printed, as `check` does.
+pub fn accepted(desk: &mut Desk, file: &Input) -> Result<bool, Failure> {
     match desk.check(&file.bytes) {
-        Ok(()) => true,
-        Err(refused) => {
-            let (number, line) = (refused.refusal.number(), refused.line);
-            output::say(&format!("{number},{line}"));
-            let words = explain::refusal(&file.name, &file.bytes, refused);
-            output::say(words.trim_end());
-            false
-        }
+        Ok(()) => Ok(true),
+        refused => output::print(verdict(file, refused).as_bytes()).map(|()| false),
     }
 }
 
-/// A refusal of what was asked, on standard error.
-pub fn say_refused(refused: Refused) -> Status {
-    say_refused_at(refused, &[])
+/// A refusal of what was asked, on standard error, with where to look.
+pub fn say_refused(told: &Told) -> Status {
+    let look = told.look.iter().map(|look| format!("look here: {look}"));
+    say_refused_at(told.refused, &look.collect::<Vec<_>>())
 }
 
-/// The same, with where to look.
+/// The same, with these lines between.
 pub fn say_refused_at(refused: Refused, place: &[String]) -> Status {
     let meaning = explain::meaning(refused.refusal);
     output::say(&format!("refused with {}", refused.refusal));
@@ -44,32 +42,36 @@ pub fn say_refused_at(refused: Refused, place: &[String]) -> Status {
     Status::Refused
 }
 
-/// Asks an accepted file: prints the answer or, where that is refused, its number and these zeros, and on standard
-/// error why.
+/// Asks an accepted file.
 pub fn ask(
     given: &Given,
     zeros: &str,
-    question: impl FnOnce(&mut Desk, &[u8]) -> Result<String, Refused>,
+    question: impl FnOnce(&mut Desk, &[u8]) -> Result<String, Told>,
 ) -> Outcome {
     let mut desk = Desk::new();
     let Some(file) = read_accepted(&mut desk, given)? else {
         return Ok(Status::Refused);
     };
-    match question(&mut desk, &file.bytes) {
+    answer(zeros, question(&mut desk, &file.bytes))
+}
+
+/// Prints an answer or, where it is refused, its number and these zeros, and on standard error why and where to look.
+pub fn answer(zeros: &str, answer: Result<String, Told>) -> Outcome {
+    match answer {
         Ok(answer) => output::print(answer.as_bytes()).map(|()| Status::Done),
-        Err(refused) => {
-            let number = refused.refusal.number();
+        Err(told) => {
+            let number = told.refused.refusal.number();
             output::print(format!("{number},{zeros}\n").as_bytes())?;
-            Ok(say_refused(refused))
+            Ok(say_refused(&told))
         }
     }
 }
 
 /// The verdict as it is printed.
-fn verdict(file: &Input, verdict: Result<(), Refused>) -> String {
+pub fn verdict(file: &Input, verdict: Result<(), Refused>) -> String {
     let (number, line) = explain::numbers(verdict);
     let words = match verdict {
-        Err(refused) => explain::refusal(&file.name, &file.bytes, refused),
+        Err(refused) => explain::refusal(file, refused),
         Ok(()) => {
             let meaning = explain::entry("what it means", explain::ACCEPTED);
             let lines = explain::entry("lines", &counts(&file.bytes));
@@ -79,27 +81,44 @@ fn verdict(file: &Input, verdict: Result<(), Refused>) -> String {
     format!("{number},{line}\n{words}")
 }
 
-/// Checks a file.
-pub fn check(given: &Given) -> Outcome {
-    let file = input::read(given.word(0))?;
+/// Checks one file.
+fn check_one(path: &OsStr) -> Result<Row, Failure> {
+    let file = input::read(path)?;
     let answer = Desk::new().check(&file.bytes);
-    output::print(verdict(&file, answer).as_bytes())?;
-    Ok(warned(&file, answer))
+    let (number, line) = explain::numbers(answer);
+    let word = explain::word(answer).to_string();
+    Ok(Row {
+        status: status(answer),
+        text: verdict(&file, answer),
+        warning: warning(&file, answer),
+        cells: vec![format!("{number},{line}"), word],
+    })
 }
 
-/// The status of a verdict; an accepted file with nothing in it is warned of.
-pub fn warned(file: &Input, verdict: Result<(), Refused>) -> Status {
-    if verdict.is_err() {
-        return Status::Refused;
+/// Checks files.
+pub fn check(given: &Given) -> Outcome {
+    let many = Many {
+        head: &["verdict", "word"],
+        words: ["accepted", "refused"],
+    };
+    files::each(given, &many, check_one)
+}
+
+/// The status of a verdict.
+pub fn status(verdict: Result<(), Refused>) -> Status {
+    match verdict {
+        Ok(()) => Status::Done,
+        Err(_) => Status::Refused,
     }
-    if let Some(warning) = explain::warning(&file.bytes) {
-        output::say(&format!("warning: {warning}"));
-    }
-    Status::Done
+}
+
+/// What an accepted file with nothing in it is warned of.
+pub fn warning(file: &Input, verdict: Result<(), Refused>) -> Option<&'static str> {
+    explain::warning(&file.bytes).filter(|_| verdict.is_ok())
 }
 
 /// A file that has to be accepted for what follows.
 pub fn read_accepted(desk: &mut Desk, given: &Given) -> Result<Option<Input>, Failure> {
     let file = input::read(given.word(0))?;
-    Ok(accepted(desk, &file).then_some(file))
+    Ok(accepted(desk, &file)?.then_some(file))
 }

@@ -1,6 +1,9 @@
 //! What a refusal means, in the words of `docs/REFUSALS.md`.
 
-use crate::{form, show};
+use crate::input::Input;
+use crate::rules::Rules;
+use crate::show::tree;
+use crate::{form, look, names, show};
 use rulefile::{Desk, Refusal, Refused};
 
 /// The one source of the words.
@@ -68,30 +71,64 @@ fn fault(refusal: Refusal) -> Option<&'static str> {
     }
 }
 
-/// A setting that shows the fault of an iso, from the library, and what it does.
-pub fn setting(file: &[u8], refused: Refused) -> Option<String> {
-    let fault = fault(refused.refusal)?;
+/// The letters of a setting that shows the fault of an iso, from the library.
+fn witness(file: &[u8], refused: Refused) -> Option<Vec<u8>> {
+    fault(refused.refusal)?;
     let witness = Desk::new().witness(file).err()?;
-    let letters = String::from_utf8_lossy(&witness.letters).into_owned();
-    Some(format!("{letters}, {fault}"))
+    Some(witness.letters)
 }
 
-/// What there is to see of a refusal, each with its label: the line; what is wrong with its form where that is the
-/// fault; a clause, or an idle type or pattern, as it reads; a setting that shows the fault.
-pub fn line(file: &[u8], refused: Refused) -> Vec<(String, String)> {
-    let Some(bytes) = form::line(file, refused.line) else {
-        return Vec::new();
-    };
-    let mut said = vec![(format!("line {}", refused.line), form::shown(bytes))];
+/// The T line of the settings that show the fault of an iso.
+fn side(rules: &Rules, refused: Refused) -> Option<usize> {
+    let iso = rules.isos.iter().find(|iso| iso.line == refused.line)?;
+    match refused.refusal {
+        Refusal::OverlapLeft | Refusal::GapLeft => Some(iso.from),
+        Refusal::OverlapRight | Refusal::GapRight => Some(iso.to),
+        _ => None,
+    }
+}
+
+/// A setting that shows the fault of an iso: how it reads, its letters, and what it does.
+fn setting(rules: &Rules, letters: &[u8], refused: Refused) -> Option<String> {
+    let fault = fault(refused.refusal)?;
+    let reads = tree::setting(rules, side(rules, refused)?, letters);
+    let letters = String::from_utf8_lossy(letters);
+    match reads == letters {
+        true => Some(format!("{letters}, {fault}")),
+        false => Some(format!("{reads}, in letters {letters}, {fault}")),
+    }
+}
+
+/// Whether a file that is refused has readable lines.
+pub fn readable(refused: Refused) -> bool {
+    refused.refusal.number() > Refusal::Ceiling.number()
+}
+
+/// The lines of a refused file with the names beside it, where they are readable.
+fn named(file: &Input, refused: Refused) -> Rules {
+    match readable(refused) {
+        true => names::rules(&file.path, &file.bytes),
+        false => Rules::default(),
+    }
+}
+
+/// What there is to see of a refusal, each with its label: the line; what exactly is wrong; a clause, or an idle type
+/// or pattern, as it reads; a setting that shows the fault, and the two clauses that meet in it.
+pub fn line(rules: &Rules, file: &[u8], refused: Refused) -> Vec<(String, String)> {
+    let mut said = Vec::new();
     let mut add = |label: &str, text: Option<String>| {
         said.extend(text.map(|text| (label.to_string(), text)));
     };
-    let number = refused.refusal.number();
-    let form = (number == 3).then(|| form::fault(&form::RULES, file, refused.line));
-    add("look here", form.flatten());
-    let reading = (number > 7).then(|| show::reading(file, refused.line));
+    let bytes = form::line(file, refused.line);
+    add(&format!("line {}", refused.line), bytes.map(form::shown));
+    let reading = readable(refused).then(|| show::reading(rules, refused.line));
     add("it reads", reading.flatten());
-    add("a setting", setting(file, refused));
+    add("look here", look::here(file, refused));
+    let letters = witness(file, refused).unwrap_or_default();
+    add("a setting", setting(rules, &letters, refused));
+    for (line, clause) in look::meeting(rules, refused, &letters) {
+        add(&format!("clause of line {line}"), Some(clause));
+    }
     said
 }
 
@@ -121,15 +158,20 @@ pub fn entry(label: &str, text: &str) -> String {
     wrapped(&format!("  {label}:"), text, 100)
 }
 
-/// A refusal in lines: what it is, the line, what happened, what to do.
-pub fn refusal(name: &str, file: &[u8], refused: Refused) -> String {
+/// A refusal of a file in lines: what it is, the line, what happened, what to do. Names that people gave are in it.
+pub fn refusal(file: &Input, refused: Refused) -> String {
+    refusal_in(&named(file, refused), file, refused)
+}
+
+/// The same, in the words that these lines of the file have.
+pub fn refusal_in(rules: &Rules, file: &Input, refused: Refused) -> String {
     let (number, word) = (refused.refusal.number(), refused.refusal.word());
     let place = match refused.line {
         0 => String::new(),
         line => format!(", at line {line}"),
     };
-    let mut text = format!("{name} is refused: {number}, {word}{place}.\n");
-    for (label, said) in line(file, refused) {
+    let mut text = format!("{} is refused: {number}, {word}{place}.\n", file.name);
+    for (label, said) in line(rules, &file.bytes, refused) {
         text += &entry(&label, &said);
     }
     let meaning = meaning(refused.refusal);

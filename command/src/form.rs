@@ -73,17 +73,56 @@ pub fn fault(forms: &Forms, file: &[u8], number: usize) -> Option<String> {
         .or_else(|| fields(forms, line))
 }
 
+/// The most bytes of a query, its ending among them.
+const QUERY: usize = 200;
+
+/// What is wrong with a line that should be a query, `Q,iso,direction,budget,letters`.
+pub fn query_fault(line: &[u8]) -> Option<String> {
+    let fields: Vec<&[u8]> = text(line).splitn(5, |byte| *byte == b',').collect();
+    let number = |place: usize, most: u64| {
+        let field = String::from_utf8_lossy(fields.get(place)?).into_owned();
+        self::field(&field, most).map(|why| shown_whole(why.as_bytes()))
+    };
+    match (line.len(), &fields[..]) {
+        (bytes, _) if bytes > QUERY => {
+            Some(format!("it has {bytes} bytes; a query has at most {QUERY}"))
+        }
+        _ if !line.ends_with(b"\n") => Some("it does not end with a line feed".to_string()),
+        (_, [b"Q", rest @ ..]) if rest.len() < 4 => Some(format!(
+            "a query has four commas, here there are {}",
+            rest.len()
+        )),
+        (_, [b"Q", _, direction, ..]) => number(1, MOST)
+            .or_else(|| number(2, MOST))
+            .or_else(|| {
+                let (other, shown) = (*direction != b"0" && *direction != b"1", shown(direction));
+                other.then(|| format!("the direction is 0 for there or 1 for back, not {shown}"))
+            })
+            .or_else(|| number(3, u32::MAX.into())),
+        _ => Some("a query begins with Q and a comma".to_string()),
+    }
+}
+
 /// What is wrong with a line that should be a unit, `tline,number`.
 pub fn unit_fault(file: &[u8], number: usize) -> Option<String> {
+    numbers_fault(file, number, "a unit")
+}
+
+/// What is wrong with a line that should be a pair, `from,to`.
+pub fn pair_fault(file: &[u8], number: usize) -> Option<String> {
+    numbers_fault(file, number, "a pair")
+}
+
+/// What is wrong with a line that should be two numbers.
+fn numbers_fault(file: &[u8], number: usize, what: &str) -> Option<String> {
     let line = line(file, number)?;
     whole_file(file, number)
         .or_else(|| ending(file, line))
         .or_else(|| strange_byte(line))
-        .or_else(|| unit_fields(line))
+        .or_else(|| two_numbers(line, what))
 }
 
-/// The two numbers of a unit.
-fn unit_fields(line: &[u8]) -> Option<String> {
+fn two_numbers(line: &[u8], what: &str) -> Option<String> {
     let text = String::from_utf8_lossy(text(line));
     let fields: Vec<&str> = text.split(',').collect();
     let most = u32::MAX.into();
@@ -91,15 +130,55 @@ fn unit_fields(line: &[u8]) -> Option<String> {
         2 => fields
             .into_iter()
             .find_map(|field| self::field(field, most)),
-        given => Some(format!("a unit has 2 numbers, here there are {given}")),
+        given => Some(format!("{what} has 2 numbers, here there are {given}")),
     }
 }
 
-/// Encodings other than plain text.
+/// Beginnings of files that are no text, and what they are.
+const KINDS: &[(&[u8], &str)] = &[
+    (b"\x89PNG", "a picture (PNG)"),
+    (b"\xFF\xD8\xFF", "a picture (JPEG)"),
+    (b"%PDF", "a PDF"),
+    (
+        b"PK\x03\x04",
+        "a ZIP archive, or a document of an office program",
+    ),
+    (b"\x1F\x8B", "a compressed file (gzip)"),
+    (b"7z\xBC\xAF", "an archive (7z)"),
+    (b"\xD0\xCF\x11\xE0", "a document of an office program"),
+    (b"\x7FELF", "a program"),
+    (b"MZ", "a program"),
+];
+
+/// What bytes are that are no text: a known kind of file, or bytes that no text has, in a part that is looked at.
+pub fn no_text(file: &[u8]) -> Option<String> {
+    let front = &file[..file.len().min(4096)];
+    let kind = KINDS.iter().find(|kind| front.starts_with(kind.0));
+    let control = |byte: &u8| matches!(byte, 0..=8 | 11 | 12 | 14..=31 | 127);
+    let odd = front.iter().filter(|byte| control(byte)).count();
+    // a byte cut in two at the end of the part is no fault of the text
+    let text = match std::str::from_utf8(front) {
+        Ok(_) => true,
+        Err(error) => error.error_len().is_none(),
+    };
+    match kind {
+        Some((_, kind)) if !text || odd > 0 || file.starts_with(b"%PDF") => {
+            Some(format!("its bytes are no text: it is {kind}"))
+        }
+        _ if odd * 10 > front.len() => Some("its bytes are no text".to_string()),
+        _ if !text && odd > 0 => Some("its bytes are no text".to_string()),
+        _ => None,
+    }
+}
+
+/// Encodings other than plain text, and what is no text.
 fn whole_file(file: &[u8], number: usize) -> Option<String> {
     if is_utf_16(file) {
         let why = "the file is in UTF-16, two bytes a letter: it was saved as \"Unicode\"; ask for plain text";
         return Some(why.to_string());
+    }
+    if let Some(why) = no_text(file) {
+        return Some(format!("{why}; ask for the file as plain text"));
     }
     if number == 1 && file.starts_with(&[0xEF, 0xBB, 0xBF]) {
         let why = "the file begins with a byte order mark (bytes EF BB BF): an editor saved it as \"UTF-8 with BOM\"; \
@@ -110,7 +189,7 @@ fn whole_file(file: &[u8], number: usize) -> Option<String> {
 }
 
 /// A byte order mark of UTF-16, or zeros at every second place.
-fn is_utf_16(file: &[u8]) -> bool {
+pub fn is_utf_16(file: &[u8]) -> bool {
     let pairs = file.len() / 2;
     let zeros = |place: usize| file.iter().skip(place).step_by(2).all(|byte| *byte == 0);
     let letters = |place: usize| file.iter().skip(place).step_by(2).all(|byte| *byte != 0);
@@ -166,8 +245,21 @@ fn strange_byte(line: &[u8]) -> Option<String> {
         b'"' | b'\'' => format!("there is a quotation mark {at}; nothing is quoted"),
         b'+' | b'-' | b'.' => format!("there is a sign or a point {at}; numbers are whole and have none"),
         0 => format!("there is a zero byte {at}: the file is no text, or was damaged"),
-        byte => format!("there is a byte that no line has (hexadecimal {byte:02X}) {at}"),
+        byte => match std::str::from_utf8(text).is_ok() {
+            true => format!("there is a letter that no line has ({}, hexadecimal {byte:02X}) {at}", character(text, place)),
+            false => format!("there is a byte that is no text (hexadecimal {byte:02X}) {at}"),
+        },
     })
+}
+
+/// The character at a place of a text, as it can be printed.
+fn character(text: &[u8], place: usize) -> String {
+    let text = String::from_utf8_lossy(&text[place..]);
+    let first = text.chars().next().unwrap_or_default();
+    match first.is_control() {
+        true => "which cannot be seen".to_string(),
+        false => first.to_string(),
+    }
 }
 
 /// The letter in front.

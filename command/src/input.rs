@@ -1,7 +1,7 @@
 //! Files as they are handed in: a rule file up to its ceiling, and a word for what cannot be read.
 
-use crate::{output, streams, Failure};
-use std::ffi::OsStr;
+use crate::{output, progress, streams, Failure};
+use std::ffi::{OsStr, OsString};
 use std::fs::{self, File};
 use std::io::{self, BufRead, BufReader, ErrorKind, IsTerminal, Read};
 
@@ -10,7 +10,9 @@ pub const CEILING: usize = 65_536;
 
 /// A rule file: what to call it, and its bytes, of which one more than the ceiling is enough for refusal 2.
 pub struct Input {
-    /// The name as it was given; `standard input` for `-`.
+    /// The path as it was given, `-` for standard input.
+    pub path: OsString,
+    /// The name as it is shown; `standard input` for `-`.
     pub name: String,
     /// The bytes, at most one more than the ceiling.
     pub bytes: Vec<u8>,
@@ -79,7 +81,9 @@ pub fn read(path: &OsStr) -> Result<Input, Failure> {
     let most = CEILING as u64 + 1;
     let all = open(path, &name)?.take(most).read_to_end(&mut bytes);
     all.map_err(|error| failure(&name, "read", &error))?;
-    Ok(Input { name, bytes })
+    progress::at_work();
+    let path = path.to_os_string();
+    Ok(Input { path, name, bytes })
 }
 
 /// The bytes of a list that goes into one call; one of over 65,536 bytes is none.
@@ -106,6 +110,9 @@ pub struct Lines {
 pub fn lines(path: &OsStr) -> Result<Lines, Failure> {
     let name = shown(path);
     let from = BufReader::new(open(path, &name)?);
+    if path == "-" && io::stdin().is_terminal() {
+        progress::off();
+    }
     Ok(Lines {
         name,
         from,

@@ -8,27 +8,40 @@
 #![no_main]
 
 mod arguments;
+mod calendar;
 mod check;
 mod commands;
+mod compare;
 mod explain;
+mod files;
 mod form;
 mod input;
+mod judge;
+mod letter;
 mod lists;
+mod look;
+mod names;
 mod numbers;
 mod output;
 mod patterns;
 mod play;
+mod progress;
+mod records;
 mod rules;
 mod run;
+mod samples;
 mod script;
+mod settings;
+mod sha256;
 mod sheet;
 mod show;
 mod streams;
-mod system;
 mod turn;
 mod units;
 mod verdict;
+mod verify;
 mod witness;
+mod words;
 
 /// Where a command ends that was not wrong usage and failed nowhere.
 #[derive(Clone, Copy, Debug, PartialEq, Eq)]

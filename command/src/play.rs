@@ -132,8 +132,9 @@ fn outcomes(desk: &mut Desk, play: &Play) -> Result<Outcomes, Refused> {
 
 /// Prints what a play came to, and writes the units.
 fn give(given: &Given, outcomes: &Outcomes) -> Outcome {
-    if let Some(out) = given.value("-o") {
-        output::write_whole(out, outcomes.after.lines().as_bytes())?;
+    if given.flag("-o") {
+        let target = output::target(given)?;
+        target.give(outcomes.after.lines().as_bytes())?;
     }
     let text = match given.flag("--csv") {
         true => outcomes.csv(),
@@ -151,6 +152,7 @@ fn give(given: &Given, outcomes: &Outcomes) -> Outcome {
 pub fn play(given: &Given) -> Outcome {
     let budget = budget(given)?;
     require_apart(given)?;
+    output::target(given)?;
     let units = Units::read(given.word(1))?;
     let script = input::read_list(given.word(2), "script")?;
     let mut desk = Desk::new();

@@ -1,6 +1,14 @@
 //! The lines of a rule file as they are shown. They are read only where the library has found every line to be in
 //! order; what the file is worth is the library's to say.
 
+use crate::names::Names;
+
+/// The most nodes of a tree that is unfolded; the library refuses a file with a larger one.
+const MOST_NODES: usize = 127;
+
+/// The kind of a line that is not as the format has it, in a file that the library refuses.
+const UNKNOWN: usize = usize::MAX;
+
 /// A T or P line.
 #[derive(Clone, Copy)]
 pub struct Row {
@@ -26,6 +34,9 @@ pub struct Let {
 pub struct Clause {
     /// The line in the file, counted from 1.
     pub line: usize,
+    /// The types of its iso.
+    pub from: usize,
+    pub to: usize,
     pub left: usize,
     pub right: usize,
     pub lets: Vec<Let>,
@@ -48,6 +59,12 @@ pub struct Rules {
     pub isos: Vec<Iso>,
     /// How many settings each type has.
     pub settings: Vec<u128>,
+    /// Of each type that is a right-nested sum of units how many those are, of any other 0.
+    pub choices: Vec<usize>,
+    /// Whether types and patterns are shown in letters, and not in numbers and names.
+    pub letters: bool,
+    /// The names that people gave.
+    pub names: Names,
 }
 
 /// The letter and the numbers of a line.
@@ -79,7 +96,9 @@ impl Rules {
             "T" => {
                 self.settings.push(settings(&self.settings, a, b, c));
                 let two = matches!(a, 1 | 2);
-                self.types.push(row(&self.types, [a, b, c], [two, two]));
+                let row = row(&self.types, [a, b, c], [two, two]);
+                self.choices.push(choices(&self.choices, row));
+                self.types.push(row);
             }
             "P" => {
                 let named = [matches!(a, 2..=4), a == 4];
@@ -100,6 +119,8 @@ impl Rules {
         if let Some(iso) = self.isos.last_mut() {
             iso.clauses.push(Clause {
                 line,
+                from: iso.from,
+                to: iso.to,
                 left,
                 right,
                 lets: Vec::new(),
@@ -115,20 +136,34 @@ impl Rules {
     }
 }
 
-/// A row behind others, with its nodes: itself, and those of the lines that it names.
+/// A row behind others, with its nodes: itself, and those of the lines that it names. One that names no earlier line,
+/// or unfolds to a tree that is too large, is of no known kind, so that every row can be unfolded.
 fn row(above: &[Row], [kind, a, b]: [usize; 3], named: [bool; 2]) -> Row {
-    let nodes = |place: usize| above.get(place).map_or(0, |row| row.nodes);
     let parts = [(named[0], a), (named[1], b)];
-    let below: usize = parts
-        .iter()
-        .filter(|part| part.0)
-        .map(|part| nodes(part.1))
+    let named = parts.iter().filter(|part| part.0);
+    let below: Option<usize> = named
+        .map(|part| above.get(part.1).map(|row| row.nodes))
         .sum();
-    Row {
-        kind,
-        a,
-        b,
-        nodes: below + 1,
+    let nodes = below.map_or(1, |below| below + 1);
+    match below.is_some() && nodes <= MOST_NODES {
+        true => Row { kind, a, b, nodes },
+        false => Row {
+            kind: UNKNOWN,
+            a,
+            b,
+            nodes: 1,
+        },
+    }
+}
+
+/// How many units a right-nested sum of units has: one that is no sum has one, and a sum has one more than its right
+/// part where its left part is a unit.
+fn choices(above: &[usize], row: Row) -> usize {
+    let of = |place: usize| above.get(place).copied().unwrap_or(0);
+    match (row.kind, of(row.a), of(row.b)) {
+        (0, ..) => 1,
+        (1, 1, right) if right > 0 => right + 1,
+        _ => 0,
     }
 }
 

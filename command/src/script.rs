@@ -1,10 +1,15 @@
 //! A script of visits: what the library has to say of its lines, and where a refusal points.
 
 use crate::form::{self, Forms};
+use crate::look::asked;
+use crate::progress;
 use crate::units::Units;
-use rulefile::{Desk, Refusal, Refused, Tally};
+use rulefile::{Desk, Refusal, Refused, Tally, MAX_UNITS};
 
 const FORM: &Forms = &form::SCRIPT;
+
+/// The most visits of a play.
+const VISITS: usize = 4_096;
 
 /// What is played: a script on units, of an accepted file, under a budget for each visit.
 pub struct Play<'a> {
@@ -51,6 +56,7 @@ impl Play<'_> {
         }
         let mut tallies = Vec::new();
         for (place, script) in scripts.iter().enumerate() {
+            progress::tell(format!("{place} of {} units", scripts.len()));
             let play = Play {
                 units: &self.units.alone(place),
                 script: script.as_bytes(),
@@ -106,15 +112,23 @@ impl Play<'_> {
         match refusal {
             Refusal::TooLong => {
                 let (held, visits) = (self.units.count(), self.visits());
-                vec![format!("{units} has {held} lines, {script} has {visits}")]
+                let many = match held > MAX_UNITS {
+                    true => format!("{units} has {held} units; a play has at most {MAX_UNITS}"),
+                    false => format!("{script} has {visits} visits; a play has at most {VISITS}"),
+                };
+                vec![format!("look here: {many}")]
             }
             Refusal::NoIso | Refusal::TooMany | Refusal::TooHigh => {
                 let place = self.refused_unit(desk).unwrap_or_default();
                 let (ty, setting) = self.units.unit(place);
                 let line = place + 1;
-                vec![format!(
+                let mut said = vec![format!(
                     "unit {place}, line {line} of {units}: setting {setting} of T{ty}"
-                )]
+                )];
+                let refused = Refused { refusal, line: 0 };
+                let told = asked::setting(self.file, ty, setting, refused);
+                said.extend(told.look.map(|look| format!("look here: {look}")));
+                said
             }
             Refusal::BadScript => {
                 let number = self.refused_line(desk);

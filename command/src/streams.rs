@@ -34,3 +34,8 @@ pub fn input_closed() -> bool {
 pub fn output_closed() -> bool {
     closed(1)
 }
+
+/// Whether standard error is closed.
+pub fn error_closed() -> bool {
+    closed(2)
+}

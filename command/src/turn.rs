@@ -19,14 +19,14 @@ pub fn require_other(file: &OsStr, out: Option<&OsStr>) -> Result<(), Failure> {
 
 /// Turns a file.
 pub fn turn(given: &Given) -> Outcome {
-    let out = given.value("-o");
-    require_other(given.word(0), out)?;
+    require_other(given.word(0), given.value("-o"))?;
+    let target = output::target(given)?;
     let mut desk = Desk::new();
     let Some(file) = check::read_accepted(&mut desk, given)? else {
         return Ok(Status::Refused);
     };
     match desk.turn(&file.bytes) {
-        Ok(turned) => output::give(out, &turned).map(|()| Status::Done),
-        Err(refused) => Ok(check::say_refused(refused)),
+        Ok(turned) => target.give(&turned).map(|()| Status::Done),
+        Err(refused) => Ok(check::say_refused(&refused.into())),
     }
 }

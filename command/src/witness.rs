@@ -16,7 +16,7 @@ pub fn witness(given: &Given) -> Outcome {
         Err(Witness { refused, letters }) => {
             let (number, line) = (refused.refusal.number(), refused.line);
             let letters = String::from_utf8_lossy(&letters);
-            let words = explain::refusal(name, &file.bytes, refused);
+            let words = explain::refusal(&file, refused);
             (
                 format!("{number},{line},{letters}\n{words}"),
                 Status::Refused,

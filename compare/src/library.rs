@@ -140,10 +140,29 @@ fn wrapped(file: &[u8], call: Call, lent: Lent) -> Answer {
     };
     given.unwrap_or_else(|Refused { refusal, line }| Answer {
         number: refusal.number(),
-        line,
+        line: answered_line(file, call, Refused { refusal, line }),
         length: letters,
         ..none
     })
+}
+
+/// The line of a refusal as the library answers it. Where its answer has none,
+/// the wrapper names the line of a refused file: that must be the one of Check.
+fn answered_line(file: &[u8], call: Call, refused: Refused) -> usize {
+    match call {
+        Call::Run(_) | Call::NumberOf(..) | Call::SettingOf(..) | Call::Bounds(_) => {}
+        _ => return refused.line,
+    }
+    let mut table = vec![0; rulefile::TABLE_LENGTH];
+    let mut work = vec![0; rulefile::WORK_LENGTH];
+    let checked = rulefile::check(file, &mut table, &mut work);
+    let same = |checked: &Refused| checked.refusal == refused.refusal;
+    let line = checked.err().filter(same).map_or(0, |checked| checked.line);
+    match line == refused.line {
+        true => 0,
+        // which no answer has
+        false => usize::MAX,
+    }
 }
 
 fn query(ask: Ask) -> Query {

@@ -2,10 +2,16 @@
 
 import sys
 
+import comparing
 import documents
+import first
 import forms
+import lasting
+import looking
+import naming
 import noise
 import person
+import readable
 import showing
 import streams
 import usual
@@ -13,7 +19,7 @@ import versions
 
 someone = person.Person()
 try:
-    for tests in (usual, forms, showing, streams, noise, versions, documents):
+    for tests in (usual, lasting, comparing, looking, forms, showing, readable, naming, streams, noise, versions, first, documents):
         tests.run(someone)
 finally:
     someone.leave()

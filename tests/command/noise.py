@@ -32,11 +32,37 @@ def run(p):
     examples = sorted((p.folder / "examples").glob("**/*.rules"))
     found = set()
     for place in range(FILES):
-        lines = chance.choice(examples).read_bytes().splitlines(True)
+        example = chance.choice(examples)
+        lines = example.read_bytes().splitlines(True)
         for _ in range(place % 3):
             lines = damaged(chance, lines)
-        found.add(agree(p, f"noise {place}", p.file("noise.rules", b"".join(lines))))
+        file = p.file("noise.rules", b"".join(lines))
+        number = agree(p, f"noise {place}", file)
+        found.add(number)
+        told(p, f"noise {place}", number, file)
+        compared(p, f"noise {place}", number, example, file)
     p.expect("noise: verdicts of many kinds", "0" in found and len(found) > 6, found)
+
+
+def told(p, name, number, path):
+    """Every fault is told apart: a line, a clause or a field by what is wrong, an overlap by two clauses, a gap by a setting."""
+    out, letter = p.call("check", path)[1], p.call("letter", path)
+    p.same(f"{name}: letter", number != "0", letter[0] == 1 and "\n\nWe ask " in letter[1])
+    if number in ("3", "4", "5", "6", "7", "8", "9", "10"):
+        p.same(f"{name}: look here", 1, out.count("\n  look here: "))
+    p.same(f"{name}: two clauses", 2 if number in ("11", "12") else 0, out.count("\n  clause of line "))
+
+
+def compared(p, name, number, example, path):
+    """Compared with what it was: the same only where it is accepted, and then every conversion has the same list and the same steps."""
+    status, out, _ = p.call("compare", example, path)
+    p.expect(f"{name}: compared", status == (0 if out.startswith("same\n") else 1), out)
+    if number != "0" or p.call("check", example)[0] != 0:
+        p.same(f"{name}: compared, and refused", 1, status)
+    elif status == 0:
+        isos = example.read_bytes().count(b"\nI,")
+        lists = lambda file: [[p.call(command, file, iso)[1] for command in ("export", "bounds")] for iso in range(isos + 1)]
+        p.same(f"{name}: the same lists and bounds", lists(example), lists(path))
 
 
 def agree(p, name, path):

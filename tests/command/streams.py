@@ -1,13 +1,14 @@
 """What cannot be read or written, and what never ends."""
 
 import os
+import re
 import subprocess
 import threading
 
 from person import PROGRAM
 
 H = "examples/heating-curve.rules"
-S = ["check", "show", "turn", "verdict"]
+S = ["check", "show", "turn", "verdict", "verify", "letter"]
 
 
 def run(p):
@@ -22,7 +23,7 @@ def run(p):
 
 def unreadable(p):
     more = {"run": [0, "LU"], "sheet": ["examples/heating-curve.queries"], "number": [0, "U"], "setting": [0, 0], "bounds": [0], "overlap": [0, 0], "export": [0]}
-    more |= {"witness": [], "import": [0, 0, "examples/heating-curve.queries"], "play": ["examples/rollout/fleet.units", "examples/rollout/plan.script"]}
+    more |= {"witness": [], "compare": [H], "import": [0, 0, "examples/heating-curve.queries"], "play": ["examples/rollout/fleet.units", "examples/rollout/plan.script"]}
     for command in (*S, *more):
         rest = more.get(command, [])
         p.gives(f"{command} of a missing file", [command, "missing.rules", *rest], 2, "", said="there is no file missing.rules")
@@ -56,7 +57,8 @@ def rights(p):
         return done.returncode, done.stdout, done.stderr
 
     p.same("no right to read", (2, "", "rulefile: no right to read secret.rules\n"), call("check", "secret.rules"))
-    p.same("no right to write", (2, "", "rulefile: no right to write kept.rules\n"), call("turn", H, "-o", "kept.rules"))
+    p.same("no right to write", (2, "", "rulefile: no right to write kept.rules\n"), call("turn", H, "-o", "kept.rules", "--force"))
+    p.same("no right to write, and no --force", (2, "", "rulefile: kept.rules is there; it is kept. --force writes over it\n"), call("turn", H, "-o", "kept.rules"))
     p.same("no right to write: kept", "kept\n", kept.read_text())
     p.same("no right to the folder", (2, "", "rulefile: no right to write locked/out\n"), call("turn", H, "-o", "locked/out"))
     p.same("no right to the folder: empty", [], list(locked.iterdir()))
@@ -86,12 +88,30 @@ def closed(p):
 
 
 def progress(p):
-    """On a terminal a sheet says how far it is, once it takes over a second."""
+    """A command says how far it is once it takes over a second, on standard error alone."""
     p.file("many.queries", b"Q,1,0,9,PRURRLU\n" * 600)
     call = f"{{ cat many.queries; sleep 1.2; cat many.queries; }} | {PROGRAM} sheet {H} - >/dev/null"
     done = subprocess.run(["script", "-qec", call, "/dev/null"], cwd=p.folder, stdin=subprocess.DEVNULL, capture_output=True, timeout=120)
     p.expect("progress on a terminal", b"1200 queries answered" in done.stdout, done.stdout)
-    p.expect("no progress elsewhere", p.shell(call) == (0, ""))
+    status, text = p.shell(call)
+    lines = re.fullmatch(r"(rulefile: sheet, \d+ s(: (600|1200) queries answered)?\n)+", text)
+    p.expect("progress elsewhere, in lines", status == 0 and lines and "sheet, 1 s" in text, text)
+    tower = "T,0,0,0\nP,0,0,0\nI,0,0\nC,0,0\n" + "".join("I,0,0\nC,0,0\n" + f"L,0,{i},0\n" * 8 for i in range(31))
+    file = p.file("tower.rules", tower)
+    long = ["run", file, 31, "U", "--budget", 50_000_000]
+    status, out, said = p.call(*long)
+    p.same("progress: standard output", (1, "17,0,\n"), (status, out))
+    told = said.splitlines()
+    p.expect("progress: after a second", re.fullmatch(r"rulefile: run, \d+ s: iso 31 takes over 4294967295 steps", told[0]), said)
+    p.expect("progress: then what came of it", "rulefile: refused with 17, spent" in told and all(line.startswith("rulefile: ") for line in told), said)
+    p.same("progress: no more than needed", len(set(told)), len(told))
+    words = " ".join(map(str, long))
+    p.same("progress, standard error closed", (1, "17,0,\n"), p.shell(f"{PROGRAM} {words} 2>&-"))
+    words = " ".join(map(str, [*long[:-1], 100_000_000]))
+    done = subprocess.run(["script", "-qec", f"{PROGRAM} {words} >long.out", "/dev/null"], cwd=p.folder, stdin=subprocess.DEVNULL, capture_output=True, timeout=120)
+    p.same("progress on a terminal: standard output", "17,0,\n", (p.folder / "long.out").read_text())
+    p.expect("progress on a terminal: the line is written anew", len(re.findall(rb"\rrulefile: run, \d+ s: iso 31 takes over 4294967295 steps\x1b\[K", done.stdout)) > 1, done.stdout)
+    p.expect("progress on a terminal: room for other words", b"\r\x1b[Krulefile: refused with 17, spent\r\n" in done.stdout, done.stdout)
 
 
 def taken(p, words):
@@ -136,7 +156,7 @@ def full(p):
     p.expect("the device is still one", not os.path.isfile("/dev/full"))
     # a file that cannot grow: what was there stays, and nothing is left beside it
     kept = p.file("grown.rules", "kept\n")
-    status, text = p.shell(f"trap '' XFSZ; ulimit -f 0; {PROGRAM} turn {H} -o grown.rules")
+    status, text = p.shell(f"trap '' XFSZ; ulimit -f 0; {PROGRAM} turn {H} -o grown.rules --force")
     p.expect("no room for the file", status == 2 and "cannot write grown.rules" in text, text)
     p.same("no room for the file: kept", "kept\n", kept.read_text())
     p.same("no room for the file: nothing left", [], [n.name for n in p.folder.iterdir() if n.name.endswith(".new")])
@@ -147,9 +167,15 @@ def full(p):
 def at_once(p):
     """Several at once, into the same file: each time one of them whole."""
     wanted = p.call("turn", H)[1]
-    calls = [subprocess.Popen([PROGRAM, "turn", H, "-o", "shared.rules"], cwd=p.folder) for _ in range(8)]
+    calls = [subprocess.Popen([PROGRAM, "turn", H, "-o", "shared.rules", "--force"], cwd=p.folder) for _ in range(8)]
     p.same("eight at once: statuses", [0] * 8, [call.wait(60) for call in calls])
     p.same("eight at once: whole", wanted, (p.folder / "shared.rules").read_text())
+    # without --force one of them writes it, and the others keep what is there
+    calls = [subprocess.Popen([PROGRAM, "turn", H, "-o", "written-once.rules"], cwd=p.folder, stderr=subprocess.PIPE) for _ in range(8)]
+    p.same("eight at once, no force: words", [b"", *[b"rulefile: written-once.rules is there; it is kept. --force writes over it\n"] * 7], sorted(call.communicate(timeout=60)[1] for call in calls))
+    p.same("eight at once, no force: statuses", [0, *[2] * 7], sorted(call.returncode for call in calls))
+    p.same("eight at once, no force: whole", wanted, (p.folder / "written-once.rules").read_text())
+    p.same("eight at once, no force: nothing left", [], [n.name for n in p.folder.iterdir() if n.name.endswith(".new")])
     calls = [subprocess.Popen(["bin/rulefile", "check", H], cwd=p.folder, stdout=subprocess.PIPE) for _ in range(2)]
     outs = [call.communicate(timeout=60)[0] for call in calls]
     p.expect("two at once", outs[0] == outs[1] and outs[0].startswith(b"0,0\n"), outs)
@@ -158,3 +184,5 @@ def at_once(p):
     p.same("four verdicts at once", [0] * 4, [call.wait(60) for call in calls])
     for call in calls:
         call.stdout.close()
+    text = (p.folder / "both.rules.verdict").read_text()
+    p.same("four verdicts at once: one is filed", (1, 1), (text.count("file: both.rules\n"), text.count("date: ")))

@@ -1,10 +1,13 @@
 """Every command as it is meant, and every refusal of it."""
 
+import csv
 import hashlib
 import re
 
 H = "examples/heating-curve.rules"
 M = "examples/merged-setting.rules"
+# the commands that take as many files as there are
+MANY = ("check", "verdict", "verify")
 
 
 def rules_of(p, example):
@@ -27,6 +30,9 @@ def run(p):
     played(p)
     refused_plays(p)
     no_plays(p)
+    refused_everywhere(p)
+    sheets_in_files(p)
+    outputs_kept(p)
     usage(p)
 
 
@@ -76,15 +82,14 @@ def verdicts(p):
     place.write_text(re.sub("date: .*", "date: 2001-02-03", text))
     p.gives("verdict again", ["verdict", file], 0, f"0,0\naccepted: the verdict is filed already in {file}.verdict\n")
     p.expect("verdict again: kept", "2001-02-03" in place.read_text())
-    # one that differs is kept without --force
+    # one that differs is put behind it, and what was there stays
     file.write_bytes(file.read_bytes()[:-10])
-    before = place.read_bytes()
-    p.gives("verdict that differs", ["verdict", file], 2, "", said="is there and says something else; it is kept")
-    p.same("verdict that differs: kept", before, place.read_bytes())
-    out = p.gives("verdict by force", ["verdict", file, "--force"], 1)
-    p.expect("verdict by force: refused", out.startswith("8,30\nvariable: the verdict is filed in"), out)
+    before = place.read_text()
+    out = p.gives("verdict that differs", ["verdict", file], 1)
+    p.expect("verdict that differs: refused", out.startswith(f"8,30\nvariable: the verdict is filed in {file}.verdict, behind 1 earlier verdict\n"), out)
+    p.expect("verdict that differs: the first is kept", place.read_text().startswith(before + "\n"), place.read_text())
     for field in ("line 30: C,14,15", "word: variable", "what to do: "):
-        p.expect(f"verdict by force: {field}", field in place.read_text(), place.read_text())
+        p.expect(f"verdict that differs: {field}", field in place.read_text()[len(before) :], place.read_text())
     empty = p.file("empty2.rules", "")
     p.gives("verdict of an empty file", ["verdict", empty], 0, said="the file is empty")
     p.expect("verdict of an empty file: warning", "warning: " in (p.folder / "empty2.rules.verdict").read_text())
@@ -106,24 +111,29 @@ def turns(p):
     p.same("turn into a file: content", turned, out.read_text())
     p.gives("turn twice", ["turn", out], 0, s)
     p.gives("turn over a file", ["turn", out, "-o", "over.rules"], 0, "")
-    p.gives("turn over it again", ["turn", file, "-o", "over.rules"], 0, "")
+    p.gives("turn over it again", ["turn", file, "-o", "over.rules"], 2, "", said="over.rules is there; it is kept. --force writes over it")
+    p.same("turn over it again: kept", s, (p.folder / "over.rules").read_text())
+    p.gives("turn over it by force", ["turn", file, "-o", "over.rules", "--force"], 0, "")
     p.same("turn over a file: content", turned, (p.folder / "over.rules").read_text())
-    p.gives("turn of a refused file", ["turn", M, "-o", out], 1, "", said="12, overlap right, at line 9")
+    p.gives("turn of a refused file", ["turn", M, "-o", out, "--force"], 1, p.call("check", M)[1])
     p.same("turn of a refused file: kept", turned, out.read_text())
-    p.gives("turn of a refused file to standard output", ["turn", M], 1, "", said="12,9")
+    p.gives("turn of a refused file to standard output", ["turn", M], 1, p.call("check", M)[1])
     p.gives("turn into itself", ["turn", file, "-o", file], 2, "", said="-o names a file that is read")
     p.same("turn into itself: kept", s, file.read_text())
     p.same("nothing else is left", [], [n.name for n in p.folder.iterdir() if n.name.endswith(".new")])
 
 
 def runs(p):
-    p.gives("run", ["run", H, 1, "PRURRLU"], 0, "0,2,PPRULURU\nPRURRLU becomes PPRULURU, in 2 steps\n")
-    p.gives("run back", ["run", H, 1, "PPRULURU", "--back"], 0, "0,2,PRURRLU\nPPRULURU becomes PRURRLU, in 2 steps\n")
-    p.gives("run of one step", ["run", H, 0, "LU"], 0, "0,1,PLULU\nLU becomes PLULU, in 1 step\n")
+    p.gives("run in letters", ["run", H, 1, "PRURRLU", "--letters"], 0, "0,2,PPRULURU\nPRURRLU becomes PPRULURU, in 2 steps\n")
+    p.gives("run back in letters", ["run", H, 1, "PPRULURU", "--back", "--letters"], 0, "0,2,PRURRLU\nPPRULURU becomes PRURRLU, in 2 steps\n")
+    plain = p.file("plain.rules", (p.folder / H).read_bytes())
+    p.gives("run", ["run", plain, 1, "PRURRLU"], 0, "0,2,PPRULURU\n(1, 2) becomes ((1, 0), 1), in 2 steps\n")
+    p.gives("run back", ["run", plain, 1, "PPRULURU", "--back"], 0, "0,2,PRURRLU\n((1, 0), 1) becomes (1, 2), in 2 steps\n")
+    p.gives("run of one step", ["run", plain, 0, "LU"], 0, "0,1,PLULU\n0 becomes (0, 0), in 1 step\n")
     p.gives("run, spent", ["run", H, 1, "PRURRLU", "--budget", 1], 1, "17,0,\n", said="17, spent")
     p.gives("run, no value", ["run", H, 1, "PRURRRRU"], 1, "16,0,\n", said="16, no value")
     p.gives("run, no iso", ["run", H, 2, "U"], 1, "15,0,\n", said="15, no iso")
-    p.gives("run of a refused file", ["run", M, 0, "LU"], 1, "", said="12,9")
+    p.gives("run of a refused file", ["run", M, 0, "LU"], 1, p.call("check", M)[1])
     p.gives("run, no number", ["run", H, "x", "LU"], 2, "", said="ISO is a number")
     p.gives("run, a sign", ["run", H, "+1", "LU"], 2, "", said="ISO is a number")
     p.gives("run, 33 bits", ["run", H, 1, "LU", "--budget", 2**32], 2, "", said="the budget is a number")
@@ -132,45 +142,82 @@ def runs(p):
     tower = "T,0,0,0\nP,0,0,0\nI,0,0\nC,0,0\n" + "".join(f"I,0,0\nC,0,0\n" + f"L,0,{i},0\n" * 8 for i in range(31))
     file = p.file("tower.rules", tower)
     p.gives("bounds over 32 bits", ["bounds", file, 31], 0, "0,4294967295,4294967295\niso 31: over 4294967295 steps, there and back\n")
+    unasked(p, file)
     p.gives("overlap", ["overlap", H, "P1", 3], 0, "0,1,1\nP1 and P3 clash: no setting is matched by both; 1 node pair compared\n")
     out = p.gives("overlap, none", ["overlap", H, 11, 12], 0)
     p.expect("overlap, none: words", out.startswith("0,0,1\nP11 and P12 do not clash"), out)
     p.gives("overlap, no line", ["overlap", H, 1, 99], 1, "15,0,0\n", said="15, no iso")
 
 
+def unasked(p, tower):
+    """Without a budget nothing is begun that takes hours: the bound is said, and how to go on."""
+    bound = "rulefile: a run of iso 31 takes over 4294967295 steps; without --budget no more than 100000000 are made\n"
+    go_on = "rulefile: to go on, say how many may be made: --budget N, at most 4294967295\n"
+    p.gives("run, steps without end", ["run", tower, 31, "U"], 1, "17,0,\n", said=bound + go_on + "rulefile: refused with 17, spent\n")
+    p.gives("run back, steps without end", ["run", tower, 31, "U", "--back"], 1, "17,0,\n", said=bound + go_on)
+    p.gives("run, steps without end, no value", ["run", tower, 31, "L"], 1, "16,0,\n", said="rulefile: refused with 16, no value\n")
+    p.expect("run, no value: no bound", bound not in p.call("run", tower, 31, "L")[2])
+    p.gives("export, steps without end", ["export", tower, 31], 1, "", said=bound + go_on + "rulefile: refused with 17, spent\n")
+    p.expect("run, a budget of 9: no bound", bound not in p.call("run", tower, 31, "U", "--budget", 9)[2])
+    p.gives("run, as many steps as are needed", ["run", tower, 6, "U"], 0, "0,299593,U\n0 becomes 0, in 299593 steps\n")
+    p.gives("export, as many steps as are needed", ["export", tower, 6], 0, "0,0\n")
+    # 16 runs of 19,173,961 steps at the most
+    bits = "T,0,0,0\nT,1,0,0\nT,2,1,1\nT,2,2,2\nP,1,0,0\nI,3,3\nC,0,0\n" + "".join("I,3,3\nC,0,0\n" + f"L,0,{i},0\n" * 8 for i in range(8))
+    bits = p.file("bits.rules", bits)
+    p.gives("export, steps for all settings", ["export", bits, 8], 1, "", said="a run of iso 8 takes 19173961 steps; without --budget no more than 6250000 are made\n")
+
+
 def sheets(p):
     queries = "examples/heating-curve.queries"
-    head = "line,query,number,word,count,letters\n"
+    head = "line,query,number,word,count,letters,setting,becomes\n"
     out = p.gives("sheet", ["sheet", H, queries], 1, said="2 of 8 queries are refused")
     rows = out.splitlines()
     p.same("sheet: head", head.strip(), rows[0])
-    p.same("sheet: a row", '5,"Q,1,0,9,PRURRLU",0,answered,2,PPRULURU', rows[5])
-    p.same("sheet: a refused row", '7,"Q,1,0,1,PRURRLU",17,spent,0,', rows[7])
+    p.same("sheet: a row", '5,"Q,1,0,9,PRURRLU",0,answered,2,PPRULURU,"(circuit on, slope 2)","(bits 10, circuit on)"', rows[5])
+    p.same("sheet: a row back", '6,"Q,1,1,9,PPRULURU",0,answered,2,PRURRLU,"(bits 10, circuit on)","(circuit on, slope 2)"', rows[6])
+    p.same("sheet: a refused row", '7,"Q,1,0,1,PRURRLU",17,spent,0,,"(circuit on, slope 2)",', rows[7])
+    p.same("sheet: a row of no setting", '8,"Q,1,0,9,PRURRRRU",16,no value,0,,,', rows[8])
     answers = (p.folder / "examples/heating-curve.out").read_text().splitlines()[1:]
-    found = [",".join((r.rsplit(",", 4)[1], *r.rsplit(",", 4)[3:])) for r in rows[1:]]
+    found = [",".join((row["number"], row["count"], row["letters"])) for row in csv.DictReader(rows)]
     p.same("sheet: as `rules`", answers, found)
+    plain = p.file("plain.rules", (p.folder / H).read_bytes())
+    out = p.gives("sheet without names", ["sheet", plain, queries], 1, said="2 of 8 queries are refused")
+    p.same("sheet without names: a row", '5,"Q,1,0,9,PRURRLU",0,answered,2,PPRULURU,"(1, 2)","((1, 0), 1)"', out.splitlines()[5])
     many = b"Q,0,0,9,RLU\n" * 1501
     out = p.gives("sheet of 1,501 queries", ["sheet", H, "-"], 0, stdin=many)
     p.same("sheet of 1,501 queries: rows", 1502, len(out.splitlines()))
-    p.expect("sheet of 1,501 queries: the last", out.endswith('1501,"Q,0,0,9,RLU",0,answered,1,PLURU\n'), out[-100:])
+    p.expect("sheet of 1,501 queries: the last", out.endswith('1501,"Q,0,0,9,RLU",0,answered,1,PLURU,"slope 1","bits 01"\n'), out[-100:])
     p.gives("sheet of no query", ["sheet", H, "/dev/null"], 0, head)
-    p.gives("sheet, quotes", ["sheet", H, "-"], 1, head + '1,"a""b\\x00",3,bad line,0,\n', said="1 of 1", stdin=b'a"b\0\r\n')
-    p.gives("sheet, a formula", ["sheet", H, "-"], 1, head + '1,"\'=1+1",3,bad line,0,\n', said="1 of 1", stdin=b"=1+1\n")
-    p.gives("sheet of a refused file", ["sheet", M, queries], 1, "", said="12,9")
+    p.gives("sheet, quotes", ["sheet", H, "-"], 1, head + '1,"a""b\\x00",3,bad line,0,,,\n', said="1 of 1", stdin=b'a"b\0\r\n')
+    p.gives("sheet, a formula", ["sheet", H, "-"], 1, head + '1,"\'=1+1",3,bad line,0,,,\n', said="1 of 1", stdin=b"=1+1\n")
+    p.gives("sheet of a refused file", ["sheet", M, queries], 1, p.call("check", M)[1])
     p.gives("sheet, both standard input", ["sheet", "-", "-"], 2, "", said="cannot both be standard input")
     p.gives("sheet without its list", ["sheet", H, "missing"], 2, "", said="there is no file missing")
 
 
 def numbers(p):
-    p.gives("number", ["number", H, 5, "PRURRLU"], 0, "0,6\nPRURRLU is number 6 of T5\n")
-    p.gives("number by name", ["number", H, "T5", "PRURRLU"], 0, "0,6\nPRURRLU is number 6 of T5\n")
+    words = "setting 6 of T5, of 0 to 7: (1, 2), in letters PRURRLU"
+    plain = p.file("plain.rules", (p.folder / H).read_bytes())
+    for name, ty, setting in (("number", 5, "PRURRLU"), ("number by name", "T5", "PRURRLU"), ("number of a tuple", "T5", "(1, 2)")):
+        p.gives(name, ["number", plain, ty, setting], 0, f"0,6\n{words}; this is no verdict on the file\n")
+    p.gives("number 0", ["number", plain, 5, "PLULU"], 0, "0,0\nsetting 0 of T5, of 0 to 7: (0, 0), in letters PLULU; this is no verdict on the file\n")
     p.gives("number, no value", ["number", H, 5, "PRURRRRU"], 1, "16,0\n", said="16, no value")
     p.gives("number, no type", ["number", H, 7, "U"], 1, "15,0\n", said="15, no iso")
-    p.gives("setting", ["setting", H, 5, 6], 0, "0,PRURRLU\nnumber 6 of T5 is PRURRLU\n")
+    p.gives("setting", ["setting", plain, 5, 6], 0, f"0,PRURRLU\n{words}\n")
     p.gives("setting too high", ["setting", H, 5, 8], 1, "19,\n", said="19, number too high")
     many = "T,0,0,0\nT,1,0,0\n" + "".join(f"T,2,1,{i}\n" for i in range(1, 32))
     file = p.file("many.rules", many + "P,1,0,0\nI,32,32\nC,0,0\n")
     p.gives("setting of too many", ["setting", file, 32, 0], 1, "18,\n", said="18, too many values")
+
+
+def in_numbers(p, file, shown):
+    """How the setting of a witness reads: in a file of the same T lines that is accepted, as `rulefile setting` has it."""
+    number, line, letters = shown.split(",")
+    lines = file.read_text().splitlines()
+    side = lines[int(line) - 1].split(",")[1 if number in ("11", "13") else 2]
+    types = [text for text in lines if text.startswith("T")]
+    accepted = p.file("types.rules", "\n".join([*types, "P,1,0,0", *(f"I,{place},{place}\nC,0,0" for place in range(len(types)))]) + "\n")
+    return re.search(r": (.*), in letters", p.call("number", accepted, side, letters)[1]).group(1)
 
 
 def witnesses(p):
@@ -185,13 +232,14 @@ def witnesses(p):
         file = rules_of(p, example)
         out = p.gives(f"witness of {example.name}", ["witness", file], 1)
         p.same(f"witness of {example.name}: setting", expected, out.splitlines()[0])
-        line = f"  a setting: {letters}, {words[int(number)]}\n"
+        reads = in_numbers(p, file, expected)
+        line = f"  a setting: {reads}, in letters {letters}, {words[int(number)]}\n"
         p.expect(f"witness of {example.name}: words", line in out, out)
         p.expect(f"check of {example.name}: the same setting", line in p.call("check", file)[1])
     out = p.gives("witness of a bad line", ["witness", p.file("w.rules", "x\n")], 1)
     p.expect("witness of a bad line: no setting", out.startswith("3,1,\nw.rules") or out.startswith(f"3,1,\n{p.folder}"), out)
     out = p.gives("a clause that is refused", ["check", "examples/refusals/08-variable.in"], 1)
-    p.expect("a clause that is refused: as it reads", "it reads: (LU, a) ↦ (LU, b)\n" in out, out)
+    p.expect("a clause that is refused: as it reads", "it reads: (0, a) ↦ (0, b)\n" in out, out)
 
 
 def lists(p):
@@ -201,7 +249,7 @@ def lists(p):
     p.same("export into a file: content", pairs, (p.folder / "pairs.list").read_text())
     p.gives("export, spent", ["export", H, 1, "--budget", 1], 1, "", said="17, spent")
     p.gives("export, no iso", ["export", H, 2], 1, "", said="15, no iso")
-    p.gives("export of a refused file", ["export", M, 0], 1, "", said="12,9")
+    p.gives("export of a refused file", ["export", M, 0], 1, p.call("check", M)[1])
     p.gives("import", ["import", H, "T5", 6, "pairs.list", "-o", "imported.rules"], 0, "")
     p.gives("import: exported again", ["export", "imported.rules", 0, "--budget", 1], 0, pairs)
     p.gives("import from standard input", ["import", H, 5, 6, "-"], 0, (p.folder / "imported.rules").read_text(), stdin=pairs.encode())
@@ -212,7 +260,7 @@ def lists(p):
     p.gives("import without end", ["import", H, 5, 6, "/dev/zero"], 2, "", said="is no pair list: it has over 65536 bytes")
     p.gives("import over its list", ["import", H, 5, 6, "pairs.list", "-o", "pairs.list"], 2, "", said="-o names a file that is read")
     p.gives("import, both standard input", ["import", "-", 5, 6, "-"], 2, "", said="cannot both be standard input")
-    p.gives("import of a refused file", ["import", M, 0, 0, "pairs.list"], 1, "", said="12,9")
+    p.gives("import of a refused file", ["import", M, 0, 0, "pairs.list"], 1, p.call("check", M)[1])
     p.same("import of a list that is missing", 2, p.call("import", H, 5, 6, "missing")[0])
 
 
@@ -290,15 +338,15 @@ def refused_plays(p):
         ("an empty line", few, "S,0,1,0\n\nS,0,1,1\n", 22, "line 2 of script", "the line is empty"),
         ("no last line feed", few, "S,0,1,0\nS,0,1,1", 22, "line 2 of script", "does not end with a line feed"),
         ("units, none of them there", "", "S,0,1,0\n", 22, "line 1 of script", "there is no unit 0: there are 0"),
-        ("a unit of no type", "5,6\n7,0\n", "x", 15, "unit 1, line 2 of units: setting 0 of T7", "names an iso that the file does not have"),
-        ("a unit too high", "5,6\n5,7\n5,8\n4294967295,0\n", "x", 19, "unit 2, line 3 of units: setting 8 of T5", "not below the count of settings"),
-        ("over 1,000 units", many, "S,0,1,0\n", 2, "units has 1001 lines, script has 1", "more than 1,000 units"),
-        ("over 4,096 lines", few, "S,0,1,0\n" * 4097, 2, "units has 2 lines, script has 4097", "4,096 lines of its script"),
+        ("a unit of no type", "5,6\n7,0\n", "x", 15, "unit 1, line 2 of units: setting 0 of T7", "look here: T7 was named; the file has 7 T lines, T0 to T6"),
+        ("a unit too high", "5,6\n5,7\n5,8\n4294967295,0\n", "x", 19, "unit 2, line 3 of units: setting 8 of T5", "look here: the number is 8; T5 has 8 settings, and the last number is 7"),
+        ("over 1,000 units", many, "S,0,1,0\n", 2, "refused with 2, too long", "look here: units has 1001 units; a play has at most 1000"),
+        ("over 4,096 lines", few, "S,0,1,0\n" * 4097, 2, "refused with 2, too long", "look here: script has 4097 visits; a play has at most 4096"),
     ]
     for name, units, script, number, place, words in cases:
         inputs = [H, p.file("units", units).name, p.file("script", script).name]
         kept = p.file("kept", "kept\n")
-        p.gives(f"play, {name}", ["play", *inputs, "-o", kept], 1, f"{number},0,0,0\n", said=f"refused with {number}, ")
+        p.gives(f"play, {name}", ["play", *inputs, "-o", kept, "--force"], 1, f"{number},0,0,0\n", said=f"refused with {number}, ")
         p.same(f"play, {name}: nothing written", "kept\n", kept.read_text())
         p.gives(f"play, {name}, as CSV", ["play", *inputs, "--csv"], 1, "", said=place)
         p.gives(f"play, {name}: words", ["play", *inputs], 1, said=words)
@@ -309,8 +357,9 @@ def refused_plays(p):
     out = p.gives("play of 1,000 units and 4,096 visits", ["play", H, *most], 0)
     p.expect("play of 1,000 units and 4,096 visits: all done", out.startswith("0,4096,0,0\n4096 visits to 1000 units: 4096 done,"), out[:80])
     p.expect("play of 1,000 units and 4,096 visits: the last", out.endswith("   999    T5 6   T5 6  4096        0      0\n"), out[-80:])
-    p.gives("play with a refused file", ["play", M, FLEET, PLAN], 1, "", said="12,9")
-    p.gives("play with an idle file", ["play", "examples/refusals/21-idle-line.in", FLEET, PLAN], 1, "", said="it reads: T2 = (1 + 1) × (1 + 1)")
+    p.gives("play with a refused file", ["play", M, FLEET, PLAN], 1, p.call("check", M)[1])
+    idle = p.gives("play with an idle file", ["play", "examples/refusals/21-idle-line.in", FLEET, PLAN], 1, p.call("check", "examples/refusals/21-idle-line.in")[1])
+    p.expect("play with an idle file: as it reads", "  it reads: T2 = 2 × 2\n" in idle, idle)
 
 
 def no_plays(p):
@@ -347,10 +396,60 @@ def no_plays(p):
     p.gives("play, no number", ["play", B, FLEET, PLAN, "--budget", "x"], 2, "", said="the budget is a number")
 
 
+def refused_everywhere(p):
+    """A refused file is answered on standard output in every command, as `check` answers it."""
+    calls = {"turn": [], "run": [0, "LU"], "sheet": ["examples/heating-curve.queries"], "number": [0, "U"], "setting": [0, 0], "bounds": [0], "overlap": [0, 0]}
+    calls |= {"export": [0], "import": [0, 0, "examples/valve-lists.list"], "play": [FLEET, PLAN]}
+    for file in (M, "examples/refusals/10-type.in", "examples/refusals/03-bad-line.in"):
+        answer = p.call("check", file)[1]
+        for command, rest in calls.items():
+            p.gives(f"{command} of {file}", [command, file, *rest], 1, answer)
+        for command in ("show", "witness"):
+            out = p.gives(f"{command} of {file}", [command, file], 1)
+            p.expect(f"{command} of {file}: number and line first", out.startswith(answer.split("\n")[0]), out)
+            p.expect(f"{command} of {file}: words", out.split("\n", 1)[1].startswith(answer.split("\n", 1)[1]), out)
+
+
+def sheets_in_files(p):
+    """-o and --semicolon of `sheet`."""
+    queries = "examples/heating-curve.queries"
+    out = p.call("sheet", H, queries)[1]
+    p.gives("sheet into a file", ["sheet", H, queries, "-o", "answers.csv"], 1, "", said="2 of 8 queries are refused")
+    p.same("sheet into a file: content", out, (p.folder / "answers.csv").read_text())
+    p.gives("sheet over a file", ["sheet", H, queries, "-o", "answers.csv"], 2, "", said="answers.csv is there; it is kept. --force writes over it")
+    semicolons = p.gives("sheet with semicolons", ["sheet", "--semicolon", H, queries], 1, said="2 of 8")
+    p.same("sheet with semicolons: a row", '5;"Q,1,0,9,PRURRLU";0;answered;2;PPRULURU;"(circuit on, slope 2)";"(bits 10, circuit on)"', semicolons.splitlines()[5])
+    p.same("sheet with semicolons: a refused row", '7;"Q,1,0,1,PRURRLU";17;spent;0;;"(circuit on, slope 2)";', semicolons.splitlines()[7])
+    p.same("sheet with semicolons: columns", [7] * 9, [re.sub('"[^"]*"', "", row).count(";") for row in semicolons.splitlines()])
+    p.gives("sheet by force", ["sheet", "--semicolon", H, queries, "-o", "answers.csv", "--force"], 1, "", said="2 of 8")
+    p.same("sheet by force: content", semicolons, (p.folder / "answers.csv").read_text())
+    p.gives("sheet over its queries", ["sheet", H, queries, "-o", queries, "--force"], 2, "", said="-o names a file that is read")
+    p.gives("sheet over its file", ["sheet", H, queries, "-o", H, "--force"], 2, "", said="-o names a file that is read")
+    # nothing is left of a sheet that is not answered to its end
+    p.gives("sheet, cut off", ["sheet", H, "/dev/zero", "-o", "cut.csv"], 2, "", said="its line 1 has over 65,536 bytes")
+    p.same("sheet, cut off: nothing left", [], [n.name for n in p.folder.iterdir() if "cut.csv" in n.name])
+
+
+def outputs_kept(p):
+    """What -o names is kept in every command, unless --force says otherwise; then it is written over."""
+    pairs = p.file("pairs.txt", p.call("export", H, 1)[1]).name
+    calls = [["show", H], ["show", "--html", H], ["turn", H], ["export", H, 1], ["import", H, 5, 6, pairs], ["play", B, FLEET, PLAN], ["letter", H]]
+    for words in calls:
+        kept = p.file("kept.out", "kept\n")
+        p.gives(f"{words[0]} over a file", [*words, "-o", "kept.out"], 2, "", said="kept.out is there; it is kept. --force writes over it")
+        p.same(f"{words[0]} over a file: kept", "kept\n", kept.read_text())
+        p.same(f"{words[0]} by force", (0, ""), p.call(*words, "-o", "kept.out", "--force")[::2])
+        p.expect(f"{words[0]} by force: written", kept.read_text() not in ("", "kept\n"))
+        p.same(f"{words[0]} into a device", (0, ""), p.call(*words, "-o", "/dev/null")[::2])
+    link = p.folder / "dangling"
+    link.symlink_to("nowhere")
+    p.gives("over a link that leads nowhere", ["turn", H, "-o", "dangling"], 2, "", said="dangling is there; it is kept")
+
+
 def usage(p):
     out = p.gives("help", ["--help"], 0)
     commands = re.findall(r"^  (\w+) ", out, re.M)
-    p.expect("help: commands", {"check", "verdict", "show", "turn", "run", "sheet"} <= set(commands), commands)
+    p.expect("help: commands", {"check", "verdict", "verify", "show", "turn", "run", "sheet"} <= set(commands), commands)
     version = (p.folder / "bin/rulefile").resolve().parents[1].joinpath("VERSION").read_text().strip()
     p.gives("version", ["--version"], 0, f"rulefile {version}\n")
     for command in commands:
@@ -359,7 +458,11 @@ def usage(p):
         p.gives(f"{command} --version", [command, "--version"], 0, f"rulefile {version}\n")
         p.gives(f"{command} without a word", [command], 2, "", said=f"usage: rulefile {command} ")
         p.gives(f"{command}, no such option", [command, "--no", H], 2, "", said="there is no option --no")
-        p.gives(f"{command}, too many words", [command, *"abcdefgh"], 2, "", said="a word too many")
+        if command in MANY:
+            out = p.gives(f"{command} of many files that are missing", [command, *"abcdefgh"], 2, said="there is no file h")
+            p.expect(f"{command} of many files that are missing: table", out.startswith("8 files: 0 ") and out.endswith("  h\n"), out)
+        else:
+            p.gives(f"{command}, too many words", [command, *"abcdefgh"], 2, "", said="a word too many")
     p.gives("no command", [], 2, "", said="usage: rulefile COMMAND")
     p.gives("another command", ["delete", H], 2, "", said="there is no command delete")
     p.gives("an option twice", ["run", H, 0, "LU", "--back", "--back"], 2, "", said="--back is given twice")

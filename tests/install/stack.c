@@ -11,7 +11,7 @@
 #include <stdlib.h>
 #include <string.h>
 
-enum { STACK = 1 << 20, PAINT = 0xA5, LIMIT = 65536, ISOS = 32, CLAUSES = 128, BITS = 7 };
+enum { STACK = 1 << 20, PAINT = 0xA5, LIMIT = 73728, ISOS = 32, CLAUSES = 128, BITS = 7 };
 
 static uint8_t stack[STACK] __attribute__((aligned(4096)));
 static uint16_t table[RULEFILE_TABLE_LENGTH];

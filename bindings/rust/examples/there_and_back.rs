@@ -6,7 +6,7 @@
 //!
 //! Exit status: 0 came back, 1 refused, 2 the arguments or the file cannot be read.
 
-use rulefile::{Desk, Direction, Query, Refused, Value};
+use rulefile::{Accepted, Converted, Desk, Direction, Query, Refused};
 use std::env;
 use std::ffi::{OsStr, OsString};
 use std::fs::File;
@@ -64,48 +64,36 @@ fn refused(step: &'static str) -> impl Fn(Refused) -> Refused {
     }
 }
 
-/// Runs an iso forward.
+/// Runs an iso of an accepted file forward.
 fn run(
-    desk: &mut Desk,
+    accepted: &mut Accepted,
     step: &'static str,
-    rules: &[u8],
     request: &Request,
     letters: &[u8],
-) -> Result<Value, Refused> {
+) -> Result<Converted, Refused> {
     let query = Query::new(request.iso, Direction::Forward, request.budget, letters);
-    let value = desk.run(rules, query).map_err(refused(step))?;
+    let to = accepted.run(query).map_err(refused(step))?;
     let from = String::from_utf8_lossy(letters);
-    let to = String::from_utf8_lossy(&value.letters);
-    println!("{step}: {from} becomes {to}, count {}", value.count);
-    Ok(value)
+    println!("{step}: {from} becomes {}, count {}", to.letters, to.count);
+    Ok(to)
 }
 
 fn there_and_back(rules: &[u8], request: &Request) -> Result<bool, Refused> {
     let mut desk = Desk::new();
-    desk.check(rules).map_err(refused("Check"))?;
+    let mut accepted = desk.open(rules).map_err(refused("Check"))?;
     println!("Check: accepted, number 0, line 0");
-    let turned = desk.turn(rules).map_err(refused("Turn"))?;
+    let turned = accepted.turn().map_err(refused("Turn"))?;
     println!(
         "Turn: {} bytes written, the file has {}",
         turned.len(),
         rules.len()
     );
-    let there = run(
-        &mut desk,
-        "Run of the file",
-        rules,
-        request,
-        &request.letters,
-    )?;
-    let back = run(
-        &mut desk,
-        "Run of the turned file",
-        &turned,
-        request,
-        &there.letters,
-    )?;
+    let there = run(&mut accepted, "Run of the file", request, &request.letters)?;
+    let step = "Run of the turned file";
+    let mut accepted = desk.open(&turned).map_err(refused(step))?;
+    let back = run(&mut accepted, step, request, &there.letters)?;
     let same = |holds| if holds { "the same" } else { "another" };
-    let same_setting = back.letters == request.letters;
+    let same_setting = *back.letters == *request.letters;
     let same_count = back.count == there.count;
     println!(
         "Came back: {} setting, {} count",

@@ -5,7 +5,28 @@
 //! Callers who keep their own areas lend them to [`check`], [`turn`], [`run`], [`sheet`], [`number_of`],
 //! [`setting_of`], [`overlap`], [`bounds`], [`export`], [`import`], [`witness`] and [`play`]; areas of any length are
 //! safe, and what each then holds is said in `include/rulefile.h`. Callers who do not want to make one [`Desk`],
-//! which owns the areas:
+//! which owns the areas. A file that is [opened](Desk::open) on it is an accepted one, and its settings are
+//! [`Letters`]:
+//!
+//! ```
+//! use rulefile::{Desk, Direction, Letters, Query};
+//!
+//! let mut desk = Desk::new();
+//! let file = b"T,0,0,0\nT,1,0,0\nP,0,0,0\nP,2,0,0\nP,3,0,0\nI,1,1\nC,1,2\nC,2,1\n";
+//! let mut accepted = desk.open(file)?;
+//! let letters: Letters = "LU".parse()?;
+//! let there = accepted.run(Query::new(0, Direction::Forward, 9, &letters))?;
+//! assert_eq!((there.letters.to_string().as_str(), there.count), ("RU", 1));
+//! // T line 1 has two settings, with the numbers 0 and 1.
+//! assert_eq!(accepted.number_of(1, &there.letters)?, 1);
+//! assert_eq!(accepted.setting_of(1, 1)?, "RU");
+//! // Without its last line the file leaves a setting out: there is no accepted file to ask.
+//! let refused = desk.open(&file[..file.len() - 6]).unwrap_err();
+//! assert_eq!(refused.to_string(), "refused with 13, gap left, at line 6");
+//! # Ok::<(), Box<dyn std::error::Error>>(())
+//! ```
+//!
+//! The methods of the desk itself take the file with each call, and check it:
 //!
 //! ```
 //! use rulefile::{Desk, Direction, Query};
@@ -37,17 +58,25 @@
 //! assert_eq!((tally.done, types, settings), (2, [1], [0]));
 //! # Ok::<(), rulefile::Refused>(())
 //! ```
+//!
+//! Every refusal of a file names its line.
 
 #![deny(missing_docs)]
 
+mod accepted;
 mod foreign;
+mod letters;
 mod query;
 mod refusal;
 
+pub use accepted::{Accepted, Converted};
+pub use letters::{Letters, NoLetters};
 pub use query::{Direction, Query};
 pub use refusal::{Refusal, Refused, Witness, Witnessed};
 
-/// The version of this crate, which is that of the library.
+use std::fmt;
+
+/// The version of this crate, which is that of the library: the build holds the archive to it.
 pub const VERSION: &str = env!("CARGO_PKG_VERSION");
 
 /// The least length of a table area, in numbers of 16 bits: five for each of 4,096 lines.
@@ -78,12 +107,21 @@ pub struct Ran {
 }
 
 /// A run that was not refused, with its letters.
-#[derive(Clone, Debug, PartialEq, Eq)]
+#[derive(Clone, PartialEq, Eq)]
 pub struct Value {
     /// The applications made.
     pub count: u32,
     /// The letters of what came out.
     pub letters: Vec<u8>,
+}
+
+impl fmt::Debug for Value {
+    fn fmt(&self, f: &mut fmt::Formatter) -> fmt::Result {
+        let mut shown = f.debug_struct("Value");
+        let letters = letters::Text(&self.letters);
+        shown.field("count", &self.count).field("letters", &letters);
+        shown.finish()
+    }
 }
 
 /// Two patterns compared.
@@ -138,6 +176,15 @@ pub fn turn(
     Refused::unless_0(answer.number, answer.line).map(|()| answer.length)
 }
 
+/// What a number says that comes without a line. Where the file is refused, Check names the line, and leaves table
+/// and work area as they are then: cleared.
+fn lined(number: u32, file: &[u8], table: &mut [u16], work: &mut [u8]) -> Result<(), Refused> {
+    match number {
+        3..=14 | 21 => check(file, table, work).and(Refused::unless_0(number, 0)),
+        _ => Refused::unless_0(number, 0),
+    }
+}
+
 /// Checks a file and runs one of its isos.
 pub fn run(
     file: &[u8],
@@ -147,7 +194,7 @@ pub fn run(
     result: &mut [u8],
 ) -> Result<Ran, Refused> {
     let answer = foreign::run(file, table, work, query, result);
-    Refused::unless_0(answer.number, 0).map(|()| Ran {
+    lined(answer.number, file, table, work).map(|()| Ran {
         count: answer.count,
         length: answer.length,
     })
@@ -180,7 +227,7 @@ pub fn number_of(
     letters: &[u8],
 ) -> Result<u32, Refused> {
     let answer = foreign::number_of(file, table, work, ty, letters);
-    Refused::unless_0(answer.number, 0).map(|()| answer.setting)
+    lined(answer.number, file, table, work).map(|()| answer.setting)
 }
 
 /// Checks a file and writes the letters of the value of its T line number `ty` that has a number; gives how
@@ -198,7 +245,7 @@ pub fn setting_of(
     result: &mut [u8],
 ) -> Result<usize, Refused> {
     let answer = foreign::setting_of(file, table, work, ty, setting, result);
-    Refused::unless_0(answer.number, 0).map(|()| answer.length)
+    lined(answer.number, file, table, work).map(|()| answer.length)
 }
 
 /// Checks a file and compares its P lines number `left` and `right`, counted from 0, node with node in prefix
@@ -231,7 +278,7 @@ pub fn bounds(
     iso: u32,
 ) -> Result<Bounds, Refused> {
     let answer = foreign::bounds(file, table, work, iso);
-    Refused::unless_0(answer.number, 0).map(|()| Bounds {
+    lined(answer.number, file, table, work).map(|()| Bounds {
         least: answer.least,
         greatest: answer.greatest,
         least_over: answer.least_over,
@@ -346,6 +393,12 @@ impl Desk {
     /// Checks a file.
     pub fn check(&mut self, file: &[u8]) -> Result<(), Refused> {
         check(file, &mut self.table, &mut self.work)
+    }
+
+    /// Checks a file and gives it as an accepted one, which alone can be asked without the file being refused.
+    pub fn open<'a>(&'a mut self, file: &'a [u8]) -> Result<Accepted<'a>, Refused> {
+        self.check(file)?;
+        Ok(Accepted::on(self, file))
     }
 
     /// The file turned.

@@ -1,5 +1,6 @@
 //! What a run is asked, and how it is said as a line.
 
+use crate::letters::Text;
 use crate::{Refusal, Refused, Value, NUMBERS_A_QUERY, RESULT_LENGTH};
 use std::fmt;
 
@@ -13,7 +14,7 @@ pub enum Direction {
 }
 
 /// What a run is asked.
-#[derive(Clone, Copy, Debug, PartialEq, Eq)]
+#[derive(Clone, Copy, PartialEq, Eq)]
 pub struct Query<'a> {
     /// The iso's number; the I lines are numbered from 0.
     pub iso: u32,
@@ -47,6 +48,18 @@ impl<'a> Query<'a> {
             ..*self
         };
         format!("{query}\n").into_bytes()
+    }
+}
+
+/// The letters are shown as text.
+impl fmt::Debug for Query<'_> {
+    fn fmt(&self, f: &mut fmt::Formatter) -> fmt::Result {
+        f.debug_struct("Query")
+            .field("iso", &self.iso)
+            .field("direction", &self.direction)
+            .field("budget", &self.budget)
+            .field("letters", &Text(self.letters))
+            .finish()
     }
 }
 

@@ -1,5 +1,6 @@
 //! The refusals of document 01 and of the requests after it, by name.
 
+use crate::letters::Text;
 use std::error::Error;
 use std::fmt;
 
@@ -125,7 +126,7 @@ impl Error for Refusal {}
 pub struct Refused {
     /// Why the file or the call is refused.
     pub refusal: Refusal,
-    /// The file's line, counted from 1; 0 where none is named.
+    /// The line of a refused file, counted from 1; 0 where what was asked is refused, or the file with 1 or 2.
     pub line: usize,
 }
 
@@ -163,12 +164,21 @@ pub struct Witnessed {
 }
 
 /// A refusal, and the letters of a setting that shows the fault: none where it is not one of 11 to 14.
-#[derive(Clone, Debug, PartialEq, Eq)]
+#[derive(Clone, PartialEq, Eq)]
 pub struct Witness {
     /// The refusal, as Check gives it.
     pub refused: Refused,
     /// The letters of the setting.
     pub letters: Vec<u8>,
+}
+
+impl fmt::Debug for Witness {
+    fn fmt(&self, f: &mut fmt::Formatter) -> fmt::Result {
+        let mut shown = f.debug_struct("Witness");
+        let letters = Text(&self.letters);
+        shown.field("refused", &self.refused);
+        shown.field("letters", &letters).finish()
+    }
 }
 
 impl fmt::Display for Witnessed {

@@ -129,8 +129,9 @@ fn refusals_of_bounds() {
     }
     let overlap = file(&format!("{S} C,7,7"));
     for iso in [0, 2, u32::MAX] {
-        assert_eq!(desk.bounds(&overlap, iso), refused(Refusal::OverlapLeft));
-        assert_eq!(desk.bounds(b"T", iso), refused(Refusal::BadLine));
+        let line = |refusal, line| Err(Refused { refusal, line });
+        assert_eq!(desk.bounds(&overlap, iso), line(Refusal::OverlapLeft, 15));
+        assert_eq!(desk.bounds(b"T", iso), line(Refusal::BadLine, 1));
         let long = vec![b'\n'; 4_097];
         assert_eq!(desk.bounds(&long, iso), refused(Refusal::TooLong));
     }

@@ -97,8 +97,16 @@ fn expect_refused(file: &[u8], refusal: Refusal, line: usize) {
     }
     assert_eq!(
         desk.run(file, Query::new(0, Forward, 9, b"U")),
-        Err(refused(refusal, 0))
+        Err(refused(refusal, line))
     );
+    assert_eq!(desk.bounds(file, 0), Err(refused(refusal, line)));
+    assert_eq!(desk.export(file, 0, 9), Err(refused(refusal, line)));
+    let imported = desk.import(file, 0, 0, b"0,0\n");
+    assert_eq!(imported, Err(refused(refusal, line)));
+    let shown = desk.witness(file).map_err(|shown| shown.refused);
+    assert_eq!(shown, Err(refused(refusal, line)));
+    let opened = desk.open(file).map(|_| ());
+    assert_eq!(opened, Err(refused(refusal, line)));
     for (left, right) in [(0, 0), (0, u32::MAX), (65_536, 1)] {
         let answer = desk.overlap(file, left, right);
         assert_eq!(answer, Err(refused(refusal, line)));
@@ -109,9 +117,9 @@ fn expect_refused(file: &[u8], refusal: Refusal, line: usize) {
     }
     for ty in [0, 256, u32::MAX] {
         let answer = desk.number_of(file, ty, b"");
-        assert_eq!(answer, Err(refused(refusal, 0)));
+        assert_eq!(answer, Err(refused(refusal, line)));
         let answer = desk.setting_of(file, ty, u32::MAX);
-        assert_eq!(answer, Err(refused(refusal, 0)));
+        assert_eq!(answer, Err(refused(refusal, line)));
     }
 }
 
@@ -785,7 +793,7 @@ fn areas_after_refusals() {
         let mut areas = lent(RESULT_LENGTH);
         assert_eq!(
             areas.run(&wrong, QUERY),
-            Err(refused(Refusal::OverlapLeft, 0))
+            Err(refused(Refusal::OverlapLeft, 15))
         );
         areas.expect(&rows(""), b"");
         for (query, refusal) in [
@@ -810,6 +818,17 @@ fn areas_after_refusals() {
 fn areas_of_settings() {
     let (s, large) = (file(S), file(&bits(32)));
     let wrong = file(&format!("{S} C,7,7"));
+    // the refused file names its line
+    let told = |refusal| {
+        refused(
+            refusal,
+            if refusal == Refusal::OverlapLeft {
+                15
+            } else {
+                0
+            },
+        )
+    };
     for extra in [0, 1, 1000] {
         let lent = |out| Lent::new(TABLE_LENGTH + extra, WORK_LENGTH + extra, out + extra);
         for (file, ty, letters, answer, table) in [
@@ -821,7 +840,7 @@ fn areas_of_settings() {
         ] {
             let mut areas = lent(0);
             let given = areas.number_of(file, ty, letters.as_bytes());
-            assert_eq!(given, answer.map_err(|refusal| refused(refusal, 0)));
+            assert_eq!(given, answer.map_err(told));
             areas.expect(&table, b"");
         }
         for (file, ty, setting, answer, table) in [
@@ -835,7 +854,7 @@ fn areas_of_settings() {
             let mut areas = lent(RESULT_LENGTH);
             let given = areas.setting_of(file, ty, setting);
             let length = answer.map(str::len);
-            assert_eq!(given, length.map_err(|refusal| refused(refusal, 0)));
+            assert_eq!(given, length.map_err(told));
             areas.expect(&table, answer.unwrap_or_default().as_bytes());
         }
     }

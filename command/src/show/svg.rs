@@ -1,11 +1,21 @@
 //! Types and clauses drawn.
 
-use super::html::escaped;
+use super::links::escaped;
 use super::tree::{Shown, Tree};
 
 /// The room for a leaf, and from a level to the next.
 const LEAF: f64 = 30.0;
 const LEVEL: f64 = 34.0;
+
+/// The largest drawing that helps.
+const WIDEST: f64 = 420.0;
+const HIGHEST: f64 = 240.0;
+
+/// A drawing as it stands on the page, and how wide it is.
+pub struct Drawn {
+    pub svg: String,
+    pub width: usize,
+}
 
 /// A drawing: its lines and labels, and how large it is.
 #[derive(Default)]
@@ -23,7 +33,7 @@ impl Drawing {
         self.height = self.height.max(y + LEVEL / 2.0);
         let parts: Vec<&Tree> = match tree {
             Tree::One(_, part) => vec![part],
-            Tree::Two(_, first, second) => vec![first, second],
+            Tree::Many(_, parts) => parts.iter().collect(),
             _ => Vec::new(),
         };
         let mut tops = Vec::new();
@@ -51,14 +61,13 @@ impl Drawing {
     }
 
     fn node(&mut self, tree: &Tree, x: f64, y: f64) {
-        // in letters a pair is P
-        let label = tree.label().replace(',', "P");
+        let label = tree.label();
         let class = match tree {
-            Tree::Unit(_) => "u".to_string(),
+            Tree::Leaf(_) => "u".to_string(),
             Tree::Variable(number, _) => format!("v v{}", number % 6),
             Tree::Name(..) => "n".to_string(),
             Tree::One(..) => "o".to_string(),
-            Tree::Two(..) => "t".to_string(),
+            Tree::Many(..) => "t".to_string(),
         };
         let half = (4.5 * label.chars().count() as f64 + 5.0).max(11.0);
         let (left, top, wide) = (x - half, y - 11.0, 2.0 * half);
@@ -98,26 +107,56 @@ impl Drawing {
         self.width += room;
     }
 
-    fn svg(&self, label: &str) -> String {
+    /// The drawing; nothing where it is so large that the text is easier to read.
+    fn svg(&self, label: &str) -> Option<Drawn> {
         let (width, height) = (self.width.ceil(), self.height.ceil());
-        format!(
+        if width > WIDEST || height > HIGHEST {
+            return None;
+        }
+        let svg = format!(
             "<svg role=\"img\" aria-label=\"{}\" width=\"{width}\" height=\"{height}\" viewBox=\"0 0 {width} {height}\">{}{}</svg>",
             escaped(label),
             self.edges,
             self.nodes
-        )
+        );
+        Some(Drawn {
+            svg,
+            width: width as usize,
+        })
     }
 }
 
-/// A tree, drawn.
-pub fn tree(tree: &Tree) -> String {
+/// Whether there is anything to draw: parts that belong together.
+fn has_parts(tree: &Tree) -> bool {
+    matches!(tree, Tree::One(..) | Tree::Many(..))
+}
+
+/// Whether there is a part that is carried over.
+fn carries(tree: &Tree) -> bool {
+    match tree {
+        Tree::Variable(..) => true,
+        Tree::One(_, part) => carries(part),
+        Tree::Many(_, parts) => parts.iter().any(carries),
+        Tree::Leaf(_) | Tree::Name(..) => false,
+    }
+}
+
+/// A tree, drawn where that helps.
+pub fn tree(tree: &Tree) -> Option<Drawn> {
+    if !has_parts(tree) {
+        return None;
+    }
     let mut drawing = Drawing::default();
     drawing.tree(tree, 0, 0.0);
     drawing.svg(&tree.text())
 }
 
-/// A clause, drawn: its left pattern, its let steps, its right pattern.
-pub fn clause(shown: &Shown) -> String {
+/// A clause, drawn where that helps, since it carries parts over: its left pattern, its let steps, its right pattern.
+pub fn clause(shown: &Shown) -> Option<Drawn> {
+    let parts = has_parts(&shown.left) || has_parts(&shown.right);
+    if !parts || !carries(&shown.left) {
+        return None;
+    }
     let mut drawing = Drawing::default();
     drawing.tree(&shown.left, 0, 0.0);
     drawing.arrow(&shown.steps());

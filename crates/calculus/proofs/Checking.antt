@@ -14,7 +14,8 @@ use Rattle.calculus.specs.Refusals.{Refusal, clauseLine, isoLine, variab
 use Rattle.calculus.specs.Clauses.{Sigs, variablesRule, letShapes, typed, clauseFault, clash, apart, fullWeight, lefts, rights, sideFault, at, isoFault, fault, sigsOf}
 use Rattle.calculus.specs.Paper.{Fits, Chain, Orth, leftRight, rightLeft, under, fst, snd, Apart, alone, beside, Distinct, Covers, ClauseOk, IsoOk, FileOk}
 use Rattle.calculus.specs.Faulty.{ClauseFault, SideFault, overlapLeft, overlapRight, gapLeft, gapRight, FirstClause, IsoFault, inClause, inSides, FirstIso}
-use Rattle.calculus.proofs.Basic.{none≢some, some-inj, orElse-cases, orElse-none, not-both, is-false, and-true, true-and, or-true, true-or-left, true-or-right, none-failing, each-map, all-mem, mem-all, firstOf-none, none-firstOf, mem-index}
+use Rattle.calculus.proofs.Basic.{none≢some, some-inj, orElse-cases, orElse-none, not-both, is-false, and-true, true-and, or-true, true-or-left}
+use Rattle.calculus.proofs.Basic.{true-or-right, none-failing, each-map, all-mem, mem-all, firstOf-none, none-firstOf, mem-index}
 use Rattle.calculus.proofs.Formed.{Formed}
 use Rattle.calculus.proofs.Variables.{variables-iff, shapes-iff, distinct-lhs, distinct-rhs}
 use Rattle.calculus.proofs.Typing.{typed-iff}

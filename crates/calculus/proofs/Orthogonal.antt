@@ -1,10 +1,11 @@
 -- Orthogonal patterns: no closed value has the shape of both.
 use Prim.Native.Nat.{ℕ}
-use mathlib.Core.Path.{_≡_, refl, sym, subst}
-use mathlib.Core.Bool.{true≢false}
+use mathlib.Core.Path.{_≡_, refl, sym, ap₂, subst}
+use mathlib.Core.Bool.{true≢false, _||_}
 use mathlib.Core.List.{List, _∷_, List·Memᴰ}
-use Rattle.calculus.specs.Trees.{Tag, Pat, punit, pvar, pinj, ppair, Val, vunit, vinj, vpair}
+use Rattle.calculus.specs.Trees.{Tag, left, right, Pat, punit, pvar, pinj, ppair, Val, vunit, vinj, vpair}
 use Rattle.calculus.specs.Paper.{Orth, Apart, fill, Matched}
+use Rattle.calculus.specs.Clauses.{clash}
 
 -- a value has the shape of a pattern, whose variables are taken for blanks
 pub data Alike : Pat → Val → Type 0 where
@@ -45,3 +46,25 @@ apart-head (Apart.beside h a) = h
 
 pub apart-tail : {p : Pat} {ps : List Pat} → Apart (p ∷ ps) → Apart ps
 apart-tail (Apart.beside h a) = a
+
+-- the test, the other way round
+pub clash-sym : (p q : Pat) → clash p q ≡ clash q p
+clash-sym punit punit = refl
+clash-sym punit (pvar m) = refl
+clash-sym punit (pinj t q) = refl
+clash-sym punit (ppair q q′) = refl
+clash-sym (pvar n) punit = refl
+clash-sym (pvar n) (pvar m) = refl
+clash-sym (pvar n) (pinj t q) = refl
+clash-sym (pvar n) (ppair q q′) = refl
+clash-sym (pinj s p) punit = refl
+clash-sym (pinj s p) (pvar m) = refl
+clash-sym (pinj left p) (pinj left q) = clash-sym p q
+clash-sym (pinj left p) (pinj right q) = refl
+clash-sym (pinj right p) (pinj left q) = refl
+clash-sym (pinj right p) (pinj right q) = clash-sym p q
+clash-sym (pinj s p) (ppair q q′) = refl
+clash-sym (ppair p p′) punit = refl
+clash-sym (ppair p p′) (pvar m) = refl
+clash-sym (ppair p p′) (pinj t q) = refl
+clash-sym (ppair p p′) (ppair q q′) = ap₂ _||_ (clash-sym p q) (clash-sym p′ q′)

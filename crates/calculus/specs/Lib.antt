@@ -10,3 +10,4 @@ pub mod Hits
 pub mod Terms
 pub mod Next
 pub mod Faulty
+pub mod Examples

@@ -89,8 +89,10 @@ clause-marked t base row end {start = start} {bound = bound} {stepped = stepped}
     let binds-l : bound ≡ markAll binds (vars lp) fresh = eb ∙ ap₂ (λ k m. markAll binds (vars (patternOf t base k)) m) el es in
     let walks : stepped ≡ markEvents (letEvents ls) bound = et ∙ ap (λ k. markEvents (letEvents (letsIn t base k (end - k))) bound) (add-one row) in
     let uses-r : done ≡ markAll uses (vars rp) stepped = ed ∙ ap (λ k. markAll uses (vars (patternOf t base k)) stepped) er in
-    let to-lets : markEvents (deeds binds lp ++ (letEvents ls ++ deeds uses rp)) fresh ≡ markEvents (letEvents ls ++ deeds uses rp) bound = deeds-first binds lp (letEvents ls ++ deeds uses rp) fresh binds-l in
-    let to-right : markEvents (letEvents ls ++ deeds uses rp) bound ≡ markEvents (deeds uses rp) stepped = events-append (letEvents ls) (deeds uses rp) bound ∙ ap (markEvents (deeds uses rp)) (sym walks) in
+    let to-lets : markEvents (deeds binds lp ++ (letEvents ls ++ deeds uses rp)) fresh ≡ markEvents (letEvents ls ++ deeds uses rp) bound = deeds-first binds lp
+    (letEvents ls ++ deeds uses rp) fresh binds-l in
+    let to-right : markEvents (letEvents ls ++ deeds uses rp) bound ≡ markEvents (deeds uses rp) stepped = events-append (letEvents ls) (deeds uses rp) bound ∙ ap
+    (markEvents (deeds uses rp)) (sym walks) in
     e ∙ ap settledAll (sym (to-lets ∙ to-right ∙ numbers-marked uses (vars rp) stepped ∙ sym uses-r))
 
 -- ---- let shapes
@@ -151,7 +153,8 @@ module _ (t : List ℕ) (base n : ℕ) (starts : List ℕ) (e : Option (Slots Ty
   let-known {head} {used = used} {done = done} l eh eq ea eu ep eb ed =
       let first : used ≡ fitAll false (letAt t base n .q) (typesAt t head .0) e = eu ∙ ap₂ (λ k j. fitAll false (patternOf t base k) (typeOf t j) e) eq ea in
       let second : done ≡ fitAll true (letAt t base n .p) (typesAt t head .1) used = ed ∙ ap₂ (λ k j. fitAll true (patternOf t base k) (typeOf t j) used) ep eb in
-      let known : getElem? (sigsIn t starts) (cellOf t n 2) ≡ some (typesAt t head) = ap (getElem? (sigsIn t starts)) (sym ei) ∙ known-at (typesAt t) starts i 0 l ∙ ap (λ r. some (typesAt t r)) (sym eh) in
+      let known : getElem? (sigsIn t starts) (cellOf t n 2) ≡ some (typesAt t head) = ap (getElem? (sigsIn t starts)) (sym ei) ∙ known-at (typesAt t) starts i 0 l ∙ ap
+      (λ r. some (typesAt t r)) (sym eh) in
       second ∙ ap (fitAll true (letAt t base n .p) (typesAt t head .1)) first ∙ sym (ap (λ s. fitLet s (letAt t base n) e) known)
 
   -- any other iso: nothing fits
@@ -194,9 +197,11 @@ pub clause-fitted : (t starts : List ℕ) (base a b row end : ℕ) (start bound 
 unfolding fitted
 clause-fitted t starts base a b row end start bound stepped done es el eb et er ed ev =
     let ls : List Let = letsIn t base (suc row) (end - suc row) in
-    let left : envView t bound ≡ fitAll true (patternOf t base (cellOf t row 1)) (typeOf t a) (some (replicate variables none)) = eb ∙ ap₂ (λ k e. fitAll true (patternOf t base k) (typeOf t a) e) el (fresh-view t es) in
+    let left : envView t bound ≡ fitAll true (patternOf t base (cellOf t row 1)) (typeOf t a) (some (replicate variables none)) = eb ∙ ap₂
+    (λ k e. fitAll true (patternOf t base k) (typeOf t a) e) el (fresh-view t es) in
     let walks : envView t stepped ≡ fittedLets (sigsIn t starts) ls (envView t bound) = et ∙ ap (λ k. fittedLets (sigsIn t starts) (letsIn t base k (end - k)) (envView t bound)) (add-one row) in
-    let right : envView t done ≡ fitAll false (patternOf t base (cellOf t row 2)) (typeOf t b) (envView t stepped) = ed ∙ ap (λ k. fitAll false (patternOf t base k) (typeOf t b) (envView t stepped)) er in
+    let right : envView t done ≡ fitAll false (patternOf t base (cellOf t row 2)) (typeOf t b) (envView t stepped) = ed ∙ ap
+    (λ k. fitAll false (patternOf t base k) (typeOf t b) (envView t stepped)) er in
     ev ∙ used-env t done ∙ ap used (right ∙ ap (fitAll false (patternOf t base (cellOf t row 2)) (typeOf t b)) (walks ∙ ap (fittedLets (sigsIn t starts) ls) left))
 
 -- ---- the lowest of 8 to 10

@@ -3,10 +3,10 @@
 
 use area_words::wide;
 use check_facts::number;
+use check_known::fit_known;
 use check_shapes::is_plain;
 use check_typing::Env;
 use check_typing::all_used;
-use check_typing::fit;
 use check_typing::no_types;
 use check_variables::Marks;
 use check_variables::mark;
@@ -33,6 +33,7 @@ ghost use Rattle.format.specs.Code.{refusalView};
 ghost use Rattle.calculus.specs.Clauses.{letEvents, plain};
 ghost use Rattle.check_facts.specs.Facts.{Facts};
 ghost use Rattle.check_bare.specs.Bare.{Bares};
+ghost use Rattle.check_known.specs.Known.{Known};
 ghost use Rattle.table_trees.specs.Unfolding.{cellOf, typeOf, patternOf};
 ghost use Rattle.check_variables.specs.Marks.{markEvents};
 ghost use Rattle.check_typing.specs.Fitting.{envView};
@@ -118,8 +119,8 @@ fn misfit(e: Env) -> Env
 }
 
 // The types after the L row n: q fits the from-type of its iso, p the to-type.
-fn fit_let(t: &[u16], g: &[u16], base: usize, starts: &[u16], n: usize, e: Env) -> Env
-    requires { ⌜ Bares (now t) base (now g) ⌝ }
+fn fit_let(t: &[u16], g: &[u16], k: &[u8], base: usize, starts: &[u16], n: usize, e: Env) -> Env
+    requires { ⌜ Bares (now t) base (now g) × Known (now t) base (now k) ⌝ }
     ensures { λ r. ⌜
         envView (now (t .entry)) r ≡ fitLet
         (getElem? (sigsIn (now (t .entry)) (now (starts .entry))) (cellOf (now (t .entry)) n 2))
@@ -129,18 +130,20 @@ fn fit_let(t: &[u16], g: &[u16], base: usize, starts: &[u16], n: usize, e: Env) 
     let i = cell(t, n, LET_ISO);
     if i < starts.len() {
         let head = wide(starts[i]);
-        let used = fit(
+        let used = fit_known(
             t,
             g,
+            k,
             base,
             cell(t, n, LET_Q),
             cell(t, head, ISO_FROM),
             false,
             e,
         );
-        return fit(
+        return fit_known(
             t,
             g,
+            k,
             base,
             cell(t, n, LET_P),
             cell(t, head, ISO_TO),
@@ -155,13 +158,14 @@ fn fit_let(t: &[u16], g: &[u16], base: usize, starts: &[u16], n: usize, e: Env) 
 fn fit_lets(
     t: &[u16],
     g: &[u16],
+    k: &[u8],
     base: usize,
     starts: &[u16],
     from: usize,
     to: usize,
     e: Env,
 ) -> Env
-    requires { ⌜ Bares (now t) base (now g) ⌝ }
+    requires { ⌜ Bares (now t) base (now g) × Known (now t) base (now k) ⌝ }
     ensures { λ r. ⌜
         envView (now (t .entry)) r ≡ fittedLets (sigsIn (now (t .entry)) (now (starts .entry)))
         (letsIn (now (t .entry)) base from (to - from)) (envView (now (t .entry)) e)
@@ -170,7 +174,7 @@ fn fit_lets(
     let mut n = from;
     let mut env = e;
     while n < to {
-        env = fit_let(t, g, base, starts, n, env);
+        env = fit_let(t, g, k, base, starts, n, env);
         n += 1;
     }
     env
@@ -180,6 +184,7 @@ fn fit_lets(
 fn types_fit(
     t: &[u16],
     g: &[u16],
+    k: &[u8],
     base: usize,
     starts: &[u16],
     a: usize,
@@ -187,7 +192,7 @@ fn types_fit(
     row: usize,
     end: usize,
 ) -> bool
-    requires { ⌜ Bares (now t) base (now g) ⌝ }
+    requires { ⌜ Bares (now t) base (now g) × Known (now t) base (now k) ⌝ }
     ensures { λ r. ⌜
         (row < maxLines
         → r ≡ fitted (sigsIn (now (t .entry)) (now (starts .entry))) (typeOf (now (t .entry)) a)
@@ -195,9 +200,18 @@ fn types_fit(
         ⌝ }
 {
     if row < MAX_LINES {
-        let bound = fit(t, g, base, cell(t, row, CLAUSE_LEFT), a, true, no_types());
-        let stepped = fit_lets(t, g, base, starts, row + 1, end, bound);
-        let done = fit(t, g, base, cell(t, row, CLAUSE_RIGHT), b, false, stepped);
+        let bound = fit_known(
+            t,
+            g,
+            k,
+            base,
+            cell(t, row, CLAUSE_LEFT),
+            a,
+            true,
+            no_types(),
+        );
+        let stepped = fit_lets(t, g, k, base, starts, row + 1, end, bound);
+        let done = fit_known(t, g, k, base, cell(t, row, CLAUSE_RIGHT), b, false, stepped);
         return all_used(done);
     }
     false
@@ -209,6 +223,7 @@ pub fn clause_fault(
     t: &[u16],
     f: &[u8],
     g: &[u16],
+    k: &[u8],
     base: usize,
     starts: &[u16],
     a: usize,
@@ -216,14 +231,14 @@ pub fn clause_fault(
     row: usize,
     end: usize,
 ) -> Refusal
-    requires { ⌜ Facts (now t) base (now f) × Bares (now t) base (now g) ⌝ }
+    requires { ⌜ Facts (now t) base (now f) × Bares (now t) base (now g) × Known (now t) base (now k) ⌝ }
     ensures { λ r. ⌜ ClauseTold (now (t .entry)) base (now (starts .entry)) a b row end (refusalView r) ⌝ }
 {
     if MAX_LINES <= row {
         return Refusal::Nothing;
     }
     if shapes_kept(t, f, base, row + 1, end) {
-        if types_fit(t, g, base, starts, a, b, row, end) {
+        if types_fit(t, g, k, base, starts, a, b, row, end) {
             return Refusal::Nothing;
         }
         if variables_kept(t, base, row, end) {

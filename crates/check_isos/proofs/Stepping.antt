@@ -20,7 +20,8 @@ use Rattle.table_trees.specs.Unfolding.{cellOf, typeOf}
 use Rattle.table_walks.specs.InTable.{clauseIn, sigsIn, patternsAt, sidesFault}
 use Rattle.table_walks.specs.Walk.{FileIn, isoRows, WalkAt}
 use Rattle.table_walks.proofs.Rows.{get-row}
-use Rattle.table_walks.proofs.Walking.{row-of, lines-few, head-few, letter-iso, letter-clause, other-let, walk-start, walk-let, walk-clause, walk-iso, walk-end, own-row, clause-slots, clause-room, iso-above, iso-within}
+use Rattle.table_walks.proofs.Walking.{row-of, lines-few, head-few, letter-iso, letter-clause, other-let, walk-start, walk-let, walk-clause, walk-iso, walk-end}
+use Rattle.table_walks.proofs.Walking.{own-row, clause-slots, clause-room, iso-above, iso-within}
 use Rattle.check_typing.specs.Rules.{Slotted}
 use Rattle.check_isos.specs.declared.Walk as W
 use Rattle.check_isos.specs.Answers.{asFault, OwnFault}

@@ -9,6 +9,9 @@ use check_clauses::clause_fault;
 use check_coverage::side_fault;
 use check_facts::FACTS;
 use check_facts::find_facts;
+use check_known::KNOWN;
+use check_known::any_large;
+use check_known::find_known;
 use codes::CLAUSE_LINE;
 use codes::ISO_FROM;
 use codes::ISO_LINE;
@@ -29,6 +32,7 @@ ghost use Prim.Native.Nat.{suc, _+_, _≤_, _<_};
 ghost use lib.ListN.{length, set};
 ghost use Rattle.check_facts.specs.Facts.{Facts, factsLength};
 ghost use Rattle.check_bare.specs.Bare.{Bares};
+ghost use Rattle.check_known.specs.Known.{Known};
 ghost use Rattle.limits.specs.Limits.{tableLength, maxIsos, maxClauses, maxLines};
 ghost use Rattle.format.specs.Lines.{Row as RowOf, letter};
 ghost use Rattle.calculus.specs.Tools.{orElse};
@@ -137,19 +141,20 @@ fn own_fault(
     t: &[u16],
     f: &[u8],
     g: &[u16],
+    k: &[u8],
     base: usize,
     starts: &[u16],
     own: usize,
     n: usize,
     below: usize,
 ) -> Refusal
-    requires { ⌜ Facts (now t) base (now f) × Bares (now t) base (now g) ⌝ }
+    requires { ⌜ Facts (now t) base (now f) × Bares (now t) base (now g) × Known (now t) base (now k) ⌝ }
     ensures { λ r. ⌜ OwnFault (now (t .entry)) base (now (starts .entry)) own n below (refusalView r) ⌝ }
 {
     let head = wide(word_at(starts, own));
     let a = cell(t, head, ISO_FROM);
     let b = cell(t, head, ISO_TO);
-    clause_fault(t, f, g, base, starts, a, b, n, below)
+    clause_fault(t, f, g, k, base, starts, a, b, n, below)
 }
 
 // Whether an I line stands above row n of the table, and place `first` is one of the clauses' or their end.
@@ -173,19 +178,20 @@ fn with_clause(
     t: &[u16],
     f: &[u8],
     g: &[u16],
+    k: &[u8],
     base: usize,
     starts: &[u16],
     w: Walk,
     n: usize,
 ) -> Walk
-    requires { ⌜ Facts (now t) base (now f) × Bares (now t) base (now g) ⌝ }
+    requires { ⌜ Facts (now t) base (now f) × Bares (now t) base (now g) × Known (now t) base (now k) ⌝ }
     ensures { λ r. ⌜ ClauseWalked clauseLine (now (t .entry)) base (now (starts .entry)) n w r ⌝ }
 {
     let i = w.iso;
     let first = w.first;
     if is_inside(i, first, n) {
         if 0 < first {
-            let fault = own_fault(t, f, g, base, starts, i - 1, n, w.below);
+            let fault = own_fault(t, f, g, k, base, starts, i - 1, n, w.below);
             let slot = first - 1;
             let mut clauses = w.clauses;
             clauses[slot] = narrow(n);
@@ -258,13 +264,22 @@ fn with_iso(t: &[u16], f: &[u8], base: usize, w: Walk, n: usize) -> Walk
 }
 
 // The walk with row n. An L row leaves it as it is.
-fn with_row(t: &[u16], f: &[u8], g: &[u16], base: usize, starts: &[u16], w: Walk, n: usize) -> Walk
-    requires { ⌜ (tableLength ≤ length (now t)) × Facts (now t) base (now f) × (length (now f) ≤ maxLines) × Bares (now t) base (now g) ⌝ }
+fn with_row(
+    t: &[u16],
+    f: &[u8],
+    g: &[u16],
+    k: &[u8],
+    base: usize,
+    starts: &[u16],
+    w: Walk,
+    n: usize,
+) -> Walk
+    requires { ⌜ (tableLength ≤ length (now t)) × Facts (now t) base (now f) × (length (now f) ≤ maxLines) × Bares (now t) base (now g) × Known (now t) base (now k) ⌝ }
     ensures { λ r. ⌜ RowWalked (now (t .entry)) base (now (starts .entry)) n w r ⌝ }
 {
     let letter = cell(t, n, ROW_LETTER);
     if letter == CLAUSE_LINE {
-        return with_clause(t, f, g, base, starts, w, n);
+        return with_clause(t, f, g, k, base, starts, w, n);
     }
     if letter == ISO_LINE {
         return with_iso(t, f, base, w, n);
@@ -302,13 +317,14 @@ fn walk_up(
     t: &[u16],
     f: &[u8],
     g: &[u16],
+    k: &[u8],
     base: usize,
     starts: &[u16],
     stop: usize,
     lines: usize,
     isos: usize,
 ) -> Answer
-    requires { ⌜ (tableLength ≤ length (now t)) × Facts (now t) base (now f) × (length (now f) ≤ maxLines) × Bares (now t) base (now g) ⌝ }
+    requires { ⌜ (tableLength ≤ length (now t)) × Facts (now t) base (now f) × (length (now f) ≤ maxLines) × Bares (now t) base (now g) × Known (now t) base (now k) ⌝ }
     ensures { λ r. ⌜ AllWalked (now (t .entry)) base (now (starts .entry)) stop lines isos r ⌝ }
 {
     let clean = none();
@@ -323,9 +339,46 @@ fn walk_up(
     };
     while stop < n {
         n -= 1;
-        w = with_row(t, f, g, base, starts, w, n);
+        w = with_row(t, f, g, k, base, starts, w, n);
     }
     w.found
+}
+
+// The same, once the fits of large P lines are found.
+fn walk_known(
+    t: &[u16],
+    f: &[u8],
+    g: &[u16],
+    base: usize,
+    starts: &[u16],
+    stop: usize,
+    lines: usize,
+    isos: usize,
+) -> Answer
+    requires { ⌜ (tableLength ≤ length (now t)) × Facts (now t) base (now f) × (length (now f) ≤ maxLines) × Bares (now t) base (now g) ⌝ }
+    ensures { λ r. ⌜ AllWalked (now (t .entry)) base (now (starts .entry)) stop lines isos r ⌝ }
+{
+    let mut k = [0u8; KNOWN];
+    find_known(t, g, &mut k, base, starts, stop, lines);
+    walk_up(t, f, g, &k, base, starts, stop, lines, isos)
+}
+
+// The same with no fits found, where no P line is large.
+fn walk_small(
+    t: &[u16],
+    f: &[u8],
+    g: &[u16],
+    base: usize,
+    starts: &[u16],
+    stop: usize,
+    lines: usize,
+    isos: usize,
+) -> Answer
+    requires { ⌜ (tableLength ≤ length (now t)) × Facts (now t) base (now f) × (length (now f) ≤ maxLines) × Bares (now t) base (now g) ⌝ }
+    ensures { λ r. ⌜ AllWalked (now (t .entry)) base (now (starts .entry)) stop lines isos r ⌝ }
+{
+    let k = [0u8; 1];
+    walk_up(t, f, g, &k, base, starts, stop, lines, isos)
 }
 
 // The same, once what the T and P lines tell is found.
@@ -344,7 +397,10 @@ fn walk_with(
 {
     find_facts(t, f, base);
     find_bares(t, g, base);
-    walk_up(t, f, g, base, starts, stop, lines, isos)
+    if any_large(t, base, stop) {
+        return walk_known(t, f, g, base, starts, stop, lines, isos);
+    }
+    walk_small(t, f, g, base, starts, stop, lines, isos)
 }
 
 // As many lines as facts have a place for, or none.

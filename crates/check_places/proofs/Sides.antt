@@ -11,6 +11,7 @@ use Rattle.limits.specs.Limits.{tableLength, maxLines}
 use Rattle.calculus.specs.Tools.{all}
 use Rattle.calculus.specs.Trees.{Ty, Tag, left, right, Pat, punit, pvar, pinj, ppair, sameTag}
 use Rattle.calculus.specs.Clauses.{clash, apart}
+use Rattle.calculus.proofs.Orthogonal.{clash-sym}
 use Rattle.table_trees.specs.Unfolding.{cellOf, typeOf, patternOf}
 use Rattle.table_walks.specs.InTable.{patternsAt}
 use Rattle.check_facts.specs.Facts.{Facts, places, manyPlaces, width}
@@ -20,29 +21,6 @@ use Rattle.check_places.specs.Places.{flip, Mark, marks, shaped, member,
 use Rattle.check_places.specs.Walking.{setAt, met, Walked, Ready, Told, Sided, Ordered, Started, Seen, Separated}
 use Rattle.check_places.proofs.Places.{Between, none, more, wider, marks-between, clash-places}
 use Rattle.check_places.proofs.Walking.{set-low}
-
--- ---- the clash of two patterns, the other way round
-
-pub clash-sym : (p q : Pat) → clash p q ≡ clash q p
-clash-sym punit punit = refl
-clash-sym punit (pvar m) = refl
-clash-sym punit (pinj t q) = refl
-clash-sym punit (ppair q q′) = refl
-clash-sym (pvar n) punit = refl
-clash-sym (pvar n) (pvar m) = refl
-clash-sym (pvar n) (pinj t q) = refl
-clash-sym (pvar n) (ppair q q′) = refl
-clash-sym (pinj s p) punit = refl
-clash-sym (pinj s p) (pvar m) = refl
-clash-sym (pinj left p) (pinj left q) = clash-sym p q
-clash-sym (pinj left p) (pinj right q) = refl
-clash-sym (pinj right p) (pinj left q) = refl
-clash-sym (pinj right p) (pinj right q) = clash-sym p q
-clash-sym (pinj s p) (ppair q q′) = refl
-clash-sym (ppair p p′) punit = refl
-clash-sym (ppair p p′) (pvar m) = refl
-clash-sym (ppair p p′) (pinj t q) = refl
-clash-sym (ppair p p′) (ppair q q′) = ap₂ (λ x y. x || y) (clash-sym p q) (clash-sym p′ q′)
 
 -- ---- the sets hold a pattern's marks
 

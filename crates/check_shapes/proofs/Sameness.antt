@@ -5,6 +5,7 @@ use mathlib.Core.Bool.{Bool, true, false, false≢true, _&&_}
 use mathlib.Core.List.{List}
 use Rattle.calculus.specs.Trees.{Ty, tunit, sameType}
 use Rattle.format.specs.Judge.{typeNode}
+use Rattle.calculus.proofs.Basic.{sameType-refl}
 use Rattle.table_trees.specs.Unfolding.{cellOf, smallerOf, typeOf}
 use Rattle.table_trees.proofs.Cases.{Parted, sums, products, Whole, units, others, node-whole}
 use Rattle.table_trees.proofs.Unfolding.{type-node}
@@ -68,10 +69,12 @@ whole-beside (suc (suc (suc m))) x y u v h = both-whole x y u v h (others m)
 -- ---- two lines of kinds ka and kb
 
 module _ (t : List ℕ) (a b : ℕ) {ka kb : ℕ} (p : ka ≡ cellOf t a 1) (q : kb ≡ cellOf t b 1) where
-  same-kinds : sameType (typeNode ka (typeOf t (smallerOf (cellOf t a 2) a)) (typeOf t (smallerOf (cellOf t a 3) a))) (typeNode kb (typeOf t (smallerOf (cellOf t b 2) b)) (typeOf t (smallerOf (cellOf t b 3) b))) ≡ sameType (typeOf t a) (typeOf t b)
+  same-kinds : sameType (typeNode ka (typeOf t (smallerOf (cellOf t a 2) a)) (typeOf t (smallerOf (cellOf t a 3) a)))
+      (typeNode kb (typeOf t (smallerOf (cellOf t b 2) b)) (typeOf t (smallerOf (cellOf t b 3) b))) ≡ sameType (typeOf t a) (typeOf t b)
   same-kinds =
       ap₂
-      (λ k m. sameType (typeNode k (typeOf t (smallerOf (cellOf t a 2) a)) (typeOf t (smallerOf (cellOf t a 3) a))) (typeNode m (typeOf t (smallerOf (cellOf t b 2) b)) (typeOf t (smallerOf (cellOf t b 3) b))))
+      (λ k m. sameType (typeNode k (typeOf t (smallerOf (cellOf t a 2) a)) (typeOf t (smallerOf (cellOf t a 3) a)))
+      (typeNode m (typeOf t (smallerOf (cellOf t b 2) b)) (typeOf t (smallerOf (cellOf t b 3) b))))
       p
       q
       ∙ sym (ap₂ sameType (type-node t a) (type-node t b))
@@ -91,7 +94,8 @@ module _ (t : List ℕ) (a b : ℕ) {ka kb : ℕ} (p : ka ≡ cellOf t a 1) (q :
       ap (λ g. g && sameType (typeOf t (smallerOf (cellOf t a 3) a)) (typeOf t (smallerOf (cellOf t b 3) b))) (i ∙ ap₂ (λ x y. sameType (typeOf t x) (typeOf t y)) u v)
       ∙ alike _ _ _ _ h
       ∙ ap
-      (λ m. sameType (typeNode ka (typeOf t (smallerOf (cellOf t a 2) a)) (typeOf t (smallerOf (cellOf t a 3) a))) (typeNode m (typeOf t (smallerOf (cellOf t b 2) b)) (typeOf t (smallerOf (cellOf t b 3) b))))
+      (λ m. sameType (typeNode ka (typeOf t (smallerOf (cellOf t a 2) a)) (typeOf t (smallerOf (cellOf t a 3) a)))
+      (typeNode m (typeOf t (smallerOf (cellOf t b 2) b)) (typeOf t (smallerOf (cellOf t b 3) b))))
       e
       ∙ same-kinds
 
@@ -110,3 +114,8 @@ module _ (t : List ℕ) (a b : ℕ) {ka kb : ℕ} (p : ka ≡ cellOf t a 1) (q :
       ∙ ap₂ (λ x y. sameType (typeOf t x) (typeOf t y)) w s
       ∙ sym (ap (λ g. g && sameType (typeOf t (smallerOf (cellOf t a 3) a)) (typeOf t (smallerOf (cellOf t b 3) b))) y)
       ∙ parts h e u v i
+
+-- ---- one and the same line
+
+pub same-line : (t : List ℕ) {a b : ℕ} → a ≡ b → true ≡ sameType (typeOf t a) (typeOf t b)
+same-line t {a} e = sym (ap (λ n. sameType (typeOf t a) (typeOf t n)) (sym e) ∙ sameType-refl (typeOf t a))

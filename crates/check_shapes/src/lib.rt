@@ -33,6 +33,9 @@ pub fn names_nothing(kind: usize) -> bool
 pub fn same_type(t: &[u16], a: usize, b: usize) -> bool
     ensures { λ r. ⌜ r ≡ sameType (typeOf (now (t .entry)) a) (typeOf (now (t .entry)) b) ⌝ }
 {
+    if a == b {
+        return true;
+    }
     let ka = cell(t, a, KIND);
     let kb = cell(t, b, KIND);
     if names_nothing(ka) {

@@ -3,11 +3,11 @@ use Prim.Native.Nat.{ℕ, zero, suc, _+_, _-_, _*_, _<_, _≤_}
 use native.Mathlib.Omega.{arith}
 use native.Mathlib.Nat.{suc-ne-zero}
 use native.Mathlib.Numerals.{add-one}
-use mathlib.Core.Path.{_≡_, refl, sym, ap, ap₂, _∙_}
+use mathlib.Core.Path.{_≡_, refl, sym, ap, ap₂, _∙_, subst}
 use mathlib.Core.Bool.{Bool, true, false, cond, _&&_}
 use mathlib.Core.Option.{Option, none, some}
 use mathlib.Core.List.{List, [], _∷_, map}
-use lib.ListN.{length, length-map, getD, set, List·getD-map}
+use lib.ListN.{length, length-map, length-set, getD, set, List·getD-map}
 use Rattle.calculus.specs.Tools.{_>>=_, guard}
 use Rattle.calculus.specs.Trees.{Ty, tunit, tsum, tprod, Pat, punit, pvar, ppair, sameType}
 use Rattle.calculus.specs.Slots.{Slots, put, get, allEmpty}
@@ -20,7 +20,7 @@ use Rattle.table_trees.proofs.Unfolding.{rank, type-past, type-node, type-sum, 
 use Rattle.check_variables.specs.Marks.{settledAll}
 use Rattle.check_typing.specs.declared.Env.{Env}
 use Rattle.check_bare.specs.Bare.{Bare, unit, pair}
-use Rattle.check_typing.specs.Fitting.{fitting, fitAll, entryView, EntryOf, viewIf, envView, HasParts, ofLeft, ofRight, ofPair}
+use Rattle.check_typing.specs.Fitting.{fitting, fitAll, entryView, EntryOf, viewIf, viewOf, envView, Fitted, HasParts, ofLeft, ofRight, ofPair}
 
 -- ---- entries
 
@@ -77,90 +77,77 @@ module _ {A : Type 0} where
   getD-out zero (s ∷ e) h = absurd (omega arith)
   getD-out (suc n) (s ∷ e) h = getD-out n e (omega arith)
 
--- ---- types that have fitted so far
-
-pub failed-view : (t : List ℕ) (r : Env) → r .fits ≡ false → envView t r ≡ none
-failed-view t r e = ap (λ b. viewIf b (map (entryView t) (r .line))) e
-
-fitted-view : (t : List ℕ) (e : Env) → e .fits ≡ true → envView t e ≡ some (map (entryView t) (e .line))
-fitted-view t e h = ap (λ b. viewIf b (map (entryView t) (e .line))) h
-
 -- ---- one variable
 
-module _ (t : List ℕ) (n a : ℕ) (e : Env) (wide : length (e .line) ≡ 32) (fits : e .fits ≡ true) where
+module _ (t : List ℕ) (n a : ℕ) (l : List ℕ) (wide : length l ≡ 32) where
   slots : Slots Ty
-  slots = map (entryView t) (e .line)
+  slots = map (entryView t) l
 
-  one : (b : Bool) → fitting b (pvar n) (typeOf t a) slots ≡ fitAll b (pvar n) (typeOf t a) (envView t e)
+  one : (b : Bool) → fitting b (pvar n) (typeOf t a) slots ≡ fitAll b (pvar n) (typeOf t a) (viewOf t true l)
   unfolding slots
-  one b = sym (some-bind (fitting b (pvar n) (typeOf t a)) (fitted-view t e fits))
+  one b = refl
 
   slots-wide : length slots ≡ 32
   unfolding slots
-  slots-wide = length-map (e .line) (entryView t) ∙ wide
+  slots-wide = length-map l (entryView t) ∙ wide
 
-  entry : {k : ℕ} → k ≡ getD (e .line) n 0 → getD slots n none ≡ entryView t k
+  entry : {k : ℕ} → k ≡ getD l n 0 → getD slots n none ≡ entryView t k
   unfolding slots
-  entry i = List·getD-map (entryView t) (e .line) n 0 ∙ ap (entryView t) (sym i)
+  entry i = List·getD-map (entryView t) l n 0 ∙ ap (entryView t) (sym i)
 
   -- a use gives nothing where no type is known
   use-free : getD slots n none ≡ none → fitting false (pvar n) (typeOf t a) slots ≡ none
   use-free g = ap (λ x. x >>= λ r. guard (sameType (r .0) (typeOf t a)) >>= λ _. some (r .1)) (get-free n slots g)
 
-  pub assign-out : (b : Bool) (r : Env) → 32 ≤ n → r .fits ≡ false → envView t r ≡ fitAll b (pvar n) (typeOf t a) (envView t e)
-  assign-out true r h f = failed-view t r f ∙ sym (put-out n (typeOf t a) slots (omega (arith, slots-wide))) ∙ one true
-  assign-out false r h f = failed-view t r f ∙ sym (use-free (getD-out n slots (omega (arith, slots-wide)))) ∙ one false
+  -- nothing fits, and the entries are as they were
+  misfit : (b : Bool) → fitting b (pvar n) (typeOf t a) slots ≡ none → Fitted t b (pvar n) (typeOf t a) l false l
+  misfit b h = record { long = refl; fitted = sym h ∙ one b }
 
-  pub assign-first : (b : Bool) (r : Env) (v : ℕ) {k : ℕ} → b ≡ true → n < 32 → k ≡ getD (e .line) n 0 → k ≡ 0 → EntryOf a v → r .fits ≡ true
-      → r .line ≡ set (e .line) n v → envView t r ≡ fitAll b (pvar n) (typeOf t a) (envView t e)
+  pub assign-out : (b : Bool) → 32 ≤ n → Fitted t b (pvar n) (typeOf t a) l false l
+  assign-out true h = misfit true (put-out n (typeOf t a) slots (omega (arith, slots-wide)))
+  assign-out false h = misfit false (use-free (getD-out n slots (omega (arith, slots-wide))))
+
+  pub assign-first : (b : Bool) (v : ℕ) {k : ℕ} → b ≡ true → n < 32 → k ≡ getD l n 0 → k ≡ 0 → EntryOf a v → Fitted t b (pvar n) (typeOf t a) l true (set l n v)
   unfolding slots
-  assign-first b r v q h i z w f s =
-      fitted-view t r f
-      ∙ ap some (ap (map (entryView t)) s ∙ map-set (entryView t) (e .line) n v ∙ ap (set slots n) (w t))
-      ∙ sym (put-free n (typeOf t a) slots (omega (arith, slots-wide)) (entry i ∙ ap (entryView t) z))
-      ∙ one true
-      ∙ ap (λ c. fitAll c (pvar n) (typeOf t a) (envView t e)) (sym q)
+  assign-first b v q h i z w = subst (λ c. Fitted t c (pvar n) (typeOf t a) l true (set l n v)) (sym q) (record { long = length-set l n v; fitted = bound })
+    where
+      bound : viewOf t true (set l n v) ≡ fitAll true (pvar n) (typeOf t a) (viewOf t true l)
+      bound =
+          ap some (map-set (entryView t) l n v ∙ ap (set slots n) (w t))
+          ∙ sym (put-free n (typeOf t a) slots (omega (arith, slots-wide)) (entry i ∙ ap (entryView t) z))
+          ∙ one true
 
-  pub assign-live : (b : Bool) (r : Env) {k : ℕ} → b ≡ true → k ≡ getD (e .line) n 0 → (k ≡ 0 → ⊥) → r .fits ≡ false
-      → envView t r ≡ fitAll b (pvar n) (typeOf t a) (envView t e)
-  assign-live b r {k} q i z f =
-      failed-view t r f
-      ∙ sym (put-full n (typeOf t a) (typeOf t (k - 1)) slots (entry i ∙ entry-known t k z))
-      ∙ one true
-      ∙ ap (λ c. fitAll c (pvar n) (typeOf t a) (envView t e)) (sym q)
+  pub assign-live : (b : Bool) {k : ℕ} → b ≡ true → k ≡ getD l n 0 → (k ≡ 0 → ⊥) → Fitted t b (pvar n) (typeOf t a) l false l
+  assign-live b {k} q i z =
+      subst (λ c. Fitted t c (pvar n) (typeOf t a) l false l) (sym q)
+      (misfit true (put-full n (typeOf t a) (typeOf t (k - 1)) slots (entry i ∙ entry-known t k z)))
 
-  pub assign-unknown : (b : Bool) (r : Env) {k : ℕ} → b ≡ false → k ≡ getD (e .line) n 0 → k ≡ 0 → r .fits ≡ false
-      → envView t r ≡ fitAll b (pvar n) (typeOf t a) (envView t e)
-  assign-unknown b r q i z f =
-      failed-view t r f
-      ∙ sym (use-free (entry i ∙ ap (entryView t) z))
-      ∙ one false
-      ∙ ap (λ c. fitAll c (pvar n) (typeOf t a) (envView t e)) (sym q)
+  pub assign-unknown : (b : Bool) {k : ℕ} → b ≡ false → k ≡ getD l n 0 → k ≡ 0 → Fitted t b (pvar n) (typeOf t a) l false l
+  assign-unknown b q i z = subst (λ c. Fitted t c (pvar n) (typeOf t a) l false l) (sym q) (misfit false (use-free (entry i ∙ ap (entryView t) z)))
 
   -- a use of a known type: the same, or none fits
-  used-known : {k : ℕ} {s : Bool} → k ≡ getD (e .line) n 0 → (k ≡ 0 → ⊥) → s ≡ sameType (typeOf t (k - 1)) (typeOf t a)
+  used-known : {k : ℕ} {s : Bool} → k ≡ getD l n 0 → (k ≡ 0 → ⊥) → s ≡ sameType (typeOf t (k - 1)) (typeOf t a)
       → fitting false (pvar n) (typeOf t a) slots ≡ (guard s >>= λ _. some (set slots n none))
   used-known {k} i z w =
       some-bind (λ r. guard (sameType (r .0) (typeOf t a)) >>= λ _. some (r .1)) (get-full n (typeOf t (k - 1)) slots (entry i ∙ entry-known t k z))
       ∙ ap (λ s. guard s >>= λ _. some (set slots n none)) (sym w)
 
-  pub assign-same : (b : Bool) (r : Env) {k : ℕ} {s : Bool} → b ≡ false → k ≡ getD (e .line) n 0 → (k ≡ 0 → ⊥) → s ≡ sameType (typeOf t (k - 1)) (typeOf t a) → s ≡ true
-      → r .fits ≡ true → r .line ≡ set (e .line) n 0 → envView t r ≡ fitAll b (pvar n) (typeOf t a) (envView t e)
+  pub assign-same : (b : Bool) {k : ℕ} {s : Bool} → b ≡ false → k ≡ getD l n 0 → (k ≡ 0 → ⊥) → s ≡ sameType (typeOf t (k - 1)) (typeOf t a) → s ≡ true
+      → Fitted t b (pvar n) (typeOf t a) l true (set l n 0)
   unfolding slots
-  assign-same b r q i z w y f l =
-      fitted-view t r f
-      ∙ ap some (ap (map (entryView t)) l ∙ map-set (entryView t) (e .line) n 0)
-      ∙ sym (used-known i z w ∙ ap (λ s. guard s >>= λ _. some (set slots n none)) y)
-      ∙ one false
-      ∙ ap (λ c. fitAll c (pvar n) (typeOf t a) (envView t e)) (sym q)
+  assign-same b q i z w y = subst (λ c. Fitted t c (pvar n) (typeOf t a) l true (set l n 0)) (sym q) (record { long = length-set l n 0; fitted = spent })
+    where
+      spent : viewOf t true (set l n 0) ≡ fitAll false (pvar n) (typeOf t a) (viewOf t true l)
+      spent =
+          ap some (map-set (entryView t) l n 0)
+          ∙ sym (used-known i z w ∙ ap (λ s. guard s >>= λ _. some (set slots n none)) y)
+          ∙ one false
 
-  pub assign-other : (b : Bool) (r : Env) {k : ℕ} {s : Bool} → b ≡ false → k ≡ getD (e .line) n 0 → (k ≡ 0 → ⊥) → s ≡ sameType (typeOf t (k - 1)) (typeOf t a) → s ≡ false
-      → r .fits ≡ false → envView t r ≡ fitAll b (pvar n) (typeOf t a) (envView t e)
-  assign-other b r q i z w y f =
-      failed-view t r f
-      ∙ sym (used-known i z w ∙ ap (λ s. guard s >>= λ _. some (set slots n none)) y)
-      ∙ one false
-      ∙ ap (λ c. fitAll c (pvar n) (typeOf t a) (envView t e)) (sym q)
+  pub assign-other : (b : Bool) {k : ℕ} {s : Bool} → b ≡ false → k ≡ getD l n 0 → (k ≡ 0 → ⊥) → s ≡ sameType (typeOf t (k - 1)) (typeOf t a) → s ≡ false
+      → Fitted t b (pvar n) (typeOf t a) l false l
+  assign-other b q i z w y =
+      subst (λ c. Fitted t c (pvar n) (typeOf t a) l false l) (sym q)
+      (misfit false (used-known i z w ∙ ap (λ s. guard s >>= λ _. some (set slots n none)) y))
 
 -- ---- two nodes, by their kinds
 
@@ -284,8 +271,10 @@ module _ (t : List ℕ) (base p a : ℕ) (c : Bool) (x : Option (Slots Ty)) {j k
       go : (c : Bool) → fitField c (cond c 3 2) (fitField c (cond c 2 3) x)
           ≡ fitAll c (ppair (patternOf t base (smallerOf (cellOf t (base + p) 2) p)) (patternOf t base (smallerOf (cellOf t (base + p) 3) p)))
           (tprod (typeOf t (smallerOf (cellOf t a 2) a)) (typeOf t (smallerOf (cellOf t a 3) a))) x
-      go true = pair-bind (patternOf t base (smallerOf (cellOf t (base + p) 2) p)) (patternOf t base (smallerOf (cellOf t (base + p) 3) p)) (typeOf t (smallerOf (cellOf t a 2) a)) (typeOf t (smallerOf (cellOf t a 3) a)) x
-      go false = pair-use (patternOf t base (smallerOf (cellOf t (base + p) 2) p)) (patternOf t base (smallerOf (cellOf t (base + p) 3) p)) (typeOf t (smallerOf (cellOf t a 2) a)) (typeOf t (smallerOf (cellOf t a 3) a)) x
+      go true = pair-bind (patternOf t base (smallerOf (cellOf t (base + p) 2) p)) (patternOf t base (smallerOf (cellOf t (base + p) 3) p)) (typeOf t (smallerOf (cellOf t a 2) a))
+          (typeOf t (smallerOf (cellOf t a 3) a)) x
+      go false = pair-use (patternOf t base (smallerOf (cellOf t (base + p) 2) p)) (patternOf t base (smallerOf (cellOf t (base + p) 3) p)) (typeOf t (smallerOf (cellOf t a 2) a))
+          (typeOf t (smallerOf (cellOf t a 3) a)) x
 
   pub fit-pair : {f g q b q′ b′ : ℕ} {m r : Option (Slots Ty)} → j ≡ 4 → k ≡ 2 → f ≡ cond c 2 3 → g ≡ cond c 3 2
       → q ≡ smallerOf (cellOf t (base + p) f) p → b ≡ smallerOf (cellOf t a f) a → m ≡ fitAll c (patternOf t base q) (typeOf t b) x
@@ -294,13 +283,14 @@ module _ (t : List ℕ) (base p a : ℕ) (c : Bool) (x : Option (Slots Ty)) {j k
   fit-pair {q = q} {b} {q′} {b′} {m = m} h l ef eg s w e s′ w′ e′ =
       e′
       ∙ ap₂ (λ q b. fitAll c (patternOf t base q) (typeOf t b) m) (s′ ∙ ap (λ i. smallerOf (cellOf t (base + p) i) p) eg) (w′ ∙ ap (λ i. smallerOf (cellOf t a i) a) eg)
-      ∙ ap (fitField c (cond c 3 2)) (e ∙ ap₂ (λ q b. fitAll c (patternOf t base q) (typeOf t b) x) (s ∙ ap (λ i. smallerOf (cellOf t (base + p) i) p) ef) (w ∙ ap (λ i. smallerOf (cellOf t a i) a) ef))
+      ∙ ap (fitField c (cond c 3 2))
+      (e ∙ ap₂ (λ q b. fitAll c (patternOf t base q) (typeOf t b) x) (s ∙ ap (λ i. smallerOf (cellOf t (base + p) i) p) ef) (w ∙ ap (λ i. smallerOf (cellOf t a i) a) ef))
       ∙ in-turn h l
 
 -- ---- the recursion: the parts of a line, and from there the lines that it names
 
-pub parts-call : (i : ℕ) {m : ℕ} → 2 * i + 1 ≡ m → 2 * i < m
-parts-call i e = omega arith
+pub parts-call : {i j m : ℕ} → i ≤ j → 2 * j + 1 ≡ m → 2 * i < m
+parts-call h e = omega arith
 
 twice : {i j m : ℕ} → i < j → 2 * j ≡ m → 2 * i + 1 < m
 twice h e = omega arith
@@ -309,8 +299,15 @@ pub part-call : (t : List ℕ) (base p i : ℕ) {k q m : ℕ} → 2 * rank p ≡
 part-call t base p i r e h s = twice (pattern-call t base p i refl e (parts-no-unit h) s) r
 
 -- what has failed stays failed
-pub fit-stopped : (t : List ℕ) (base p a : ℕ) (c : Bool) (e : Env) → e .fits ≡ false → envView t e ≡ fitAll c (patternOf t base p) (typeOf t a) (envView t e)
-fit-stopped t base p a c e h = failed-view t e h ∙ sym (ap (fitAll c (patternOf t base p) (typeOf t a)) (failed-view t e h))
+pub fit-stopped : (t : List ℕ) (e : Env) (c : Bool) (p : Pat) (a : Ty) → e .fits ≡ false → envView t e ≡ fitAll c p a (envView t e)
+fit-stopped t e c p a h = failed ∙ sym (ap (fitAll c p a) failed)
+  where
+    failed : envView t e ≡ none
+    failed = ap (λ b. viewOf t b (e .line)) h
+
+-- what has fitted goes on
+pub fit-going : (t : List ℕ) (e : Env) (c : Bool) (p : Pat) (a : Ty) {r : Bool} {z : List ℕ} → e .fits ≡ true → Fitted t c p a (e .line) r z → viewOf t r z ≡ fitAll c p a (envView t e)
+fit-going t e c p a h f = f .fitted ∙ ap (λ b. fitAll c p a (viewOf t b (e .line))) (sym h)
 
 -- ---- a line is the same as itself
 
@@ -327,14 +324,11 @@ bare-spend : {p : Pat} {a : Ty} → Bare p a → (e : Slots Ty) → spend p a e 
 bare-spend unit e = refl
 bare-spend (pair {p = p} {a = a} x y) e = ap (λ z. z >>= λ d. spend p a d) (bare-spend y e) ∙ bare-spend x e
 
--- it fits its type, whatever has fitted so far
-pub bare-fitted : (t : List ℕ) (c : Bool) (e : Env) (p : Pat) (a : Ty) → Bare p a → envView t e ≡ fitAll c p a (envView t e)
-bare-fitted t c e p a h = go c (e .fits)
-  where
-    go : (d b : Bool) → viewIf b (map (entryView t) (e .line)) ≡ fitAll d p a (viewIf b (map (entryView t) (e .line)))
-    go d false = refl
-    go true true = sym (bare-learn h (map (entryView t) (e .line)))
-    go false true = sym (bare-spend h (map (entryView t) (e .line)))
+-- it fits its type and changes nothing, whatever has fitted so far
+pub bare-same : (c : Bool) {p : Pat} {a : Ty} → Bare p a → (x : Option (Slots Ty)) → x ≡ fitAll c p a x
+bare-same c h none = refl
+bare-same true h (some e) = sym (bare-learn h e)
+bare-same false h (some e) = sym (bare-spend h e)
 
 -- ---- once all is fitted
 

@@ -1,16 +1,17 @@
 -- The types of live variables while patterns are fitted, as the code keeps them.
-use Prim.Native.Nat.{ℕ, zero, suc, _+_}
+use Prim.Native.Nat.{ℕ, zero, suc, _+_, _<_, _≤_}
 use mathlib.Core.Path.{_≡_}
 use mathlib.Core.Bool.{Bool, true, false}
 use mathlib.Core.Option.{Option, none, some}
 use mathlib.Core.List.{List, map}
-use lib.ListN.{replicate}
-use Rattle.limits.specs.Limits.{variables}
+use lib.ListN.{length, replicate}
+use Rattle.limits.specs.Limits.{variables, maxLines, tableLength}
 use Rattle.calculus.specs.Tools.{_>>=_}
 use Rattle.calculus.specs.Trees.{Ty, Pat}
 use Rattle.calculus.specs.Slots.{Slots}
 use Rattle.calculus.specs.Clauses.{learn, spend}
-use Rattle.table_trees.specs.Unfolding.{typeOf, cellOf}
+use Rattle.table_trees.specs.Unfolding.{cellOf, smallerOf, typeOf, patternOf}
+use Rattle.check_bare.specs.Bare.{Bares}
 use Rattle.check_typing.specs.declared.Env as E
 
 -- a pattern bound, or used, where it fits a type
@@ -35,8 +36,17 @@ abbrev pub viewIf : Bool → Slots Ty → Option (Slots Ty)
 viewIf true e = some e
 viewIf false e = none
 
+-- entries as types, where all has fitted
+abbrev pub viewOf : List ℕ → Bool → List ℕ → Option (Slots Ty)
+viewOf t b l = viewIf b (map (entryView t) l)
+
 abbrev pub envView : List ℕ → E.Env → Option (Slots Ty)
-envView t e = viewIf (e .fits) (map (entryView t) (e .line))
+envView t e = viewOf t (e .fits) (e .line)
+
+-- the entries l once a pattern is fitted to a type: whether it fits, and the entries z
+pub record Fitted (t : List ℕ) (b : Bool) (p : Pat) (a : Ty) (l : List ℕ) (r : Bool) (z : List ℕ) : Type 0 where
+  pub long : length z ≡ length l
+  pub fitted : viewOf t r z ≡ fitAll b p a (viewOf t true l)
 
 unfoldable pub freshEnv : E.Env
 freshEnv = record { fits = true; line = replicate variables 0 }
@@ -52,3 +62,34 @@ pub record Parted (t : List ℕ) (base p a kp ka : ℕ) : Type 0 where
   pub pattern : kp ≡ cellOf t (base + p) 1
   pub type : ka ≡ cellOf t a 1
   pub parts : HasParts kp
+
+-- P line p and T line a of a whole table, which have marks
+pub record Ready (t g : List ℕ) (base p a : ℕ) : Type 0 where
+  pub whole : tableLength ≤ length t
+  pub bares : Bares t base g
+  pub few : length g ≤ maxLines
+  pub line : base + p < length g
+  pub type : a < base
+
+-- the lines q and b that number j of P line p and number k of T line a name, where both are earlier lines
+pub record Named (t : List ℕ) (base p a j k : ℕ) (known : Bool) (q b : ℕ) : Type 0 where
+  pub lower : known ≡ true → q < p
+  pub below : known ≡ true → b < a
+  pub pattern : known ≡ true → q ≡ smallerOf (cellOf t (base + p) j) p
+  pub type : known ≡ true → b ≡ smallerOf (cellOf t a k) a
+
+-- P line q fits T line b as P line p fits T line a, whatever has fitted so far
+pub record Alike (t : List ℕ) (base p a q b : ℕ) : Type 0 where
+  pub alike : (c : Bool) (x : Option (Slots Ty)) → fitAll c (patternOf t base q) (typeOf t b) x ≡ fitAll c (patternOf t base p) (typeOf t a) x
+
+-- earlier lines that do, where there are such
+pub record Stepped (t : List ℕ) (base p a : ℕ) (known : Bool) (q b : ℕ) : Type 0 where
+  pub lower : known ≡ true → q < p
+  pub below : known ≡ true → b < a
+  pub same : known ≡ true → Alike t base p a q b
+
+-- lines that do, these or earlier ones
+pub record Reached (t : List ℕ) (base p a q b : ℕ) : Type 0 where
+  pub within : p < maxLines → q ≤ p
+  pub past : maxLines ≤ p → q ≡ p
+  pub same : Alike t base p a q b

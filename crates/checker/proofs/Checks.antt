@@ -12,7 +12,8 @@ use borrow.Author.Tests.{lt-ltb, le-ltb, lt-leb}
 use Rattle.limits.specs.Limits.{maxBytes, maxLines, tableLength, workLength, rowWidth}
 use Rattle.calculus.specs.Tools.{isSome, firstFailing, firstOf, orElse, stages}
 use Rattle.calculus.specs.Trees.{left, right, Ty, Pat, Clause, Iso}
-use Rattle.calculus.specs.Refusals.{Kind, typeLine, patternLine, isoLine, clauseLine, letLine, Refusal, number, shortArea, tooLong, misplaced, badField, badName, ceiling, variable, letShape, badType, overlap, gap, idle}
+use Rattle.calculus.specs.Refusals.{Kind, typeLine, patternLine, isoLine, clauseLine, letLine, Refusal, number, shortArea, tooLong, misplaced, badField}
+use Rattle.calculus.specs.Refusals.{badName, ceiling, variable, letShape, badType, overlap, gap, idle}
 use Rattle.format.specs.Lines.{Row, lines, rowOf}
 use Rattle.format.specs.Table.{tableOf}
 use Rattle.format.specs.Judge.{Seen, start, afterAll, judge, inOrder, fieldsFit, named, withinCeilings, after, Reading, rows, faulty, withRow, onRow, onJudged, readFrom}

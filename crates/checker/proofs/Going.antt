@@ -14,7 +14,8 @@ use Rattle.limits.specs.Limits.{workLength}
 use Rattle.calculus.specs.Tools.{isSome}
 use Rattle.calculus.specs.Refusals.{Refusal, shortArea}
 use Rattle.format.specs.Lines.{Row}
-use Rattle.model.specs.Services.{Verdict, accepted, refused, verdict, filled, tableAfter, workAfter, short, unless, answerOf, refusalBy, check, Outcome, fails, goOn, refusalOf, refusalNumber, Served, served, serve}
+use Rattle.model.specs.Services.{Verdict, accepted, refused, verdict, filled, tableAfter, workAfter, short, unless, answerOf, refusalBy, check, Outcome, fails}
+use Rattle.model.specs.Services.{goOn, refusalOf, refusalNumber, Served, served, serve}
 use Rattle.format.specs.Code.{refusalView, numberOf, numbered}
 use Rattle.format.specs.declared.Answer as A
 use Rattle.format.specs.declared.Refusal as F

@@ -29,7 +29,9 @@ use Rattle.model.proofs.Runs.{run-iff}
 use Rattle.demands.specs.Words.{Areas}
 use Rattle.demands.proofs.Serving.{check-says, turn-says, run-shows}
 use Rattle.demands.proofs.Leaving.{says-tells}
-use Rattle.demands.specs.Faults.{UpTo, NumberedAnswers, IdleExactly, ShortExactly, TurnShortExactly, RunShortExactly, LongExactly, TurnAsCheck, RunAsCheck, LinesExactly, LineFault, LinePasses, FirstLine, here, later, Place, types, patterns, clauses, lets, Stand, type, noType, pattern, noPattern, iso, clause, noClause, let-step, noLet, end, RowsInOrder}
+use Rattle.demands.specs.Faults.{UpTo, NumberedAnswers, IdleExactly, ShortExactly, TurnShortExactly, RunShortExactly, LongExactly, TurnAsCheck}
+use Rattle.demands.specs.Faults.{RunAsCheck, LinesExactly, LineFault, LinePasses, FirstLine, here, later, Place, types, patterns, clauses, lets, Stand}
+use Rattle.demands.specs.Faults.{type, noType, pattern, noPattern, iso, clause, noClause, let-step, noLet, end, RowsInOrder}
 use Rattle.law_reordering.proofs.Unmoved.{withRow-faulty}
 
 -- ---- one line
@@ -296,7 +298,8 @@ pub turn-short-exactly : TurnShortExactly
 unfolding turn
 turn-short-exactly file t w o = (
   (λ e (a, h). no-one file (verdict file) refl (ap (λ x. x .number) (sym (turn-says file o a h) ∙ e))),
-  (λ h. ⊎-elim (λ b. turn-answer file t w o ∙ ap (λ x. answerOf (unless x (verdict file))) b) (λ b. absurd (h (all-long t w o (length file) b))) (bool-cases (short t w || ltb (length o) (length file)))),
+  (λ h. ⊎-elim (λ b. turn-answer file t w o ∙ ap (λ x. answerOf (unless x (verdict file))) b) (λ b. absurd (h (all-long t w o (length file) b)))
+      (bool-cases (short t w || ltb (length o) (length file)))),
 )
 
 pub run-short-exactly : RunShortExactly

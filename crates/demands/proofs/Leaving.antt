@@ -14,7 +14,8 @@ use Rattle.calculus.specs.Refusals.{Refusal, number, shortArea}
 use Rattle.format.specs.Lines.{Row, lines}
 use Rattle.format.specs.Table.{tableOf}
 use Rattle.format.specs.Judge.{start}
-use Rattle.model.specs.Services.{Verdict, accepted, refused, over, verdict, filled, written, tableAfter, workAfter, short, unless, answerOf, check, turnedOf, turn, Ran, gives, fails, runOf, run, RunAnswer, answerOfRun, runService}
+use Rattle.model.specs.Services.{Verdict, accepted, refused, over, verdict, filled, written, tableAfter, workAfter, short, unless, answerOf, check, turnedOf}
+use Rattle.model.specs.Services.{turn, Ran, gives, fails, runOf, run, RunAnswer, answerOfRun, runService}
 use Rattle.model.specs.Answers.{RunIs, absent, strange, passed, done}
 use Rattle.calculus.proofs.Basic.{neither, ltb-false, leb-le, leb-false, bool-cases}
 use Rattle.format.proofs.Printing.{read-count}

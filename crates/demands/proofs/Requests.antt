@@ -45,7 +45,10 @@ use Rattle.law_reordering.specs.Reordered.{SameButOrder}
 use Rattle.law_reordering.proofs.Files.{reordered-sym}
 use Rattle.law_reordering.proofs.Services.{check-both, run-same, turned-same as turned-order}
 use Rattle.demands.specs.Words.{Areas, yes, Accepted, turnedBytes}
-use Rattle.demands.specs.Requests.{SheetOfLoneRuns, BoundsOfTurned, TurnedWithFeeds, TurnedTwice, importedBytes, ImportAccepted, ExportOfImport, ShowsAsCheck, ShowsFault, BothAccepted, AnswerAlike, TurnedAlike, Sizes, SizesLeft, TablesLeft, PlayOfCalls, PlayCounts, PlayGood, PlayRestores, PlayRefused, PlayRefusedExactly, PlayShortExactly, PlayLongExactly, UnitAtFault, UnitExactly, BadScript, BadScriptExactly, PlaysExchange}
+use Rattle.demands.specs.Requests.{SheetOfLoneRuns, BoundsOfTurned, TurnedWithFeeds, TurnedTwice, importedBytes, ImportAccepted, ExportOfImport}
+use Rattle.demands.specs.Requests.{ShowsAsCheck, ShowsFault, BothAccepted, AnswerAlike, TurnedAlike, Sizes, SizesLeft, TablesLeft, PlayOfCalls}
+use Rattle.demands.specs.Requests.{PlayCounts, PlayGood, PlayRestores, PlayRefused, PlayRefusedExactly, PlayShortExactly, PlayLongExactly, UnitAtFault}
+use Rattle.demands.specs.Requests.{UnitExactly, BadScript, BadScriptExactly, PlaysExchange}
 use Rattle.demands.proofs.Serving.{not-short, not-tight, check-says, accepted-rows, same-rows, turn-writes, gives-run, run-gives, zero-says}
 use Rattle.demands.specs.Faults.{UpTo}
 use Rattle.demands.proofs.Faults.{no-one, long-exactly, numbered-answers}
@@ -112,7 +115,8 @@ pub export-of-import : ExportOfImport
 export-of-import file t w i j list output r same e budget l t₂ w₂ output₂ areas room =
     let n = ap (λ (x : Traded). x .answer .number) (sym same) ∙ ap (λ x. x .number) e in
     let x = import-exports file t w i j list output n budget t₂ w₂ output₂ l (areas .long) (areas .wide) room in
-    subst (λ (y : Traded). (exportService (importedBytes y) t₂ w₂ 0 budget output₂ .answer ≡ yes) × (importedBytes (exportService (importedBytes y) t₂ w₂ 0 budget output₂) ≡ withoutReturns list)) (sym same)
+    subst (λ (y : Traded). (exportService (importedBytes y) t₂ w₂ 0 budget output₂ .answer ≡ yes) ×
+    (importedBytes (exportService (importedBytes y) t₂ w₂ 0 budget output₂) ≡ withoutReturns list)) (sym same)
     (x .0, ap₂ take (x .1) (x .2) ∙ take-append-seam (withoutReturns list) (drop (length (withoutReturns list)) output₂))
 
 -- ---- request 09
@@ -232,8 +236,12 @@ play-back file t w us script budget tally p e ok none-skipped none-spent other b
     t₂ w₂ tally₂ (areas .long) (areas .wide) in
     let same : playService file t₂ w₂ (playService file t w us script budget tally .units) other budget tally₂ ≡ q =
     ap (λ (x : Play). playService file t₂ w₂ (x .units) other budget tally₂) (sym e) ∙ sym e₂ in
-    subst (λ (x : Play). (x .answer ≡ yes) × Alike rs us (x .units) × (x .tally ≡ record { done = length (lines script); skipped = 0; spent = 0 })) same
-    (r .0, subst (λ z. Alike z us (playService file t₂ w₂ (playService file t w us script budget tally .units) other budget tally₂ .units)) (own-rows file t w us script budget tally zero rs f) (r .1), r .2)
+    subst (λ (x : Play). (x .answer ≡ yes) × Alike rs us (x .units) × (x .tally ≡ record { done = length (lines script); skipped = 0; spent = 0 })) same (
+      r .0,
+      subst (λ z. Alike z us (playService file t₂ w₂ (playService file t w us script budget tally .units) other budget tally₂ .units))
+          (own-rows file t w us script budget tally zero rs f) (r .1),
+      r .2,
+    )
 
 pub play-refused-leaves : PlayRefused
 play-refused-leaves file t w us script budget tally p e h =

@@ -2,23 +2,35 @@
 -- holds by computation.
 use Prim.Native.Nat.{ℕ, zero, suc}
 use mathlib.Core.Path.{_≡_, refl}
-use mathlib.Core.Bool.{true, false}
+use mathlib.Core.Bool.{Bool, true, false, _||_}
 use mathlib.Core.Option.{none, some}
-use mathlib.Core.List.{[], _∷_, _++_, map}
-use lib.ListN.{replicate}
-use Rattle.limits.specs.Limits.{maxBytes, maxLines, maxTypes, maxPatterns, maxIsos, maxClauses, maxLets, maxNodes, maxTags, variables, fieldBound, budgetBound, rowWidth, tableLength, workLength, resultLength, queryLength, maxQueries, maxValues, maxPairs, exportLength, importLength, maxUnits, letterS}
+use mathlib.Core.List.{List, [], _∷_, _++_, map}
+use lib.Dec.{ltb}
+use lib.ListN.{length, replicate, take}
+use Rattle.limits.specs.Limits.{maxBytes, maxLines, maxTypes, maxPatterns, maxIsos, maxClauses, maxLets, maxNodes, maxTags, variables, fieldBound, budgetBound}
+use Rattle.limits.specs.Limits.{rowWidth, tableLength, workLength, resultLength, queryLength, maxQueries, maxValues, maxPairs, exportLength, importLength, maxUnits, letterS}
 use Rattle.calculus.specs.Tools.{isSome}
-use Rattle.calculus.specs.Trees.{tunit, tsum, tprod, left, right, Pat, punit, pvar, pinj, ppair, vunit, vinj, vpair, typeNodes, nodes}
-use Rattle.calculus.specs.Refusals.{Kind, typeLine, patternLine, isoLine, clauseLine, letLine, number, shortArea, tooLong, badLine, misplaced, badField, badName, ceiling, variable, letShape, badType, overlap, gap, noIso, noValue, spent, tooMany, tooHigh, badList, idle, badScript}
-use Rattle.format.specs.Lines.{Row, rowOf}
-use Rattle.format.specs.Table.{numbers, tableOf}
+use Rattle.calculus.specs.Trees.{Ty, tunit, tsum, tprod, left, right, Pat, punit, pvar, pinj, ppair, vunit, vinj, vpair, typeNodes, nodes}
+use Rattle.calculus.specs.Refusals.{Kind, typeLine, patternLine, isoLine, clauseLine, letLine, number, shortArea, tooLong, badLine, misplaced, badField}
+use Rattle.calculus.specs.Refusals.{badName, ceiling, variable, letShape, badType, overlap, gap, noIso, noValue, spent, tooMany, tooHigh, badList, idle, badScript}
+use Rattle.format.specs.Lines.{Row, lines, rowOf, decimal}
+use Rattle.format.specs.Table.{sizeOf, numbers, tableOf}
+use Rattle.format.specs.Unfold.{exchange, turnRows}
 use Rattle.format.specs.Judge.{Seen, start, inOrder, fieldsFit, named, withinCeilings, after}
 use Rattle.calculus.specs.Letters.{letters}
-use Rattle.model.specs.Services.{accepted, refused}
+use Rattle.model.specs.Services.{accepted, refused, over, verdict, filled, tableAfter, workAfter, short, unless, answerOf, serve, turnedRows, turnedBy, turn, runOn, ranBy, RunResult, runService}
 use Rattle.model.specs.Desk.{queryOf, desk}
 use Rattle.model.specs.Sheet.{sheetVerdict}
 use Rattle.model.specs.Cases.{bytes}
-use Rattle.law_units.specs.Units.{plannedOf, playVerdict}
+use Rattle.law_ranking.specs.Numbering.{numberRows, settingRows, numberedBy, numberService, Lettered, letteredBy, settingService}
+use Rattle.law_witnesses.specs.Showing.{setting, shownBy, lettersOf?, showService}
+use Rattle.law_witnesses.specs.Seeking.{leastIn, alone, gapIn, gapWord}
+use Rattle.law_pairlists.specs.PairLists.{exportRows, importRows, tradedBy, exportService, importService}
+use Rattle.law_endings.specs.Resaved.{feedsAlone, withEnding, resave, fits}
+use Rattle.law_units.specs.Units.{Planned, Units, Tally, plannedOf, playRows, unequal, playVerdict, playBy, playService}
+use Rattle.law_units.specs.Calls.{Lent, settingCall, runCall, numberCall}
+use Rattle.law_reordering.specs.Reordered.{isClause, isLet, isBlock, isWhole, bare}
+use Rattle.law_reordering.specs.Answers.{beginsQueries, stays}
 
 -- the column "number" of the table of refusals, request 02's two, 07's, 11's and 12's
 numbered : (k : Kind)
@@ -67,9 +79,22 @@ unfolding start
 sizes = refl
 
 -- "decimal numbers 0 to 65,535 without leading zeros; commas part them; there is no quoting and no blank"
-numerals : map (λ l. isSome (rowOf l)) (bytes "I,0,65535\n" ∷ bytes "I,0,65536\n" ∷ bytes "I,00,1\n" ∷ bytes "I,01,1\n" ∷ bytes "I,,1\n" ∷ bytes "I, 0,1\n" ∷ bytes "I,0;1\n" ∷ bytes "I,+0,1\n" ∷ bytes "I,0,1" ∷ [])
+numerals : map (λ l. isSome (rowOf l))
+    (bytes "I,0,65535\n" ∷ bytes "I,0,65536\n" ∷ bytes "I,00,1\n" ∷ bytes "I,01,1\n" ∷ bytes "I,,1\n" ∷ bytes "I, 0,1\n" ∷ bytes "I,0;1\n" ∷ bytes "I,+0,1\n" ∷ bytes "I,0,1" ∷ [])
     ≡ true ∷ false ∷ false ∷ false ∷ false ∷ false ∷ false ∷ false ∷ false ∷ []
 numerals = refl
+
+-- each field below 65,536, and no digit but 0 to 9: the bytes before and behind them are none
+each-field : map (λ l. isSome (rowOf l)) (bytes "T,65535,65535,65535\n" ∷ bytes "T,65536,0,0\n" ∷ bytes "T,0,65536,0\n" ∷ bytes "T,0,0,65536\n" ∷ [])
+    ∷ map (λ l. isSome (rowOf l)) (bytes "I,9,90\n" ∷ bytes "I,:,1\n" ∷ bytes "I,1:,1\n" ∷ bytes "I,/,1\n" ∷ bytes "I,1/,1\n" ∷ [])
+    ∷ []
+    ≡ (true ∷ false ∷ false ∷ false ∷ []) ∷ (true ∷ false ∷ false ∷ false ∷ false ∷ []) ∷ []
+each-field = refl
+
+-- numbers as they are written
+written-numbers : map decimal (0 ∷ 9 ∷ 10 ∷ 99 ∷ 65535 ∷ 4294967295 ∷ []) ≡ bytes "0" ∷ bytes "9" ∷ bytes "10" ∷ bytes "99" ∷ bytes "65535" ∷ bytes "4294967295" ∷ []
+unfolding decimal
+written-numbers = refl
 
 -- which line may follow which: a row for each kind above, none first, and in it T, P, I, C, L
 order : map (λ a. map (inOrder a) (typeLine ∷ patternLine ∷ isoLine ∷ clauseLine ∷ letLine ∷ []))
@@ -103,10 +128,11 @@ above t p i c l = record { above = none; types = replicate t tunit; patterns = r
 
 -- "A T or P line names only earlier lines of its own letter. An L line names an iso earlier than its own": lines 0 and 1 are there, and of the isos 0 and, being open, 1
 names : map (λ r. named (above 2 2 2 0 0) (r .kind) r)
-    (row typeLine 1 1 1 ∷ row typeLine 1 2 0 ∷ row typeLine 2 0 2 ∷ row patternLine 2 1 0 ∷ row patternLine 2 2 0 ∷ row patternLine 3 2 0 ∷ row patternLine 4 1 1
-    ∷ row patternLine 4 0 2 ∷ row isoLine 1 1 0 ∷ row isoLine 2 0 0 ∷ row isoLine 0 2 0 ∷ row clauseLine 1 1 0 ∷ row clauseLine 2 0 0 ∷ row clauseLine 0 2 0
+    (row typeLine 1 1 1 ∷ row typeLine 1 2 0 ∷ row typeLine 1 0 2 ∷ row typeLine 2 1 1 ∷ row typeLine 2 2 0 ∷ row typeLine 2 0 2 ∷ row patternLine 2 1 0 ∷ row patternLine 2 2 0 ∷ row
+    patternLine 3 2 0 ∷ row patternLine 4 1 1
+    ∷ row patternLine 4 2 0 ∷ row patternLine 4 0 2 ∷ row isoLine 1 1 0 ∷ row isoLine 2 0 0 ∷ row isoLine 0 2 0 ∷ row clauseLine 1 1 0 ∷ row clauseLine 2 0 0 ∷ row clauseLine 0 2 0
     ∷ row letLine 1 0 1 ∷ row letLine 2 0 1 ∷ row letLine 1 0 2 ∷ row letLine 1 1 1 ∷ [])
-    ≡ true ∷ false ∷ false ∷ true ∷ false ∷ false ∷ true ∷ false ∷ true ∷ false ∷ false ∷ true ∷ false ∷ false ∷ true ∷ false ∷ false ∷ false ∷ []
+    ≡ true ∷ false ∷ false ∷ true ∷ false ∷ false ∷ true ∷ false ∷ false ∷ true ∷ false ∷ false ∷ true ∷ false ∷ false ∷ true ∷ false ∷ false ∷ true ∷ false ∷ false ∷ false ∷ []
 names = refl
 
 -- the 256th T, 1,024th P, 32nd I, 128th C and 8th L pass, and the next of each does not
@@ -138,7 +164,8 @@ lets-anew : map (λ s. withinCeilings s letLine (row letLine 0 0 0)) (after (abo
 lets-anew = refl
 
 -- "nodes in an unfolded T or P": each unit, variable, left, right, sum, product and pair is one
-node-counts : typeNodes tunit ∷ typeNodes (tsum tunit tunit) ∷ typeNodes (tprod tunit tunit) ∷ nodes punit ∷ nodes (pvar 0) ∷ nodes (pinj left punit) ∷ nodes (pinj right punit) ∷ nodes (ppair punit punit) ∷ []
+node-counts : typeNodes tunit ∷ typeNodes (tsum tunit tunit) ∷ typeNodes (tprod tunit tunit) ∷ nodes punit ∷ nodes (pvar 0) ∷ nodes (pinj left punit) ∷ nodes (pinj right punit) ∷ nodes
+    (ppair punit punit) ∷ []
     ≡ 1 ∷ 3 ∷ 3 ∷ 1 ∷ 1 ∷ 2 ∷ 2 ∷ 3 ∷ []
 node-counts = refl
 
@@ -172,6 +199,25 @@ idle-named : map desk
 unfolding desk
 idle-named = refl
 
+-- request 10: "0 for other letters"
+other-sizes : map (λ k. sizeOf k (above 1 1 1 1 1) (row k 0 0 0)) (typeLine ∷ patternLine ∷ isoLine ∷ clauseLine ∷ letLine ∷ []) ≡ 1 ∷ 1 ∷ 0 ∷ 0 ∷ 0 ∷ []
+other-sizes = refl
+
+-- "T and P lines as they were, I lines with their types exchanged, C lines with their sides exchanged, the L lines … with p and q exchanged"
+exchanged-rows : map (λ r. exchange (r .kind) r) (row typeLine 1 2 3 ∷ row patternLine 1 2 3 ∷ row isoLine 1 2 3 ∷ row clauseLine 1 2 3 ∷ row letLine 1 2 3 ∷ [])
+    ≡ row typeLine 1 2 3 ∷ row patternLine 1 2 3 ∷ row isoLine 2 1 3 ∷ row clauseLine 2 1 3 ∷ row letLine 3 2 1 ∷ []
+exchanged-rows = refl
+
+-- "the L lines of each clause last to first", behind the line above them, and before the next line
+turned-lets : map (λ k. turnRows (row k 0 0 0 ∷ row letLine 1 0 2 ∷ row letLine 3 0 4 ∷ row k 0 0 0 ∷ [])) (typeLine ∷ patternLine ∷ isoLine ∷ clauseLine ∷ [])
+    ≡ map (λ k. row k 0 0 0 ∷ row letLine 4 0 3 ∷ row letLine 2 0 1 ∷ row k 0 0 0 ∷ []) (typeLine ∷ patternLine ∷ isoLine ∷ clauseLine ∷ [])
+unfolding turnRows
+turned-lets = refl
+
+first-lets : turnRows (row letLine 1 0 2 ∷ row letLine 3 0 4 ∷ row clauseLine 0 0 0 ∷ []) ≡ row letLine 4 0 3 ∷ row letLine 2 0 1 ∷ row clauseLine 0 0 0 ∷ []
+unfolding turnRows
+first-lets = refl
+
 -- n left nodes
 abbrev lefts : ℕ → Pat
 lefts zero = punit
@@ -183,6 +229,15 @@ seen p = record { above = none; types = []; patterns = p ∷ []; isos = 0; claus
 -- 40 left and right nodes pass, 41 do not
 tags : withinCeilings (seen (lefts 39)) patternLine (row patternLine 3 0 0) ∷ withinCeilings (seen (lefts 40)) patternLine (row patternLine 3 0 0) ∷ [] ≡ true ∷ false ∷ []
 tags = refl
+
+-- n pairs: 2n + 1 nodes
+abbrev pairs : ℕ → Pat
+pairs zero = punit
+pairs (suc n) = ppair punit (pairs n)
+
+-- 127 nodes of a P pass, 128 do not
+pattern-nodes : withinCeilings (seen (pairs 31)) patternLine (row patternLine 4 0 0) ∷ withinCeilings (seen (pairs 63)) patternLine (row patternLine 2 0 0) ∷ [] ≡ true ∷ false ∷ []
+pattern-nodes = refl
 
 -- ---- values, queries and sheets
 
@@ -228,3 +283,129 @@ thousand = refl
 
 script-lines : map (λ n. playVerdict (record { types = []; settings = [] }) (replicate n 10) (accepted [])) (4096 ∷ 4097 ∷ []) ≡ accepted [] ∷ refused tooLong 0 ∷ []
 script-lines = refl
+
+-- ---- a setting that shows the fault
+
+abbrev bit : Ty
+bit = tsum tunit tunit
+
+-- request 09: the least value that a pair matches, each part in its place
+least-pair : letters (leastIn (ppair (pinj right (pvar 0)) (pinj left (pvar 1))) (tprod bit bit)) ≡ bytes "PRULU"
+least-pair = refl
+
+-- a pair whose first part is a sum of unlike parts: each right first is matched, and a left first with a left behind it
+abbrev unlike : Ty
+unlike = tprod (tsum (tsum tunit (tprod tunit tunit)) tunit) (tsum tunit bit)
+
+abbrev matching : List Pat
+matching = ppair (pinj right (pvar 0)) (pvar 1) ∷ ppair (pinj left (pvar 0)) (pinj left (pvar 1)) ∷ []
+
+-- the first gap: after a letter the values that follow it stand before the rest
+gap-in-pair : (gapIn unlike matching ≡ some (bytes "PLLURLU")) × (gapWord 7 (unlike ∷ []) (alone matching) ≡ bytes "PLLURLU")
+gap-in-pair = (refl, refl)
+
+-- "for the iso and side refused": 13 of an iso from 1 + 1 to 1 is shown by a value of the from-type
+gap-of-left : lettersOf? (shownBy 13 (record { line = 1; from = bit; to = tunit; clauses = record { line = 2; lhs = pinj left punit; lets = []; rhs = punit } ∷ [] })) ≡ bytes "RU"
+unfolding setting
+gap-of-left = refl
+
+-- ---- endings, and clauses in any order
+
+-- request 06: "with its carriage returns taken out", each that stands directly before a line feed
+feeds-alone : map feedsAlone (bytes "a\r\nb\n" ∷ bytes "a\rb\r\r\n" ∷ bytes "\r" ∷ bytes "ab" ∷ []) ≡ bytes "a\nb\n" ∷ bytes "a\rb\r\n" ∷ bytes "\r" ∷ bytes "ab" ∷ []
+feeds-alone = refl
+
+-- "either ending on each line": a text with the one ending or the other; a text that ends in a carriage return has both bytes in any case
+endings : map (withEnding true) ([] ∷ bytes "a" ∷ bytes "a\r" ∷ []) ∷ map (withEnding false) ([] ∷ bytes "a" ∷ bytes "a\r" ∷ bytes "\ra" ∷ []) ∷ []
+    ≡ (bytes "\r\n" ∷ bytes "a\r\n" ∷ bytes "a\r\r\n" ∷ []) ∷ (bytes "\n" ∷ bytes "a\n" ∷ bytes "a\r\r\n" ∷ bytes "\ra\n" ∷ []) ∷ []
+endings = refl
+
+saved-again : resave (true ∷ false ∷ true ∷ []) (bytes "a\nb\r\nc\nd\ne") ∷ resave (true ∷ true ∷ []) (bytes "a") ∷ [] ≡ bytes "a\r\nb\nc\r\nd\ne" ∷ bytes "a" ∷ []
+saved-again = refl
+
+-- "a query's 200 bytes count both bytes of the ending"
+fitting : map (λ n. fits (replicate n 85)) (200 ∷ 201 ∷ []) ≡ true ∷ false ∷ []
+fitting = refl
+
+-- request 08: a clause as it stands in a file, a C line and L lines under it; lines that stay where they are; what `rules` reads behind a file
+blocks : map isBlock
+    ([] ∷ (bytes "C,0,0" ∷ []) ∷ (bytes "C,0,0" ∷ bytes "L,0,0,0" ∷ bytes "L,1,0,0" ∷ []) ∷ (bytes "L,0,0,0" ∷ []) ∷ (bytes "C,0,0" ∷ bytes "L,0,0,0" ∷ bytes "C,0,0" ∷ []) ∷ ([] ∷ []) ∷ [])
+    ≡ false ∷ true ∷ true ∷ false ∷ false ∷ false ∷ []
+blocks = refl
+
+whole-blocks : map isWhole ([] ∷ (bytes "C,0,0" ∷ []) ∷ (bytes "L,0,0,0" ∷ []) ∷ ([] ∷ []) ∷ []) ≡ true ∷ true ∷ false ∷ true ∷ []
+whole-blocks = refl
+
+moved-lines : map (λ l. isClause l ∷ isLet l ∷ stays l ∷ []) (bytes "C,0,0" ∷ bytes "L,0,0,0" ∷ bytes "I,0,0" ∷ [] ∷ [])
+    ≡ (true ∷ false ∷ false ∷ []) ∷ (false ∷ true ∷ false ∷ []) ∷ (false ∷ false ∷ true ∷ []) ∷ (false ∷ false ∷ true ∷ []) ∷ []
+moved-lines = refl
+
+behind-files : map beginsQueries ([] ∷ bytes "Q" ∷ bytes "T" ∷ []) ≡ true ∷ true ∷ false ∷ []
+behind-files = refl
+
+-- a clause without its place in the file: two that stand at different lines are alike
+without-place : map bare (record { line = 7; lhs = pvar 0; lets = []; rhs = pvar 1 } ∷ []) ≡ record { line = 0; lhs = pvar 0; lets = []; rhs = pvar 1 } ∷ []
+without-place = refl
+
+-- ---- the lengths of the areas, for any areas
+
+-- "a table area of at least 16,384 numbers" (20,480 since request 10) "and a work area of at least 65,536 bytes"; "over 65,536 bytes or 4,096 lines"
+short-areas : (t w : List ℕ) → short t w ≡ (ltb (length t) 20480 || ltb (length w) 65536)
+short-areas t w = refl
+
+long-files : (bs : List ℕ) → over bs ≡ (ltb 65536 (length bs) || ltb 4096 (length (lines bs)))
+unfolding over
+long-files bs = refl
+
+-- "zeros fill the rest of the first 16,384", "The first 65,536 bytes of the work area are zero", with and without a refusal
+left-areas : (rs : List Row) (a : List ℕ)
+    → (tableAfter (accepted rs) a ≡ filled 20480 (tableOf rs) a) × (tableAfter (refused badLine 1) a ≡ filled 20480 [] a)
+    × (workAfter (accepted rs) a ≡ filled 65536 [] a) × (workAfter (refused badLine 1) a ≡ filled 65536 [] a)
+left-areas rs a = (refl, refl, refl, refl)
+
+-- Turn: "Its area must be as long as the file"; Run: "its result area must have 127 bytes"; what each is asked for
+turn-call : (file t w o : List ℕ) → turn file t w o ≡ turnedBy o (serve (short t w || ltb (length o) (length file)) (verdict file) turnedRows t w)
+unfolding turn
+turn-call file t w o = refl
+
+run-call : (file t w x r : List ℕ) (i budget : ℕ) (back : Bool)
+    → runService file t w i back budget x r ≡ ranBy r (serve (short t w || ltb (length r) 127) (verdict file) (runOn i back budget x) t w)
+unfolding runService
+run-call file t w x r i budget back = refl
+
+-- request 02: "letters written into 127 lent bytes"
+number-call : (file t w x : List ℕ) (i : ℕ) → numberService file t w i x ≡ numberedBy (serve (short t w) (verdict file) (numberRows i x) t w)
+unfolding numberService
+number-call file t w x i = refl
+
+setting-call : (file t w r : List ℕ) (i n : ℕ) → settingService file t w i n r ≡ letteredBy r (serve (short t w || ltb (length r) 127) (verdict file) (settingRows i n) t w)
+unfolding settingService
+setting-call file t w r i n = refl
+
+-- request 07: "into an area of 40,960 bytes", "into an area of 65,536 bytes"; the from-type's T line first
+export-call : (file t w o : List ℕ) (i budget : ℕ)
+    → exportService file t w i budget o ≡ tradedBy o (serve (short t w || ltb (length o) 40960) (verdict file) (λ rs. exportRows rs i budget) t w)
+unfolding exportService
+export-call file t w o i budget = refl
+
+import-call : (file t w list o : List ℕ) (i j : ℕ)
+    → importService file t w i j list o ≡ tradedBy o (serve (short t w || ltb (length o) 65536) (verdict file) (λ rs. importRows rs i j list) t w)
+unfolding importService
+import-call file t w list o i j = refl
+
+-- request 09: "it goes into 127 lent bytes"; request 12: "Unit areas of unequal length are 1"
+show-call : (file t w r : List ℕ) → showService file t w r .answer ≡ answerOf (unless (short t w || ltb (length r) 127) (verdict file))
+unfolding showService
+show-call file t w r = refl
+
+play-call : (file t w script : List ℕ) (us : Units) (budget : ℕ) (n : Tally)
+    → playService file t w us script budget n ≡ playBy us n (serve (short t w || unequal us) (playVerdict us script (verdict file)) (playRows us script budget) t w)
+unfolding playService
+play-call file t w script us budget n = refl
+
+-- request 12, the three calls of a visit: the letters of number n of T line i, the run of these letters by the line's iso and direction, the number that they then have in T line j
+visit-calls : (file : List ℕ) (a : Lent) (p : Planned) (i n j budget : ℕ) (s : Lettered) (r : RunResult)
+    → (settingCall file a i n ≡ settingService file (a .table) (a .work) i n (a .result))
+    × (runCall file a p budget s ≡ runService file (a .table) (a .work) (p .iso) (p .back) budget (take (s .length) (s .result)) (a .result))
+    × (numberCall file a j r ≡ numberService file (a .table) (a .work) j (take (r .length) (r .result)))
+visit-calls file a p i n j budget s r = (refl, refl, refl)

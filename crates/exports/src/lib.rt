@@ -15,7 +15,10 @@ use limits::MAX_PAIRS;
 use limits::WORK_LENGTH;
 use list_targets::find_tos;
 use list_targets::iso_cell;
+use number_values::COUNTS;
 use number_values::count_values;
+use number_values::find_counts;
+use number_values::known;
 use print_text::put_field;
 use print_text::put_number;
 use run_coding::SHORT_AREA_LENGTH;
@@ -75,9 +78,11 @@ fn put_pairs(out: &mut [u8], tos: &[u16], n: usize) -> usize
 }
 
 // Lists iso i of a table that holds a checked file, whose isos the index finds, with one budget for each
-// pair. The output area needs 40,960 bytes; a refusal leaves it untouched.
+// pair. The output area needs 40,960 bytes; a refusal leaves it untouched. Counts is where those of the T
+// lines are kept.
 fn export_checked(
     t: &[u16],
+    counts: &mut [usize],
     base: usize,
     index: &[u16],
     isos: usize,
@@ -94,12 +99,13 @@ fn export_checked(
     if isos <= i {
         return not_listed(Refusal::NoIso);
     }
-    let n = count_values(t, iso_cell(t, index, i, 1));
+    find_counts(t, counts);
+    let n = count_values(t, counts, iso_cell(t, index, i, 1));
     if MAX_PAIRS < n {
         return not_listed(Refusal::TooMany);
     }
     let mut tos = [0u16; MAX_PAIRS];
-    if !find_tos(t, base, index, isos, i, n, budget, work, &mut tos) {
+    if !find_tos(t, counts, base, index, isos, i, n, budget, work, &mut tos) {
         return not_listed(Refusal::Spent);
     }
     let length = put_pairs(output, &tos, n);
@@ -128,8 +134,11 @@ fn export_accepted(
 {
     let mut index = [0u16; SHORT_AREA_LENGTH];
     prepare(table, c, &mut index);
+    let mut counts = [0usize; COUNTS];
+    let most = known(c.types);
     export_checked(
         table,
+        &mut counts[0..most],
         c.types,
         &index,
         c.isos,

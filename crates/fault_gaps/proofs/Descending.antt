@@ -150,7 +150,8 @@ module _ {a : Ty} {ps : List Pat} {w : List ℕ} (g : Good a ps w) (b : Ty) (ts 
   pub good-next : Good a ps (w ++ (letterOn (m .0) ∷ []))
   good-next =
       record {
-        once = subst (λ z. Once z (rowsAt ps (w ++ (letterOn (m .0) ∷ [])))) (sym types-next) (subst (Once (m .1 ++ ts)) (sym rows-next) (once-after b m i ts (rowsAt ps w) (subst (λ z. Once z (rowsAt ps w)) e (g .once))));
+        once = subst (λ z. Once z (rowsAt ps (w ++ (letterOn (m .0) ∷ [])))) (sym types-next)
+            (subst (Once (m .1 ++ ts)) (sym rows-next) (once-after b m i ts (rowsAt ps w) (subst (λ z. Once z (rowsAt ps w)) e (g .once))));
         fits = λ p k row h.
             let r = bind-some (rowAlong w (p ∷ [])) (λ z. after (m .0) z) (sym (row-next p) ∙ h) in
             subst (Shapes row) (sym types-next) (goes b m i ts (r .0) row (subst (Shapes (r .0)) e (g .fits p k (r .0) (r .1))) (r .2));

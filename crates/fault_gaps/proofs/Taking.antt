@@ -121,7 +121,8 @@ rows-start t base f rows w {k} {ts} {ts′} e g h =
           (none-taken w ts′ e (subst (λ z. Holds k (λ n. howMany n z)) g h));
     }
 
-pub rows-more : (t : List ℕ) (base f : ℕ) (rows k l w : List ℕ) (ts : List Ty) (x row q p : ℕ) → RowsLeft t base f rows k w ts x → 0 < x → length l ≡ length k → row ≡ getD rows (x - 1) 0 → q ≡ row → p ≡ cellOf t q f
+pub rows-more : (t : List ℕ) (base f : ℕ) (rows k l w : List ℕ) (ts : List Ty) (x row q p : ℕ) → RowsLeft t base f rows k w ts x → 0 < x → length l ≡ length k → row ≡ getD rows (x - 1) 0 → q
+    ≡ row → p ≡ cellOf t q f
     → TakesRow k l ts (rowAlong w (patternOf t base p ∷ [])) → RowsLeft t base f rows l w ts (x - 1)
 rows-more t base f rows k l w ts x row q p o z e g′ g h d =
     let r : p ≡ cellOf t (getD rows (x - 1) 0) f = h ∙ ap (λ n. cellOf t n f) (g ∙ g′) in

@@ -59,7 +59,8 @@ module _ {a : Ty} {ps : List Pat} {out₀ out : List ℕ} {n m : ℕ} (w : Way a
       let q = pick k b ts (rowsAt ps (take m out)) in
       let i = picked-mem k b ts (rowsAt ps (take m out)) in
       let v : take (m + 1) (set (set out m 76) m c) ≡ take m out ++ (letterOn (q .0) ∷ []) = ap (take (m + 1)) (set-set out m 76 c) ∙ take-stored out m c l ∙ ap (λ x. take m out ++ (x ∷ [])) f in
-      let lk : lacks (suc k) (b ∷ ts) (rowsAt ps (take m out)) ≡ true = subst (λ z. lacks (suc k) z (rowsAt ps (take m out)) ≡ true) e (subst (λ z. lacks z (typesAt a (take m out)) (rowsAt ps (take m out)) ≡ true) s (w .lack)) in
+      let lk : lacks (suc k) (b ∷ ts) (rowsAt ps (take m out)) ≡ true = subst (λ z. lacks (suc k) z (rowsAt ps (take m out)) ≡ true) e
+      (subst (λ z. lacks z (typesAt a (take m out)) (rowsAt ps (take m out)) ≡ true) s (w .lack)) in
       let T = types-next (w .good) b ts e q i in
       let R = rows-next (w .good) b ts e q i in
       record {
@@ -179,7 +180,8 @@ length-some a rows k (suc n) r p q h e = go (eq-or-lt-of-le p) (length-some a ro
         → firstOf (λ m. cond (lacks m (a ∷ []) rows) (some m) none) (countUp n (suc k)) ≡ some r)
         → orElse (cond (lacks k (a ∷ []) rows) (some k) none) (firstOf (λ m. cond (lacks m (a ∷ []) rows) (some m) none) (countUp n (suc k))) ≡ some r
     go (inl d) below = ap (λ b. orElse (cond b (some k) none) (firstOf (λ m. cond (lacks m (a ∷ []) rows) (some m) none) (countUp n (suc k)))) (ap (λ j. lacks j (a ∷ []) rows) d ∙ e) ∙ ap some d
-    go (inr d) below = ap (λ b. orElse (cond b (some k) none) (firstOf (λ m. cond (lacks m (a ∷ []) rows) (some m) none) (countUp n (suc k)))) (h k (le-refl k) d) ∙ below d (omega arith) (λ j x y. h j (omega arith) y) e
+    go (inr d) below = ap (λ b. orElse (cond b (some k) none) (firstOf (λ m. cond (lacks m (a ∷ []) rows) (some m) none) (countUp n (suc k)))) (h k (le-refl k) d) ∙ below d (omega arith)
+        (λ j x y. h j (omega arith) y) e
 
 -- the number of letters of the first gap, and its letters; 128 where no value of at most 127 letters is left
 pub record Searched (a : Ty) (ps : List Pat) (out₀ out : List ℕ) (r : ℕ) : Type 0 where

@@ -96,7 +96,8 @@ module _ {x z : Pat} {a : Ty} {l : List ℕ} {at : ℕ} where
         go {t = t} (suc (suc (suc (suc zero)))) v (Shape.pair s u) (Shape.pair s′ u′) q h i i′ =
             let o = bind-some (meet y c) (λ m. meet y′ d >>= λ m′. some (ppair m m′)) q in
             let o′ = bind-some (meet y′ d) (λ m′. some (ppair (o .0) m′)) (o .2) in
-            subst (λ m. Writes l l₃ at end (letters (leastIn m t))) (some-inj (o′ .2)) (writes-both w (writes-both (i .by (o .0) s s′ (o .1) (omega arith)) (i′ .by (o′ .0) u u′ (o′ .1) (omega arith))))
+            subst (λ m. Writes l l₃ at end (letters (leastIn m t))) (some-inj (o′ .2))
+            (writes-both w (writes-both (i .by (o .0) s s′ (o .1) (omega arith)) (i′ .by (o′ .0) u u′ (o′ .1) (omega arith))))
 
 -- a P line by the lines that it names
 pub node-of : (t : List ℕ) (base q : ℕ) {k c d : ℕ} → k ≡ cellOf t (base + q) 1 → c ≡ smallerOf (cellOf t (base + q) 2) q → d ≡ smallerOf (cellOf t (base + q) 3) q

@@ -20,11 +20,13 @@ module _ {x : Pat} {a : Ty} {l : List ℕ} {at : ℕ} where
   pub in-var : {l′ : List ℕ} {n end : ℕ} → x ≡ pvar n → SpellsLeast a l l′ at end → SpellsIn x a l l′ at end
   in-var {l′} {end = end} e w = subst (λ z. SpellsIn z a l l′ at end) (sym e) (record { by = λ s h. w .by h })
 
-  pub in-tag : (s : Tag) {y : Pat} {b : Ty} {l₁ l₂ : List ℕ} {next end : ℕ} → x ≡ pinj s y → b ≡ partOf s a → Writes l l₁ at next (letterOf s ∷ []) → SpellsIn y b l₁ l₂ next end → SpellsIn x a l l₂ at end
+  pub in-tag : (s : Tag) {y : Pat} {b : Ty} {l₁ l₂ : List ℕ} {next end : ℕ} → x ≡ pinj s y → b ≡ partOf s a → Writes l l₁ at next (letterOf s ∷ []) → SpellsIn y b l₁ l₂ next end → SpellsIn x
+      a l l₂ at end
   in-tag s {y} {b} {l₁} {l₂} {next} {end} e f w g =
       subst (λ z. SpellsIn z a l l₂ at end) (sym e) (record { by = λ sh h. go s sh h (subst (λ c. SpellsIn y c l₁ l₂ next end) f g) w })
     where
-      go : {c : Ty} (s : Tag) → Shape (pinj s y) c → typeNodes c ≤ maxNodes → SpellsIn y (partOf s c) l₁ l₂ next end → Writes l l₁ at next (letterOf s ∷ []) → Writes l l₂ at end (letters (leastIn (pinj s y) c))
+      go : {c : Ty} (s : Tag) → Shape (pinj s y) c → typeNodes c ≤ maxNodes → SpellsIn y (partOf s c) l₁ l₂ next end → Writes l l₁ at next (letterOf s ∷ []) → Writes l l₂ at end
+          (letters (leastIn (pinj s y) c))
       go left (Shape.inj sh) h k v = writes-both v (k .by sh (omega arith))
       go right (Shape.inj sh) h k v = writes-both v (k .by sh (omega arith))
 
@@ -33,5 +35,6 @@ module _ {x : Pat} {a : Ty} {l : List ℕ} {at : ℕ} where
   in-pair {y} {z} {b} {c} {l₁} {l₂} {l₃} {next} {middle} {end} e f g w j k =
       subst (λ u. SpellsIn u a l l₃ at end) (sym e) (record { by = λ sh h. go sh h (subst (λ d. SpellsIn y d l₁ l₂ next middle) f j) (subst (λ d. SpellsIn z d l₂ l₃ middle end) g k) })
     where
-      go : {d : Ty} → Shape (ppair y z) d → typeNodes d ≤ maxNodes → SpellsIn y (partOf left d) l₁ l₂ next middle → SpellsIn z (partOf right d) l₂ l₃ middle end → Writes l l₃ at end (letters (leastIn (ppair y z) d))
+      go : {d : Ty} → Shape (ppair y z) d → typeNodes d ≤ maxNodes → SpellsIn y (partOf left d) l₁ l₂ next middle → SpellsIn z (partOf right d) l₂ l₃ middle end → Writes l l₃ at end
+          (letters (leastIn (ppair y z) d))
       go (Shape.pair s u) h j k = writes-both w (writes-both (j .by s (omega arith)) (k .by u (omega arith)))

@@ -40,7 +40,8 @@ inner-start t base f rows a p out best h =
       adds = subst (λ l. AddsAll a p l out out best best) (sym (rows-end t base f rows)) (record { by = λ s ss k x d. d });
     }
 
-pub inner-more : (t : List ℕ) (base f : ℕ) (rows : List ℕ) {a : Ty} {p : Pat} {out₀ out out′ : List ℕ} {best b b′ y : ℕ} (row q : ℕ) → Inner t base f rows a p out₀ out best b y → 0 < y → length out′ ≡ length out → b′ ≤ 127
+pub inner-more : (t : List ℕ) (base f : ℕ) (rows : List ℕ) {a : Ty} {p : Pat} {out₀ out out′ : List ℕ} {best b b′ y : ℕ} (row q : ℕ) → Inner t base f rows a p out₀ out best b y → 0 < y →
+    length out′ ≡ length out → b′ ≤ 127
     → row ≡ getD rows (y - 1) 0 → q ≡ cellOf t row f → Adds a p (patternOf t base q) out out′ b b′ → Inner t base f rows a p out₀ out′ best b′ (y - 1)
 inner-more t base f rows {a} {p} {out₀} {out} {out′} {best} {b} {b′} {y} row q i z e l g h d =
     let r : q ≡ cellOf t (getD rows (y - 1) 0) f = h ∙ ap (λ n. cellOf t n f) g in
@@ -52,7 +53,8 @@ inner-more t base f rows {a} {p} {out₀} {out} {out′} {best} {b} {b′} {y} r
           (record { by = λ s ss k x k′. subst (λ n. Adds a p (patternOf t base n) out out′ b b′) r d .by s (ss _ (List·Memᴰ·head refl)) k _ (i .adds .by s (λ u m. ss u (List·Memᴰ·tail m)) k x k′) });
     }
 
-pub inner-done : {t : List ℕ} {base f : ℕ} {rows : List ℕ} {a : Ty} {p : Pat} {out₀ out : List ℕ} {best b y : ℕ} → Inner t base f rows a p out₀ out best b y → y ≤ 0 → AddsAll a p (patternsAt t base f rows) out₀ out best b
+pub inner-done : {t : List ℕ} {base f : ℕ} {rows : List ℕ} {a : Ty} {p : Pat} {out₀ out : List ℕ} {best b y : ℕ} → Inner t base f rows a p out₀ out best b y → y ≤ 0 → AddsAll a p
+    (patternsAt t base f rows) out₀ out best b
 inner-done {t} {base} {f} {rows} {a} {p} {out₀} {out} {best} {b} {y} i h = let e : y ≡ 0 = omega arith in subst (λ n. AddsAll a p (patternsAt t base f (drop n rows)) out₀ out best b) e (i .adds)
 
 -- ---- all patterns
@@ -76,12 +78,13 @@ pub outer-more : (t : List ℕ) (base f : ℕ) (rows : List ℕ) {a : Ty} {out�
     → row ≡ getD rows (x - 1) 0 → p ≡ cellOf t row f → AddsAll a (patternOf t base p) (patternsAt t base f (drop x rows)) out out′ b b′ → Outer t base f rows a out₀ out′ b′ (x - 1)
 outer-more t base f rows {a} {out₀} {out} {out′} {b} {b′} {x} row p o z e l g h d =
     let r : p ≡ cellOf t (getD rows (x - 1) 0) f = h ∙ ap (λ n. cellOf t n f) g in
+    let added = subst (λ n. AddsAll a (patternOf t base n) (patternsAt t base f (drop x rows)) out out′ b b′) r d in
     record {
       within = omega (arith, o .within);
       few = l;
       long = e ∙ o .long;
       keeps = subst (λ ps. Keeps a ps out′ b′) (sym (rows-line t base f rows x z (o .within)))
-          (record { by = λ ss k. subst (λ n. AddsAll a (patternOf t base n) (patternsAt t base f (drop x rows)) out out′ b b′) r d .by (ss _ (List·Memᴰ·head refl)) (λ u m. ss u (List·Memᴰ·tail m)) k _ (o .keeps .by (λ u m. ss u (List·Memᴰ·tail m)) k) });
+          (record { by = λ ss k. added .by (ss _ (List·Memᴰ·head refl)) (λ u m. ss u (List·Memᴰ·tail m)) k _ (o .keeps .by (λ u m. ss u (List·Memᴰ·tail m)) k) });
     }
 
 pub outer-done : {t : List ℕ} {base f : ℕ} {rows : List ℕ} {a : Ty} {out₀ out : List ℕ} {b x : ℕ} → Outer t base f rows a out₀ out b x → x ≤ 0 → Keeps a (patternsAt t base f rows) out b
@@ -123,7 +126,8 @@ gather-in a [] = refl
 gather-in a (p ∷ ps) = gather-with a p ps (gatherAll a ps) ∙ ap (better (overlapWith a p ps)) (gather-in a ps)
 
 -- the letters kept are those of the value that request 09 asks for
-pub kept-setting : {a : Ty} {ps : List Pat} {out : List ℕ} {best : ℕ} → Keeps a ps out best → ((p : Pat) → List·Memᴰ p ps → Shape p a) → typeNodes a ≤ maxNodes → Stored a (setting a (twice ps)) out best
+pub kept-setting : {a : Ty} {ps : List Pat} {out : List ℕ} {best : ℕ} → Keeps a ps out best → ((p : Pat) → List·Memᴰ p ps → Shape p a) → typeNodes a ≤ maxNodes → Stored a
+    (setting a (twice ps)) out best
 kept-setting {a} {ps} {out} {best} k s h = subst (λ x. Stored a x out best) (gather-in a ps ∙ overlap-setting a ps h s) (k .by s h)
 
 -- what is shown: the letters of the setting, then what was there

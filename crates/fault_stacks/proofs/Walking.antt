@@ -78,7 +78,8 @@ module _ {t : List ℕ} {base : ℕ} {w s : List ℕ} {p n top : ℕ} (o : RowOn
   one-more : rowAlong (drop n w) (rowFrom t base s top) ≡ (after (moveOf (getD w n 0)) (rowFrom t base s top) >>= λ r. rowAlong (drop (n + 1) w) r)
   one-more = ap (λ x. rowAlong x (rowFrom t base s top)) (from-byte w n h)
 
-  pub row-more : (s′ : List ℕ) {r : ℕ} → r ≡ topAfter (getD w n 0) top → length s′ ≡ length s → after (moveOf (getD w n 0)) (rowFrom t base s top) ≡ some (rowFrom t base s′ (topAfter (getD w n 0) top))
+  pub row-more : (s′ : List ℕ) {r : ℕ} → r ≡ topAfter (getD w n 0) top → length s′ ≡ length s → after (moveOf (getD w n 0)) (rowFrom t base s top) ≡ some
+      (rowFrom t base s′ (topAfter (getD w n 0) top))
       → RowOn t base w s′ p (n + 1) r
   row-more s′ {r} e l st =
       record {

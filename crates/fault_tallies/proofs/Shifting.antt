@@ -19,7 +19,13 @@ pub starts : (f : ℕ → ℕ) (k : List ℕ) → length k ≡ 128 → Moving f 
 starts f k e = record { within = omega arith; long = e; done = λ j h l. absurd (omega arith); kept = λ j h. refl }
 
 pub moved : (f : ℕ → ℕ) (k₀ k : List ℕ) (i v : ℕ) → Moving f k₀ k i → 0 < i → v ≡ f (i - 1) → Moving f k₀ (set k i v) (i - 1)
-moved f k₀ k i v m p e = record { within = omega (arith, m .within); long = length-set k i v ∙ m .long; done = λ j h l. at j l (eq-or-lt-of-le h); kept = λ j h. getD-set-other k i j v 0 (λ q. absurd (omega arith)) ∙ m .kept j (omega arith) }
+moved f k₀ k i v m p e = record {
+  within = omega (arith, m .within);
+  long = length-set k i v ∙ m .long;
+  done = λ j h l. at j l (eq-or-lt-of-le h);
+  kept =
+      λ j h. getD-set-other k i j v 0 (λ q. absurd (omega arith)) ∙ m .kept j (omega arith);
+}
   where
     at : (j : ℕ) → j + 1 < 128 → (i - 1 ≡ j) ⊎ (i - 1 < j) → getD (set k i v) (j + 1) 0 ≡ f j
     at j l (inl q) =

@@ -13,10 +13,12 @@ use Rattle.calculus.specs.Tools.{all}
 use Rattle.calculus.specs.Refusals.{Kind, typeLine, patternLine, isoLine, clauseLine, letLine, Refusal, idle}
 use Rattle.format.specs.Lines.{Row}
 use Rattle.format.specs.Judge.{Seen, start, stage, typeTree, patternTree, typeNamesOf, patternNamesOf, judge, afterKind, after, afterAll}
-use Rattle.format.specs.Kinds.{TypeKind, unitType, sumType, productType, noType, typeKind, PatternKind, unitPattern, variablePattern, leftPattern, rightPattern, pairPattern, noPattern, patternKind}
+use Rattle.format.specs.Kinds.{TypeKind, unitType, sumType, productType, noType, typeKind, PatternKind, unitPattern, variablePattern, leftPattern}
+use Rattle.format.specs.Kinds.{rightPattern, pairPattern, noPattern, patternKind}
 use Rattle.format.specs.Unfold.{exchange, turnFrom, turnRows}
 use Rattle.format.specs.Idle.{typeLines, typeReach, patternReach, reach, isRoot, Reached, NoneIdle, FirstIdle, member, Reach, reachRow, reachFrom, idleFault}
-use Rattle.calculus.proofs.Basic.{none≢some, some-inj, some-pair, or-true, true-or-left, true-or-right, not-both, eqb-eq, eq-eqb, leb-le, ltb-lt, true-and, and-true, all-append, each-nil, each-cons, index-below, le-or-lt}
+use Rattle.calculus.proofs.Basic.{none≢some, some-inj, some-pair, or-true, true-or-left, true-or-right, not-both, eqb-eq, eq-eqb, leb-le, ltb-lt, true-and}
+use Rattle.calculus.proofs.Basic.{and-true, all-append, each-nil, each-cons, index-below, le-or-lt}
 use Rattle.format.proofs.Naming.{both-named}
 use Rattle.format.proofs.Passing.{Passes, done, next, Fit, judge-fit, type-fit, iso-fit, clause-fit, let-fit}
 use Rattle.format.proofs.Turning.{AllLets, held-lets, after-turn}
@@ -397,17 +399,20 @@ roots-front ts n (q ∷ qs) xs h =
     let e : suc n + length qs ≡ n + suc (length qs) = omega arith in
     let k = and-true (isRootRow q) (all isRootRow qs) h in
     let o : Reach = reachFrom ts (suc n) (qs ++ xs) in
-    ap (λ b. cond {A = Reach} (b || member n (o .named)) (record { named = reach ts (q .kind) q ++ o .named; found = o .found }) (record { named = o .named; found = some (idle (q .kind), suc n) })) (k .0)
+    ap (λ b. cond {A = Reach} (b || member n (o .named)) (record { named = reach ts (q .kind) q ++ o .named; found = o .found })
+    (record { named = o .named; found = some (idle (q .kind), suc n) })) (k .0)
     ∙ ap (λ (u : Reach). record { named = reach ts (q .kind) q ++ u .named; found = u .found }) (roots-front ts (suc n) qs xs (k .1))
     ∙ ap (λ m. record { named = reach ts (q .kind) q ++ (rootNames ts qs ++ reachFrom ts m xs .named); found = reachFrom ts m xs .found }) e
-    ∙ ap (λ ns. record { named = ns; found = reachFrom ts (n + suc (length qs)) xs .found }) (sym (append-assoc (reach ts (q .kind) q) (rootNames ts qs) (reachFrom ts (n + suc (length qs)) xs .named)))
+    ∙ ap (λ ns. record { named = ns; found = reachFrom ts (n + suc (length qs)) xs .found })
+    (sym (append-assoc (reach ts (q .kind) q) (rootNames ts qs) (reachFrom ts (n + suc (length qs)) xs .named)))
 
 roots-all : (ts n : ℕ) (qs : List Row) → all isRootRow qs ≡ true → reachFrom ts n qs ≡ record { named = rootNames ts qs; found = none }
 roots-all ts n [] h = refl
 roots-all ts n (q ∷ qs) h =
     let k = and-true (isRootRow q) (all isRootRow qs) h in
     let o : Reach = reachFrom ts (suc n) qs in
-    ap (λ b. cond {A = Reach} (b || member n (o .named)) (record { named = reach ts (q .kind) q ++ o .named; found = o .found }) (record { named = o .named; found = some (idle (q .kind), suc n) })) (k .0)
+    ap (λ b. cond {A = Reach} (b || member n (o .named)) (record { named = reach ts (q .kind) q ++ o .named; found = o .found })
+    (record { named = o .named; found = some (idle (q .kind), suc n) })) (k .0)
     ∙ ap (λ (u : Reach). record { named = reach ts (q .kind) q ++ u .named; found = u .found }) (roots-all ts (suc n) qs (k .1))
 
 -- two neighbouring lists of such rows may change places

@@ -11,7 +11,8 @@ use lib.Dec.{leb, ltb, eqb}
 use Rattle.limits.specs.Limits.{digitZero}
 use Rattle.calculus.specs.Tools.{_>>=_, guard, all}
 use Rattle.format.specs.Lines.{isDigit, digits, numeral, decimalOf, decimal}
-use Rattle.calculus.proofs.Basic.{bind-some, none≢some, some-inj, guard-true, bool-cases, and-true, true-and, eqb-eq, eqb-false, not-eqb, leb-le, le-leb, ltb-lt, lt-ltb, ltb-false, not-ltb, all-append}
+use Rattle.calculus.proofs.Basic.{bind-some, none≢some, some-inj, guard-true, bool-cases, and-true, true-and, eqb-eq, eqb-false, not-eqb, leb-le, le-leb}
+use Rattle.calculus.proofs.Basic.{ltb-lt, lt-ltb, ltb-false, not-ltb, all-append}
 
 -- ---- digits
 

@@ -12,7 +12,8 @@ use lib.ListN.{length, take, getD, length-append, length-map}
 use Rattle.limits.specs.Limits.{fieldBound, lineFeed, carriageReturn, comma, budgetBound}
 use Rattle.calculus.specs.Tools.{_>>=_, guard, concat, total}
 use Rattle.calculus.specs.Refusals.{Kind, typeLine, patternLine, isoLine, clauseLine, letLine, Refusal}
-use Rattle.format.specs.Lines.{Row, letter, fieldCount, kindAmong, kindOf, ontoFirst, lines, numeral, text, withoutReturns, skip, fields, ended, fieldBounds, toRow, rowIn, rowOf, decimal, printField, print, printRows, isDigit}
+use Rattle.format.specs.Lines.{Row, letter, fieldCount, kindAmong, kindOf, ontoFirst, lines, numeral, text, withoutReturns, skip, fields, ended}
+use Rattle.format.specs.Lines.{fieldBounds, toRow, rowIn, rowOf, decimal, printField, print, printRows, isDigit}
 use Rattle.format.specs.Judge.{Seen, start, judge, after, Reading, rows, faulty, withRow, onRow, onJudged, readFrom}
 use Rattle.format.specs.Unfold.{exchange, TurnedTail, turnRow, turnFrom, turnRows}
 use Rattle.format.proofs.Passing.{Passes, done, next}

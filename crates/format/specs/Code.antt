@@ -10,7 +10,9 @@ use Rattle.format.specs.declared.Refusal.the-variants as refusals
 use Rattle.format.specs.declared.Row as CodeRow
 use Rattle.format.specs.declared.Answer as CodeAnswer
 use Rattle.calculus.specs.Trees.{Tag, left, right}
-use Rattle.calculus.specs.Refusals.{Kind, typeLine, patternLine, isoLine, clauseLine, letLine, Refusal, shortArea, tooLong, badLine, misplaced, badField, badName, ceiling, variable, letShape, badType, overlap, gap, noIso, noValue, spent, tooMany, tooHigh, badList, idle, badScript, number}
+use Rattle.calculus.specs.Refusals.{Kind, typeLine, patternLine, isoLine, clauseLine, letLine, Refusal, shortArea, tooLong, badLine, misplaced, badField}
+use Rattle.calculus.specs.Refusals.{badName, ceiling, variable, letShape, badType, overlap, gap, noIso, noValue, spent, tooMany, tooHigh, badList, idle}
+use Rattle.calculus.specs.Refusals.{badScript, number}
 use Rattle.format.specs.Lines.{Row}
 
 abbrev pub kindView : CodeKind.Kind → Kind

@@ -9,7 +9,8 @@ use lib.ListN.{length, getElem?}
 use Rattle.calculus.specs.Refusals.{Kind, typeLine, patternLine, isoLine, clauseLine, letLine, Refusal, idle}
 use Rattle.format.specs.Lines.{Row}
 use Rattle.format.specs.Judge.{start, afterAll}
-use Rattle.format.specs.Kinds.{TypeKind, unitType, sumType, productType, noType, typeKind, PatternKind, unitPattern, variablePattern, leftPattern, rightPattern, pairPattern, noPattern, patternKind}
+use Rattle.format.specs.Kinds.{TypeKind, unitType, sumType, productType, noType, typeKind, PatternKind, unitPattern, variablePattern, leftPattern}
+use Rattle.format.specs.Kinds.{rightPattern, pairPattern, noPattern, patternKind}
 
 -- Lines by their places in the file, from 0. "All T lines come first, then all P lines": T line a stands at place a, and P line a at place
 -- ts + a, where ts is the number of T lines.

@@ -11,7 +11,8 @@ use Rattle.calculus.specs.Tools.{firstFailing}
 use Rattle.calculus.specs.Trees.{Ty, tunit, tsum, tprod, Pat, punit, pvar, pinj, ppair, left, right, typeNodes, nodes, tags}
 use Rattle.calculus.specs.Refusals.{Kind, typeLine, patternLine, isoLine, clauseLine, letLine, Refusal, badLine, misplaced, badField, badName, ceiling}
 use Rattle.format.specs.Lines.{Row, rowOf}
-use Rattle.format.specs.Kinds.{TypeKind, unitType, sumType, productType, noType, typeKind, PatternKind, unitPattern, variablePattern, leftPattern, rightPattern, pairPattern, noPattern, patternKind}
+use Rattle.format.specs.Kinds.{TypeKind, unitType, sumType, productType, noType, typeKind, PatternKind, unitPattern, variablePattern, leftPattern}
+use Rattle.format.specs.Kinds.{rightPattern, pairPattern, noPattern, patternKind}
 
 -- what the rows above tell: the kind of the last, the T and P lines as trees, how many I lines there are, how many C lines since
 -- the last I and L lines since the last C

@@ -3,10 +3,11 @@ use Prim.Native.Nat.{ℕ, zero, suc}
 use mathlib.Core.Path.{_≡_, refl}
 use mathlib.Core.Bool.{true, false}
 use mathlib.Core.List.{List, [], _∷_, _++_, map}
+use mathlib.Core.Option.{some}
 use lib.ListN.{getElem?}
 use Rattle.calculus.specs.Trees.{tunit, punit, Clause, Iso}
 use Rattle.model.specs.Cases.{fileS}
-use Rattle.law_costs.specs.Costs.{leastCosts, greatestCosts}
+use Rattle.law_costs.specs.Costs.{leastOf, greatestOf, clauseCost, leastCosts, greatestCosts}
 use Rattle.law_costs.specs.Bounds.{Bounds, boundsFrom, onIso, bounds}
 
 -- S's first iso takes one application, its second one or two, and it has no third.
@@ -53,3 +54,13 @@ two-clauses : boundsFrom (onIso
     ≡ record { number = 0; least = 3; greatest = 5; leastOver = false; greatestOver = false }
 unfolding leastCosts greatestCosts
 two-clauses = refl
+
+-- the least and the greatest of some numbers; "A clause needs 1 plus the sum over its let steps"; 0 stands where there is no number
+of-numbers : (map leastOf ([] ∷ (4 ∷ []) ∷ (4 ∷ 2 ∷ 3 ∷ []) ∷ (2 ∷ 4 ∷ 3 ∷ []) ∷ []) ≡ 0 ∷ 4 ∷ 2 ∷ 2 ∷ [])
+    × (map greatestOf ([] ∷ (4 ∷ []) ∷ (3 ∷ 4 ∷ 2 ∷ []) ∷ (2 ∷ 3 ∷ 4 ∷ []) ∷ []) ≡ 0 ∷ 4 ∷ 4 ∷ 4 ∷ [])
+    × (clauseCost (5 ∷ 7 ∷ []) (calling (1 ∷ 0 ∷ 1 ∷ 2 ∷ [])) ≡ 20)
+of-numbers = (refl, refl, refl)
+
+no-number : boundsFrom (onIso [] 0 (some (one []))) ≡ record { number = 0; least = 0; greatest = 0; leastOver = false; greatestOver = false }
+unfolding leastCosts greatestCosts
+no-number = refl

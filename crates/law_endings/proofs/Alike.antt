@@ -12,7 +12,8 @@ use Rattle.calculus.specs.Tools.{_>>=_, guard, concat}
 use Rattle.calculus.specs.Refusals.{tooLong}
 use Rattle.format.specs.Lines.{lines, skip}
 use Rattle.format.specs.Judge.{start}
-use Rattle.model.specs.Services.{Verdict, accepted, refused, afterReading, over, verdict, answerOf, refusalBy, checkBy, check, serve, turnedRows, turnedBy, turn, runOf, run, answerOfRun, runBy, runService, tableAfter, workAfter, short, unless}
+use Rattle.model.specs.Services.{Verdict, accepted, refused, afterReading, over, verdict, answerOf, refusalBy, checkBy, check, serve, turnedRows, turnedBy}
+use Rattle.model.specs.Services.{turn, runOf, run, answerOfRun, runBy, runService, tableAfter, workAfter, short, unless}
 use Rattle.model.specs.Desk.{Query, queryIn, queryOf, answerTo, queryLine, fileLine, fileLines, queryLines, queryAnswers, desk}
 use Rattle.model.specs.Sheet.{answersTo, numbersAfter, lettersAfter, narrowSheet, sheet}
 use Rattle.law_ranking.specs.Numbering.{numberRows, settingRows, numberedBy, letteredBy, numberService, settingService}
@@ -123,7 +124,16 @@ sheet-alike bs cs table work qs ps numbers letters same m n h k =
     let v = verdicts (length (lines qs)) (verdict bs) in
     let same-verdict : v ≡ verdicts (length (lines ps)) (verdict cs) = ap₂ verdicts (count-same h) (verdict-alike bs cs same m n) in
     ap₂
-    (λ v rs. record { refusal = refusalBy v; answer = answerOf v; queries = length rs; table = tableAfter v table; work = workAfter v work; numbers = numbersAfter rs numbers; letters = lettersAfter rs letters })
+    (λ v rs. record {
+      refusal = refusalBy v;
+      answer = answerOf v;
+      queries = length rs;
+      table = tableAfter v table;
+      work = workAfter v work;
+      numbers = numbersAfter rs numbers;
+      letters =
+          lettersAfter rs letters;
+    })
     same-verdict
     (answers-alike v h k ∙ ap (λ v. answersTo v (lines ps)) same-verdict)
 

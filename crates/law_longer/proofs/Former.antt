@@ -49,26 +49,41 @@ judge-cases s r = go (r .kind) refl
     clause true true false false h l = inl refl
 
     go : (k : Kind) → r .kind ≡ k → JudgeCases s r
-    go typeLine e = JudgeCases.alike (ap (λ k. firstFailing ((inOrder (s .above) k, misplaced k) ∷ (fieldsFit k r, badField k) ∷ (named s k r, badName k) ∷ (withinFormer s k r, ceiling k) ∷ [])) e ∙ sym (ap (λ k. firstFailing ((inOrder (s .above) k, misplaced k) ∷ (fieldsFit k r, badField k) ∷ (named s k r, badName k) ∷ (withinCeilings s k r, ceiling k) ∷ [])) e))
-    go patternLine e = JudgeCases.alike (ap (λ k. firstFailing ((inOrder (s .above) k, misplaced k) ∷ (fieldsFit k r, badField k) ∷ (named s k r, badName k) ∷ (withinFormer s k r, ceiling k) ∷ [])) e ∙ sym (ap (λ k. firstFailing ((inOrder (s .above) k, misplaced k) ∷ (fieldsFit k r, badField k) ∷ (named s k r, badName k) ∷ (withinCeilings s k r, ceiling k) ∷ [])) e))
-    go isoLine e = JudgeCases.alike (ap (λ k. firstFailing ((inOrder (s .above) k, misplaced k) ∷ (fieldsFit k r, badField k) ∷ (named s k r, badName k) ∷ (withinFormer s k r, ceiling k) ∷ [])) e ∙ sym (ap (λ k. firstFailing ((inOrder (s .above) k, misplaced k) ∷ (fieldsFit k r, badField k) ∷ (named s k r, badName k) ∷ (withinCeilings s k r, ceiling k) ∷ [])) e))
-    go letLine e = JudgeCases.alike (ap (λ k. firstFailing ((inOrder (s .above) k, misplaced k) ∷ (fieldsFit k r, badField k) ∷ (named s k r, badName k) ∷ (withinFormer s k r, ceiling k) ∷ [])) e ∙ sym (ap (λ k. firstFailing ((inOrder (s .above) k, misplaced k) ∷ (fieldsFit k r, badField k) ∷ (named s k r, badName k) ∷ (withinCeilings s k r, ceiling k) ∷ [])) e))
+    go typeLine e = JudgeCases.alike
+        (ap (λ k. firstFailing ((inOrder (s .above) k, misplaced k) ∷ (fieldsFit k r, badField k) ∷ (named s k r, badName k) ∷ (withinFormer s k r, ceiling k) ∷ [])) e ∙ sym
+        (ap (λ k. firstFailing ((inOrder (s .above) k, misplaced k) ∷ (fieldsFit k r, badField k) ∷ (named s k r, badName k) ∷ (withinCeilings s k r, ceiling k) ∷ [])) e))
+    go patternLine e = JudgeCases.alike
+        (ap (λ k. firstFailing ((inOrder (s .above) k, misplaced k) ∷ (fieldsFit k r, badField k) ∷ (named s k r, badName k) ∷ (withinFormer s k r, ceiling k) ∷ [])) e ∙ sym
+        (ap (λ k. firstFailing ((inOrder (s .above) k, misplaced k) ∷ (fieldsFit k r, badField k) ∷ (named s k r, badName k) ∷ (withinCeilings s k r, ceiling k) ∷ [])) e))
+    go isoLine e = JudgeCases.alike
+        (ap (λ k. firstFailing ((inOrder (s .above) k, misplaced k) ∷ (fieldsFit k r, badField k) ∷ (named s k r, badName k) ∷ (withinFormer s k r, ceiling k) ∷ [])) e ∙ sym
+        (ap (λ k. firstFailing ((inOrder (s .above) k, misplaced k) ∷ (fieldsFit k r, badField k) ∷ (named s k r, badName k) ∷ (withinCeilings s k r, ceiling k) ∷ [])) e))
+    go letLine e = JudgeCases.alike
+        (ap (λ k. firstFailing ((inOrder (s .above) k, misplaced k) ∷ (fieldsFit k r, badField k) ∷ (named s k r, badName k) ∷ (withinFormer s k r, ceiling k) ∷ [])) e ∙ sym
+        (ap (λ k. firstFailing ((inOrder (s .above) k, misplaced k) ∷ (fieldsFit k r, badField k) ∷ (named s k r, badName k) ∷ (withinCeilings s k r, ceiling k) ∷ [])) e))
     go clauseLine e =
         on
         (clause (inOrder (s .above) clauseLine) (named s clauseLine r) (ltb (s .clauses) formerClauses) (ltb (s .clauses) maxClauses)
         (λ c. let l = ltb-lt (s .clauses) formerClauses c in lt-ltb {m = s .clauses} {n = maxClauses} (omega arith))
         (λ c. ltb-false (s .clauses) formerClauses c))
       where
-        to-former : formerJudge s r ≡ firstFailing ((inOrder (s .above) clauseLine, misplaced clauseLine) ∷ (true, badField clauseLine) ∷ (named s clauseLine r, badName clauseLine) ∷ (ltb (s .clauses) formerClauses, ceiling clauseLine) ∷ [])
+        to-former : formerJudge s r ≡ firstFailing
+            ((inOrder (s .above) clauseLine, misplaced clauseLine) ∷ (true, badField clauseLine) ∷ (named s clauseLine r, badName clauseLine) ∷
+            (ltb (s .clauses) formerClauses, ceiling clauseLine) ∷ [])
         to-former = ap (λ k. firstFailing ((inOrder (s .above) k, misplaced k) ∷ (fieldsFit k r, badField k) ∷ (named s k r, badName k) ∷ (withinFormer s k r, ceiling k) ∷ [])) e
 
-        to-today : judge s r ≡ firstFailing ((inOrder (s .above) clauseLine, misplaced clauseLine) ∷ (true, badField clauseLine) ∷ (named s clauseLine r, badName clauseLine) ∷ (ltb (s .clauses) maxClauses, ceiling clauseLine) ∷ [])
+        to-today : judge s r ≡ firstFailing
+            ((inOrder (s .above) clauseLine, misplaced clauseLine) ∷ (true, badField clauseLine) ∷ (named s clauseLine r, badName clauseLine) ∷ (ltb (s .clauses) maxClauses, ceiling clauseLine) ∷ [])
         to-today = ap (λ k. firstFailing ((inOrder (s .above) k, misplaced k) ∷ (fieldsFit k r, badField k) ∷ (named s k r, badName k) ∷ (withinCeilings s k r, ceiling k) ∷ [])) e
 
-        on : (firstFailing ((inOrder (s .above) clauseLine, misplaced clauseLine) ∷ (true, badField clauseLine) ∷ (named s clauseLine r, badName clauseLine) ∷ (ltb (s .clauses) formerClauses, ceiling clauseLine) ∷ [])
-            ≡ firstFailing ((inOrder (s .above) clauseLine, misplaced clauseLine) ∷ (true, badField clauseLine) ∷ (named s clauseLine r, badName clauseLine) ∷ (ltb (s .clauses) maxClauses, ceiling clauseLine) ∷ []))
-            ⊎ ((firstFailing ((inOrder (s .above) clauseLine, misplaced clauseLine) ∷ (true, badField clauseLine) ∷ (named s clauseLine r, badName clauseLine) ∷ (ltb (s .clauses) maxClauses, ceiling clauseLine) ∷ []) ≡ none)
-            × (firstFailing ((inOrder (s .above) clauseLine, misplaced clauseLine) ∷ (true, badField clauseLine) ∷ (named s clauseLine r, badName clauseLine) ∷ (ltb (s .clauses) formerClauses, ceiling clauseLine) ∷ []) ≡ some (ceiling clauseLine))
+        on : (firstFailing ((inOrder (s .above) clauseLine, misplaced clauseLine) ∷ (true, badField clauseLine) ∷ (named s clauseLine r, badName clauseLine) ∷
+            (ltb (s .clauses) formerClauses, ceiling clauseLine) ∷ [])
+            ≡ firstFailing ((inOrder (s .above) clauseLine, misplaced clauseLine) ∷ (true, badField clauseLine) ∷ (named s clauseLine r, badName clauseLine) ∷
+            (ltb (s .clauses) maxClauses, ceiling clauseLine) ∷ []))
+            ⊎ ((firstFailing ((inOrder (s .above) clauseLine, misplaced clauseLine) ∷ (true, badField clauseLine) ∷ (named s clauseLine r, badName clauseLine) ∷
+            (ltb (s .clauses) maxClauses, ceiling clauseLine) ∷ []) ≡ none)
+            × (firstFailing ((inOrder (s .above) clauseLine, misplaced clauseLine) ∷ (true, badField clauseLine) ∷ (named s clauseLine r, badName clauseLine) ∷
+            (ltb (s .clauses) formerClauses, ceiling clauseLine) ∷ []) ≡ some (ceiling clauseLine))
             × (formerClauses ≤ s .clauses)) → JudgeCases s r
         on (inl x) = JudgeCases.alike (to-former ∙ x ∙ sym to-today)
         on (inr x) = JudgeCases.newly (to-today ∙ x .0) (to-former ∙ x .1) e (x .2)
@@ -91,7 +106,9 @@ read-cases s n (l ∷ ls) = go (rowOf l) refl (λ r. read-cases (after s r) (suc
     new r = onJudged n (judge s r) (λ _. withRow r (readFrom (after s r) (suc n) ls))
 
     go : (o : Option Row) → rowOf l ≡ o → ((r : Row) → ReadCases (after s r) (suc n) ls) → ReadCases s n (l ∷ ls)
-    go none e below = ReadCases.alike (ap (λ o. onRow n o (λ r. onJudged n (formerJudge s r) (λ _. withRow r (formerRead (after s r) (suc n) ls)))) e ∙ sym (ap (λ o. onRow n o (λ r. onJudged n (judge s r) (λ _. withRow r (readFrom (after s r) (suc n) ls)))) e))
+    go none e below = ReadCases.alike
+        (ap (λ o. onRow n o (λ r. onJudged n (formerJudge s r) (λ _. withRow r (formerRead (after s r) (suc n) ls)))) e ∙ sym
+        (ap (λ o. onRow n o (λ r. onJudged n (judge s r) (λ _. withRow r (readFrom (after s r) (suc n) ls)))) e))
     go (some r) e below = on (judge-cases s r) (judge s r) refl (below r)
       where
         left : formerRead s n (l ∷ ls) ≡ onJudged n (formerJudge s r) (λ _. withRow r (formerRead (after s r) (suc n) ls))
@@ -127,7 +144,8 @@ verdicts bs = go (over bs) refl (read-cases start 1 (lines bs))
   where
     go : (b : Bool) → over bs ≡ b → ReadCases start 1 (lines bs) → Verdicts bs
     go true e x =
-        Verdicts.alike (ap (λ b. cond b (refused tooLong 0) (afterReading (formerRead start 1 (lines bs)))) e ∙ sym (ap (λ b. cond b (refused tooLong 0) (afterReading (readFrom start 1 (lines bs)))) e))
+        Verdicts.alike (ap (λ b. cond b (refused tooLong 0) (afterReading (formerRead start 1 (lines bs)))) e ∙ sym
+        (ap (λ b. cond b (refused tooLong 0) (afterReading (readFrom start 1 (lines bs)))) e))
     go false e (ReadCases.alike x) = Verdicts.alike (ap (λ r. cond (over bs) (refused tooLong 0) (afterReading r)) x)
     go false e (ReadCases.seven m x) =
         Verdicts.seven m (ap (λ b. cond b (refused tooLong 0) (afterReading (formerRead start 1 (lines bs)))) e ∙ ap afterReading x)
@@ -358,7 +376,8 @@ former-showing bs = go (over bs) (read-cases start 1 (lines bs))
 -- and such a run gives nothing
 pub seven-run : (n : ℕ) (table work : List ℕ) (i : ℕ) (back : Bool) (budget : ℕ) (value result : List ℕ) (r : RunResult)
     → r ≡ runBy (refused (ceiling clauseLine) n) table work i back budget value result → (1 ≤ r .number) × (r .number ≤ 7) × (r .length ≡ 0) × (r .result ≡ result)
-seven-run n table work i back budget value result r e = subst (λ (x : RunResult). (1 ≤ x .number) × (x .number ≤ 7) × (x .length ≡ 0) × (x .result ≡ result)) (sym e) (go (short table work || ltb (length result) resultLength))
+seven-run n table work i back budget value result r e = subst (λ (x : RunResult). (1 ≤ x .number) × (x .number ≤ 7) × (x .length ≡ 0) × (x .result ≡ result)) (sym e)
+    (go (short table work || ltb (length result) resultLength))
   where
     go : (b : Bool)
         → (1 ≤ ranBy result (serve b (refused (ceiling clauseLine) n) (runOn i back budget value) table work) .number)

@@ -15,7 +15,8 @@ use Rattle.format.specs.Lines.{Row, lines, printRows}
 use Rattle.format.specs.Judge.{Seen, start, withinCeilings, afterKind, after, afterAll, rows, readFrom}
 use Rattle.law_ranking.specs.Numbering.{count, typesOf}
 use Rattle.model.specs.Services.{Verdict, accepted, refused, verdict, gives, fails, goOn, served, short, unless}
-use Rattle.law_pairlists.specs.PairLists.{tosOf, pairsUp, listOf, enter, Entry, typeRow, patternRow, isoRow, writeType, writeValue, writePairs, settings, fileRows, withinAll, onList, onLines, onTypes, importRows, tradedBy, importService}
+use Rattle.law_pairlists.specs.PairLists.{tosOf, pairsUp, listOf, enter, Entry, typeRow, patternRow, isoRow, writeType, writeValue, writePairs, settings}
+use Rattle.law_pairlists.specs.PairLists.{fileRows, withinAll, onList, onLines, onTypes, importRows, tradedBy, importService}
 use Rattle.calculus.proofs.Basic.{bind-some, some-inj, and-true, true-and, ltb-lt, lt-ltb, not-ltb, each-nil, each-cons, each-append}
 use Rattle.law_pairlists.proofs.Rows.{Finding, there, fresh, finding}
 use Rattle.law_pairlists.proofs.List.{tos-length, settings-length}

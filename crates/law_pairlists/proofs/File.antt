@@ -464,8 +464,11 @@ file-written a b cs ha hb hc lc lp =
       line = 1 + length (e .rows) + length (w .patterns);
       isos = isos;
       formed =
-          each-append WellFormed (e .rows) (λ r m. let i = mem-index m in type-formed (length (g .trees)) r (omega (arith, room)) (ok-at typeTree TypeOk SmallType type-keep type-mono (g .stored) (i .0) r (i .1)))
-          (each-append WellFormed (w .patterns) (λ r m. let i = mem-index m in pattern-formed (length (o .trees)) r (omega (arith, proom)) (ok-at patternTree PatternOk (SmallPattern maxTags) pattern-keep pattern-mono (o .stored) (i .0) r (i .1)))
+          each-append WellFormed (e .rows)
+          (λ r m. let i = mem-index m in type-formed (length (g .trees)) r (omega (arith, room)) (ok-at typeTree TypeOk SmallType type-keep type-mono (g .stored) (i .0) r (i .1)))
+          (each-append WellFormed (w .patterns)
+          (λ r m. let i = mem-index m in pattern-formed (length (o .trees)) r (omega (arith, proom))
+          (ok-at patternTree PatternOk (SmallPattern maxTags) pattern-keep pattern-mono (o .stored) (i .0) r (i .1)))
           (each-cons WellFormed
           (record { x = omega (arith, room, index-below (g .trees) (f .number) fa); y = omega (arith, room, index-below (g .trees) (e .number) (g .here)); z = omega arith; missing = λ q. refl })
           (clauses-formed (omega (arith, proom)) (o .rows))));

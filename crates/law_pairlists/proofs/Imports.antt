@@ -21,7 +21,8 @@ use Rattle.calculus.specs.Reduction.{reduce}
 use Rattle.law_ranking.specs.Numbering.{count, rank, unrank, typesOf}
 use Rattle.model.specs.Services.{accepted, verdict, over, gives, fails}
 use Rattle.calculus.specs.Paper.{FileOk}
-use Rattle.law_pairlists.specs.PairLists.{pairLines, tosOf, pairsUp, listOf, settings, writePairs, fileRows, withinAll, onList, onLines, onTypes, importRows, toFrom, upwards, onPairs, onExported, exportRows, exportOn, importOn}
+use Rattle.law_pairlists.specs.PairLists.{pairLines, tosOf, pairsUp, listOf, settings, writePairs, fileRows, withinAll, onList, onLines, onTypes}
+use Rattle.law_pairlists.specs.PairLists.{importRows, toFrom, upwards, onPairs, onExported, exportRows, exportOn, importOn}
 use Rattle.calculus.proofs.Basic.{bind-some, some-bind, some-inj, guard-true, true-guard, neither, le-leb, ltb-false, not-ltb, index-mem, each-nil, each-cons}
 use Rattle.format.proofs.Printing.{WellFormed, shown, printFields, length-print, length-printRows, lines-print, printed-reading, concat-lines}
 use Rattle.model.proofs.Files.{accepted-iff}
@@ -99,11 +100,14 @@ fields-short (n ∷ ns) h =
     omega arith
 
 shown-short : (k : Kind) (x y z : ℕ) → x < fieldBound → y < fieldBound → z < fieldBound → length (printFields (shown (record { kind = k; x = x; y = y; z = z }))) ≤ 18
-shown-short typeLine x y z p q r = fields-short (x ∷ y ∷ z ∷ []) (each-cons (λ n. n < fieldBound) p (each-cons (λ n. n < fieldBound) q (each-cons (λ n. n < fieldBound) r (each-nil (λ n. n < fieldBound)))))
-shown-short patternLine x y z p q r = fields-short (x ∷ y ∷ z ∷ []) (each-cons (λ n. n < fieldBound) p (each-cons (λ n. n < fieldBound) q (each-cons (λ n. n < fieldBound) r (each-nil (λ n. n < fieldBound)))))
+shown-short typeLine x y z p q r = fields-short (x ∷ y ∷ z ∷ [])
+    (each-cons (λ n. n < fieldBound) p (each-cons (λ n. n < fieldBound) q (each-cons (λ n. n < fieldBound) r (each-nil (λ n. n < fieldBound)))))
+shown-short patternLine x y z p q r = fields-short (x ∷ y ∷ z ∷ [])
+    (each-cons (λ n. n < fieldBound) p (each-cons (λ n. n < fieldBound) q (each-cons (λ n. n < fieldBound) r (each-nil (λ n. n < fieldBound)))))
 shown-short isoLine x y z p q r = le-trans (fields-short (x ∷ y ∷ []) (each-cons (λ n. n < fieldBound) p (each-cons (λ n. n < fieldBound) q (each-nil (λ n. n < fieldBound))))) (omega arith)
 shown-short clauseLine x y z p q r = le-trans (fields-short (x ∷ y ∷ []) (each-cons (λ n. n < fieldBound) p (each-cons (λ n. n < fieldBound) q (each-nil (λ n. n < fieldBound))))) (omega arith)
-shown-short letLine x y z p q r = fields-short (x ∷ y ∷ z ∷ []) (each-cons (λ n. n < fieldBound) p (each-cons (λ n. n < fieldBound) q (each-cons (λ n. n < fieldBound) r (each-nil (λ n. n < fieldBound)))))
+shown-short letLine x y z p q r = fields-short (x ∷ y ∷ z ∷ [])
+    (each-cons (λ n. n < fieldBound) p (each-cons (λ n. n < fieldBound) q (each-cons (λ n. n < fieldBound) r (each-nil (λ n. n < fieldBound)))))
 
 rows-short : (rs : List Row) → ((r : Row) → List·Memᴰ r rs → WellFormed r) → total (map (λ r. length (print r)) rs) ≤ length rs * 20
 rows-short [] h = omega arith

@@ -16,7 +16,9 @@ use Rattle.format.specs.Lines.{lines, text, withoutReturns, isDigit, numeral, s
 use Rattle.law_ranking.specs.Numbering.{count, rank, unrank}
 use Rattle.law_pairlists.specs.PairLists.{pairLine, pairLines, toIn, toOf, tosOf, noneTwice, pairsUp, settings}
 use Rattle.calculus.specs.Paper.{Of, Distinct, nobody, another}
-use Rattle.calculus.proofs.Basic.{bind-some, some-bind, none≢some, some-inj, guard-true, true-guard, and-true, true-and, bool-cases, not-both, not-true, eqb-eq, eq-eqb, not-eqb, eqb-false, ltb-lt, ltb-false, each-cons, each-append, all-mem, mem-all, select-true, select-false, select-mem}
+use Rattle.calculus.proofs.Basic.{bind-some, some-bind, none≢some, some-inj, guard-true, true-guard, and-true, true-and, bool-cases, not-both, not-true, eqb-eq}
+use Rattle.calculus.proofs.Basic.{eq-eqb, not-eqb, eqb-false, ltb-lt, ltb-false, each-cons, each-append, all-mem, mem-all, select-true, select-false}
+use Rattle.calculus.proofs.Basic.{select-mem}
 use Rattle.calculus.proofs.Letters.{inhabits-of, of-inhabits}
 use Rattle.format.proofs.Numerals.{read-numeral, numeral-decimal, decimal-digits, digit-lower}
 use Rattle.format.proofs.Endings.{feed, NoReturn, Returnless, text-ended, text-feed, without-append, without-line}

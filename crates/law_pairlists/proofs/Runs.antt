@@ -22,7 +22,8 @@ use Rattle.law_ranking.specs.Numbering.{count, rank, unrank, typesOf}
 use Rattle.model.specs.Services.{accepted, verdict, gives, fails, Ran, within, from, onIso, runRows, runOf, run, toward}
 use Rattle.calculus.specs.Paper.{Of}
 use Rattle.model.specs.Answers.{RunIs, strange, done}
-use Rattle.law_pairlists.specs.PairLists.{upwards, onPairs, onExported, exportRows, tosOf, pairsUp, listOf, settings, writePairs, fileRows, withinAll, toFrom, onList, onLines, onTypes, importRows}
+use Rattle.law_pairlists.specs.PairLists.{upwards, onPairs, onExported, exportRows, tosOf, pairsUp, listOf, settings, writePairs, fileRows, withinAll}
+use Rattle.law_pairlists.specs.PairLists.{toFrom, onList, onLines, onTypes, importRows}
 use Rattle.calculus.proofs.Basic.{bind-some, not-some, guard-true, leb-le, some-bind, some-inj, none≢some, true-guard, true-and, eq-eqb, lt-ltb, not-ltb, mem-all, index-below, index-map}
 use Rattle.calculus.proofs.Letters.{value-letters, inhabits-of, of-inhabits}
 use Rattle.format.proofs.Turning.{isos-turn}

@@ -15,7 +15,8 @@ use Rattle.calculus.specs.Refusals.{Refusal, number, shortArea, noValue, spent}
 use Rattle.format.specs.Lines.{Row, lines, withoutReturns}
 use Rattle.format.specs.Unfold.{isosOf}
 use Rattle.calculus.specs.Letters.{letters}
-use Rattle.model.specs.Services.{Verdict, accepted, refused, verdict, written, tableAfter, workAfter, short, unless, answerOf, check, run, Outcome, gives, fails, refusalNumber, bytesFrom, served, serve}
+use Rattle.model.specs.Services.{Verdict, accepted, refused, verdict, written, tableAfter, workAfter, short, unless, answerOf, check, run, Outcome, gives}
+use Rattle.model.specs.Services.{fails, refusalNumber, bytesFrom, served, serve}
 use Rattle.calculus.proofs.Basic.{some-inj, lt-ltb, not-ltb}
 use Rattle.model.proofs.Files.{number-positive}
 use Rattle.model.proofs.Sheets.{long-enough}
@@ -55,7 +56,8 @@ module _ (file t w : List ℕ) (i j : ℕ) (list o : List ℕ) where
   writtenFile = take (importService file t w i j list o .length) (importService file t w i j list o .output)
 
   -- an output area below 65,536 bytes is 1 before anything else, and nothing changes
-  pub import-short : length o < importLength → importService file t w i j list o ≡ record { refusal = some shortArea; answer = record { number = 1; line = 0 }; length = 0; table = t; work = w; output = o }
+  pub import-short : length o < importLength → importService file t w i j list o ≡ record
+      { refusal = some shortArea; answer = record { number = 1; line = 0 }; length = 0; table = t; work = w; output = o }
   unfolding importService
   import-short h =
       ap (λ b. tradedBy o (serve b (verdict file) (λ rs. importRows rs i j list) t w)) (ap (λ b. short t w || b) (lt-ltb h) ∙ or-true (short t w))
@@ -163,7 +165,8 @@ module _ (file t w : List ℕ) (i j : ℕ) (list o : List ℕ) where
         let hb = small-type file rs (import-of .1) j (source .to) (source .second) in
         let l : length (source .tos) ≤ maxClauses = let z = tos-length 0 (lines list) (source .tos) (source .reads) in let s = source .short in omega arith in
         let few = written-ceiling (source .from) (source .to) (source .tos) ha hb l (source .taken) .0 (source .within) in
-        lines-once (source .from) (source .to) (source .tos) ha hb l (source .taken) few m n line (ap (λ z. getElem? (lines z) m) (sym (source .bytes)) ∙ d) (ap (λ z. getElem? (lines z) n) (sym (source .bytes)) ∙ e)
+        lines-once (source .from) (source .to) (source .tos) ha hb l (source .taken) few m n line (ap (λ z. getElem? (lines z) m) (sym (source .bytes)) ∙ d)
+        (ap (λ z. getElem? (lines z) n) (sym (source .bytes)) ∙ e)
 
 -- ---- export
 
@@ -188,7 +191,8 @@ module _ (file t w : List ℕ) (i budget : ℕ) (o : List ℕ) where
   abbrev pub writtenList : List ℕ
   writtenList = take (exportService file t w i budget o .length) (exportService file t w i budget o .output)
 
-  pub export-short : length o < exportLength → exportService file t w i budget o ≡ record { refusal = some shortArea; answer = record { number = 1; line = 0 }; length = 0; table = t; work = w; output = o }
+  pub export-short : length o < exportLength → exportService file t w i budget o ≡ record
+      { refusal = some shortArea; answer = record { number = 1; line = 0 }; length = 0; table = t; work = w; output = o }
   unfolding exportService
   export-short h =
       ap (λ b. tradedBy o (serve b (verdict file) (λ rs. exportRows rs i budget) t w)) (ap (λ b. short t w || b) (lt-ltb h) ∙ or-true (short t w))

@@ -1,6 +1,8 @@
 -- Request 02, settings as numbers: a type's closed values and the numbers below its count stand for each other, in the letters' order.
 use Prim.Native.Nat.{ℕ, zero, suc, _+_, _-_, _*_, _/_, _%_, _≤_, _<_}
-use native.Mathlib.Nat.{zero-add, suc-mul, mul-comm, mul-pos, add-sub-cancel-left, add-sub-of-le, ne-of-gt, eq-or-lt-of-le, le-of-eq, le-of-lt, le-add-right, mul-le-mul-right, le-mul-of-pos-right, mod-lt, mod-eq-of-lt, div-eq-of-lt, div-add-mod', div-lt-iff-lt-mul, mul-add-div-right, mul-add-mod-self-right}
+use native.Mathlib.Nat.{zero-add, suc-mul, mul-comm, mul-pos, add-sub-cancel-left, add-sub-of-le, ne-of-gt, eq-or-lt-of-le, le-of-eq, le-of-lt, le-add-right}
+use native.Mathlib.Nat.{mul-le-mul-right, le-mul-of-pos-right, mod-lt, mod-eq-of-lt, div-eq-of-lt, div-add-mod', div-lt-iff-lt-mul, mul-add-div-right}
+use native.Mathlib.Nat.{mul-add-mod-self-right}
 use native.Mathlib.Omega.{arith}
 use mathlib.Core.Path.{_≡_, refl, sym, ap, ap₂, _∙_, subst}
 use mathlib.Core.Logic.{_⊎_, ⊎-elim}

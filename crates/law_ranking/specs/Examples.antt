@@ -1,12 +1,15 @@
 -- Request 02: examples that shut out wrong readings. Each holds by computation.
+use Prim.Native.Nat.{ℕ, zero, suc}
 use mathlib.Core.Path.{_≡_, refl}
 use mathlib.Core.Bool.{true, false}
-use mathlib.Core.List.{[], _∷_}
+use mathlib.Core.Option.{none, some}
+use mathlib.Core.List.{List, [], _∷_, map}
+use Rattle.calculus.specs.Trees.{Ty, tunit, tsum, tprod, left, right, Val, vunit, vinj, vpair}
 use Rattle.calculus.specs.Refusals.{noIso, noValue, tooMany, tooHigh}
 use Rattle.calculus.specs.Letters.{valueOf}
 use Rattle.model.specs.Services.{Verdict, verdict, gives, fails}
 use Rattle.model.specs.Cases.{bytes}
-use Rattle.law_ranking.specs.Numbering.{before, typesOf, numberOn, settingOn}
+use Rattle.law_ranking.specs.Numbering.{count, rank, unrank, before, typesOf, onType, numberOn, settingOn, numberFrom}
 
 -- T line 1 has 2 values, 2 has 4, 3 has 16, 4 has 256, 5 has 65,536 and 6 has 4,294,967,296
 abbrev squares : Verdict
@@ -30,3 +33,56 @@ last-number = (refl, refl)
 byte-order : before [] (bytes "U") ∷ before (bytes "U") [] ∷ before (bytes "LU") (bytes "LUU") ∷ before (bytes "LR") (bytes "RL") ∷ before (bytes "U") (bytes "U") ∷ []
     ≡ true ∷ false ∷ true ∷ true ∷ false ∷ []
 byte-order = refl
+
+-- ---- case by case
+
+abbrev bit : Ty
+bit = tsum tunit tunit
+
+abbrev three : Ty
+three = tsum tunit bit
+
+counts : map count (tunit ∷ bit ∷ three ∷ tprod bit three ∷ tsum three (tprod bit bit) ∷ []) ≡ 1 ∷ 2 ∷ 3 ∷ 6 ∷ 7 ∷ []
+counts = refl
+
+-- "Unit is 0; left keeps its number; right adds the left type's count of values; a pair is first times the second type's count, plus second", and back
+abbrev pairs : List Val
+pairs = vpair (vinj left vunit) (vinj left vunit) ∷ vpair (vinj left vunit) (vinj right (vinj left vunit)) ∷ vpair (vinj left vunit) (vinj right (vinj right vunit))
+    ∷ vpair (vinj right vunit) (vinj left vunit) ∷ vpair (vinj right vunit) (vinj right (vinj left vunit)) ∷ vpair (vinj right vunit) (vinj right (vinj right vunit)) ∷ []
+
+ranks : map (λ v. rank v (tprod bit three)) pairs ≡ 0 ∷ 1 ∷ 2 ∷ 3 ∷ 4 ∷ 5 ∷ []
+ranks = refl
+
+unranks : map (unrank (tprod bit three)) (0 ∷ 1 ∷ 2 ∷ 3 ∷ 4 ∷ 5 ∷ []) ≡ pairs
+unranks = refl
+
+sum-ranks : map (λ v. rank v (tsum three bit))
+    (vinj left (vinj left vunit) ∷ vinj left (vinj right (vinj right vunit)) ∷ vinj right (vinj left vunit) ∷ vinj right (vinj right vunit) ∷ [])
+    ≡ 0 ∷ 2 ∷ 3 ∷ 4 ∷ []
+sum-ranks = refl
+
+sum-unranks : map (unrank (tsum three bit)) (0 ∷ 2 ∷ 3 ∷ 4 ∷ [])
+    ≡ vinj left (vinj left vunit) ∷ vinj left (vinj right (vinj right vunit)) ∷ vinj right (vinj left vunit) ∷ vinj right (vinj right vunit) ∷ []
+sum-unranks = refl
+
+-- a value of another type has no number: 0 stands there
+no-ranks : rank vunit bit ∷ rank (vinj right vunit) tunit ∷ rank (vinj right vunit) (tprod bit bit) ∷ rank (vpair vunit vunit) tunit ∷ rank (vpair vunit vunit) bit ∷ [] ≡ 0 ∷ 0 ∷ 0 ∷ 0 ∷ 0 ∷ []
+no-ranks = refl
+
+-- "With a refusal the setting number is 0"
+numbers-from : numberFrom (gives 5) ∷ numberFrom (fails noValue) ∷ [] ≡ 5 ∷ 0 ∷ []
+numbers-from = refl
+
+-- 2^n values
+abbrev wide : ℕ → Ty
+wide zero = tunit
+wide (suc n) = tprod bit (wide n)
+
+-- 2^n - 1
+abbrev less : ℕ → Ty
+less zero = tunit
+less (suc n) = tsum (less n) (wide (suc n))
+
+-- "a count above 4,294,967,295": so many values are numbered, and one more is too many
+most-values : onType none gives ∷ onType (some (less 31)) (λ a. gives tunit) ∷ onType (some (wide 32)) (λ a. gives tunit) ∷ [] ≡ fails noIso ∷ gives tunit ∷ fails tooMany ∷ []
+most-values = refl

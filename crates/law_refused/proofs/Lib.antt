@@ -2,3 +2,5 @@
 pub mod ByVerdict
 -- what each answers for a refused file
 pub mod Refused
+-- all of them at once
+pub mod Services

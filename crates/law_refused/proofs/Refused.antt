@@ -10,7 +10,8 @@ use Rattle.limits.specs.Limits.{tableLength, workLength, resultLength, maxQueri
 use Rattle.calculus.specs.Refusals.{Refusal, number, shortArea, tooLong}
 use Rattle.calculus.proofs.Basic.{not-leb, not-ltb, eq-eqb}
 use Rattle.format.specs.Lines.{Row, lines}
-use Rattle.model.specs.Services.{Verdict, refused, answerOf, refusalBy, Checked, RunAnswer, tableAfter, workAfter, short, unless, written, checkBy, Outcome, fails, Served, serve, turnedRows, turnedBy, turnBy, runOn, ranBy, runBy}
+use Rattle.model.specs.Services.{Verdict, refused, answerOf, refusalBy, Checked, RunAnswer, tableAfter, workAfter, short, unless, written, checkBy, Outcome}
+use Rattle.model.specs.Services.{fails, Served, serve, turnedRows, turnedBy, turnBy, runOn, ranBy, runBy}
 use Rattle.model.specs.Desk.{fileLine, deskBy}
 use Rattle.model.specs.Sheet.{Sheet, answersTo, numbersAfter, lettersAfter, sheetBy}
 use Rattle.model.proofs.Sheets.{long-enough}
@@ -21,7 +22,8 @@ use Rattle.law_pairlists.specs.PairLists.{tradedBy}
 use Rattle.law_units.specs.Units.{Units, Tally, playRows, playBy, unequal}
 use Rattle.check_overlap.specs.Overlap.{overlapRows, overlappedBy}
 use Rattle.law_refused.specs.ByVerdict.{numberWith, settingWith, overlapWith, boundsWith, tradeWith, showWith, playWith}
-use Rattle.law_refused.specs.Refused.{zeroTable, zeroWork, refusedAt, servedRefused, checkRefused, turnRefused, runRefused, sheetRefused, deskRefused, numberRefused, settingRefused, overlapRefused, boundsRefused, tradeRefused, showRefused, playRefused}
+use Rattle.law_refused.specs.Refused.{zeroTable, zeroWork, refusedAt, servedRefused, checkRefused, turnRefused, runRefused, sheetRefused, deskRefused}
+use Rattle.law_refused.specs.Refused.{numberRefused, settingRefused, overlapRefused, boundsRefused, tradeRefused, showRefused, playRefused}
 
 -- the desk program lends its own areas
 pub refused-desk : (f : Refusal) (n : ℕ) (bs : List ℕ) → deskBy (refused f n) bs ≡ deskRefused f n

@@ -13,6 +13,7 @@ use Rattle.calculus.specs.Tools.{_>>=_, all, select, total, firstOf, orElse, fi
 use Rattle.calculus.specs.Trees.{Ty, Tag, left, right, Pat, punit, pvar, pinj, ppair, Val, Clause, Iso, sameTag, invertClause, invert}
 use Rattle.calculus.specs.Refusals.{Refusal, number, isoLine, overlap, gap}
 use Rattle.calculus.specs.Reduction.{Call, runClause, hits, only, apply, reduceTo, reduce}
+use Rattle.calculus.proofs.Orthogonal.{clash-sym}
 use Rattle.calculus.specs.Clauses.{Sigs, variablesRule, letShapes, typed, clauseFault, clash, apart, weight, fullWeight, lefts, rights, sideFault, at, isoFault, fault, sigsOf}
 use Rattle.law_reordering.specs.Reordered.{Permuted, empty, keep, swap, then, bare, AlikeIso, Alike, more}
 use Rattle.law_reordering.specs.Answers.{FaultsAgree}
@@ -102,30 +103,6 @@ perm-total (swap {x} {y} {xs = xs} p q r) =
 perm-total (then p q) = perm-total p ∙ perm-total q
 
 -- ---- the tests of the sides
-
-sameTag-sym : (s t : Tag) → sameTag s t ≡ sameTag t s
-sameTag-sym left left = refl
-sameTag-sym left right = refl
-sameTag-sym right left = refl
-sameTag-sym right right = refl
-
-pub clash-sym : (p q : Pat) → clash p q ≡ clash q p
-clash-sym punit punit = refl
-clash-sym punit (pvar m) = refl
-clash-sym punit (pinj t q) = refl
-clash-sym punit (ppair q q′) = refl
-clash-sym (pvar n) punit = refl
-clash-sym (pvar n) (pvar m) = refl
-clash-sym (pvar n) (pinj t q) = refl
-clash-sym (pvar n) (ppair q q′) = refl
-clash-sym (pinj s p) punit = refl
-clash-sym (pinj s p) (pvar m) = refl
-clash-sym (pinj s p) (pinj t q) = ap₂ (λ a b. not a || b) (sameTag-sym s t) (clash-sym p q)
-clash-sym (pinj s p) (ppair q q′) = refl
-clash-sym (ppair p p′) punit = refl
-clash-sym (ppair p p′) (pvar m) = refl
-clash-sym (ppair p p′) (pinj t q) = refl
-clash-sym (ppair p p′) (ppair q q′) = ap₂ _||_ (clash-sym p q) (clash-sym p′ q′)
 
 four : (k a b c : Bool) → ((k && a) && (b && c)) ≡ ((k && b) && (a && c))
 four true a b c = and-swap a b c

@@ -16,13 +16,14 @@ use Rattle.calculus.specs.Refusals.{Kind, typeLine, patternLine, isoLine, claus
 use Rattle.format.specs.Lines.{Row, lines, rowOf}
 use Rattle.format.specs.Judge.{Seen, start, stage, inOrder, fieldsFit, named, withinCeilings, judge, afterKind, after, afterAll, rows, faulty, readFrom}
 use Rattle.model.specs.Services.{refused, over, afterReading, verdict, answerOf, check, short, unless}
-use Rattle.calculus.proofs.Basic.{and-true, or-true, bool-cases, le-leb, lt-ltb, select-true, select-false}
+use Rattle.calculus.proofs.Basic.{and-true, or-true, true-or-left, true-or-right, bool-cases, le-leb, lt-ltb, select-true, select-false}
 use Rattle.format.proofs.Passing.{Passes}
 use Rattle.format.proofs.Turning.{after-let}
 use Rattle.format.proofs.Printing.{rows≢faulty, rows-inj}
-use Rattle.law_reordering.specs.Reordered.{isClause, isLet, isBlock}
+use Rattle.law_reordering.specs.Reordered.{isClause, isLet, isBlock, Exchanged, Reordered, SameButOrder}
 use Rattle.law_reordering.specs.Answers.{stays, Above}
 use Rattle.law_reordering.proofs.Moving.{seen}
+use Rattle.law_reordering.proofs.Files.{same-over}
 use Rattle.law_reordering.proofs.Reading.{Rows, read-pass, pass-read, row-clause, row-let}
 use Rattle.law_reordering.proofs.Unmoved.{Stops, stops-of, of-stops, Beyond, split, join-front, join, stops-line}
 
@@ -118,6 +119,60 @@ core-front s (x ∷ xs) (r ∷ rs) (Rows.more h q) = go (bool-cases (isClause x 
         p ∙ ap (λ c. coreFrom c (select stays xs)) (core-after s r ∙ ap (coreBy (core s)) (sym h))
         ∙ sym (ap (coreFrom (core s)) (select-true stays x xs (ap not e)))
 
+-- ---- the lines that stay are the same in both files, in the same order
+
+select-append : (xs ys : List (List ℕ)) → select stays (xs ++ ys) ≡ select stays xs ++ select stays ys
+select-append [] ys = refl
+select-append (x ∷ xs) ys = go (bool-cases (stays x)) (select-append xs ys)
+  where
+    go : (stays x ≡ true) ⊎ (stays x ≡ false) → select stays (xs ++ ys) ≡ select stays xs ++ select stays ys → select stays (x ∷ (xs ++ ys)) ≡ select stays (x ∷ xs) ++ select stays ys
+    go (inl e) p = select-true stays x (xs ++ ys) e ∙ ap (λ zs. x ∷ zs) p ∙ sym (ap (λ zs. zs ++ select stays ys) (select-true stays x xs e))
+    go (inr e) p = select-false stays x (xs ++ ys) e ∙ p ∙ sym (ap (λ zs. zs ++ select stays ys) (select-false stays x xs e))
+
+none-stay : (xs : List (List ℕ)) → all isLet xs ≡ true → select stays xs ≡ []
+none-stay [] h = refl
+none-stay (x ∷ xs) h =
+    let b = and-true (isLet x) (all isLet xs) h in select-false stays x xs (ap not (true-or-right (isClause x) (b .0))) ∙ none-stay xs (b .1)
+
+-- a clause moves, all its lines
+block-moves : (xs : List (List ℕ)) → isBlock xs ≡ true → select stays xs ≡ []
+block-moves [] h = refl
+block-moves (x ∷ xs) h =
+    let b = and-true (isClause x) (all isLet xs) h in select-false stays x xs (ap not (true-or-left (isLet x) (b .0))) ∙ none-stay xs (b .1)
+
+stay-behind : (xs ys : List (List ℕ)) → isBlock xs ≡ true → select stays (xs ++ ys) ≡ select stays ys
+stay-behind xs ys h = select-append xs ys ∙ ap (λ zs. zs ++ select stays ys) (block-moves xs h)
+
+exchanged-stay : {xs ys : List (List ℕ)} → Exchanged xs ys → select stays xs ≡ select stays ys
+exchanged-stay x =
+    let both : (a b : List (List ℕ)) → isBlock a ≡ true → isBlock b ≡ true → select stays (x .before ++ (a ++ (b ++ x .behind))) ≡ select stays (x .before) ++ select stays (x .behind) =
+    λ a b h k. select-append (x .before) (a ++ (b ++ x .behind)) ∙ ap (λ zs. select stays (x .before) ++ zs) (stay-behind a (b ++ x .behind) h ∙ stay-behind b (x .behind) k) in
+    ap (select stays) (x .here) ∙ both (x .one) (x .two) (x .oneBlock) (x .twoBlock) ∙ sym (both (x .two) (x .one) (x .twoBlock) (x .oneBlock)) ∙ sym (ap (select stays) (x .there))
+
+pub reordered-stay : {xs ys : List (List ℕ)} → Reordered xs ys → select stays xs ≡ select stays ys
+reordered-stay (Reordered.same e) = ap (select stays) e
+reordered-stay (Reordered.exchange x r) = exchanged-stay x ∙ reordered-stay r
+
+front-same : (xs ys zs ws : List (List ℕ)) → xs ++ zs ≡ ys ++ ws → length xs ≡ length ys → xs ≡ ys
+front-same [] [] zs ws e h = refl
+front-same [] (y ∷ ys) zs ws e h = absurd (lt-irrefl 0 (omega arith))
+front-same (x ∷ xs) [] zs ws e h = absurd (lt-irrefl 0 (omega arith))
+front-same (x ∷ xs) (y ∷ ys) zs ws e h =
+    let n : length xs ≡ length ys = omega arith in
+    let a : x ≡ y = cc in
+    let b : xs ++ zs ≡ ys ++ ws = cc in
+    ap₂ (λ z qs. z ∷ qs) a (front-same xs ys zs ws b n)
+
+-- a clause stands under the same I line in both: as many lines that stay stand above it, and so the same
+same-above : (front front′ block rest rest′ : List (List ℕ)) → isBlock block ≡ true → Reordered (front ++ (block ++ rest)) (front′ ++ (block ++ rest′))
+    → length (select stays front) ≡ length (select stays front′) → select stays front ≡ select stays front′
+same-above front front′ block rest rest′ h r n =
+    front-same (select stays front) (select stays front′) (select stays rest) (select stays rest′)
+    (sym (apart front rest) ∙ reordered-stay r ∙ apart front′ rest′) n
+  where
+    apart : (xs ys : List (List ℕ)) → select stays (xs ++ (block ++ ys)) ≡ select stays xs ++ select stays ys
+    apart xs ys = select-append xs (block ++ ys) ∙ ap (λ zs. select stays xs ++ zs) (stay-behind block ys h)
+
 -- ---- files
 
 module _ (front front′ block rest rest′ : List (List ℕ)) (whole : isBlock block ≡ true) (x : Above front) (y : Above front′)
@@ -137,7 +192,8 @@ module _ (front front′ block rest rest′ : List (List ℕ)) (whole : isBlock 
   stop : {i j : ℕ} {l : List ℕ} → Stops s i block f j l → (j′ : ℕ) × (readFrom start 1 (front′ ++ (block ++ rest′)) ≡ faulty f j′)
   stop {i} {j} {l} t =
       let q = read-pass start 1 front′ (y .read) (y .reads) in
-      let u = block-stops (s .types) (s .patterns) (s .isos) block whole (s .above) (s′ .above) (s .clauses) (s′ .clauses) (s .lets) (s′ .lets) i (length front′ + 1) (x .inIso) (y .inIso) (x .room) (y .room) t in
+      let u = block-stops (s .types) (s .patterns) (s .isos) block whole (s .above) (s′ .above) (s .clauses) (s′ .clauses) (s .lets) (s′ .lets) i (length front′ + 1) (x .inIso) (y .inIso)
+      (x .room) (y .room) t in
       let here : seen (s .types) (s .patterns) (s .isos) (s′ .above) (s′ .clauses) (s′ .lets) ≡ s′ =
       ap (λ c. seen (c .types) (c .patterns) (c .isos) (s′ .above) (s′ .clauses) (s′ .lets)) cores in
       let v = subst (λ z. Stops z (length front′ + 1) block f (u .0) l) here (u .1) in
@@ -174,3 +230,13 @@ module _ (front front′ block rest rest′ : List (List ℕ)) (whole : isBlock 
       go : (b : Bool) (m′ : ℕ) → answerOf (unless b (refused f m)) .number ≡ answerOf (unless b (refused f m′)) .number
       go true m′ = refl
       go false m′ = refl
+
+-- The same of two files that differ only in the order of clauses: where one clause has the fault, stands under the same I line in both, and no line above it in either has
+-- one, Check's number is the same.
+pub one-fault : (file other : List ℕ) → SameButOrder file other → (front front′ block rest rest′ : List (List ℕ)) → lines file ≡ front ++ (block ++ rest)
+    → lines other ≡ front′ ++ (block ++ rest′) → isBlock block ≡ true → Above front → Above front′ → length (select stays front) ≡ length (select stays front′)
+    → over file ≡ false → (f : Refusal) (m : ℕ) → readFrom start 1 (lines file) ≡ faulty f m → m ≤ length front + length block
+    → (table work : List ℕ) → check file table work .answer .number ≡ check other table work .answer .number
+one-fault file other r front front′ block rest rest′ here there h x y n k f m e low table work =
+    let same = same-above front front′ block rest rest′ h (subst (λ z. Reordered (front ++ (block ++ rest)) z) there (subst (λ z. Reordered z (lines other)) here r)) n in
+    moved-number front front′ block rest rest′ h x y same f m file other here there k (sym (same-over file other r) ∙ k) e low table work

@@ -16,7 +16,9 @@ use Rattle.calculus.specs.Refusals.{Kind, typeLine, patternLine, isoLine, claus
 use Rattle.format.specs.Lines.{Row, ontoFirst, lines, letter, rowOf}
 use Rattle.format.specs.Judge.{start}
 use Rattle.format.specs.Unfold.{isosOf, turnRows}
-use Rattle.model.specs.Services.{Verdict, accepted, refused, verdict, answerOf, Checked, checkBy, check, gives, goOn, refusalBy, served, Turned, turned, turnedOf, turnedRows, turnedBy, turnBy, turn, onIso, from, within, argument, valueIn, runRows, toward, runOf, run, RunAnswer, answerOfRun, RunResult, ranBy, runBy, runService, tableAfter, workAfter, short, unless}
+use Rattle.model.specs.Services.{Verdict, accepted, refused, verdict, answerOf, Checked, checkBy, check, gives, goOn, refusalBy, served, Turned, turned}
+use Rattle.model.specs.Services.{turnedOf, turnedRows, turnedBy, turnBy, turn, onIso, from, within, argument, valueIn, runRows, toward, runOf, run, RunAnswer}
+use Rattle.model.specs.Services.{answerOfRun, RunResult, ranBy, runBy, runService, tableAfter, workAfter, short, unless}
 use Rattle.model.specs.Desk.{isQuery, fileLines, queryLines, Query, queryOf, answerTo, queryLine, fileLine, queryAnswers, desk}
 use Rattle.model.specs.Sheet.{answersTo, numbersAfter, lettersAfter, narrowSheet, Sheet, sheetBy, sheet}
 use Rattle.calculus.proofs.Basic.{eqb-eq, each-append, each-cons, each-nil}

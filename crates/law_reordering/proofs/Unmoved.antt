@@ -122,12 +122,18 @@ module _ (ts : List Ty) (ps : List Pat) (n : ℕ) where
       step : (κ : Kind) → (κ ≡ letLine → ⊥)
           → firstFailing ((inOrder a κ, misplaced κ) ∷ (fieldsFit κ r, badField κ) ∷ (named (seen ts ps n a k m) κ r, badName κ) ∷ (withinCeilings (seen ts ps n a k m) κ r, ceiling κ) ∷ [])
           ≡ firstFailing ((inOrder b κ, misplaced κ) ∷ (fieldsFit κ r, badField κ) ∷ (named (seen ts ps n b k m′) κ r, badName κ) ∷ (withinCeilings (seen ts ps n b k m′) κ r, ceiling κ) ∷ [])
-      step typeLine v = ap (λ z. firstFailing ((z, misplaced typeLine) ∷ (fieldsFit typeLine r, badField typeLine) ∷ (named (seen ts ps n a k m) typeLine r, badName typeLine) ∷ (withinCeilings (seen ts ps n a k m) typeLine r, ceiling typeLine) ∷ []))
+      step typeLine v = ap (λ z. firstFailing
+          ((z, misplaced typeLine) ∷ (fieldsFit typeLine r, badField typeLine) ∷ (named (seen ts ps n a k m) typeLine r, badName typeLine) ∷
+          (withinCeilings (seen ts ps n a k m) typeLine r, ceiling typeLine) ∷ []))
           (not-leb {m = stage a} {n = 0} (omega arith) ∙ sym (not-leb {m = stage b} {n = 0} (omega arith)))
-      step patternLine v = ap (λ z. firstFailing ((z, misplaced patternLine) ∷ (fieldsFit patternLine r, badField patternLine) ∷ (named (seen ts ps n a k m) patternLine r, badName patternLine) ∷ (withinCeilings (seen ts ps n a k m) patternLine r, ceiling patternLine) ∷ []))
+      step patternLine v = ap
+          (λ z. firstFailing ((z, misplaced patternLine) ∷ (fieldsFit patternLine r, badField patternLine) ∷ (named (seen ts ps n a k m) patternLine r, badName patternLine) ∷
+          (withinCeilings (seen ts ps n a k m) patternLine r, ceiling patternLine) ∷ []))
           (not-leb {m = stage a} {n = 1} (omega arith) ∙ sym (not-leb {m = stage b} {n = 1} (omega arith)))
       step isoLine v = refl
-      step clauseLine v = ap (λ z. firstFailing ((z, misplaced clauseLine) ∷ (fieldsFit clauseLine r, badField clauseLine) ∷ (named (seen ts ps n a k m) clauseLine r, badName clauseLine) ∷ (withinCeilings (seen ts ps n a k m) clauseLine r, ceiling clauseLine) ∷ []))
+      step clauseLine v = ap
+          (λ z. firstFailing ((z, misplaced clauseLine) ∷ (fieldsFit clauseLine r, badField clauseLine) ∷ (named (seen ts ps n a k m) clauseLine r, badName clauseLine) ∷
+          (withinCeilings (seen ts ps n a k m) clauseLine r, ceiling clauseLine) ∷ []))
           (le-leb {m = 2} {n = stage a} (omega arith) ∙ sym (le-leb {m = 2} {n = stage b} (omega arith)))
       step letLine v = absurd (v refl)
 

@@ -19,7 +19,8 @@ use Rattle.format.specs.Idle.{idleFault}
 use Rattle.model.specs.Services.{accepted, refused, judged, over, verdict, checkBy, check, turnBy, turn, runBy, runService}
 use Rattle.model.specs.Desk.{deskBy, filePart, desk}
 use Rattle.model.specs.Sheet.{sheetBy, sheet}
-use Rattle.calculus.proofs.Basic.{bind-some, none≢some, some-inj, bool-cases, not-true, or-true, eqb-eq, eq-eqb, eqb-false, sameType-eq, none-failing, failing-none, orElse-none, all-mem, mem-all, firstOf-none, none-firstOf, mem-index}
+use Rattle.calculus.proofs.Basic.{bind-some, none≢some, some-inj, bool-cases, not-true, or-true, eqb-eq, eq-eqb, eqb-false, sameType-eq, none-failing}
+use Rattle.calculus.proofs.Basic.{failing-none, orElse-none, all-mem, mem-all, firstOf-none, none-firstOf, mem-index}
 use Rattle.calculus.proofs.Formed.{Formed, FormedClause}
 use Rattle.model.proofs.Files.{refused≢accepted, judged-accepted, InForm, formed-of, verdict-in-form, passes-read}
 use Rattle.format.proofs.Idling.{idle-none}

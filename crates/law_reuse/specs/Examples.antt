@@ -2,11 +2,19 @@
 use Prim.Native.Nat.{ℕ}
 use Prim.Native.String.{String}
 use mathlib.Core.Path.{_≡_, refl}
-use mathlib.Core.List.{List, [], _∷_, _++_}
+use mathlib.Core.Bool.{true, false}
+use mathlib.Core.Option.{none, some}
+use mathlib.Core.List.{List, [], _∷_, _++_, map}
+use lib.ListN.{replicate}
+use Rattle.calculus.specs.Trees.{Ty, tunit, tsum, tprod, left, right, Pat, punit, pvar, pinj, ppair}
+use Rattle.calculus.specs.Refusals.{clauseLine, variable, letShape, badType}
+use Rattle.calculus.specs.Clauses.{binds, uses}
+use Rattle.model.specs.Services.{answerOf}
 use Rattle.model.specs.Desk.{desk, deskBy, filePart}
-use Rattle.model.specs.Cases.{bytes, prints, Case, AllHold}
+use Rattle.model.specs.Cases.{bytes, fileS, prints, Case, AllHold}
 use Rattle.model.specs.Readings.{retyped}
-use Rattle.law_reuse.specs.Former.{former}
+use Rattle.law_reuse.specs.Former as Former
+use Rattle.law_reuse.specs.Former.{once, fit, demands, agreeing, former}
 
 -- what the desk program printed by the former rule
 abbrev pub formerly : List ℕ → List ℕ
@@ -78,3 +86,56 @@ liveLast = nearMiss "I,1,0\nC,3,0\n" ∷ nearMiss "I,0,0\nC,0,5\nL,0,0,0\n" ∷ 
 live-last : AllHold liveLast
 unfolding desk
 live-last = (refl, (refl, tt))
+
+-- ---- the former rule, case by case
+
+-- "each number is bound once and, after that, used once"
+once-each : map once
+    ([] ∷ (uses ∷ []) ∷ (binds ∷ []) ∷ (binds ∷ binds ∷ []) ∷ (binds ∷ uses ∷ []) ∷ (binds ∷ uses ∷ binds ∷ []) ∷ (binds ∷ uses ∷ uses ∷ []) ∷ (binds ∷ uses ∷ binds ∷ uses ∷ []) ∷ [])
+    ≡ false ∷ false ∷ false ∷ false ∷ true ∷ false ∷ false ∷ false ∷ []
+once-each = refl
+
+abbrev bit : Ty
+bit = tsum tunit tunit
+
+-- unit, variable, left, right and pair against a unit, a sum and a product: the types that the variables must have
+fits-former : map (λ p. map (fit p) (tunit ∷ tsum tunit bit ∷ tprod tunit bit ∷ []))
+    (punit ∷ pvar 0 ∷ pinj left (pvar 1) ∷ pinj right (pvar 1) ∷ ppair (pvar 2) (pvar 3) ∷ ppair punit punit ∷ [])
+    ≡ (some [] ∷ none ∷ none ∷ [])
+    ∷ (some ((0, tunit) ∷ []) ∷ some ((0, tsum tunit bit) ∷ []) ∷ some ((0, tprod tunit bit) ∷ []) ∷ [])
+    ∷ (none ∷ some ((1, tunit) ∷ []) ∷ none ∷ [])
+    ∷ (none ∷ some ((1, bit) ∷ []) ∷ none ∷ [])
+    ∷ (none ∷ none ∷ some ((2, tunit) ∷ (3, bit) ∷ []) ∷ [])
+    ∷ (none ∷ none ∷ none ∷ [])
+    ∷ []
+fits-former = refl
+
+-- one type for each number
+agreeing-types : map agreeing
+    (none ∷ some [] ∷ some ((0, tunit) ∷ (1, bit) ∷ (0, tunit) ∷ []) ∷ some ((0, tunit) ∷ (1, bit) ∷ (0, bit) ∷ []) ∷ some ((1, tunit) ∷ (0, tunit) ∷ (0, bit) ∷ []) ∷ [])
+    ≡ false ∷ true ∷ true ∷ false ∷ false ∷ []
+agreeing-types = refl
+
+-- left, let steps and right: q at the from-type of its iso, p at the to-type
+demanded : demands ((tunit, bit) ∷ []) (tprod tunit tunit) bit
+    (record { line = 1; lhs = ppair (pvar 0) (pvar 1); lets = record { p = pvar 2; iso = 0; q = pvar 0 } ∷ record { p = pvar 3; iso = 0; q = pvar 1 } ∷ []; rhs = pvar 4 })
+    ≡ some ((0, tunit) ∷ (1, tunit) ∷ (0, tunit) ∷ (2, bit) ∷ (1, tunit) ∷ (3, bit) ∷ (4, bit) ∷ [])
+demanded = refl
+
+-- "lowest of 8 to 10": 8, 9 and 10; 9 and 10; 10; none
+former-order : map (λ (c : Pat × Pat). Former.clauseFault ((tunit, tunit) ∷ []) tunit tunit (record { line = 0; lhs = pvar 0; lets = record { p = c .0; iso = 0; q = pvar 0 } ∷ []; rhs = c .1 }))
+    ((pinj left (pvar 1), pinj left (pvar 2)) ∷ (pinj left (pvar 1), pvar 1) ∷ (ppair (pvar 1) (pvar 2), ppair (pvar 1) (pvar 2)) ∷ (pvar 1, pvar 1) ∷ [])
+    ≡ some (variable clauseLine) ∷ some (letShape clauseLine) ∷ some (badType clauseLine) ∷ none ∷ []
+unfolding Former.clauseFault
+former-order = refl
+
+-- a file with a line that is no line, one with an idle line, one with a fault of its side, and S, at their lines
+former-files : formerly (bytes "X\n") ∷ formerly (bytes "T,0,0,0\n") ∷ formerly (bytes "T,0,0,0\nT,1,0,0\nP,0,0,0\nP,2,0,0\nI,0,1\nC,0,1\n") ∷ formerly fileS ∷ []
+    ≡ bytes "3,1\n" ∷ bytes "21,1\n" ∷ bytes "14,5\n" ∷ bytes "0,0\n" ∷ []
+unfolding desk former
+former-files = refl
+
+-- "over 65,536 bytes or 4,096 lines", at line 0
+former-long : answerOf (former (replicate 4097 10)) ≡ record { number = 2; line = 0 }
+unfolding former
+former-long = refl

@@ -32,7 +32,8 @@ pub after-append : (rs : List Row) (budget : ℕ) (ps qs : List Planned) (us : U
 after-append rs budget [] qs us = refl
 after-append rs budget (p ∷ ps) qs us = after-append rs budget ps qs (moved (visitTo rs budget us p) (p .unit) us)
 
-pub outcomes-append : (rs : List Row) (budget : ℕ) (ps qs : List Planned) (us : Units) → outcomes rs budget (ps ++ qs) us ≡ outcomes rs budget ps us ++ outcomes rs budget qs (unitsAfter rs budget ps us)
+pub outcomes-append : (rs : List Row) (budget : ℕ) (ps qs : List Planned) (us : Units) → outcomes rs budget (ps ++ qs) us ≡ outcomes rs budget ps us ++ outcomes rs budget qs
+    (unitsAfter rs budget ps us)
 outcomes-append rs budget [] qs us = refl
 outcomes-append rs budget (p ∷ ps) qs us =
     ap (λ vs. visitTo rs budget us p ∷ vs) (outcomes-append rs budget ps qs (moved (visitTo rs budget us p) (p .unit) us))

@@ -18,7 +18,9 @@ use Rattle.format.specs.Code.{numbered}
 use Rattle.model.specs.Services.{Verdict, accepted, refused, verdict, short, unless, tableAfter, workAfter, goOn, lineOf, Answer, Outcome, gives, refusalOf, refusalNumber, served, serve}
 use Rattle.calculus.proofs.Basic.{bool-cases, some-inj}
 use Rattle.model.proofs.Sheets.{long-enough}
-use Rattle.law_units.specs.Units.{Planned, plannedOf, plannedFor, scriptOf, Units, unitsFault, Visited, done, skipped, spent, visit, visitTo, moved, unitsAfter, outcomes, Tally, nothingYet, withVisit, counted, Played, played, onScript, onUnits, playRows, unequal, playVerdict, unitsFrom, tallyFrom, Play, playBy, playService}
+use Rattle.law_units.specs.Units.{Planned, plannedOf, plannedFor, scriptOf, Units, unitsFault, Visited, done, skipped, spent, visit, visitTo, moved}
+use Rattle.law_units.specs.Units.{unitsAfter, outcomes, Tally, nothingYet, withVisit, counted, Played, played, onScript, onUnits, playRows, unequal}
+use Rattle.law_units.specs.Units.{playVerdict, unitsFrom, tallyFrom, Play, playBy, playService}
 use Rattle.law_units.specs.Apart.{Apart}
 use Rattle.law_units.proofs.Playing.{script-first}
 use Rattle.law_units.proofs.Counts.{after-append, outcomes-append}
@@ -163,7 +165,8 @@ module _ (units isos : ℕ) where
       go : (x : Option (List Planned)) → x ≡ (x >>= λ qs. some qs)
       go none = refl
       go (some qs) = refl
-  script-append (l ∷ ls) ms = ap (λ y. plannedFor units isos l >>= λ p. y >>= λ ps. some (p ∷ ps)) (script-append ls ms) ∙ go (plannedFor units isos l) (scriptOf units isos ls) (scriptOf units isos ms)
+  script-append (l ∷ ls) ms = ap (λ y. plannedFor units isos l >>= λ p. y >>= λ ps. some (p ∷ ps)) (script-append ls ms) ∙ go (plannedFor units isos l) (scriptOf units isos ls)
+      (scriptOf units isos ms)
     where
       go : (x : Option Planned) (y z : Option (List Planned))
           → (x >>= λ p. (y >>= λ ps. z >>= λ qs. some (ps ++ qs)) >>= λ rs. some (p ∷ rs))

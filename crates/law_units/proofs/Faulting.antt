@@ -14,7 +14,8 @@ use Rattle.calculus.specs.Refusals.{Refusal, number, typeLine, tooLong, badScri
 use Rattle.format.specs.Lines.{Row, lines, text, skip, fields, ended, printField}
 use Rattle.format.specs.Unfold.{isosOf}
 use Rattle.model.specs.Services.{Verdict, accepted, refused, verdict, short, unless, answerOf, Answer, check, Outcome, fails, refusalOf, refusalNumber, serve, answerFrom}
-use Rattle.calculus.proofs.Basic.{bind-some, some-bind, some-inj, none≢some, not-some, neither, or-true, ltb-lt, ltb-false, lt-ltb, not-ltb, eqb-eq, eq-eqb, not-both, orElse-cases, each-cons, true-or-left, true-or-right}
+use Rattle.calculus.proofs.Basic.{bind-some, some-bind, some-inj, none≢some, not-some, neither, or-true, ltb-lt, ltb-false, lt-ltb, not-ltb, eqb-eq, eq-eqb}
+use Rattle.calculus.proofs.Basic.{not-both, orElse-cases, each-cons, true-or-left, true-or-right}
 use Rattle.format.proofs.Endings.{Ended, by-feed, by-both, NoReturn, Returnless, text-ended, ended-text}
 use Rattle.format.proofs.Printing.{printFields, Bounds, FieldsBelow, fields-print, skip-some, read-fields, ended-some, returnless-body}
 use Rattle.model.proofs.Files.{accepted-iff, number-positive}

@@ -21,16 +21,12 @@ use Rattle.model.specs.Services.{gives, fails, toward, runOn}
 use Rattle.model.specs.Answers.{GoodRows}
 use Rattle.calculus.proofs.Basic.{bind-some, some-inj, guard-true, and-true, ltb-lt, orElse-none, bool-cases, eqb-eq, eqb-false, sameType-eq, sameType-refl, not-both}
 use Rattle.format.proofs.Passing.{Passes}
-use Rattle.format.proofs.Turning.{isos-turn}
+use Rattle.model.proofs.Runs.{toward-length}
 use Rattle.law_ranking.specs.Numbering.{rank, numberRows, settingRows}
 use Rattle.law_units.specs.Units.{Planned, plannedOf, names, plannedFor, scriptOf, Units, unitFault, Holds, unitsFault, Visited, done, skipped, spent, otherEnd, visit, visitTo, moved}
 use Rattle.law_units.proofs.Visits.{no-fault, holds-fault, valueOf, spelled, end, visit-skips, reduced, ran, numbered, visit-sends, end-holds}
 
 -- ---- isos of either direction
-
-pub toward-length : (back : Bool) (rs : List Row) → Passes start rs → length (isosOf (toward back rs)) ≡ length (isosOf rs)
-toward-length false rs ps = refl
-toward-length true rs ps = ap length (isos-turn rs ps) ∙ length-map (isosOf rs) invert
 
 within : {A : Type 0} (xs : List A) (i : ℕ) → i < length xs → (x : A) × (getElem? xs i ≡ some x)
 within [] i h = absurd (not-suc-le-zero h)
@@ -55,7 +51,8 @@ pub visit-is : (rs : List Row) → GoodRows rs → (budget : ℕ) (p : Planned) 
     → VisitIs rs budget p i n o (visit rs budget p i n)
 visit-is rs g budget p {i} {n} h {o} e = go (bool-cases (sameType (h .type) (o .from)))
   where
-    on : (same : h .type ≡ o .from) (b : Bool) → leb (reduced rs g budget p h e same .1) budget ≡ b → visit rs budget p i n ≡ cond b (done (end rs g budget p h e) (rank (reduced rs g budget p h e same .0) (o .to))) spent
+    on : (same : h .type ≡ o .from) (b : Bool) → leb (reduced rs g budget p h e same .1) budget ≡ b → visit rs budget p i n ≡ cond b
+        (done (end rs g budget p h e) (rank (reduced rs g budget p h e same .0) (o .to))) spent
         → VisitIs rs budget p i n o (visit rs budget p i n)
     on same true d v =
         subst (VisitIs rs budget p i n o) (sym v)

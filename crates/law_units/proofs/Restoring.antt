@@ -182,7 +182,8 @@ module _ (file : List ℕ) (rs : List Row) (acc : verdict file ≡ accepted rs) 
           let w : Units = record { types = set (after .types) (p .unit) i; settings = set (after .settings) (p .unit) n } in
           let same : w ≡ us =
           ap (λ (z : Units). record { types = set (z .types) (p .unit) i; settings = set (z .settings) (p .unit) n }) after-is
-          ∙ ap₂ (λ x y. record { types = x; settings = y }) (set-set (us .types) (p .unit) j i ∙ set-getD (us .types) (p .unit) 0) (set-set (us .settings) (p .unit) m n ∙ set-getD (us .settings) (p .unit) 0) in
+          ∙ ap₂ (λ x y. record { types = x; settings = y }) (set-set (us .types) (p .unit) j i ∙ set-getD (us .types) (p .unit) 0)
+          (set-set (us .settings) (p .unit) m n ∙ set-getD (us .settings) (p .unit) 0) in
           subst (λ z. Alike rs z (moved (visitTo rs budget vs (opposite p)) (p .unit) vs)) same
           (subst (Alike rs w) (sym (ap (λ v. moved v (p .unit) vs) undoes)) (set-alike after vs alike (p .unit) i (way .0) n (sym (way .2))))
 

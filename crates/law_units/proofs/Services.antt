@@ -19,7 +19,9 @@ use Rattle.calculus.proofs.Basic.{some-inj, neither, ltb-false, not-ltb, lt-ltb
 use Rattle.model.proofs.Outcomes.{fails≢gives, gives-inj, given, past-short, given-accepted}
 use Rattle.model.proofs.Runs.{accepted-good}
 use Rattle.model.proofs.Sheets.{long-enough}
-use Rattle.law_units.specs.Units.{Planned, plannedOf, names, plannedFor, scriptOf, Units, unitsFault, done, skipped, spent, visitTo, moved, unitsAfter, outcomes, Tally, nothingYet, counted, Played, played, onScript, onUnits, playRows, unequal, playVerdict, unitsFrom, tallyFrom, Play, playBy, playService}
+use Rattle.law_units.specs.Units.{Planned, plannedOf, names, plannedFor, scriptOf, Units, unitsFault, done, skipped, spent, visitTo, moved, unitsAfter}
+use Rattle.law_units.specs.Units.{outcomes, Tally, nothingYet, counted, Played, played, onScript, onUnits, playRows, unequal, playVerdict, unitsFrom}
+use Rattle.law_units.specs.Units.{tallyFrom, Play, playBy, playService}
 use Rattle.law_units.specs.Backward.{opposite, backward, Backward, Alike}
 use Rattle.law_units.proofs.Playing.{AllHold, all-hold, hold-all, visit-keeps, moved-length, script-first}
 use Rattle.law_units.proofs.Counts.{script-length, outcomes-length, after-length, total, counted-total, all-done, done-counts}

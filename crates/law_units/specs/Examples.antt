@@ -1,11 +1,17 @@
 -- Request 12: examples that shut out wrong readings, on file S. Each holds by computation.
 use Prim.Native.Nat.{ℕ}
 use mathlib.Core.Path.{_≡_, refl}
-use mathlib.Core.List.{List, [], _∷_}
-use Rattle.calculus.specs.Refusals.{noIso, tooHigh, badScript}
-use Rattle.model.specs.Services.{verdict, Outcome, gives, fails, goOn}
+use mathlib.Core.Bool.{true, false}
+use mathlib.Core.Option.{none, some}
+use mathlib.Core.List.{List, [], _∷_, map}
+use Rattle.calculus.specs.Trees.{Ty, tunit, tsum, Iso}
+use Rattle.calculus.specs.Refusals.{isoLine, shortArea, noIso, tooMany, tooHigh, badScript}
+use Rattle.format.specs.Lines.{decimal}
+use Rattle.model.specs.Services.{verdict, Outcome, gives, fails, refusalOf, goOn}
 use Rattle.model.specs.Cases.{bytes, fileS}
-use Rattle.law_units.specs.Units.{Units, done, skipped, spent, Played, playRows}
+use Rattle.law_units.specs.Units.{Planned, names, Units, done, skipped, spent, matches, endOf, otherEnd, moved, Tally, nothingYet, counted, Played, playRows, unequal, tallyFrom, playServed}
+use Rattle.law_units.specs.Faults.{visitText}
+use Rattle.law_units.specs.Backward.{opposite, backward}
 
 -- unit 0 holds number 0 of T line 1, unit 1 number 1 of T line 2
 abbrev two : Units
@@ -58,3 +64,63 @@ play-no-direction = refl
 play-unended : playS two (bytes "S,0,0,0\nS,0,0,1") 1 ≡ fails badScript
 unfolding verdict playRows
 play-unended = refl
+
+-- the first unit at fault: 18 of the first before 19 of the second
+play-order : goOn (verdict (bytes "T,0,0,0\nT,1,0,0\nT,2,1,1\nT,2,2,2\nT,2,3,3\nT,2,4,4\nT,2,5,5\nP,1,0,0\nI,6,6\nC,0,0\n"))
+    (playRows (record { types = 1 ∷ 6 ∷ 1 ∷ []; settings = 1 ∷ 0 ∷ 2 ∷ [] }) [] 1) ≡ fails tooMany
+unfolding verdict playRows
+play-order = refl
+
+-- ---- case by case
+
+abbrev planned : ℕ → ℕ → Planned
+planned u i = record { unit = u; iso = i; back = true }
+
+-- `S,unit,iso,direction`
+visit-texts : map visitText (planned 10 2 ∷ record { unit = 1; iso = 20; back = false } ∷ []) ≡ bytes "S,10,2,1" ∷ bytes "S,1,20,0" ∷ []
+unfolding decimal
+visit-texts = refl
+
+-- "naming an absent unit or iso"
+named-visits : map (names 3 4) (planned 2 3 ∷ planned 3 3 ∷ planned 2 4 ∷ []) ≡ true ∷ false ∷ false ∷ []
+named-visits = refl
+
+-- "last line first with directions exchanged"
+backward-visits : backward (planned 1 2 ∷ planned 3 4 ∷ []) ≡ record { unit = 3; iso = 4; back = false } ∷ record { unit = 1; iso = 2; back = false } ∷ []
+backward-visits = refl
+
+-- "A visit whose type does not match the unit": the iso's from-type
+abbrev across : Iso
+across = record { line = 2; from = tunit; to = tsum tunit tunit; clauses = [] }
+
+matching : matches none none ∷ matches none (some across) ∷ matches (some tunit) none ∷ matches (some tunit) (some across) ∷ matches (some (tsum tunit tunit)) (some across) ∷ []
+    ≡ false ∷ false ∷ false ∷ true ∷ false ∷ []
+matching = refl
+
+-- "the T line that the iso's I line names at the other end": the second field forward, the first back; 0 stands where there is no line
+other-ends : map (λ b. endOf b none ∷ endOf b (some (record { kind = isoLine; x = 5; y = 6; z = 7 })) ∷ otherEnd [] b none ∷ []) (false ∷ true ∷ []) ≡ (0 ∷ 6 ∷ 0 ∷ []) ∷ (0 ∷ 5 ∷ 0 ∷ []) ∷ []
+other-ends = refl
+
+ends-by-line : otherEnd (record { kind = isoLine; x = 1; y = 2; z = 0 } ∷ record { kind = isoLine; x = 3; y = 4; z = 0 } ∷ record { kind = isoLine; x = 5; y = 6; z = 0 } ∷ []) false (some across) ≡ 4
+ends-by-line = refl
+
+-- "the unit then holds …"; "both leave the unit"
+moved-units : map (λ v. moved v 1 two) (done 7 8 ∷ skipped ∷ spent ∷ []) ≡ record { types = 1 ∷ 7 ∷ []; settings = 0 ∷ 8 ∷ [] } ∷ two ∷ two ∷ []
+moved-units = refl
+
+-- "visits done, skipped and spent", "counted from 0 in each play"; "a refusal leaves units and record unchanged"
+abbrev tally : ℕ → ℕ → ℕ → Tally
+tally d k n = record { done = d; skipped = k; spent = n }
+
+counted-visits : counted (done 0 0 ∷ skipped ∷ skipped ∷ spent ∷ spent ∷ spent ∷ []) (tally 10 20 30) ∷ nothingYet ∷ tallyFrom
+    (gives (record { units = two; visits = done 0 0 ∷ spent ∷ [] })) (tally 4 5 6) ∷ tallyFrom (fails badScript) (tally 4 5 6) ∷ []
+    ≡ tally 11 22 33 ∷ tally 0 0 0 ∷ tally 1 0 1 ∷ tally 4 5 6 ∷ []
+counted-visits = refl
+
+-- "Unit areas of unequal length are 1", as are a short table and work area
+unequal-areas : unequal two ∷ unequal (record { types = 1 ∷ []; settings = [] }) ∷ unequal (record { types = []; settings = 1 ∷ [] }) ∷ [] ≡ false ∷ true ∷ true ∷ []
+unequal-areas = refl
+
+play-areas : refusalOf (playServed [] [] [] (record { types = []; settings = [] }) [] 0 .outcome) ≡ some shortArea
+unfolding verdict playRows
+play-areas = refl

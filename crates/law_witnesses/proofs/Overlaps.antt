@@ -23,7 +23,8 @@ use Rattle.law_witnesses.specs.Seeking.{shorter, least, leastIn, meet, b
 use Rattle.calculus.proofs.Basic.{none≢some, some-inj, not-some, leb-le, leb-false, ltb-lt, lt-ltb, neither, sameTag-refl}
 use Rattle.model.proofs.Sizes.{of-small}
 use Rattle.calculus.proofs.Covering.{hit-le, matched-hit, hit-matched, factors}
-use Rattle.law_witnesses.proofs.Shortlex.{NotAfter, fewer, earlier, lower, not-after-refl, not-after-trans, not-after-under, not-after-append, not-after-length, not-after-sooner, sooner-not-after, total-order}
+use Rattle.law_witnesses.proofs.Shortlex.{NotAfter, fewer, earlier, lower, not-after-refl, not-after-trans, not-after-under, not-after-append}
+use Rattle.law_witnesses.proofs.Shortlex.{not-after-length, not-after-sooner, sooner-not-after, total-order}
 use Rattle.law_witnesses.proofs.Spelling.{setting-least, least-setting}
 
 -- ---- the least value of a type

@@ -228,7 +228,8 @@ search-values zero [] f = go (f []) refl
       where
         only : (ws : List Val) → Ofs ws [] → f ws ≡ true → ⊥
         only [] ends p = not-both p e
-search-values zero (a ∷ ts) f = nothing (λ ws o l p. let b = begun o in let k = sound a (b .move) (b .mem) ts (b .rest) (b .of) .1 in let j = ap length (ap allLetters (sym (b .is)) ∙ k) in absurd (omega arith))
+search-values zero (a ∷ ts) f = nothing
+    (λ ws o l p. let b = begun o in let k = sound a (b .move) (b .mem) ts (b .rest) (b .of) .1 in let j = ap length (ap allLetters (sym (b .is)) ∙ k) in absurd (omega arith))
 search-values (suc n) [] f = nothing (λ ws o l p. only ws o l)
   where
     only : (ws : List Val) → Ofs ws [] → length (allLetters ws) ≡ suc n → ⊥

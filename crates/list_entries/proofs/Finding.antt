@@ -52,7 +52,11 @@ same-letter k s i x y z = ap (λ b. b && sameEntry s i x y z) (eq-eqb {m = lette
 
 pub searched-start : (s : List ℕ) (to x y z : ℕ) → Searched s to x y z 0
 searched-start s to x y z =
-    record { high = omega arith; left = λ k. let e : to - 0 ≡ to = omega arith in sym (zero-plus (find (rowOf k x y z) (entriesAt k s 0 (to - 0))) ∙ ap (λ n. find (rowOf k x y z) (entriesAt k s 0 n)) e) }
+    record {
+      high = omega arith;
+      left = λ k. let e : to - 0 ≡ to =
+          omega arith in sym (zero-plus (find (rowOf k x y z) (entriesAt k s 0 (to - 0))) ∙ ap (λ n. find (rowOf k x y z) (entriesAt k s 0 n)) e);
+    }
   where
     zero-plus : (n : ℕ) → 0 + n ≡ n
     zero-plus n = omega arith

@@ -208,4 +208,12 @@ module _ (s : List ℕ) (to x y z n : ℕ) (f : (k : Kind) → n ≡ find (rowOf
 
   pub enters-new : {s′ : List ℕ} → to ≤ n → to < 1025 → s′ ≡ storeEntry s to x y z → (k : Kind) (rs : List Row) → Entering k s s′ to x y z n (to + 1) rs
   enters-new {s′} h l e k rs =
-      record { does = entering k s s′ to x y z n (to + 1) rs (record { numbered = f; there = λ m. absurd (lt-irrefl n (omega arith)); full = λ m o. absurd (lt-irrefl to (omega arith)); new = λ m o. (e, refl) }) }
+      record {
+        does = entering k s s′ to x y z n (to + 1) rs (record {
+          numbered = f;
+          there = λ m. absurd (lt-irrefl n (omega arith));
+          full = λ m o. absurd (lt-irrefl to (omega arith));
+          new =
+              λ m o. (e, refl);
+        });
+      }

@@ -26,6 +26,7 @@ ghost use Rattle.format.specs.Code.{kindView, refusalView};
 ghost use Rattle.area_cells.specs.Areas.{Writes};
 ghost use Rattle.table_trees.specs.Unfolding.{typeOf};
 ghost use Rattle.list_entries.specs.Entries.{entryAt, entriesAt};
+ghost use Rattle.number_values.specs.Numbers.{Counted};
 ghost use Rattle.list_file.specs.Filing.{FilePut, FileMade, RowsMade};
 
 // The words of the T rows, of the P rows and of the C rows.
@@ -108,8 +109,16 @@ fn over() -> Filed
 
 // Writes the file whose iso sends value k of T line i to value tos[k] of T line j, for n values. The output area needs 65,536 bytes; a
 // refusal leaves it untouched.
-pub fn write_file(t: &[u16], i: usize, j: usize, tos: &[u16], n: usize, out: &mut [u8]) -> Filed
-    requires { ⌜ n ≤ maxClauses ⌝ }
+pub fn write_file(
+    t: &[u16],
+    counts: &[usize],
+    i: usize,
+    j: usize,
+    tos: &[u16],
+    n: usize,
+    out: &mut [u8],
+) -> Filed
+    requires { ⌜ Counted (now t) (now counts) × (n ≤ maxClauses) ⌝ }
     ensures { λ r. ⌜
         FileMade (typeOf (now (t .entry)) i) (typeOf (now (t .entry)) j) (now (tos .entry)) n
         (now (out .entry)) (now (out .exit)) r
@@ -121,12 +130,20 @@ pub fn write_file(t: &[u16], i: usize, j: usize, tos: &[u16], n: usize, out: &mu
     if MAX_TAGS < type_tags(t, j) {
         return over();
     }
-    write_rows(t, i, j, tos, n, out)
+    write_rows(t, counts, i, j, tos, n, out)
 }
 
 // The same, where no value of the two types has over 40 left and right nodes.
-fn write_rows(t: &[u16], i: usize, j: usize, tos: &[u16], n: usize, out: &mut [u8]) -> Filed
-    requires { ⌜ n ≤ maxClauses ⌝ }
+fn write_rows(
+    t: &[u16],
+    counts: &[usize],
+    i: usize,
+    j: usize,
+    tos: &[u16],
+    n: usize,
+    out: &mut [u8],
+) -> Filed
+    requires { ⌜ Counted (now t) (now counts) × (n ≤ maxClauses) ⌝ }
     ensures { λ r. ⌜
         RowsMade (typeOf (now (t .entry)) i) (typeOf (now (t .entry)) j) (now (tos .entry)) n
         (now (out .entry)) (now (out .exit)) r
@@ -137,7 +154,7 @@ fn write_rows(t: &[u16], i: usize, j: usize, tos: &[u16], n: usize, out: &mut [u
     let mut cs = [0u16; CLAUSE_WORDS];
     let a = write_type(t, i, &mut ts, 0);
     let b = write_type(t, j, &mut ts, a.end);
-    let end = write_pairs(t, i, j, tos, n, &mut ps, &mut cs);
+    let end = write_pairs(t, counts, i, j, tos, n, &mut ps, &mut cs);
     if MAX_PATTERNS < end {
         return Filed {
             refusal: Refusal::Ceiling(Kind::Pattern),

@@ -18,6 +18,7 @@ ghost use Rattle.format.specs.Unfold.{isosOf};
 ghost use Rattle.law_pairlists.specs.PairLists.{toFrom};
 ghost use Rattle.table_trees.specs.Unfolding.{cellOf};
 ghost use Rattle.run_index.specs.Index.{placeAt};
+ghost use Rattle.number_values.specs.Numbers.{Counted};
 ghost use Rattle.list_targets.specs.Targets.{Stores, OnPair, SettingRan, AllFound};
 
 // Field k of the I row of iso i, as the index finds it.
@@ -30,6 +31,7 @@ pub fn iso_cell(t: &[u16], index: &[u16], i: usize, k: usize) -> usize
 // Runs iso i on the setting of its from-type with number k, within the budget.
 fn run_setting(
     t: &[u16],
+    counts: &[usize],
     base: usize,
     index: &[u16],
     isos: usize,
@@ -39,13 +41,14 @@ fn run_setting(
     work: &mut [u8],
     result: &mut [u8],
 ) -> Ran
+    requires { ⌜ Counted (now t) (now counts) ⌝ }
     ensures { λ r. ⌜
         OnPair (now (t .entry)) base (now (index .entry)) isos i k (now (work .entry))
         (λ rs o. SettingRan rs i o k budget (now (result .entry)) (now (result .exit)) r)
         ⌝ }
 {
     let mut value = [0u8; RESULT_LENGTH];
-    let n = unrank_at(t, iso_cell(t, index, i, ISO_FROM), k, &mut value, 0);
+    let n = unrank_at(t, counts, iso_cell(t, index, i, ISO_FROM), k, &mut value, 0);
     run_checked(
         t,
         base,
@@ -63,6 +66,7 @@ fn run_setting(
 // Stores the to of pair k; false, and nothing stored, where its run passes the budget.
 fn find_to(
     t: &[u16],
+    counts: &[usize],
     base: usize,
     index: &[u16],
     isos: usize,
@@ -72,18 +76,30 @@ fn find_to(
     work: &mut [u8],
     tos: &mut [u16],
 ) -> bool
+    requires { ⌜ Counted (now t) (now counts) ⌝ }
     ensures { λ r. ⌜
         OnPair (now (t .entry)) base (now (index .entry)) isos i k (now (work .entry))
         (λ rs o. Stores (toFrom (isosOf rs) i o budget k) k (now (tos .entry)) (now (tos .exit)) r)
         ⌝ }
 {
     let mut result = [0u8; RESULT_LENGTH];
-    let r = run_setting(t, base, index, isos, i, k, budget, work, &mut result);
+    let r = run_setting(
+        t,
+        counts,
+        base,
+        index,
+        isos,
+        i,
+        k,
+        budget,
+        work,
+        &mut result,
+    );
     let f = r.refusal;
     if is_refused(f) {
         return false;
     }
-    let x = rank_at(t, iso_cell(t, index, i, ISO_TO), &result, 0);
+    let x = rank_at(t, counts, iso_cell(t, index, i, ISO_TO), &result, 0);
     store_word(tos, k, narrow(x.number));
     true
 }
@@ -91,6 +107,7 @@ fn find_to(
 // Stores the tos of the first n pairs of iso i; false where some pair's run passes the budget.
 pub fn find_tos(
     t: &[u16],
+    counts: &[usize],
     base: usize,
     index: &[u16],
     isos: usize,
@@ -100,6 +117,7 @@ pub fn find_tos(
     work: &mut [u8],
     tos: &mut [u16],
 ) -> bool
+    requires { ⌜ Counted (now t) (now counts) ⌝ }
     ensures { λ r. ⌜
         AllFound (now (t .entry)) base (now (index .entry)) isos i n budget (now (work .entry))
         (now (tos .entry)) (now (tos .exit)) r
@@ -107,7 +125,7 @@ pub fn find_tos(
 {
     let mut k: usize = 0;
     while k < n {
-        if !find_to(t, base, index, isos, i, k, budget, work, tos) {
+        if !find_to(t, counts, base, index, isos, i, k, budget, work, tos) {
             return false;
         }
         k += 1;

@@ -139,12 +139,14 @@ pub tag-value : (t : Tag) (v : Val) {s s₁ s₂ : List ℕ} {to n₁ e₁ n₂ 
 tag-value left v f h =
     record {
       does = λ rs r t. let F = f .does rs r t in
-          follow-row 2 (writeValue v rs .rows) (F .number) (λ o. refl) (F .long) (h patternLine (writeValue v rs .rows) .does (omega arith) (omega (arith, F .bound)) (omega arith) (follow-room F r) (F .tracks));
+          follow-row 2 (writeValue v rs .rows) (F .number) (λ o. refl) (F .long)
+          (h patternLine (writeValue v rs .rows) .does (omega arith) (omega (arith, F .bound)) (omega arith) (follow-room F r) (F .tracks));
     }
 tag-value right v f h =
     record {
       does = λ rs r t. let F = f .does rs r t in
-          follow-row 3 (writeValue v rs .rows) (F .number) (λ o. refl) (F .long) (h patternLine (writeValue v rs .rows) .does (omega arith) (omega (arith, F .bound)) (omega arith) (follow-room F r) (F .tracks));
+          follow-row 3 (writeValue v rs .rows) (F .number) (λ o. refl) (F .long)
+          (h patternLine (writeValue v rs .rows) .does (omega arith) (omega (arith, F .bound)) (omega arith) (follow-room F r) (F .tracks));
     }
 
 pub pair-value : (v w : Val) {s s₁ s₂ s₃ : List ℕ} {to n₁ e₁ n₂ e₂ n₃ e₃ : ℕ} → RowsOf v s s₁ to n₁ e₁ → RowsOf w s₁ s₂ e₁ n₂ e₂

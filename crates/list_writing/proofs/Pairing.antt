@@ -114,7 +114,8 @@ pairs-next {a} {b} {tos} {n} {s₀} {q₀} {s} {q} {s′} {q′} {k} {end} {e} {
               patterns = f .patterns ∙ ap (λ z. writePairs z (f .rows) .patterns) one;
               clauses =
                   f .clauses ∙ ap (λ z. f .done ++ writePairs z (f .rows) .clauses) one
-                  ∙ sym (append-assoc (f .done) (clauseRow (left a k (f .rows) .number) (right a b k m (f .rows) .number) ∷ []) (writePairs (settings a b (k + 1) (drop (k + 1) (take n tos))) (right a b k m (f .rows) .rows) .clauses));
+                  ∙ sym (append-assoc (f .done) (clauseRow (left a k (f .rows) .number) (right a b k m (f .rows) .number) ∷ [])
+                  (writePairs (settings a b (k + 1) (drop (k + 1) (take n tos))) (right a b k m (f .rows) .rows) .clauses));
             }
 
 pub pairs-end : {a b : Ty} {tos : List ℕ} {n : ℕ} {s₀ q₀ s q : List ℕ} {k end : ℕ} → Pairs a b tos n s₀ q₀ s q k end → n ≤ k → PairsDone a b tos n s₀ s q₀ q end

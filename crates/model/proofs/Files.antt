@@ -13,7 +13,8 @@ use borrow.Author.Tests.{lt-ltb}
 use Rattle.limits.specs.Limits.{maxBytes, maxLines}
 use Rattle.calculus.specs.Tools.{stages, orElse}
 use Rattle.calculus.specs.Trees.{left, right}
-use Rattle.calculus.specs.Refusals.{Kind, Refusal, number, shortArea, tooLong, badLine, misplaced, badField, badName, ceiling, variable, letShape, badType, overlap, gap, noIso, noValue, spent, tooMany, tooHigh, badList, idle, badScript}
+use Rattle.calculus.specs.Refusals.{Kind, Refusal, number, shortArea, tooLong, badLine, misplaced, badField, badName, ceiling, variable, letShape, badType}
+use Rattle.calculus.specs.Refusals.{overlap, gap, noIso, noValue, spent, tooMany, tooHigh, badList, idle, badScript}
 use Rattle.format.specs.Lines.{Row, lines, withoutReturns, print, printRows}
 use Rattle.format.specs.Judge.{start, Reading, rows, faulty, readFrom}
 use Rattle.format.specs.Unfold.{isosOf, turnRows}

@@ -9,7 +9,8 @@ use lib.ListN.{length}
 use Rattle.calculus.specs.Refusals.{Refusal, number}
 use Rattle.format.specs.Lines.{Row, printRows}
 use Rattle.format.specs.Unfold.{turnRows}
-use Rattle.model.specs.Services.{Verdict, accepted, refused, verdict, unless, short, tableAfter, workAfter, answerOf, Answer, checkBy, Outcome, gives, fails, goOn, refusalNumber, lineOf, Served, serve, answerFrom, turn}
+use Rattle.model.specs.Services.{Verdict, accepted, refused, verdict, unless, short, tableAfter, workAfter, answerOf, Answer, checkBy, Outcome, gives}
+use Rattle.model.specs.Services.{fails, goOn, refusalNumber, lineOf, Served, serve, answerFrom, turn}
 use Rattle.model.proofs.Files.{number-positive}
 
 -- ---- outcomes

@@ -6,7 +6,7 @@ use mathlib.Core.Bool.{Bool, true, false, cond}
 use mathlib.Core.Option.{Option, none, some}
 use mathlib.Core.List.{List, map, List·Memᴰ}
 use lib.Dec.{leb}
-use lib.ListN.{getElem?, length}
+use lib.ListN.{getElem?, length, length-map}
 use Rattle.calculus.specs.Tools.{_>>=_, guard}
 use Rattle.calculus.specs.Trees.{Ty, Val, Iso, invert}
 use Rattle.calculus.specs.Refusals.{spent}
@@ -27,7 +27,8 @@ use Rattle.calculus.proofs.Letters.{value-letters, letters-value, inhabits-of, 
 use Rattle.calculus.proofs.Inverse.{reduce-inverse, reduce-unfold}
 use Rattle.calculus.proofs.Totality.{Sound, total, on-way}
 use Rattle.calculus.proofs.Steps.{reduction}
-use Rattle.format.proofs.Passing.{formed}
+use Rattle.format.proofs.Passing.{Passes, formed}
+use Rattle.format.specs.Judge.{start}
 use Rattle.format.proofs.Turning.{turn-turn, isos-turn, passes-turn}
 use Rattle.model.proofs.Files.{passes as passes-of, accepted-iff, turned-ok, turned-accepted}
 use Rattle.model.proofs.Outcomes.{fails≢gives}
@@ -262,3 +263,8 @@ spent-iff file rs e i back budget o f v w k h s =
           (bool-cases (leb k budget))),
       (λ l. says (fails spent) .1 (passed o v w k f refl h s l)),
     )
+
+-- as many isos either way
+pub toward-length : (back : Bool) (rs : List Row) → Passes start rs → length (isosOf (toward back rs)) ≡ length (isosOf rs)
+toward-length false rs ps = refl
+toward-length true rs ps = ap length (isos-turn rs ps) ∙ length-map (isosOf rs) invert

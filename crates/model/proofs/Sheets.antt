@@ -14,7 +14,8 @@ use Rattle.limits.specs.Limits.{tableLength, workLength, resultLength, maxQueri
 use Rattle.calculus.specs.Tools.{concat}
 use Rattle.calculus.specs.Refusals.{Refusal, shortArea, tooLong, badLine}
 use Rattle.format.specs.Lines.{Row, lines}
-use Rattle.model.specs.Services.{Verdict, accepted, refused, verdict, answerOf, check, Ran, gives, fails, RunAnswer, answerOfRun, RunResult, runOf, runService, filled, written, tableAfter, workAfter, short, unless}
+use Rattle.model.specs.Services.{Verdict, accepted, refused, verdict, answerOf, check, Ran, gives, fails, RunAnswer, answerOfRun, RunResult, runOf}
+use Rattle.model.specs.Services.{runService, filled, written, tableAfter, workAfter, short, unless}
 use Rattle.model.specs.Desk.{Query, queryOf, answerTo, queryLine, queryAnswers}
 use Rattle.model.specs.Sheet.{answersTo, three, numbersAfter, lettersAfter, narrowSheet, sheetVerdict, sheet}
 use Rattle.calculus.proofs.Basic.{neither, none≢some, some-inj, le-leb, lt-ltb, ltb-false, not-ltb, each-nil, each-map, index-map, index-of-map, index-below}

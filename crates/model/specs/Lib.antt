@@ -4,3 +4,4 @@ pub mod Sheet
 pub mod Cases
 pub mod Readings
 pub mod Answers
+pub mod Examples

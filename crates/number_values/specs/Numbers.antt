@@ -3,11 +3,12 @@ use Prim.Native.Nat.{ℕ, suc, _+_, _*_, _≤_, _<_, min}
 use mathlib.Core.Path.{_≡_}
 use mathlib.Core.Bool.{true}
 use mathlib.Core.List.{List}
-use lib.ListN.{length}
+use lib.ListN.{length, getD}
 use lib.Seq.{sets}
 use Rattle.limits.specs.Limits.{maxValues}
 use Rattle.calculus.specs.Trees.{Ty, Val}
 use Rattle.calculus.specs.Letters.{letters, inhabits}
+use Rattle.table_trees.specs.Unfolding.{typeOf}
 use Rattle.law_ranking.specs.Numbering.{count, rank, unrank}
 use Rattle.run_values.specs.Texts.{At}
 
@@ -23,6 +24,10 @@ ProductCapped a b r =
 -- how many values a type has, one above the most that are numbered for all above
 abbrev pub Counts : Ty → ℕ → Type 0
 Counts a n = n ≡ min (count a) (suc maxValues)
+
+-- an area has the counts of a table's first T lines, as many as there is a place for
+pub record Counted (t counts : List ℕ) : Type 0 where
+  pub counted : (i : ℕ) → i < length counts → Counts (typeOf t i) (getD counts i 0)
 
 -- the number of the value of a type that begins at a place, and the place behind it
 abbrev pub Ranks : Ty → List ℕ → ℕ → ℕ → ℕ → Type 0

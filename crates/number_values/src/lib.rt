@@ -18,9 +18,8 @@ ghost use mathlib.Core.Path.{_≡_};
 ghost use Prim.Native.Nat.{suc, _+_, _*_, _≤_, _<_, min};
 ghost use lib.ListN.{length};
 ghost use Rattle.limits.specs.Limits.{maxValues};
-ghost use Rattle.calculus.specs.Trees.{tsum, tprod};
 ghost use Rattle.table_trees.specs.Unfolding.{typeOf};
-ghost use Rattle.number_values.specs.Numbers.{SumCapped, ProductCapped, Counts, Ranks, Unranks};
+ghost use Rattle.number_values.specs.Numbers.{SumCapped, ProductCapped, Counts, Counted, Ranks, Unranks};
 
 // A value's number, and the place behind its letters.
 pub struct Ranked {
@@ -30,6 +29,19 @@ pub struct Ranked {
 
 // Stands for all numbers above the most values that are numbered.
 const MANY: usize = MAX_VALUES + 1;
+
+// The counts of as many T lines are kept at most.
+pub const COUNTS: usize = 256;
+
+// How many counts are kept, where those of n T lines are asked for.
+pub fn known(n: usize) -> usize
+    ensures { λ r. ⌜ r ≤ 256 ⌝ }
+{
+    if n < COUNTS {
+        return n;
+    }
+    COUNTS
+}
 
 // A number, or 4,294,967,296 for all above.
 fn capped(n: usize) -> usize
@@ -77,22 +89,39 @@ fn pairs(a: usize, b: usize) -> usize
     capped(a * b)
 }
 
-// How many closed values T line i has; 4,294,967,296 stands for all above.
-pub fn count_values(t: &[u16], i: usize) -> usize
+// How many closed values T line i has; 4,294,967,296 stands for all above. The counts of the first T lines are
+// known, as many as are lent.
+pub fn count_values(t: &[u16], counts: &[usize], i: usize) -> usize
+    requires { ⌜ Counted (now t) (now counts) ⌝ }
     ensures { λ r. ⌜ Counts (typeOf (now (t .entry)) i) r ⌝ }
 {
+    if i < counts.len() {
+        return counts[i];
+    }
     let kind = cell(t, i, KIND);
     if kind == SUM {
-        let a = count_values(t, smaller(cell(t, i, FIRST), i));
-        let b = count_values(t, smaller(cell(t, i, SECOND), i));
+        let a = count_values(t, counts, smaller(cell(t, i, FIRST), i));
+        let b = count_values(t, counts, smaller(cell(t, i, SECOND), i));
         return both(a, b);
     }
     if kind == PRODUCT {
-        let a = count_values(t, smaller(cell(t, i, FIRST), i));
-        let b = count_values(t, smaller(cell(t, i, SECOND), i));
+        let a = count_values(t, counts, smaller(cell(t, i, FIRST), i));
+        let b = count_values(t, counts, smaller(cell(t, i, SECOND), i));
         return pairs(a, b);
     }
     1
+}
+
+// The counts of the first T lines, each from those of the lines that it names.
+pub fn find_counts(t: &[u16], counts: &mut [usize])
+    ensures { λ r. ⌜ (length (now (counts .exit)) ≡ length (now (counts .entry))) × Counted (now (t .entry)) (now (counts .exit)) ⌝ }
+{
+    let mut i: usize = 0;
+    while i < counts.len() {
+        let n = count_values(t, &counts[0..i], i);
+        counts[i] = n;
+        i += 1;
+    }
 }
 
 // The place behind a letter.
@@ -106,102 +135,82 @@ fn behind(s: &[u8], at: usize) -> usize
 }
 
 // The number of the closed value of T line i that begins at a place, and where it ends. The type has at
-// most 4,294,967,295 values.
-pub fn rank_at(t: &[u16], i: usize, s: &[u8], at: usize) -> Ranked
+// most 4,294,967,295 values; the counts are those of the first T lines.
+pub fn rank_at(t: &[u16], counts: &[usize], i: usize, s: &[u8], at: usize) -> Ranked
+    requires { ⌜ Counted (now t) (now counts) ⌝ }
     ensures { λ r. ⌜ Ranks (typeOf (now (t .entry)) i) (now (s .entry)) at (r .number) (r .end) ⌝ }
 {
-    let left = smaller(cell(t, i, FIRST), i);
-    let right = smaller(cell(t, i, SECOND), i);
-    match cell(t, i, KIND) {
-        SUM => rank_tag(t, left, right, s, at),
-        PRODUCT => rank_pair(t, left, right, s, at),
-        _ => Ranked {
-            number: 0,
-            end: behind(s, at),
-        },
-    }
-}
-
-// The same for a left or a right, whose types are T lines `left` and `right`.
-fn rank_tag(t: &[u16], left: usize, right: usize, s: &[u8], at: usize) -> Ranked
-    ensures { λ r. ⌜
-        Ranks (tsum (typeOf (now (t .entry)) left) (typeOf (now (t .entry)) right)) (now (s .entry)) at
-        (r .number) (r .end)
-        ⌝ }
-{
+    let kind = cell(t, i, KIND);
     let next = behind(s, at);
-    if byte_at(s, at) == LETTER_LEFT {
-        return rank_at(t, left, s, next);
+    if kind == SUM {
+        let left = smaller(cell(t, i, FIRST), i);
+        if byte_at(s, at) == LETTER_LEFT {
+            return rank_at(t, counts, left, s, next);
+        }
+        let right = smaller(cell(t, i, SECOND), i);
+        let r = rank_at(t, counts, right, s, next);
+        return Ranked {
+            number: times_plus(1, count_values(t, counts, left), r.number),
+            end: r.end,
+        };
     }
-    let r = rank_at(t, right, s, next);
-    Ranked {
-        number: times_plus(1, count_values(t, left), r.number),
-        end: r.end,
+    if kind == PRODUCT {
+        let left = smaller(cell(t, i, FIRST), i);
+        let right = smaller(cell(t, i, SECOND), i);
+        let r = rank_at(t, counts, left, s, next);
+        let u = rank_at(t, counts, right, s, r.end);
+        return Ranked {
+            number: times_plus(r.number, count_values(t, counts, right), u.number),
+            end: u.end,
+        };
     }
-}
-
-// The same for a pair.
-fn rank_pair(t: &[u16], left: usize, right: usize, s: &[u8], at: usize) -> Ranked
-    ensures { λ r. ⌜
-        Ranks (tprod (typeOf (now (t .entry)) left) (typeOf (now (t .entry)) right)) (now (s .entry)) at
-        (r .number) (r .end)
-        ⌝ }
-{
-    let r = rank_at(t, left, s, behind(s, at));
-    let u = rank_at(t, right, s, r.end);
     Ranked {
-        number: times_plus(r.number, count_values(t, right), u.number),
-        end: u.end,
+        number: 0,
+        end: next,
     }
 }
 
 // Writes the letters of the value of T line i with number n from a place on, and gives the place behind
 // them. The type has at most 4,294,967,295 values, n is below their count, and there is room.
-pub fn unrank_at(t: &[u16], i: usize, n: usize, out: &mut [u8], at: usize) -> usize
+pub fn unrank_at(
+    t: &[u16],
+    counts: &[usize],
+    i: usize,
+    n: usize,
+    out: &mut [u8],
+    at: usize,
+) -> usize
+    requires { ⌜ Counted (now t) (now counts) ⌝ }
     ensures { λ r. ⌜ Unranks (typeOf (now (t .entry)) i) n (now (out .entry)) (now (out .exit)) at r ⌝ }
 {
     if out.len() <= at {
         return at;
     }
-    let left = smaller(cell(t, i, FIRST), i);
-    let right = smaller(cell(t, i, SECOND), i);
-    match cell(t, i, KIND) {
-        SUM => unrank_tag(t, left, right, n, out, at),
-        PRODUCT => unrank_pair(t, left, right, n, out, at),
-        _ => {
-            out[at] = LETTER_UNIT;
-            at + 1
+    let kind = cell(t, i, KIND);
+    if kind == SUM {
+        let left = smaller(cell(t, i, FIRST), i);
+        let c = count_values(t, counts, left);
+        if n < c {
+            out[at] = LETTER_LEFT;
+            return unrank_at(t, counts, left, n, out, at + 1);
         }
+        out[at] = LETTER_RIGHT;
+        return unrank_at(
+            t,
+            counts,
+            smaller(cell(t, i, SECOND), i),
+            n - c,
+            out,
+            at + 1,
+        );
     }
-}
-
-// The same for a left or a right, whose types are T lines `left` and `right`.
-fn unrank_tag(t: &[u16], left: usize, right: usize, n: usize, out: &mut [u8], at: usize) -> usize
-    requires { ⌜ at < length (now out) ⌝ }
-    ensures { λ r. ⌜
-        Unranks (tsum (typeOf (now (t .entry)) left) (typeOf (now (t .entry)) right)) n (now (out .entry))
-        (now (out .exit)) at r
-        ⌝ }
-{
-    let c = count_values(t, left);
-    if n < c {
-        out[at] = LETTER_LEFT;
-        return unrank_at(t, left, n, out, at + 1);
+    if kind == PRODUCT {
+        let right = smaller(cell(t, i, SECOND), i);
+        let c = count_values(t, counts, right);
+        out[at] = LETTER_PAIR;
+        let middle = unrank_at(t, counts, smaller(cell(t, i, FIRST), i), n / c, out, at + 1);
+        return unrank_at(t, counts, right, n % c, out, middle);
     }
-    out[at] = LETTER_RIGHT;
-    unrank_at(t, right, n - c, out, at + 1)
-}
-
-// The same for a pair.
-fn unrank_pair(t: &[u16], left: usize, right: usize, n: usize, out: &mut [u8], at: usize) -> usize
-    requires { ⌜ at < length (now out) ⌝ }
-    ensures { λ r. ⌜
-        Unranks (tprod (typeOf (now (t .entry)) left) (typeOf (now (t .entry)) right)) n
-        (now (out .entry)) (now (out .exit)) at r
-        ⌝ }
-{
-    let c = count_values(t, right);
-    out[at] = LETTER_PAIR;
-    let middle = unrank_at(t, left, n / c, out, at + 1);
-    unrank_at(t, right, n % c, out, middle)
+    out[at] = LETTER_UNIT;
+    at + 1
 }

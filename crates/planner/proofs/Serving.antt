@@ -129,7 +129,8 @@ module _ (s t w is ns script : List ℕ) (budget : ℕ) where
       pub marked-refused : g ≡ true → (r : Y.Visits) → r .answer .place ≡ c .answer .place → r .answer .refusal ≡ c .answer .refusal → r .count ≡ 0 → r .played ≡ false
           → VisitsSay s t w is ns script budget t′ w₁ is ns r
       marked-refused z r p m k l =
-          let x = check-refused (playRows us script budget) (λ o. (us ≡ unitsFrom o us) × (marksFrom o ≡ []) × (isGiven o ≡ false)) s t w {b = false} (sym (enough t w is ns (sym e ∙ y) .0)) says flag z (λ h. (refl, refl, refl)) in
+          let x = check-refused (playRows us script budget) (λ o. (us ≡ unitsFrom o us) × (marksFrom o ≡ []) × (isGiven o ≡ false)) s t w {b = false} (sym (enough t w is ns (sym e ∙ y) .0))
+          says flag z (λ h. (refl, refl, refl)) in
           let a = x .answers in
           by-over f
           (record {

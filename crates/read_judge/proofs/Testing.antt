@@ -134,7 +134,8 @@ module _ (c : C.Seen) (r : R.Row) {b : Bool} where
   pub clause-stands : r .kind ≡ kinds.Clause → b ≡ (ltb (r .x) (c .patterns) && ltb (r .y) (c .patterns)) → (s : Seen) → Counts c s → b ≡ named s (kindView (r .kind)) (rowView r)
   clause-stands q e s h = e ∙ ap (λ n. ltb (r .x) n && ltb (r .y) n) (h .patterns) ∙ sym (ap (λ k. named s (kindView k) (rowView r)) q)
 
-  pub let-stands : r .kind ≡ kinds.Let → b ≡ (ltb (r .x) (c .patterns) && ltb (r .z) (c .patterns) && ltb (suc (r .y)) (c .isos)) → (s : Seen) → Counts c s → b ≡ named s (kindView (r .kind)) (rowView r)
+  pub let-stands : r .kind ≡ kinds.Let → b ≡ (ltb (r .x) (c .patterns) && ltb (r .z) (c .patterns) && ltb (suc (r .y)) (c .isos)) → (s : Seen) → Counts c s → b ≡ named s (kindView (r .kind))
+      (rowView r)
   let-stands q e s h =
       e
       ∙ ap₂ (λ n i. ltb (r .x) n && ltb (r .z) n && ltb (suc (r .y)) i) (h .patterns) (h .isos)

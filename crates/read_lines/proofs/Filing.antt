@@ -46,7 +46,8 @@ agree : (s : Seen) (n : ℕ) (ls : List (List ℕ)) → Agree (readFrom s n ls) 
 agree s n [] = refl
 agree s n (l ∷ ls) = go (λ r. agree (after s r) (suc n) ls) (rowOf l)
   where
-    on : (r : Row) → Agree (readFrom (after s r) (suc n) ls) (passing (after s r) ls) → (x : Option Refusal) → Agree (onJudged n x (λ _. withRow r (readFrom (after s r) (suc n) ls))) (ahead (judgedRow r x) (λ q. passing (after s q) ls))
+    on : (r : Row) → Agree (readFrom (after s r) (suc n) ls) (passing (after s r) ls) → (x : Option Refusal) → Agree (onJudged n x (λ _. withRow r (readFrom (after s r) (suc n) ls)))
+        (ahead (judgedRow r x) (λ q. passing (after s q) ls))
     on r h none = agree-more r (readFrom (after s r) (suc n) ls) (passing (after s r) ls) h
     on r h (some f) = tt
 

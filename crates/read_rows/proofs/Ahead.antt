@@ -15,7 +15,8 @@ use Rattle.format.specs.Lines.{Row, lines, ontoFirst, kindOf, fields, fieldBoun
 use Rattle.calculus.proofs.Basic.{none≢some, some-inj, some-bind, bind-some, bool-cases, eqb-eq, guard-true, each-append, each-cons, each-nil}
 use Rattle.format.proofs.Endings.{feed, both, Ended, by-feed, by-both}
 use Rattle.format.proofs.Numerals.{NoDigit}
-use Rattle.format.proofs.Printing.{printFields, skip-some, Split, read-fields, fields-print, WellFormed, shown, body, bounds-fields, kindOf-letter, row-shown, shown-below, read-body, row-iff, NoFeed, Feedless, feedless-body, lines-feed, concat-lines}
+use Rattle.format.proofs.Printing.{printFields, skip-some, Split, read-fields, fields-print, WellFormed, shown, body, bounds-fields, kindOf-letter, row-shown}
+use Rattle.format.proofs.Printing.{shown-below, read-body, row-iff, NoFeed, Feedless, feedless-body, lines-feed, concat-lines}
 use Rattle.read_fields.specs.Views.{pastEnding}
 use Rattle.read_rows.specs.Views.{behindLetter, rowFrom}
 

@@ -40,7 +40,8 @@ stands-as {d = d} {p = p} e s = subst (λ x. Stands x d p) e s
 
 -- ---- earlier lines keep theirs
 
-listed-keeps : {code : List ℕ} (area : List ℕ) {code′ : List ℕ} {at next : ℕ} (i v : ℕ) {p : Pat} {d d′ : ℕ} → at ≤ next → take at area ≡ take at code → code′ ≡ set area i v → i < 1025 → 1025 ≤ at → d ≡ d′
+listed-keeps : {code : List ℕ} (area : List ℕ) {code′ : List ℕ} {at next : ℕ} (i v : ℕ) {p : Pat} {d d′ : ℕ} → at ≤ next → take at area ≡ take at code → code′ ≡ set area i v → i < 1025 →
+    1025 ≤ at → d ≡ d′
     → Listed code at p d → Listed code′ next p d′
 listed-keeps area i v on same e low up ed (nothing z) = nothing (sym ed ∙ z)
 listed-keeps area i v on same e low up ed (one n h z q) = one n h (sym ed ∙ z) q

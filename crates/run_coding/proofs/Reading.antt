@@ -83,7 +83,8 @@ number-var n h e = let is : (n + 1) % 65536 ≡ suc n = omega arith in e ∙ is 
 pub number-none : (n : ℕ) → 32 ≤ n → 0 ≡ cond (ltb n 32) (suc n) 0
 number-none n h = sym (ap (λ b. cond b (suc n) 0) (le-ltb n 32 h))
 
-pub built-var : (t : List ℕ) (base j : ℕ) {code : List ℕ} {n : ℕ} (vars work : List ℕ) {work′ : List ℕ} {at r : ℕ} (top : ℕ) → ((t : List ℕ) (base : ℕ) → Coded t base code → n < 32 → patternOf t base j ≡ pvar n)
+pub built-var : (t : List ℕ) (base j : ℕ) {code : List ℕ} {n : ℕ} (vars work : List ℕ) {work′ : List ℕ} {at r : ℕ} (top : ℕ) →
+    ((t : List ℕ) (base : ℕ) → Coded t base code → n < 32 → patternOf t base j ≡ pvar n)
     → n < 32 → Coded t base code → Writes work work′ at r (rangeOf (take top work) vars n) → Writes work work′ at r (built (patternOf t base j) (take top work) vars)
 built-var t base j {code} {n} vars work {work′} {at} {r} top says less c w =
     subst (λ p. Writes work work′ at r (built p (take top work) vars)) (sym (says t base c less)) w

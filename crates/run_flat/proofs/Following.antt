@@ -286,7 +286,12 @@ letter-next {code} {s} {end} {hit} {final} {k} {at} {vars} {o} b eo low n same�
           same = h ∙ and-assoc (alike p v) (alike q w) (alikes xs);
           final′ =
               l
-              ∙ pair-left (alike p v) (alike q w) (left-by xs (at + suc (length (letters v ++ letters w)))) (ranges q w (suc at + length (letters v)) (ranges p v (suc at) vars)) (ranges p v (suc at) vars)
-              ∙ ap₂ (λ x y. cond (alike p v) (cond (alike q w) (left-by xs x (ranges q w (suc at + length (letters v)) (ranges p v y vars))) (ranges q w (suc at + length (letters v)) (ranges p v y vars))) (ranges p v y vars)) far (sym (add-one at))
-              ∙ ap (λ x. cond (alike p v) (cond (alike q w) (left-by xs (at + 1 + length (letters v) + length (letters w)) (ranges q w x (ranges p v (at + 1) vars))) (ranges q w x (ranges p v (at + 1) vars))) (ranges p v (at + 1) vars)) u;
+              ∙ pair-left (alike p v) (alike q w) (left-by xs (at + suc (length (letters v ++ letters w)))) (ranges q w (suc at + length (letters v)) (ranges p v (suc at) vars))
+              (ranges p v (suc at) vars)
+              ∙ ap₂ (λ x y. cond (alike p v)
+              (cond (alike q w) (left-by xs x (ranges q w (suc at + length (letters v)) (ranges p v y vars))) (ranges q w (suc at + length (letters v)) (ranges p v y vars)))
+              (ranges p v y vars)) far (sym (add-one at))
+              ∙ ap (λ x. cond (alike p v)
+              (cond (alike q w) (left-by xs (at + 1 + length (letters v) + length (letters w)) (ranges q w x (ranges p v (at + 1) vars))) (ranges q w x (ranges p v (at + 1) vars)))
+              (ranges p v (at + 1) vars)) u;
         }

@@ -16,7 +16,8 @@ use Rattle.table_walks.specs.InTable.{letAt, letsIn, clauseIn}
 use Rattle.table_walks.specs.Walk.{FileIn, isoRows, tailAt}
 use Rattle.table_walks.proofs.Rows.{clause≢iso, let≢iso}
 use Rattle.area_words.proofs.Bits.{narrow-same}
-use Rattle.table_walks.proofs.Walking.{no-lets, one-let-more, tail-end, row-of, lines-few, whole-file, head-few, letter-iso, letter-clause, other-let, iso-rows-few, iso-rows-other, iso-rows-longer, iso-rows-early}
+use Rattle.table_walks.proofs.Walking.{no-lets, one-let-more, tail-end, row-of, lines-few, whole-file, head-few, letter-iso, letter-clause, other-let}
+use Rattle.table_walks.proofs.Walking.{iso-rows-few, iso-rows-other, iso-rows-longer, iso-rows-early}
 use Rattle.run_index.specs.Index.{indexLength, placeAt, clausesAt, isoBetween, isosAt, indexEnd}
 use Rattle.run_index.specs.Indexed.{placesOf, places, Indexed}
 use Rattle.run_index.proofs.Counting.{places-few, places-step}
@@ -295,7 +296,8 @@ indexing-start t above {lines} {isos} index {v} ev {mid} em {last} el =
           el ∙ ap (λ l. set l isos indexEnd) (em ∙ ap (set index indexEnd) whole) in (
             omega (arith, head-few f),
             omega arith,
-            subst (λ l. Indexed t types rs lines l indexEnd isos) (sym same) (indexed-start f index (omega (arith, ap length el, length-set mid isos indexEnd, ap length em, length-set index indexEnd v)) ei),
+            subst (λ l. Indexed t types rs lines l indexEnd isos) (sym same)
+                (indexed-start f index (omega (arith, ap length el, length-set mid isos indexEnd, ap length em, length-set index indexEnd v)) ei),
           );
     }
 

@@ -30,7 +30,8 @@ use Rattle.run_reduction.specs.declared.Place as P
 use Rattle.run_reduction.specs.declared.Reduced as R
 use Rattle.run_reduction.specs.declared.Reduced.the-variants as reduced
 use Rattle.run_values.proofs.Tracing.{runs-least}
-use Rattle.run_reduction.specs.Frames.{EnvAt, Gave, Argued, GiveSays, ArgueSays, sided, sidedClause, sidedLet, sidedLets, sideAt, Laid, Chosen, Spares, Applied, Stepped, LetsRan, ChoiceSays, StepSays, LetsSay, ApplySays}
+use Rattle.run_reduction.specs.Frames.{EnvAt, Gave, Argued, GiveSays, ArgueSays, sided, sidedClause, sidedLet, sidedLets, sideAt, Laid, Chosen, Spares}
+use Rattle.run_reduction.specs.Frames.{Applied, Stepped, LetsRan, ChoiceSays, StepSays, LetsSay, ApplySays}
 use Rattle.run_reduction.proofs.Laying.{inside, clause-at, lhs-at, rhs-at, lets-at, length-sided, let-at, let-q, let-p, let-iso}
 
 -- ---- answers
@@ -400,12 +401,14 @@ called t base index back row i j {jq} {top = top} cell cellq argues wide says os
       applied = says os d u w m laid (subst (λ k. Runs d os k u w m) same run) (a .stands) (a .ends) (a .low) (a .over) (a .near) (omega (arith, room, wide, same, less)) (omega (arith, wide, most));
     }
 
-pub step-done : (t : List ℕ) (base : ℕ) (index : List ℕ) (back : Bool) (row i j : ℕ) {jq jp : ℕ} {w₀ w₁ w₂ vars vars′ : List ℕ} {top left b x y next : ℕ} {a : P.Place} {r : G.Given} → j ≡ cellOf t row 2
+pub step-done : (t : List ℕ) (base : ℕ) (index : List ℕ) (back : Bool) (row i j : ℕ) {jq jp : ℕ} {w₀ w₁ w₂ vars vars′ : List ℕ} {top left b x y next : ℕ} {a : P.Place} {r : G.Given} → j ≡
+    cellOf t row 2
     → jq ≡ cellOf t row (cond back 1 3) → ArgueSays (patternOf t base jq) vars w₀ w₁ top a → length w₁ ≡ length w₀
     → ApplySays t base index back j w₁ w₂ (a .at) (a .end) top (a .free) left r → length w₂ ≡ length w₁ → r ≡ given.Range b x y → jp ≡ cellOf t row (cond back 3 1)
     → ((v : Val) → At w₂ b v → x ≡ b + length (letters v) → vars′ ≡ ranges (patternOf t base jp) v b vars) → (top ≤ next) × (x ≤ next) × ((next ≡ top) ⊎ (next ≡ x))
     → StepSays t base index back i row w₀ w₂ top vars vars′ left (reduced.Done next y)
-step-done t base index back row i j {jq} {jp} {w₀} {w₁} {w₂} {vars} {vars′} {top} {left} {b} {x} {y} {next} {a} {r} cell cellq argues wide says kept told cellp range far os d l e f g u w m laid is less bu small run little bound env room most =
+step-done t base index back row i j {jq} {jp} {w₀} {w₁} {w₂} {vars} {vars′} {top} {left} {b} {x} {y} {next} {a} {r} cell cellq argues wide says kept told cellp range far os d l e f g u w m
+    laid is less bu small run little bound env room most =
     let c = called t base index back row i j cell cellq argues wide says os d l e f u w m laid is less bu small run env room most in
     go c (le-or-lt m left)
   where
@@ -551,7 +554,8 @@ letting-start t base index back i from n end budget w₀ vars₀ =
     }
 
 -- the let step at k, in a trace
-record OneStep (call : ℕ → Val → Val → ℕ → Type 0) (i : ℕ) (ls : List Let) (g : Slots Val) (m budget end : ℕ) (w₀ : List ℕ) (k top left : ℕ) (work work′ vars vars′ : List ℕ) (r : R.Reduced) : Type 0 where
+record OneStep (call : ℕ → Val → Val → ℕ → Type 0) (i : ℕ) (ls : List Let) (g : Slots Val) (m budget end : ℕ) (w₀ : List ℕ) (k top left : ℕ) (work work′ vars vars′ : List ℕ) (r : R.Reduced)
+    : Type 0 where
   pub before : LetsAt call i ls g m budget end w₀ k top left work vars
   pub l : Let
   pub first : FirstLet call i l (drop (suc k) ls) (before .now) g (before .rest)
@@ -583,7 +587,8 @@ one-step {t} {base} {index} {back} {i} {from} {n} {end} {budget} {w₀} {vars₀
       spares = spares-both (b .spares) (spares-more top (top + i * frame) end (end + length ls * resultLength + i * frame) (stepped .spares) further (omega (arith, near, many)));
     }
 
-pub letting-next : {t : List ℕ} {base : ℕ} {index : List ℕ} {back : Bool} {i from n end budget : ℕ} {w₀ vars₀ : List ℕ} {k top left row x y : ℕ} {work work′ vars vars′ : List ℕ} {r : R.Reduced} → r ≡ reduced.Done x y
+pub letting-next : {t : List ℕ} {base : ℕ} {index : List ℕ} {back : Bool} {i from n end budget : ℕ} {w₀ vars₀ : List ℕ} {k top left row x y : ℕ} {work work′ vars vars′ : List ℕ}
+    {r : R.Reduced} → r ≡ reduced.Done x y
     → Letting t base index back i from n end budget w₀ vars₀ k top left work vars → k < n → row ≡ from + cond back (n - suc k) k → length work′ ≡ length work
     → StepSays t base index back i row work work′ top vars vars′ left r
     → Letting t base index back i from n end budget w₀ vars₀ (k + 1) x y work′ vars′
@@ -627,13 +632,15 @@ letting-next {t} {base} {index} {back} {i} {from} {n} {end} {budget} {w₀} {var
               near = omega (arith, near, place, close);
             }
 
-pub lets-spent : {t : List ℕ} {base : ℕ} {index : List ℕ} {back : Bool} {i from n end budget : ℕ} {w₀ vars₀ : List ℕ} {k top left row : ℕ} {work work′ vars vars′ : List ℕ} {r : R.Reduced} → r ≡ reduced.Spent
+pub lets-spent : {t : List ℕ} {base : ℕ} {index : List ℕ} {back : Bool} {i from n end budget : ℕ} {w₀ vars₀ : List ℕ} {k top left row : ℕ} {work work′ vars vars′ : List ℕ} {r : R.Reduced} →
+    r ≡ reduced.Spent
     → Letting t base index back i from n end budget w₀ vars₀ k top left work vars → k < n → row ≡ from + cond back (n - suc k) k
     → StepSays t base index back i row work work′ top vars vars′ left r
     → (os : List Iso) (d : ℕ) (ls : List Let) (e g : Slots Val) (m : ℕ) → Laid t base index back os → ls ≡ sidedLets back t base from n
     → LetsTrace (Runs d os) i ls e g m → EnvAt w₀ end vars₀ e → end + length ls * resultLength + i * frame ≤ length w₀ → length w₀ ≤ workLength
     → LetsRan w₀ work′ vars′ end i budget (length ls) g m reduced.Spent
-lets-spent {t} {base} {index} {back} {i} {from} {n} {end} {budget} {w₀} {vars₀} {k} {top} {left} {row} {work} {work′} {vars} {vars′} {r} told inv below where′ says′ os d ls e g m laid is trace env room most =
+lets-spent {t} {base} {index} {back} {i} {from} {n} {end} {budget} {w₀} {vars₀} {k} {top} {left} {row} {work} {work′} {vars} {vars′} {r} told inv below where′ says′ os d ls e g m laid is
+    trace env room most =
     let says = subst (StepSays t base index back i row work work′ top vars vars′ left) told says′ in
     let o = one-step inv below where′ says os d ls e g m laid is trace env room most in
     let counts = o .before .counts in
@@ -834,11 +841,13 @@ applied-spent {i = i} {free = free} {left = left} {m = m} {n = n} dest p l is e 
       spares = within-frames dest free i n few low near (l .spares);
     }
 
-applied-done : {t : List ℕ} {base : ℕ} {back : Bool} {os : List Iso} {i row below end free left rest top x : ℕ} {w₀ w₁ w₂ vars vars′ : List ℕ} {w : Val} {m n : ℕ} {r : R.Reduced} {z : G.Given} (dest : ℕ)
+applied-done : {t : List ℕ} {base : ℕ} {back : Bool} {os : List Iso} {i row below end free left rest top x : ℕ} {w₀ w₁ w₂ vars vars′ : List ℕ} {w : Val} {m n : ℕ} {r : R.Reduced}
+    {z : G.Given} (dest : ℕ)
     → (p : Picked t base back os i row below w₀ end vars w m) → LetsRan w₀ w₁ vars′ free i rest n (p .last) (p .count) r → r ≡ reduced.Done top x → rest + 1 ≡ left
     → n ≤ maxLets → dest ≤ free → free ≤ dest + resultLength → dest + suc i * frame ≤ length w₀ → length w₁ ≡ length w₀
     → GiveSays (patternOf t base (cellOf t row (cond back 1 2))) vars′ w₁ w₂ top dest x z → Applied w₀ w₂ dest i left w m z
-applied-done {i = i} {free = free} {left = left} {rest = rest} {top = top} {x = x} {w₀ = w₀} {w₁ = w₁} {w₂ = w₂} {vars′ = vars′} {w = w} {m = m} {n = n} {z = z} dest p l is e few low near room wide gives = go (le-or-lt (p .count) rest)
+applied-done {i = i} {free = free} {left = left} {rest = rest} {top = top} {x = x} {w₀ = w₀} {w₁ = w₁} {w₂ = w₂} {vars′ = vars′} {w = w} {m = m} {n = n} {z = z} dest p l is e few low near
+    room wide gives = go (le-or-lt (p .count) rest)
   where
     go : (p .count ≤ rest) ⊎ (rest < p .count) → Applied w₀ w₂ dest i left w m z
     go (inr h) = absurd (done≢spent (sym is ∙ l .spent h))
@@ -879,7 +888,8 @@ pub unmatched : (t : List ℕ) (base : ℕ) (index : List ℕ) (back : Bool) (i 
     → ChoiceSays t base index back (h + 1) stop w₀ at end (replicate 64 0) vars′ r → h ≡ placeAt index i → stop ≡ placeAt index (i + 1) → stop ≤ r
     → ApplySays t base index back i w₀ w₀ at end dest free left given.Spent
 unmatched t base index back i r at end dest free left says h s past os d v w m laid run a e low over near room most =
-    let c = choice t base index back i r (placeAt index r) (placeAt index (r + 1)) at end dest free says h s refl refl os d v w m laid run a e low near room most in let c₀ = c .0 in absurd (omega (arith, c₀))
+    let c = choice t base index back i r (placeAt index r) (placeAt index (r + 1)) at end dest free says h s refl refl os d v w m laid run a e low near room most in let c₀ = c .0 in absurd
+    (omega (arith, c₀))
 
 pub apply-spent : (t : List ℕ) (base : ℕ) (index : List ℕ) (back : Bool) (i r row below at end dest free left : ℕ) {h stop : ℕ} {w₀ w₁ vars vars′ : List ℕ} {z : R.Reduced}
     → ChoiceSays t base index back (h + 1) stop w₀ at end (replicate 64 0) vars r → h ≡ placeAt index i → stop ≡ placeAt index (i + 1)
@@ -894,7 +904,8 @@ pub apply-done : (t : List ℕ) (base : ℕ) (index : List ℕ) (back : Bool) (i
     → row ≡ placeAt index r → below ≡ placeAt index (r + 1) → (left ≡ 0 → ⊥)
     → LetsSay t base index back i (row + 1) below w₀ w₁ free vars vars′ (left - 1) z → z ≡ reduced.Done top x → length w₁ ≡ length w₀
     → jr ≡ cellOf t row (cond back 1 2) → GiveSays (patternOf t base jr) vars′ w₁ w₂ top dest x g → ApplySays t base index back i w₀ w₂ at end dest free left g
-apply-done t base index back i r row below at end dest free left {top = top} {x = x} {w₁ = w₁} {w₂ = w₂} {vars′ = vars′} {g = g} says h s row′ below′ some′ lets told wide er gives os d v w m laid run a e low over near room most =
+apply-done t base index back i r row below at end dest free left {top = top} {x = x} {w₁ = w₁} {w₂ = w₂} {vars′ = vars′} {g = g} says h s row′ below′ some′ lets told wide er gives os d v w m
+    laid run a e low over near room most =
     let p = choice t base index back i r row below at end dest free says h s row′ below′ os d v w m laid run a e low near room most .1 in
     applied-done dest p (ran dest laid lets p low near room most) told (one-left left some′) (p .few) over near room wide
     (subst (λ j. GiveSays (patternOf t base j) vars′ w₁ w₂ top dest x g) er gives)

@@ -21,7 +21,8 @@ none-behind index h =
     rest-part (length index) index ∙ drop-of-length-le index here ∙ sym (drop-of-length-le index far)
 
 -- the part written: all behind the index
-pub part-written : (index code : List ℕ) → indexLength ≤ length index → drop indexLength (putMid indexLength (length index - indexLength) index code) ≡ code ++ postOf indexLength (length index - indexLength) index
+pub part-written : (index code : List ℕ) → indexLength ≤ length index → drop indexLength (putMid indexLength (length index - indexLength) index code) ≡ code ++ postOf indexLength
+    (length index - indexLength) index
 part-written index code h = drop-at (take indexLength index) (code ++ postOf indexLength (length index - indexLength) index) indexLength (length-take-le indexLength index h)
 
 nothing-behind : (index : List ℕ) → postOf indexLength (length index - indexLength) index ≡ []

@@ -20,8 +20,7 @@ use Rattle.model.specs.Services.{Ran, gives, fails, within, argument, from, onI
 use Rattle.format.specs.Code.{refusalView, numbered}
 use Rattle.calculus.proofs.Basic.{le-leb, not-leb, le-or-lt}
 use Rattle.format.proofs.Passing.{Passes}
-use Rattle.format.proofs.Turning.{isos-turn}
-use Rattle.model.proofs.Runs.{good-toward, accepted-good}
+use Rattle.model.proofs.Runs.{good-toward, accepted-good, toward-length}
 use Rattle.table_trees.specs.Unfolding.{cellOf, typeOf}
 use Rattle.table_walks.proofs.Tails.{isos-few}
 use Rattle.table_walks.proofs.Rows.{isos-told, past-row}
@@ -54,10 +53,6 @@ isos-small rs ps =
     let a = isos-counted rs in let b = isos-told 0 start rs in let c = isos-few ps in omega (arith, a, b, c)
 
 -- as many the one way as the other
-toward-length : (back : Bool) (rs : List Row) → Passes start rs → length (isosOf (toward back rs)) ≡ length (isosOf rs)
-toward-length false rs ps = refl
-toward-length true rs ps = ap length (isos-turn rs ps) ∙ length-map (isosOf rs) invert
-
 -- the model's run, by its cases
 on-none : (rs : List Row) (i budget : ℕ) (value : List ℕ) → getElem? (isosOf rs) i ≡ none → runRows rs i budget value ≡ fails noIso
 unfolding runRows
@@ -233,7 +228,8 @@ ran-spent {i = i} {back = back} {budget = budget} {value = value} {rs = rs} work
     go (inl h) = absurd (range≢spent (sym (a .done h) ∙ told))
     go (inr h) = ran-refused _ o r spent (g .answer ∙ ap answerOfRun (within-spent budget (g .m) (g .w) h)) e k l
 
-pub run-done : (t : List ℕ) (base : ℕ) (index : List ℕ) (isos i : ℕ) (back : Bool) (budget : ℕ) (value work work₁ work₂ mid part o o′ : List ℕ) (c x left : ℕ) {z : D.Given} (r : R.Ran) (j row h f : ℕ) (b : Bool)
+pub run-done : (t : List ℕ) (base : ℕ) (index : List ℕ) (isos i : ℕ) (back : Bool) (budget : ℕ) (value work work₁ work₂ mid part o o′ : List ℕ) (c x left : ℕ) {z : D.Given} (r : R.Ran)
+    (j row h f : ℕ) (b : Bool)
     → i < isos → j ≡ cellOf t row f → row ≡ placeAt index h → h ≡ placeAt index i → f ≡ cond back 2 1 → b ≡ alone (behind (typeOf t j) value) → b ≡ true
     → length work₁ ≡ length work → (length value ≤ length value → length value ≤ length work → work₁ ≡ paste work 0 value (length value))
     → ApplySays t base index back i work₁ work₂ 0 (length value) 0 (length value) budget z → z ≡ given.Range c x left → mid ≡ take x work₂ → part ≡ drop c mid

@@ -96,7 +96,7 @@ pub fn prepare(table: &[u16], c: Checked, index: &mut [u16])
 }
 
 // The numbers behind an index's.
-fn code_part(index: &[u16]) -> &[u16]
+pub fn code_part(index: &[u16]) -> &[u16]
     ensures { λ r. ⌜ now r ≡ drop indexLength (now (index .entry)) ⌝ }
 {
     let n = index.len();

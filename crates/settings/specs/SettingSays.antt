@@ -1,5 +1,5 @@
 -- The contracts of settings as numbers: on a checked table, and as services.
-use Prim.Native.Nat.{ℕ}
+use Prim.Native.Nat.{ℕ, _≤_, _<_}
 use mathlib.Core.Path.{_≡_}
 use mathlib.Core.Bool.{cond}
 use mathlib.Core.Option.{Option, none, some}
@@ -9,15 +9,25 @@ use lib.ListN.{length}
 use Rattle.limits.specs.Limits.{maxValues}
 use Rattle.calculus.specs.Trees.{Ty}
 use Rattle.calculus.specs.Refusals.{Refusal, noIso, tooMany}
-use Rattle.model.specs.Services.{written, Outcome, refusalOf, bytesFrom}
-use Rattle.law_ranking.specs.Numbering.{count, numberFrom, numberService, settingService}
+use Rattle.format.specs.Lines.{Row}
+use Rattle.model.specs.Services.{accepted, written, Outcome, refusalOf, bytesFrom}
+use Rattle.law_ranking.specs.Numbering.{count, settingOn, numberFrom, numberService, settingService}
 use Rattle.format.specs.Code.{refusalView, numberOf}
+use Rattle.format.specs.declared.Refusal as F
+use Rattle.table_trees.specs.Unfolding.{typeOf}
+use Rattle.table_walks.specs.Walk.{FileIn}
 use Rattle.settings.specs.declared.Numbered as N
 use Rattle.settings.specs.declared.Lettered as L
 
 -- 15, then 18, for T line i of so many, a being its type
 abbrev pub typeFault : ℕ → ℕ → Ty → Option Refusal
 typeFault types i a = cond (leb types i) (some noIso) (cond (ltb maxValues (count a)) (some tooMany) none)
+
+-- 15, 18 or 19, for T line i of so many and number n: as number to letters answers for a file in the table; no refusal tells that the line is
+-- there, that its values are numbered, and that n is below their count
+pub record FaultOf (t : List ℕ) (types i n : ℕ) (r : F.Refusal) : Type 0 where
+  pub refusal : (patterns lines : ℕ) (rs : List Row) → FileIn t types patterns lines rs → refusalView r ≡ refusalOf (settingOn (accepted rs) i n)
+  pub passed : refusalView r ≡ none → (i < types) × (count (typeOf t i) ≤ maxValues) × (n < count (typeOf t i))
 
 -- refusal and setting as an outcome says
 pub record NumberedAs (x : Outcome ℕ) (r : N.Numbered) : Type 0 where

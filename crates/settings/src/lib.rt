@@ -6,7 +6,10 @@ use format::Refusal;
 use format::is_refused;
 use limits::MAX_VALUES;
 use limits::RESULT_LENGTH;
+use number_values::COUNTS;
 use number_values::count_values;
+use number_values::find_counts;
+use number_values::known;
 use number_values::rank_at;
 use number_values::unrank_at;
 use run_values::is_value;
@@ -20,7 +23,8 @@ ghost use Rattle.law_ranking.specs.Numbering.{numberOn, settingOn};
 ghost use Rattle.format.specs.Code.{refusalView};
 ghost use Rattle.table_trees.specs.Unfolding.{typeOf};
 ghost use Rattle.table_walks.specs.Walk.{FileIn};
-ghost use Rattle.settings.specs.SettingSays.{typeFault, NumberedAs, LetteredAs, NumberSays, SettingSays};
+ghost use Rattle.number_values.specs.Numbers.{Counted};
+ghost use Rattle.settings.specs.SettingSays.{typeFault, FaultOf, NumberedAs, LetteredAs, NumberSays, SettingSays};
 
 // A refusal or none, and a setting's number.
 pub struct Numbered {
@@ -53,33 +57,51 @@ fn not_lettered(f: Refusal) -> Lettered
 }
 
 // Refusal 15 or 18 of T line i of a table that holds so many, or nothing.
-fn type_fault(t: &[u16], types: usize, i: usize) -> Refusal
+fn type_fault(t: &[u16], counts: &[usize], types: usize, i: usize) -> Refusal
+    requires { ⌜ Counted (now t) (now counts) ⌝ }
     ensures { λ r. ⌜ refusalView r ≡ typeFault types i (typeOf (now (t .entry)) i) ⌝ }
 {
     if types <= i {
         return Refusal::NoIso;
     }
-    if MAX_VALUES < count_values(t, i) {
+    if MAX_VALUES < count_values(t, counts, i) {
         return Refusal::TooMany;
     }
     Refusal::Nothing
 }
 
-// The number of a value of T line i of a table that holds a checked file with so many T lines.
-pub fn number_checked(t: &[u16], types: usize, i: usize, value: &[u8]) -> Numbered
+// Refusal 15, 18 or 19 of T line i and number n of a table that holds a checked file with so many T lines, or
+// nothing.
+pub fn setting_fault(t: &[u16], counts: &[usize], types: usize, i: usize, n: usize) -> Refusal
+    requires { ⌜ Counted (now t) (now counts) ⌝ }
+    ensures { λ r. ⌜ FaultOf (now (t .entry)) types i n r ⌝ }
+{
+    let f = type_fault(t, counts, types, i);
+    if is_refused(f) {
+        return f;
+    }
+    if count_values(t, counts, i) <= n {
+        return Refusal::TooHigh;
+    }
+    Refusal::Nothing
+}
+
+// The number of a value of T line i of such a table; counts is where those of the T lines before it are kept.
+fn number_checked(t: &[u16], counts: &mut [usize], types: usize, i: usize, value: &[u8]) -> Numbered
     ensures { λ r. ⌜
         ((patterns lines : ℕ) (rs : List RowOf) → FileIn (now (t .entry)) types patterns lines rs
         → NumberedAs (numberOn (accepted rs) i (now (value .entry))) r)
         ⌝ }
 {
-    let f = type_fault(t, types, i);
+    find_counts(t, counts);
+    let f = type_fault(t, counts, types, i);
     if is_refused(f) {
         return not_numbered(f);
     }
     if !is_value(t, i, value) {
         return not_numbered(Refusal::NoValue);
     }
-    let r = rank_at(t, i, value, 0);
+    let r = rank_at(t, counts, i, value, 0);
     Numbered {
         refusal: Refusal::Nothing,
         setting: r.number as u32,
@@ -88,21 +110,26 @@ pub fn number_checked(t: &[u16], types: usize, i: usize, value: &[u8]) -> Number
 
 // Writes the letters of the value of T line i with number n, on such a table. The result area needs 127
 // bytes; a refusal leaves it untouched.
-pub fn setting_checked(t: &[u16], types: usize, i: usize, n: usize, result: &mut [u8]) -> Lettered
+fn setting_checked(
+    t: &[u16],
+    counts: &mut [usize],
+    types: usize,
+    i: usize,
+    n: usize,
+    result: &mut [u8],
+) -> Lettered
     ensures { λ r. ⌜
         ((patterns lines : ℕ) (rs : List RowOf) → FileIn (now (t .entry)) types patterns lines rs
         → 127 ≤ length (now (result .entry))
         → LetteredAs (settingOn (accepted rs) i n) (now (result .entry)) (now (result .exit)) r)
         ⌝ }
 {
-    let f = type_fault(t, types, i);
+    find_counts(t, counts);
+    let f = setting_fault(t, counts, types, i, n);
     if is_refused(f) {
         return not_lettered(f);
     }
-    if count_values(t, i) <= n {
-        return not_lettered(Refusal::TooHigh);
-    }
-    let end = unrank_at(t, i, n, result, 0);
+    let end = unrank_at(t, counts, i, n, result, 0);
     Lettered {
         refusal: Refusal::Nothing,
         length: end,
@@ -128,7 +155,9 @@ pub fn to_number(
     if is_refused(f) {
         return not_numbered(f);
     }
-    number_checked(table, c.types, i, value)
+    let mut counts = [0usize; COUNTS];
+    let most = known(i);
+    number_checked(table, &mut counts[0..most], c.types, i, value)
 }
 
 // Checks a file and writes the letters of the value of its T line i with a number. The result area needs
@@ -155,5 +184,14 @@ pub fn to_setting(
     if is_refused(f) {
         return not_lettered(f);
     }
-    setting_checked(table, c.types, i, setting as usize, result)
+    let mut counts = [0usize; COUNTS];
+    let most = known(i);
+    setting_checked(
+        table,
+        &mut counts[0..most],
+        c.types,
+        i,
+        setting as usize,
+        result,
+    )
 }

@@ -50,7 +50,17 @@ unfolding sheet
 sheet-says s t w q n o t′ w′ n′ o′ r v e a =
     let g : Agrees t w (lines q) n o t′ w′ n′ o′ r (sheetFor s t w q n o) =
     subst (Agrees t w (lines q) n o t′ w′ n′ o′ r) (sym e) a in
-    record { refusal = g .refusal; number = ap numbered (g .refusal) ∙ number-by (sheetFor s t w q n o); line = g .line; answered = g .answered; table = g .table; work = g .work; numbers = g .numbers; letters = g .letters }
+    record {
+      refusal = g .refusal;
+      number = ap numbered (g .refusal) ∙ number-by (sheetFor s t w q n o);
+      line = g .line;
+      answered = g .answered;
+      table = g .table;
+      work = g .work;
+      numbers =
+          g .numbers;
+      letters = g .letters;
+    }
 
 -- 1: a lent area is short
 pub sheet-short : (s t w q n o : List ℕ) (r : S.Answered) {b : Bool} {m : ℕ} → m ≡ length (lines q) → b ≡ (short t w || narrowSheet m n o) → b ≡ true

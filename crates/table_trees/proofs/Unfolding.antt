@@ -192,13 +192,15 @@ module _ (t : List ℕ) (base : ℕ) where
       (λ h. pattern-depth j a h)
       (pattern-depth-past j maxLines (omega arith))
 
-  pub pattern-node : (j : ℕ) → patternOf t base j ≡ patternNode (cellOf t (base + j) 1) (cellOf t (base + j) 2) (patternOf t base (smallerOf (cellOf t (base + j) 2) j)) (patternOf t base (smallerOf (cellOf t (base + j) 3) j))
+  pub pattern-node : (j : ℕ) → patternOf t base j ≡ patternNode (cellOf t (base + j) 1) (cellOf t (base + j) 2) (patternOf t base (smallerOf (cellOf t (base + j) 2) j))
+      (patternOf t base (smallerOf (cellOf t (base + j) 3) j))
   pattern-node j =
       pattern-open j
       ∙ ap₂ (λ x y. patternNode (cellOf t (base + j) 1) (cellOf t (base + j) 2) x y) (pattern-named j (cellOf t (base + j) 2)) (pattern-named j (cellOf t (base + j) 3))
 
   -- a line of kind k is the node of that kind
-  pub opened : (j : ℕ) {k : ℕ} → k ≡ cellOf t (base + j) 1 → patternNode k (cellOf t (base + j) 2) (patternOf t base (smallerOf (cellOf t (base + j) 2) j)) (patternOf t base (smallerOf (cellOf t (base + j) 3) j)) ≡ patternOf t base j
+  pub opened : (j : ℕ) {k : ℕ} → k ≡ cellOf t (base + j) 1 → patternNode k (cellOf t (base + j) 2) (patternOf t base (smallerOf (cellOf t (base + j) 2) j))
+      (patternOf t base (smallerOf (cellOf t (base + j) 3) j)) ≡ patternOf t base j
   opened j e =
       ap (λ x. patternNode x (cellOf t (base + j) 2) (patternOf t base (smallerOf (cellOf t (base + j) 2) j)) (patternOf t base (smallerOf (cellOf t (base + j) 3) j))) e
       ∙ sym (pattern-node j)

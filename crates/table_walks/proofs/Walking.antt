@@ -23,7 +23,8 @@ use Rattle.table_trees.specs.Unfolding.{cellOf, typeOf, patternOf}
 use Rattle.table_walks.specs.InTable.{letAt, letsIn, clauseIn, sigsIn, patternsAt, sidesFault}
 use Rattle.table_walks.specs.Walk.{FileIn, whenIso, isoRows, tailAt, ownSig, pendingFault, WalkAt}
 use Rattle.table_walks.proofs.Rows.{row-at, Names, row-names, kind-iso, kind-clause, kind-let, clause≢iso, let≢iso, iso-rows-step, iso-place, iso-rows-take, iso-rows-below, other-no-iso}
-use Rattle.table_walks.proofs.Tails.{isos-few, clause-owned, clauses-few, Parted, parted, tail-row, place-early, early-no-iso, late-cases, IsoTypes, sigs-from, lets-slots, file-formed, events-slots}
+use Rattle.table_walks.proofs.Tails.{isos-few, clause-owned, clauses-few, Parted, parted, tail-row, place-early, early-no-iso, late-cases, IsoTypes}
+use Rattle.table_walks.proofs.Tails.{sigs-from, lets-slots, file-formed, events-slots}
 
 -- no clause, no refusal
 no-pending : (sigs : Sigs) (o : Option (Ty × Ty)) → none ≡ pendingFault sigs o []

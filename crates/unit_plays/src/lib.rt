@@ -6,6 +6,9 @@ use format::Refusal;
 use format::is_refused;
 use limits::RUN_ROOM;
 use limits::WORK_LENGTH;
+use number_values::COUNTS;
+use number_values::find_counts;
+use number_values::known;
 use read_fields::Cursor;
 use run_coding::AREA_LENGTH;
 use runner::run::prepare;
@@ -17,11 +20,13 @@ use unit_visits::play_visit;
 ghost use Prim.Native.Nat.{_≤_};
 ghost use lib.ListN.{length};
 ghost use Rattle.limits.specs.Limits.{workLength};
+ghost use Rattle.number_values.specs.Numbers.{Counted};
 ghost use Rattle.unit_plays.specs.Playing.{LinePlayed, LinesPlayed, AllPlayed, Tested, PlayedInto};
 
 // Plays line k of a script.
 fn play_line(
     t: &[u16],
+    counts: &[usize],
     types: usize,
     index: &[u16],
     isos: usize,
@@ -32,13 +37,26 @@ fn play_line(
     lines: &mut [u32],
     settings: &mut [u32],
 )
+    requires { ⌜ Counted (now t) (now counts) ⌝ }
     ensures { λ z. ⌜
         LinePlayed (now (t .entry)) types (now (index .entry)) isos (now (line .entry)) k budget (now (work .entry))
         (now (lines .entry)) (now (settings .entry)) (now (work .exit)) (now (lines .exit)) (now (settings .exit))
         ⌝ }
 {
     match planned_of(line) {
-        Plan::Of(p) => play_visit(t, types, index, isos, p, k, budget, work, lines, settings),
+        Plan::Of(p) => play_visit(
+            t,
+            counts,
+            types,
+            index,
+            isos,
+            p,
+            k,
+            budget,
+            work,
+            lines,
+            settings,
+        ),
         Plan::Bad => {}
     }
 }
@@ -46,6 +64,7 @@ fn play_line(
 // Plays the lines of a script, one after the other.
 fn play_lines(
     t: &[u16],
+    counts: &[usize],
     types: usize,
     index: &[u16],
     isos: usize,
@@ -55,6 +74,7 @@ fn play_lines(
     lines: &mut [u32],
     settings: &mut [u32],
 )
+    requires { ⌜ Counted (now t) (now counts) ⌝ }
     ensures { λ z. ⌜
         LinesPlayed (now (t .entry)) types (now (index .entry)) isos (now (script .entry)) budget (now (work .entry))
         (now (lines .entry)) (now (settings .entry)) (now (work .exit)) (now (lines .exit)) (now (settings .exit))
@@ -66,6 +86,7 @@ fn play_lines(
         let end = Cursor { at: at }.line_end(script).at;
         play_line(
             t,
+            counts,
             types,
             index,
             isos,
@@ -84,6 +105,7 @@ fn play_lines(
 // Indexes the isos of an accepted file and plays the lines, in the first `room` bytes of the work area.
 fn play_all(
     table: &[u16],
+    counts: &[usize],
     c: Checked,
     script: &[u8],
     budget: u32,
@@ -92,7 +114,7 @@ fn play_all(
     lines: &mut [u32],
     settings: &mut [u32],
 )
-    requires { ⌜ room ≤ length (now work) ⌝ }
+    requires { ⌜ Counted (now table) (now counts) × (room ≤ length (now work)) ⌝ }
     ensures { λ z. ⌜
         AllPlayed (now (table .entry)) c (now (script .entry)) budget room (now (work .entry)) (now (lines .entry))
         (now (settings .entry)) (now (work .exit)) (now (lines .exit)) (now (settings .exit))
@@ -102,6 +124,7 @@ fn play_all(
     prepare(table, c, &mut index);
     play_lines(
         table,
+        counts,
         c.types,
         &index,
         c.isos,
@@ -114,10 +137,18 @@ fn play_all(
 }
 
 // The refusal of an accepted file's units, in order, and then of the script.
-fn tested(table: &[u16], c: Checked, script: &[u8], lines: &[u32], settings: &[u32]) -> Refusal
+fn tested(
+    table: &[u16],
+    counts: &[usize],
+    c: Checked,
+    script: &[u8],
+    lines: &[u32],
+    settings: &[u32],
+) -> Refusal
+    requires { ⌜ Counted (now table) (now counts) ⌝ }
     ensures { λ r. ⌜ Tested (now (table .entry)) c (now (script .entry)) (now (lines .entry)) (now (settings .entry)) r ⌝ }
 {
-    let f = units_fault(table, c.types, lines, settings);
+    let f = units_fault(table, counts, c.types, lines, settings);
     if is_refused(f) {
         return f;
     }
@@ -127,8 +158,45 @@ fn tested(table: &[u16], c: Checked, script: &[u8], lines: &[u32], settings: &[u
     Refusal::Nothing
 }
 
-// Tests the units and the script on an accepted file, and plays; the marks of the visits are left behind the
-// frames of a run, which are cleared.
+// Finds the counts of T lines, as many as there is a place for; tests the units and the script on an accepted
+// file, and plays. The marks of the visits are left behind the frames of a run, which are cleared.
+fn play_counted(
+    table: &[u16],
+    counts: &mut [usize],
+    c: Checked,
+    script: &[u8],
+    budget: u32,
+    work: &mut [u8],
+    lines: &mut [u32],
+    settings: &mut [u32],
+) -> Refusal
+    requires { ⌜ workLength ≤ length (now work) ⌝ }
+    ensures { λ r. ⌜
+        PlayedInto (now (table .entry)) c (now (script .entry)) budget (now (work .entry)) (now (lines .entry))
+        (now (settings .entry)) (now (work .exit)) (now (lines .exit)) (now (settings .exit)) r
+        ⌝ }
+{
+    find_counts(table, counts);
+    let f = tested(table, counts, c, script, lines, settings);
+    if is_refused(f) {
+        return f;
+    }
+    play_all(
+        table,
+        counts,
+        c,
+        script,
+        budget,
+        work,
+        WORK_LENGTH,
+        lines,
+        settings,
+    );
+    clear_bytes(work, RUN_ROOM);
+    Refusal::Nothing
+}
+
+// The same with counts of its own, found once for all units and visits.
 pub fn play_accepted(
     table: &[u16],
     c: Checked,
@@ -144,11 +212,16 @@ pub fn play_accepted(
         (now (settings .entry)) (now (work .exit)) (now (lines .exit)) (now (settings .exit)) r
         ⌝ }
 {
-    let f = tested(table, c, script, lines, settings);
-    if is_refused(f) {
-        return f;
-    }
-    play_all(table, c, script, budget, work, WORK_LENGTH, lines, settings);
-    clear_bytes(work, RUN_ROOM);
-    Refusal::Nothing
+    let mut counts = [0usize; COUNTS];
+    let most = known(c.types);
+    play_counted(
+        table,
+        &mut counts[0..most],
+        c,
+        script,
+        budget,
+        work,
+        lines,
+        settings,
+    )
 }

@@ -1,83 +1,154 @@
--- A setting sent through an iso: number to letters, run, letters to number, against the definition.
-use Prim.Native.Nat.{ℕ, _%_, _<_}
+-- A setting sent through an iso: its letters are written where the run takes them, and the number is read where it leaves its result, against the
+-- definition by number to letters, run, and letters to number. Nothing but the budget can be refused on the way.
+use Prim.Native.Nat.{ℕ, suc, _+_, _*_, _%_, _≤_, _<_}
+use native.Mathlib.Nat.{zero-add}
 use native.Mathlib.Omega.{arith}
 use mathlib.Core.Path.{_≡_, refl, sym, ap, ap₂, _∙_, subst}
 use mathlib.Core.Bool.{Bool, true, false, cond}
-use mathlib.Core.Option.{none, some}
-use mathlib.Core.List.{List}
+use mathlib.Core.Option.{some}
+use mathlib.Core.Logic.{_⊎_, inl, inr}
+use mathlib.Core.List.{List, _++_}
 use lib.Dec.{leb}
-use lib.ListN.{length, getElem?, take, drop}
-use lib.Seq.{take-at}
-use Rattle.calculus.specs.Tools.{isSome}
-use Rattle.calculus.specs.Trees.{Iso}
+use lib.ListN.{length, getElem?, drop}
+use lib.Seq.{sets-eq, drop-at}
+use Rattle.limits.specs.Limits.{maxIsos, runRoom, workLength, frame}
+use Rattle.calculus.specs.Trees.{Val, Iso}
 use Rattle.calculus.specs.Refusals.{spent as overBudget}
 use Rattle.calculus.specs.Letters.{letters}
+use Rattle.calculus.specs.Reduction.{reduce}
+use Rattle.calculus.specs.Paper.{Of}
 use Rattle.format.specs.Lines.{Row}
 use Rattle.format.specs.Unfold.{isosOf}
-use Rattle.format.specs.Code.{refusalView}
-use Rattle.model.specs.Services.{accepted, Outcome, gives, fails, refusalOf, bytesFrom, answerOfRun, written, toward}
+use Rattle.model.specs.Services.{gives, fails, toward}
 use Rattle.model.specs.Answers.{GoodRows}
-use Rattle.calculus.proofs.Basic.{none≢some, isSome-true}
-use Rattle.checker.proofs.Checks.{flag-none}
-use Rattle.law_ranking.specs.Numbering.{rank, numberOn, settingOn, numberFrom}
-use Rattle.law_units.specs.Units.{Planned, Holds, Visited, done, spent, otherEnd, sent, cameTo}
-use Rattle.law_units.proofs.Visits.{valueOf, spelled, reduced, ran, numbered, sends}
-use Rattle.settings.specs.SettingSays.{NumberedAs, LetteredAs}
-use Rattle.settings.specs.declared.Numbered as N
-use Rattle.settings.specs.declared.Lettered as L
-use Rattle.runner.specs.RunSays.{answerFor, RanAs}
-use Rattle.runner.specs.declared.run.Ran as R
+use Rattle.calculus.proofs.Basic.{some-inj, le-leb, not-leb, le-or-lt}
+use Rattle.calculus.proofs.Letters.{of-inhabits}
+use Rattle.model.proofs.Runs.{good-toward}
+use Rattle.law_ranking.specs.Numbering.{rank}
+use Rattle.law_ranking.proofs.Numbering.{rank-below}
+use Rattle.law_units.specs.Units.{Planned, Holds, done, spent, otherEnd, sent, cameTo}
+use Rattle.law_units.proofs.Visits.{valueOf, typed, reduced, end-line, sends}
+use Rattle.table_trees.specs.Unfolding.{typeOf}
+use Rattle.run_values.specs.Texts.{At}
+use Rattle.run_values.specs.Traces.{Small, Runs}
+use Rattle.run_values.proofs.Tracing.{traced}
+use Rattle.run_reduction.specs.declared.Given as D
+use Rattle.run_reduction.specs.declared.Given.the-variants as given
+use Rattle.run_reduction.specs.Frames.{Spares, Applied, ApplySays}
+use Rattle.run_reduction.proofs.Laying.{laid}
+use Rattle.run_reduction.proofs.Framing.{range-begin, range≢spent, spares-more}
+use Rattle.runner.proofs.Running.{isos-small}
+use Rattle.number_values.specs.Numbers.{Ranks, Unranks}
+use Rattle.unit_script.specs.declared.Planned as P
+use Rattle.unit_script.specs.Views.{plannedView}
+use Rattle.unit_visits.specs.Visiting.{Playable, Spared}
+use Rattle.unit_visits.proofs.Visiting.{line-type}
 
--- the front of an area that some letters were written to
-front-of : (ls o : List ℕ) {o′ s : List ℕ} {n : ℕ} → n ≡ length ls → o′ ≡ written ls o → s ≡ take n o′ → s ≡ ls
-front-of ls o {n = n} e f g = g ∙ ap (take n) f ∙ take-at ls (drop (length ls) o) n (sym e)
+module _ {t : List ℕ} {types : ℕ} {index : List ℕ} {isos : ℕ} {rs : List Row} (a : Playable t types index isos rs) (budget : ℕ) (p : P.Planned) (there : p .iso < isos)
+    {i n : ℕ} (h : Holds rs i n) {o : Iso} (e : getElem? (isosOf (toward (p .back) rs)) (p .iso) ≡ some o) (same : h .type ≡ o .from) where
+  abbrev g : GoodRows rs
+  g = a .prepared .good
 
-module _ (rs : List Row) (g : GoodRows rs) (budget : ℕ) (p : Planned) {i n : ℕ} (h : Holds rs i n) {o : Iso} (e : getElem? (isosOf (toward (p .back) rs)) (p .iso) ≡ some o) (same : h .type ≡ o .from) where
+  abbrev q : Planned
+  q = plannedView p
+
+  abbrev os : List Iso
+  os = isosOf (toward (p .back) rs)
+
+  -- the unit's letters
   abbrev ls : List ℕ
   ls = letters (valueOf h)
 
-  -- the unit's letters
-  told : (v : List ℕ) {v′ s : List ℕ} {l : L.Lettered} → LetteredAs (settingOn (accepted rs) i n) v v′ l → s ≡ take (l .length) v′ → s ≡ ls
-  told v a k = front-of ls v (a .bytes ∙ ap (λ x. length (bytesFrom x)) (spelled h)) (a .result ∙ ap (λ x. written (bytesFrom x) v) (spelled h)) k
+  -- the value that the run gives, and its applications
+  abbrev w : Val
+  w = reduced rs g budget q h e same .0
 
-  abbrev kept : Bool
-  kept = leb (reduced rs g budget p h e same .1) budget
+  abbrev m : ℕ
+  m = reduced rs g budget q h e same .1
 
-  answer-is : (b : Bool) → kept ≡ b
-      → answerFor rs (p .iso) (p .back) budget ls ≡ answerOfRun (cond b (gives (reduced rs g budget p h e same .1, letters (reduced rs g budget p h e same .0))) (fails overBudget))
-  answer-is b d =
-      ap answerOfRun (ran rs g budget p h e same ∙ ap (λ c. cond c (gives (reduced rs g budget p h e same .1, letters (reduced rs g budget p h e same .0))) (fails overBudget)) d)
+  start-typed : Of (valueOf h) (o .from)
+  start-typed = subst (Of (valueOf h)) same (typed h)
 
-  module _ (v : List ℕ) {v′ s : List ℕ} {l : L.Lettered} (a : LetteredAs (settingOn (accepted rs) i n) v v′ l) (k : s ≡ take (l .length) v′)
-      (x : List ℕ) {x′ : List ℕ} (r : R.Ran) (says : RanAs (answerFor rs (p .iso) (p .back) budget s) x x′ r) {c : Bool} (f : c ≡ isSome (refusalView (r .refusal)))
-      {j : ℕ} (at : j ≡ otherEnd rs (p .back) (some o)) where
-    run-says : RanAs (answerFor rs (p .iso) (p .back) budget ls) x x′ r
-    run-says = subst (λ z. RanAs (answerFor rs (p .iso) (p .back) budget z) x x′ r) (told v a k) says
+  trace : (u : Val) × (k : ℕ) × (reduce os (p .iso) (valueOf h) ≡ some (u, k)) × Runs (length os) os (p .iso) (valueOf h) u k × Small (valueOf h) × Small u
+  trace = traced (toward (p .back) rs) (good-toward (p .back) rs g) (p .iso) o e (valueOf h) start-typed
 
-    by-end : (b : Bool) → kept ≡ b → sent rs budget p i n j ≡ cond b (gives (rank (reduced rs g budget p h e same .0) (o .to))) (fails overBudget)
-    by-end b d = ap (sent rs budget p i n) at ∙ sends rs g budget p h e same b d
+  runs : Runs (length os) os (p .iso) (valueOf h) w m
+  runs =
+      subst (λ (x : Val × ℕ). Runs (length os) os (p .iso) (valueOf h) (x .0) (x .1)) (some-inj (sym (trace .2) ∙ reduced rs g budget q h e same .2)) (trace .3)
 
-    -- the run is refused: the budget is passed
-    pub send-spent : c ≡ true → spent ≡ cameTo j (sent rs budget p i n j)
-    send-spent y = go kept refl
-      where
-        go : (b : Bool) → kept ≡ b → spent ≡ cameTo j (sent rs budget p i n j)
-        go false d = sym (ap (cameTo j) (by-end false d))
-        go true d =
-            let z = isSome-true (refusalView (r .refusal)) (sym f ∙ y) in
-            absurd (none≢some (sym (run-says .refusal ∙ ap (λ q. q .refusal) (answer-is true d)) ∙ z .1))
+  small : length ls ≤ 127
+  small = trace .4
 
-    -- it is not
-    pub send-done : c ≡ false → {s′ : List ℕ} {m : N.Numbered} → s′ ≡ take (r .length) x′ → NumberedAs (numberOn (accepted rs) j s′) m
-        → j < 65536 → {q : ℕ} → q ≡ j % 4294967296 → done q (m .setting) ≡ cameTo j (sent rs budget p i n j)
-    send-done y {s′} {m} k′ w low {q} eq = go kept refl
-      where
-        go : (b : Bool) → kept ≡ b → done q (m .setting) ≡ cameTo j (sent rs budget p i n j)
-        go false d =
-            absurd (none≢some (sym (flag-none c (refusalView (r .refusal)) f y) ∙ run-says .refusal ∙ ap (λ q. q .refusal) (answer-is false d)))
-        go true d =
-            let us : List ℕ = letters (reduced rs g budget p h e same .0) in
-            let t : s′ ≡ us = front-of us x (run-says .bytes ∙ ap (λ q. length (q .letters)) (answer-is true d)) (run-says .result ∙ ap (λ q. written (q .letters) x) (answer-is true d)) k′ in
-            let u = ap₂ (λ b z. numberOn (accepted rs) b z) at t ∙ numbered rs g budget p h e same in
-            let same-line : q ≡ j = omega (arith, eq, low) in
-            ap₂ done same-line (w .setting ∙ ap numberFrom u) ∙ sym (ap (cameTo j) (by-end true d))
+  few : p .iso < maxIsos
+  few = let s = isos-small rs (g .passes) in let c = a .prepared .count in omega (arith, s, c)
+
+  module _ (work : List ℕ) {work₁ : List ℕ} {size : ℕ} (says : Unranks (typeOf t i) n work work₁ 0 size) (kept : length work₁ ≡ length work) (long : runRoom ≤ length work)
+      (most : length work ≤ workLength) where
+    -- they are written to the front of the work area
+    told : (work₁ ≡ ls ++ drop (0 + length ls) work) × (size ≡ 0 + length ls)
+    told =
+        let s = small in
+        let z = zero-add (length ls) in
+        let fits : 0 + length ls ≤ length work = omega (arith, z, s, long) in
+        let u : Unranks (h .type) n work work₁ 0 size = subst (λ b. Unranks b n work work₁ 0 size) (line-type a i (h .line .there)) says in
+        let x = u (h .line .few) (h .below) fits in
+        (x .0 ∙ sets-eq ls work 0 fits, x .1)
+
+    module _ {work₂ : List ℕ} {z : D.Given} (runs-there : ApplySays t types index (p .back) (p .iso) work₁ work₂ 0 size 0 size budget z) where
+      applied : Applied work₁ work₂ 0 (p .iso) budget w m z
+      applied =
+          let s = small in
+          let f = few in
+          let k = told .1 in
+          let y = zero-add (length ls) in
+          runs-there os (length os) (valueOf h) w m (laid t types index isos rs (g .passes) (a .prepared .indexed) (p .back)) runs
+          (record { rest = drop (0 + length ls) work; spells = told .0 }) k (omega arith) (omega arith) (omega (arith, k, y, s)) (omega (arith, f, long, kept))
+          (omega (arith, kept, most))
+
+      first : Spares work work₁ 0 (length ls)
+      first =
+          record {
+            before = refl;
+            behind = ap (drop (length ls)) (told .0) ∙ drop-at ls (drop (0 + length ls) work) (length ls) refl ∙ ap (λ k. drop k work) (zero-add (length ls));
+          }
+
+      pub send-spared : Spared work work₂
+      send-spared =
+          let s = small in
+          let f = few in
+          record {
+            behind = spares-more 0 (0 + suc (p .iso) * frame) 0 runRoom (applied .spares) (omega arith) (omega (arith, f)) .behind
+                ∙ spares-more 0 (length ls) 0 runRoom first (omega arith) (omega (arith, s)) .behind;
+          }
+
+      module _ {j : ℕ} (at : j ≡ otherEnd rs (p .back) (some o)) where
+        by-end : (b : Bool) → leb m budget ≡ b → sent rs budget q i n j ≡ cond b (gives (rank w (o .to))) (fails overBudget)
+        by-end b d = ap (sent rs budget q i n) at ∙ sends rs g budget q h e same b d
+
+        -- the budget is passed
+        pub send-spent : z ≡ given.Spent → spent ≡ cameTo j (sent rs budget q i n j)
+        send-spent ez = go (le-or-lt m budget)
+          where
+            go : (m ≤ budget) ⊎ (budget < m) → spent ≡ cameTo j (sent rs budget q i n j)
+            go (inl k) = absurd (range≢spent (sym (applied .done k) ∙ ez))
+            go (inr k) = sym (ap (cameTo j) (by-end false (not-leb k)))
+
+        -- it is not
+        pub send-done : {b x left : ℕ} → z ≡ given.Range b x left → {number end : ℕ} → Ranks (typeOf t j) work₂ b number end → j < 65536
+            → {c d : ℕ} → c ≡ j % 4294967296 → d ≡ number % 4294967296 → done c d ≡ cameTo j (sent rs budget q i n j)
+        send-done {b} ez {number} {end} ranks low {c} {d} ec ed = go (le-or-lt m budget)
+          where
+            go : (m ≤ budget) ⊎ (budget < m) → done c d ≡ cameTo j (sent rs budget q i n j)
+            go (inr k) = absurd (range≢spent (sym ez ∙ applied .spent k))
+            go (inl k) =
+                let begins : b ≡ applied .begin = range-begin (sym ez ∙ applied .done k) in
+                let stands : At work₂ b w = subst (λ y. At work₂ y w) (sym begins) (applied .stands k) in
+                let line = end-line rs g budget q h e same in
+                let type : typeOf t j ≡ o .to = ap (typeOf t) at ∙ line-type a (otherEnd rs (p .back) (some o)) (line .there) in
+                let inside = of-inhabits (reduced rs g budget q h e same .3) in
+                let l = line .few in
+                let r = subst (λ y. Ranks y work₂ b number end) type ranks w stands inside l .0 in
+                let below = rank-below w (o .to) inside in
+                let same-line : c ≡ j = omega (arith, ec, low) in
+                let same-number : d ≡ rank w (o .to) = omega (arith, ed, r, below, l) in
+                ap₂ done same-line same-number ∙ sym (ap (cameTo j) (by-end true (le-leb k)))

@@ -20,7 +20,7 @@ use Rattle.law_ranking.specs.Numbering.{typesOf}
 use Rattle.law_units.specs.Units.{Planned, Holds, Visited, skipped, endOf, otherEnd, sent, cameTo, visit}
 use Rattle.law_units.proofs.Ends.{end-row}
 use Rattle.law_units.proofs.Visits.{visit-skips, visit-by}
-use Rattle.law_units.proofs.Playing.{toward-length}
+use Rattle.model.proofs.Runs.{toward-length}
 use Rattle.unit_script.specs.declared.Planned as P
 use Rattle.unit_script.specs.Views.{plannedView}
 use Rattle.unit_visits.specs.Visiting.{Playable}

@@ -45,9 +45,9 @@ OnUnit t types index isos p i n work Q =
     (rs : List Row) → Playable t types index isos rs → Holds rs i n → p .iso < isos → InRoom (length work) (Q rs)
 
 -- the same for an iso that begins at the unit's type, and the T line at its other end
-abbrev pub OnWay : List ℕ → ℕ → List ℕ → ℕ → P.Planned → ℕ → ℕ → ℕ → List ℕ → (List Row → Type 0) → Type 0
-OnWay t types index isos p i n j work Q =
-    (rs : List Row) → Playable t types index isos rs → (h : Holds rs i n) (o : Iso) → getElem? (isosOf (toward (p .back) rs)) (p .iso) ≡ some o
+abbrev pub OnWay : List ℕ → ℕ → List ℕ → P.Planned → ℕ → ℕ → ℕ → List ℕ → (List Row → Type 0) → Type 0
+OnWay t types index p i n j work Q =
+    (isos : ℕ) (rs : List Row) → Playable t types index isos rs → p .iso < isos → (h : Holds rs i n) (o : Iso) → getElem? (isosOf (toward (p .back) rs)) (p .iso) ≡ some o
     → h .type ≡ o .from → j ≡ otherEnd rs (p .back) (some o) → j < 65536 → InRoom (length work) (Q rs)
 
 -- all of the work area behind the frames of a run is as it was

@@ -1,17 +1,16 @@
 // A visit to a unit on a checked table: the unit's setting is sent through an iso, there or back.
 
 use area_cells::store_number;
-use area_parts::front;
 use check_shapes::same_type;
 use codes::ISO_FROM;
 use codes::ISO_TO;
-use format::is_refused;
-use limits::RESULT_LENGTH;
+use number_values::rank_at;
+use number_values::unrank_at;
 use run_direction::place;
 use run_direction::side;
-use runner::run::run_checked;
-use settings::number_checked;
-use settings::setting_checked;
+use run_reduction::Given;
+use run_reduction::apply;
+use runner::run::code_part;
 use table_trees::cell;
 use unit_script::Planned;
 use unit_settings::number_at;
@@ -19,6 +18,7 @@ use unit_tally::Visit;
 use unit_tally::put_mark;
 ghost use mathlib.Core.Path.{_≡_};
 ghost use Prim.Native.Nat.{_%_};
+ghost use Rattle.number_values.specs.Numbers.{Counted};
 ghost use Rattle.unit_visits.specs.Visiting.{OnUnit, OnWay, Sends, Visits, OneVisited};
 
 // What comes of a visit: the T line and the number that the unit then holds, or nothing.
@@ -35,12 +35,13 @@ fn narrow(n: usize) -> u32
     (n % 4294967296) as u32
 }
 
-// Sends number n of T line i through an iso that begins at its type; `to` is the T line at the other end.
+// Sends number n of T line i through an iso that begins at its type; `to` is the T line at the other end. The
+// letters are written and read where the run has them.
 fn send(
     t: &[u16],
+    counts: &[usize],
     types: usize,
     index: &[u16],
-    isos: usize,
     p: Planned,
     i: usize,
     n: usize,
@@ -48,38 +49,41 @@ fn send(
     budget: u32,
     work: &mut [u8],
 ) -> Visited
+    requires { ⌜ Counted (now t) (now counts) ⌝ }
     ensures { λ r. ⌜
-        OnWay (now (t .entry)) types (now (index .entry)) isos p i n to (now (work .entry))
+        OnWay (now (t .entry)) types (now (index .entry)) p i n to (now (work .entry))
         (λ rs. Sends rs budget p i n to (now (work .entry)) (now (work .exit)) r)
         ⌝ }
 {
-    let mut value = [0u8; RESULT_LENGTH];
-    let mut result = [0u8; RESULT_LENGTH];
-    let l = setting_checked(t, types, i, n, &mut value);
-    let r = run_checked(
+    let size = unrank_at(t, counts, i, n, work, 0);
+    let code = code_part(index);
+    match apply(
         t,
         types,
         index,
-        isos,
-        p.iso,
+        code,
         p.back,
-        budget,
-        front(&value, l.length),
+        p.iso,
         work,
-        &mut result,
-    );
-    let f = r.refusal;
-    if is_refused(f) {
-        return Visited::Spent;
+        0,
+        size,
+        0,
+        size,
+        budget,
+    ) {
+        Given::Range(b, e, left) => {
+            let r = rank_at(t, counts, to, work, b);
+            Visited::Done(narrow(to), narrow(r.number))
+        }
+        Given::Spent => Visited::Spent,
     }
-    let m = number_checked(t, types, to, front(&result, r.length));
-    Visited::Done(narrow(to), m.setting)
 }
 
 // Visits a unit that holds number n of T line i. The work area needs 40,960 bytes; what these then hold is
 // left open, all behind them is as it was.
 fn visit(
     t: &[u16],
+    counts: &[usize],
     types: usize,
     index: &[u16],
     isos: usize,
@@ -89,6 +93,7 @@ fn visit(
     budget: u32,
     work: &mut [u8],
 ) -> Visited
+    requires { ⌜ Counted (now t) (now counts) ⌝ }
     ensures { λ r. ⌜
         OnUnit (now (t .entry)) types (now (index .entry)) isos p i n (now (work .entry))
         (λ rs. Visits rs budget p i n (now (work .entry)) (now (work .exit)) r)
@@ -100,12 +105,13 @@ fn visit(
         return Visited::Skipped;
     }
     let to = cell(t, row, side(back, ISO_TO, ISO_FROM));
-    send(t, types, index, isos, p, i, n, to, budget, work)
+    send(t, counts, types, index, p, i, n, to, budget, work)
 }
 
 // Plays visit k of a script, marks what came of it, and stores what its unit then holds.
 pub fn play_visit(
     t: &[u16],
+    counts: &[usize],
     types: usize,
     index: &[u16],
     isos: usize,
@@ -116,6 +122,7 @@ pub fn play_visit(
     lines: &mut [u32],
     settings: &mut [u32],
 )
+    requires { ⌜ Counted (now t) (now counts) ⌝ }
     ensures { λ z. ⌜
         OneVisited (now (t .entry)) types (now (index .entry)) isos p k budget (now (work .entry)) (now (lines .entry))
         (now (settings .entry)) (now (work .exit)) (now (lines .exit)) (now (settings .exit))
@@ -124,7 +131,7 @@ pub fn play_visit(
     let unit = p.unit;
     let i = number_at(lines, unit);
     let n = number_at(settings, unit);
-    match visit(t, types, index, isos, p, i, n, budget, work) {
+    match visit(t, counts, types, index, isos, p, i, n, budget, work) {
         Visited::Done(to, m) => {
             store_number(lines, unit, to);
             store_number(settings, unit, m);

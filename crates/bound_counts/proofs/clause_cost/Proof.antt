@@ -34,7 +34,12 @@ plus-requires c κs = search needs
 
 -- src/lib.rt:86:1
 returns : tie.Need-returns
-returns c = let a = c .before .before .before .before .before .before .before .args in clause-needs (a .t .now) (a .known .now) (a .index .now) (a .m) _ _ _ _ (c .before .before .before .place .ensures .0) (c .before .before .place2 .ensures .0) (c .before .let-sum .ensures) (c .plus .ensures)
+returns c =
+    let args = c .before .before .before .before .before .before .before .args in
+    let place = c .before .before .before .place in
+    let place2 = c .before .before .place2 in
+    let let-sum = c .before .let-sum in
+    let a = args in clause-needs (a .t .now) (a .known .now) (a .index .now) (a .m) _ _ _ _ (place .ensures .0) (place2 .ensures .0) (let-sum .ensures) (c .plus .ensures)
 
 pub clause-cost-spec : {M : Type 1} → statement M
 clause-cost-spec =

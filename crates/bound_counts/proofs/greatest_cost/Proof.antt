@@ -17,7 +17,9 @@ abbrev μ-loop : tie.MeasureT-loop
 
 -- src/lib.rt:101:9
 returns : tie.Need-returns Inv-loop μ-loop
-returns c = let a = c .before .before .before .before .args in no-clause greatest-extreme (a .t .now) (a .known .now) (a .index .now) (a .m) (a .end) (c .if1 .taken)
+returns c =
+    let args = c .before .before .before .before .args in
+    let a = args in no-clause greatest-extreme (a .t .now) (a .known .now) (a .index .now) (a .m) (a .end) (c .if1 .taken)
 
 -- src/lib.rt:103:17
 sub-n : tie.Need-sub-n Inv-loop μ-loop
@@ -49,7 +51,11 @@ loop-less c = search needs
 
 -- src/lib.rt:105:5
 loop-again : tie.Need-loop-again Inv-loop μ-loop
-loop-again c = best-step greatest-extreme (c .before .before .before .loop .inv) (c .before .before .loop-test .taken) _ _ (c .before .clause-cost2 .ensures) (c .greater .ensures)
+loop-again c =
+    let loop′ = c .before .before .before .loop in
+    let loop-test = c .before .before .loop-test in
+    let clause-cost2 = c .before .clause-cost2 in
+    best-step greatest-extreme (loop′ .inv) (loop-test .taken) _ _ (clause-cost2 .ensures) (c .greater .ensures)
 
 -- src/lib.rt:96:1
 returns-2 : tie.Need-returns-2 Inv-loop μ-loop

@@ -45,7 +45,12 @@ loop-less c = search needs
 
 -- src/lib.rt:78:5
 loop-again : tie.Need-loop-again Inv-loop μ-loop
-loop-again c = summed-step (c .before .before .before .before .loop .inv) (c .before .before .before .loop-test .taken) _ _ _ (c .before .before .cell .ensures .0) (c .before .number-at .ensures) (c .plus .ensures)
+loop-again c =
+    let loop′ = c .before .before .before .before .loop in
+    let loop-test = c .before .before .before .loop-test in
+    let cell = c .before .before .cell in
+    let number-at = c .before .number-at in
+    summed-step (loop′ .inv) (loop-test .taken) _ _ _ (cell .ensures .0) (number-at .ensures) (c .plus .ensures)
 
 -- src/lib.rt:70:1
 returns-2 : tie.Need-returns-2 Inv-loop μ-loop

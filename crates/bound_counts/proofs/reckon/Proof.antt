@@ -67,7 +67,19 @@ loop-less c = search needs
 
 -- src/lib.rt:135:5
 loop-again : tie.Need-loop-again Inv-loop μ-loop
-loop-again c = (reckoned-step (c .before .before .before .before .before .before .before .before .before .before .before .before .before .before .before .loop .inv .0) (c .before .before .before .before .before .before .before .before .before .before .before .before .before .before .loop-test .taken) _ _ _ _ (c .before .before .before .before .before .before .before .before .before .before .before .before .before .place .ensures .0) (c .before .before .before .before .before .before .before .before .before .before .before .before .place2 .ensures .0) (c .before .before .before .before .before .before .before .before .before .before .least-cost .ensures) (c .before .before .before .before .before .before .before .before .store-number .kept .0) (c .before .before .before .before .before .before .before .before .store-number .ensures), reckoned-step (c .before .before .before .before .before .before .before .before .before .before .before .before .before .before .before .loop .inv .1) (c .before .before .before .before .before .before .before .before .before .before .before .before .before .before .loop-test .taken) _ _ _ _ (c .before .before .before .before .before .before .before .before .before .before .before .before .before .place .ensures .0) (c .before .before .before .before .before .before .before .before .before .before .before .before .place2 .ensures .0) (c .before .before .before .before .greatest-cost .ensures) (c .before .before .store-number2 .kept .0) (c .before .before .store-number2 .ensures))
+loop-again c =
+    let loop′ = c .before .before .before .before .before .before .before .before .before .before .before .before .before .before .before .loop in
+    let loop-test = c .before .before .before .before .before .before .before .before .before .before .before .before .before .before .loop-test in
+    let place = c .before .before .before .before .before .before .before .before .before .before .before .before .before .place in
+    let place2 = c .before .before .before .before .before .before .before .before .before .before .before .before .place2 in
+    let least-cost = c .before .before .before .before .before .before .before .before .before .before .least-cost in
+    let store-number = c .before .before .before .before .before .before .before .before .store-number in
+    let greatest-cost = c .before .before .before .before .greatest-cost in
+    let store-number2 = c .before .before .store-number2 in (
+      reckoned-step (loop′ .inv .0) (loop-test .taken) _ _ _ _ (place .ensures .0) (place2 .ensures .0) (least-cost .ensures) (store-number .kept .0) (store-number .ensures),
+      reckoned-step
+          (loop′ .inv .1) (loop-test .taken) _ _ _ _ (place .ensures .0) (place2 .ensures .0) (greatest-cost .ensures) (store-number2 .kept .0) (store-number2 .ensures),
+    )
 
 -- src/lib.rt:131:1
 same-length : tie.Need-same-length Inv-loop μ-loop

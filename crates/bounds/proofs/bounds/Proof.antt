@@ -32,8 +32,11 @@ same-length-2 c = search needs
 -- src/lib.rt:97:9
 returns : tie.Need-returns
 returns c =
+    let check-file = c .before .before .before .before .before .before .before .before .check-file in
+    let is-refused = c .before .before .is-refused in
+    let if1 = c .before .if1 in
     let a = c .before .before .before .before .before .before .before .before .before .before .before .before .before .before .args in
-    bounds-refused (a .file .now) (a .table .now) (a .work .now) (a .i) _ _ _ (c .refused .result) _ (c .before .before .before .before .before .before .before .before .check-file .ensures .0) (c .before .before .is-refused .ensures) (c .before .if1 .taken) (c .refused .ensures)
+    bounds-refused (a .file .now) (a .table .now) (a .work .now) (a .i) _ _ _ (c .refused .result) _ (check-file .ensures .0) (is-refused .ensures) (if1 .taken) (c .refused .ensures)
 
 -- src/lib.rt:99:5
 bounds-accepted-requires : tie.Need-bounds-accepted-requires
@@ -50,8 +53,12 @@ same-length-4 c = search needs
 -- src/lib.rt:90:1
 returns-2 : tie.Need-returns-2
 returns-2 c =
+    let check-file = c .before .before .before .before .before .before .before .before .before .check-file in
+    let is-refused = c .before .before .before .is-refused in
+    let if1 = c .before .before .if1 in
     let a = c .before .before .before .before .before .before .before .before .before .before .before .before .before .before .before .args in
-    bounds-accepted (a .file .now) (a .table .now) (a .work .now) (a .i) _ _ (c .before .before .before .before .before .before .before .before .before .check-file .result) _ _ (c .before .before .before .before .before .before .before .before .before .check-file .ensures .0) (c .before .before .before .before .before .before .before .before .before .check-file .ensures .1) (c .before .before .before .is-refused .ensures) (c .before .before .if1 .left) (c .bounds-accepted .ensures)
+    bounds-accepted (a .file .now) (a .table .now) (a .work .now) (a .i) _ _ (check-file .result) _ _ (check-file .ensures .0) (check-file .ensures .1) (is-refused .ensures) (if1 .left)
+    (c .bounds-accepted .ensures)
 
 pub bounds-spec : {M : Type 1} → statement M
 bounds-spec =

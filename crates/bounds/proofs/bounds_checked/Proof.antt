@@ -70,9 +70,16 @@ is-over-requires-2 c κs = search needs
 -- src/lib.rt:60:1
 returns-2 : tie.Need-returns-2
 returns-2 c =
+    let reckon = c .before .before .before .before .before .before .before .before .before .before .reckon in
+    let number-at = c .before .before .before .before .before .before .number-at in
+    let number-at2 = c .before .before .before .before .number-at2 in
+    let stopped = c .before .before .before .stopped in
+    let stopped2 = c .before .before .stopped2 in
+    let is-over = c .before .is-over in
     let a = c .before .before .before .before .before .before .before .before .before .before .before .before .before .before .before .before .args in
     let h = c .before .before .before .before .before .before .before .before .before .before .before .before .before .if1 .left in
-    told (a .t .now) (a .index .now) (c .before .before .before .before .before .before .before .before .before .before .reckon .last .1 .1 .1 .0) (c .before .before .before .before .before .before .before .before .before .before .reckon .last .1 .1 .1 .1 .0) (a .isos) (a .i) _ _ _ (omega (arith, h)) (λ base few. c .before .before .before .before .before .before .before .before .before .before .reckon .ensures .0 base few (zeros 32)) (λ base few. c .before .before .before .before .before .before .before .before .before .before .reckon .ensures .1 base few (zeros 32)) (c .before .before .before .before .before .before .number-at .ensures) (c .before .before .before .before .number-at2 .ensures) refl (c .before .before .before .stopped .ensures) (c .before .before .stopped2 .ensures) (c .before .is-over .ensures) (c .is-over2 .ensures)
+    told (a .t .now) (a .index .now) (reckon .last .1 .1 .1 .0) (reckon .last .1 .1 .1 .1 .0) (a .isos) (a .i) _ _ _ (omega (arith, h)) (λ base few. reckon .ensures .0 base few (zeros 32))
+    (λ base few. reckon .ensures .1 base few (zeros 32)) (number-at .ensures) (number-at2 .ensures) refl (stopped .ensures) (stopped2 .ensures) (is-over .ensures) (c .is-over2 .ensures)
 
 pub bounds-checked-spec : {M : Type 1} → statement M
 bounds-checked-spec =

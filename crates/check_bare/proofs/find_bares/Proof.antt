@@ -21,7 +21,14 @@ same-length : tie.Need-same-length
 same-length c = search needs
 
 returns : tie.Need-returns
-returns c = ((c .before .before .mark-patterns .ensures .0) ∙ (c .before .before .before .before .before .before .before .before .mark-types .ensures .0), bares-all ((c .before .before .mark-patterns .ensures .0) ∙ (c .before .before .before .before .before .before .before .before .mark-types .ensures .0)) (c .before .before .before .before .before .before .before .before .before .before .before .if1 .taken) refl (c .before .before .mark-patterns .ensures .1) (c .before .before .mark-patterns .ensures .2))
+returns c =
+    let if1 = c .before .before .before .before .before .before .before .before .before .before .before .if1 in
+    let mark-types = c .before .before .before .before .before .before .before .before .mark-types in
+    let mark-patterns = c .before .before .mark-patterns in (
+      (mark-patterns .ensures .0) ∙ (mark-types .ensures .0),
+      bares-all ((mark-patterns .ensures .0) ∙ (mark-types .ensures .0)) (if1 .taken) refl (mark-patterns .ensures .1)
+          (mark-patterns .ensures .2),
+    )
 
 slice-aggregate-mark-types-2 : tie.Need-slice-aggregate-mark-types-2
 slice-aggregate-mark-types-2 c = search needs
@@ -33,7 +40,10 @@ same-length-2 : tie.Need-same-length-2
 same-length-2 c = search needs
 
 returns-2 : tie.Need-returns-2
-returns-2 c = ((c .before .before .before .mark-types2 .ensures .0), bares-short (c .before .before .before .mark-types2 .ensures .0) (c .before .before .before .before .before .before .if1 .left) (c .before .before .before .mark-types2 .ensures .1))
+returns-2 c =
+    let if1 = c .before .before .before .before .before .before .if1 in
+    let mark-types2 = c .before .before .before .mark-types2 in
+    ((mark-types2 .ensures .0), bares-short (mark-types2 .ensures .0) (if1 .left) (mark-types2 .ensures .1))
 
 pub find-bares-spec : {M : Type 1} → statement M
 find-bares-spec =

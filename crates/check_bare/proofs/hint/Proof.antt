@@ -58,11 +58,17 @@ store-word-requires c κs = search needs
 
 -- src/lib.rt:111:13
 same-length : tie.Need-same-length Inv-loop μ-loop
-same-length c = stored-long (c .before .before .before .before .before .before .before .before .before .before .loop .h) _ _ (c .before .before .store-word .ensures) (c .before .before .before .before .before .before .before .before .before .before .loop .inv)
+same-length c =
+    let loop′ = c .before .before .before .before .before .before .before .before .before .before .loop in
+    let store-word = c .before .before .store-word in
+    stored-long (loop′ .h) _ _ (store-word .ensures) (loop′ .inv)
 
 -- src/lib.rt:111:13
 returns : tie.Need-returns Inv-loop μ-loop
-returns c = stored-long (c .before .before .before .before .before .before .before .before .before .before .loop .h) _ _ (c .before .before .store-word .ensures) (c .before .before .before .before .before .before .before .before .before .before .loop .inv)
+returns c =
+    let loop′ = c .before .before .before .before .before .before .before .before .before .before .loop in
+    let store-word = c .before .before .store-word in
+    stored-long (loop′ .h) _ _ (store-word .ensures) (loop′ .inv)
 
 -- src/lib.rt:113:9
 add-k : tie.Need-add-k Inv-loop μ-loop

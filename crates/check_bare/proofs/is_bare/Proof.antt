@@ -30,7 +30,14 @@ wide-requires-2 : tie.Need-wide-requires-2
 wide-requires-2 c κs = search needs
 
 returns : tie.Need-returns
-returns c = bare-by (c .before .before .before .before .before .before .before .before .before .args .base) (c .before .before .before .before .before .before .before .before .before .args .p) (c .before .before .before .before .before .before .before .before .before .args .a) (c .before .before .before .before .before .before .before .before .before .args .g .now) (c .before .before .before .before .before .before .before .if1 .taken) (c .before .before .before .before .before .before .if2 .taken) (omega (arith, (c .before .before .before .before .before .if3 .taken), (c .before .before .before .before .before .before .before .if1 .taken))) (c .before .before .before .wide .ensures .0) (c .before .before .if4 .taken) (c .wide2 .ensures .0)
+returns c =
+    let args = c .before .before .before .before .before .before .before .before .before .args in
+    let if1 = c .before .before .before .before .before .before .before .if1 in
+    let if2 = c .before .before .before .before .before .before .if2 in
+    let if3 = c .before .before .before .before .before .if3 in
+    let wide = c .before .before .before .wide in
+    let if4 = c .before .before .if4 in
+    bare-by (args .base) (args .p) (args .a) (args .g .now) (if1 .taken) (if2 .taken) (omega (arith, (if3 .taken), (if1 .taken))) (wide .ensures .0) (if4 .taken) (c .wide2 .ensures .0)
 
 returns-2 : tie.Need-returns-2
 returns-2 c = λ h. never h

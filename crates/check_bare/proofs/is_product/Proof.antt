@@ -20,7 +20,17 @@ mark-of-requires-2 : tie.Need-mark-of-requires-2
 mark-of-requires-2 c κs = search needs
 
 returns : tie.Need-returns
-returns c = product-test (c .before .before .before .before .before .before .before .before .before .args .t .now) _ (product-of (c .before .before .before .before .before .before .before .before .before .args .t .now) (c .before .before .before .before .before .before .before .before .before .args .g .now) (c .before .before .before .before .before .before .before .before .before .args .i) (c .before .before .before .before .before .before .before .before .before .pre .1) (c .before .before .before .before .before .before .cell .ensures .0) (c .before .before .before .before .before .if1 .taken) (c .before .before .before .before .cell2 .ensures .0) (c .before .before .before .mark-of .ensures) (c .before .cell3 .ensures .0) (c .mark-of2 .ensures)) (c .before .before .if2 .taken)
+returns c =
+    let pre = c .before .before .before .before .before .before .before .before .before .pre in
+    let args = c .before .before .before .before .before .before .before .before .before .args in
+    let cell = c .before .before .before .before .before .before .cell in
+    let if1 = c .before .before .before .before .before .if1 in
+    let cell2 = c .before .before .before .before .cell2 in
+    let mark-of = c .before .before .before .mark-of in
+    let if2 = c .before .before .if2 in
+    let cell3 = c .before .cell3 in
+    product-test (args .t .now) _
+    (product-of (args .t .now) (args .g .now) (args .i) (pre .1) (cell .ensures .0) (if1 .taken) (cell2 .ensures .0) (mark-of .ensures) (cell3 .ensures .0) (c .mark-of2 .ensures)) (if2 .taken)
 
 returns-2 : tie.Need-returns-2
 returns-2 c = λ h. never h

@@ -14,10 +14,15 @@ abbrev μ-loop : tie.MeasureT-loop
 μ-loop t g₀ h base n j₀ g j = n - j
 
 loop-holds : tie.Need-loop-holds Inv-loop μ-loop
-loop-holds c = record { long = refl; within = (c .before .before .before .pre .0); kept = (c .before .before .before .pre .1); found = patterns-start _ _ _ }
+loop-holds c =
+    let pre = c .before .before .before .pre in
+    record { long = refl; within = (pre .0); kept = (pre .1); found = patterns-start _ _ _ }
 
 pattern-mark-requires : tie.Need-pattern-mark-requires Inv-loop μ-loop
-pattern-mark-requires c κs = (omega (arith, (c .before .before .loop .inv .within), (c .before .loop-test .taken)), (c .before .before .loop .inv .kept), (c .before .before .loop .inv .found))
+pattern-mark-requires c κs =
+    let loop′ = c .before .before .loop in
+    let loop-test = c .before .loop-test in
+    (omega (arith, (loop′ .inv .within), (loop-test .taken)), (loop′ .inv .kept), (loop′ .inv .found))
 
 narrow-requires : tie.Need-narrow-requires Inv-loop μ-loop
 narrow-requires c κs = search needs
@@ -38,7 +43,11 @@ loop-less : tie.Need-loop-less Inv-loop μ-loop
 loop-less c = omega arith
 
 loop-again : tie.Need-loop-again Inv-loop μ-loop
-loop-again c = patterning-step _ _ _ _ _ _ (c .before .before .before .before .loop .inv) (c .before .before .before .loop-test .taken) (c .before .pattern-mark .ensures .0) (c .before .pattern-mark .ensures .1) (c .narrow .ensures)
+loop-again c =
+    let loop′ = c .before .before .before .before .loop in
+    let loop-test = c .before .before .before .loop-test in
+    let pattern-mark = c .before .pattern-mark in
+    patterning-step _ _ _ _ _ _ (loop′ .inv) (loop-test .taken) (pattern-mark .ensures .0) (pattern-mark .ensures .1) (c .narrow .ensures)
 
 same-length : tie.Need-same-length Inv-loop μ-loop
 same-length c = (c .before .loop .inv .long)

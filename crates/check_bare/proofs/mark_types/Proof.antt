@@ -18,7 +18,11 @@ loop-holds : tie.Need-loop-holds Inv-loop μ-loop
 loop-holds c = (record { long = refl; within = (c .before .before .before .pre .0); found = types-start _ _ }, refl)
 
 type-mark-requires : tie.Need-type-mark-requires Inv-loop μ-loop
-type-mark-requires c κs = (omega (arith, (c .before .before .before .loop .inv .0 .within), (c .before .before .loop-test .taken)), (c .before .before .before .loop .inv .0 .found), omega (arith, (c .before .before .loop-test .taken), (c .before .before .before .before .before .before .before .pre .1)))
+type-mark-requires c κs =
+    let pre = c .before .before .before .before .before .before .before .pre in
+    let loop′ = c .before .before .before .loop in
+    let loop-test = c .before .before .loop-test in
+    (omega (arith, (loop′ .inv .0 .within), (loop-test .taken)), (loop′ .inv .0 .found), omega (arith, (loop-test .taken), (pre .1)))
 
 narrow-requires : tie.Need-narrow-requires Inv-loop μ-loop
 narrow-requires c κs = search needs
@@ -27,10 +31,18 @@ mul-g : tie.Need-mul-g Inv-loop μ-loop
 mul-g c = search needs
 
 slice-write-g : tie.Need-slice-write-g Inv-loop μ-loop
-slice-write-g c = omega (arith, (c .before .before .before .before .before .loop .inv .0 .within), (c .before .before .before .before .loop-test .taken))
+slice-write-g c =
+    let loop′ = c .before .before .before .before .before .loop in
+    let loop-test = c .before .before .before .before .loop-test in
+    omega (arith, (loop′ .inv .0 .within), (loop-test .taken))
 
 hint-line-requires : tie.Need-hint-line-requires Inv-loop μ-loop
-hint-line-requires c κs = (omega (arith, length-set (c .before .before .before .before .before .before .before .loop .g) (c .before .before .before .before .before .before .before .loop .i) (c .before .before .narrow .result), (c .before .before .before .before .before .before .before .loop .inv .0 .within), (c .before .before .before .before .before .before .loop-test .taken)), omega (arith, (c .before .before .before .before .before .before .loop-test .taken), (c .before .before .before .before .before .before .before .before .before .before .before .pre .1)))
+hint-line-requires c κs =
+    let pre = c .before .before .before .before .before .before .before .before .before .before .before .pre in
+    let loop′ = c .before .before .before .before .before .before .before .loop in
+    let loop-test = c .before .before .before .before .before .before .loop-test in
+    let narrow = c .before .before .narrow in
+    (omega (arith, length-set (loop′ .g) (loop′ .i) (narrow .result), (loop′ .inv .0 .within), (loop-test .taken)), omega (arith, (loop-test .taken), (pre .1)))
 
 add-i : tie.Need-add-i Inv-loop μ-loop
 add-i c = search needs
@@ -39,7 +51,13 @@ loop-less : tie.Need-loop-less Inv-loop μ-loop
 loop-less c = omega arith
 
 loop-again : tie.Need-loop-again Inv-loop μ-loop
-loop-again c = (typing-step _ _ _ _ _ (c .before .before .before .before .before .before .before .before .before .before .loop .inv .0) (c .before .before .before .before .before .before .before .before .before .loop-test .taken) (c .before .before .before .before .before .before .type-mark .ensures .0) (c .before .before .before .before .before .before .type-mark .ensures .1) (c .before .before .before .before .before .narrow .ensures), (c .before .before .hint-line .ensures) ∙ (c .before .before .before .before .before .before .before .before .before .before .loop .inv .1))
+loop-again c =
+    let loop′ = c .before .before .before .before .before .before .before .before .before .before .loop in
+    let loop-test = c .before .before .before .before .before .before .before .before .before .loop-test in
+    let type-mark = c .before .before .before .before .before .before .type-mark in
+    let narrow = c .before .before .before .before .before .narrow in
+    let hint-line = c .before .before .hint-line in
+    (typing-step _ _ _ _ _ (loop′ .inv .0) (loop-test .taken) (type-mark .ensures .0) (type-mark .ensures .1) (narrow .ensures), (hint-line .ensures) ∙ (loop′ .inv .1))
 
 same-length : tie.Need-same-length Inv-loop μ-loop
 same-length c = (c .before .loop .inv .0 .long)

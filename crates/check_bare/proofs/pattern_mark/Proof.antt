@@ -12,7 +12,11 @@ unit-mark-requires : tie.Need-unit-mark-requires
 unit-mark-requires c κs = (omega (arith, (c .before .before .before .before .before .pre .0)), (c .before .before .before .before .before .pre .1))
 
 returns : tie.Need-returns
-returns c = (suits-unit (c .before .before .before .before .before .before .args .t .now) (c .before .before .before .before .before .before .args .base) (c .before .before .before .before .before .before .args .j) (c .before .before .pattern-cell .ensures .0) (c .before .if1 .taken) (c .unit-mark .ensures .0), (c .unit-mark .ensures .1))
+returns c =
+    let args = c .before .before .before .before .before .before .args in
+    let pattern-cell = c .before .before .pattern-cell in
+    let if1 = c .before .if1 in
+    (suits-unit (args .t .now) (args .base) (args .j) (pattern-cell .ensures .0) (if1 .taken) (c .unit-mark .ensures .0), (c .unit-mark .ensures .1))
 
 pattern-cell-requires-2 : tie.Need-pattern-cell-requires-2
 pattern-cell-requires-2 c κs = search needs
@@ -27,10 +31,26 @@ mark-of-requires-2 : tie.Need-mark-of-requires-2
 mark-of-requires-2 c κs = search needs
 
 product-mark-requires : tie.Need-product-mark-requires
-product-mark-requires c κs = (omega (arith, (c .before .before .before .before .before .before .before .before .before .before .before .before .pre .0)), (c .before .before .before .before .before .before .before .before .before .before .before .before .pre .1))
+product-mark-requires c κs =
+    let pre = c .before .before .before .before .before .before .before .before .before .before .before .before .pre in
+    (omega (arith, (pre .0)), (pre .1))
 
 returns-2 : tie.Need-returns-2
-returns-2 c = (suits-pair (c .before .before .before .before .before .before .before .before .before .before .before .before .before .args .t .now) (c .before .before .before .before .before .before .before .before .before .before .before .before .before .args .base) (c .before .before .before .before .before .before .before .before .before .before .before .before .before .args .g .now) (c .before .before .before .before .before .before .before .before .before .before .before .before .before .args .j) (c .before .before .before .before .before .before .before .before .before .before .before .before .before .pre .2) (c .before .before .before .before .before .before .before .before .before .pattern-cell .ensures .0) (c .before .before .before .before .before .before .before .if2 .taken) (c .before .before .before .before .before .before .pattern-cell2 .ensures .0) (c .before .before .before .before .before .mark-of .ensures) (c .before .before .before .before .pattern-cell3 .ensures .0) (c .before .before .before .mark-of2 .ensures) (c .before .before .if3 .taken) (c .before .if4 .taken) (c .product-mark .ensures .0), (c .product-mark .ensures .1))
+returns-2 c =
+    let pre = c .before .before .before .before .before .before .before .before .before .before .before .before .before .pre in
+    let args = c .before .before .before .before .before .before .before .before .before .before .before .before .before .args in
+    let pattern-cell = c .before .before .before .before .before .before .before .before .before .pattern-cell in
+    let if2 = c .before .before .before .before .before .before .before .if2 in
+    let pattern-cell2 = c .before .before .before .before .before .before .pattern-cell2 in
+    let mark-of = c .before .before .before .before .before .mark-of in
+    let pattern-cell3 = c .before .before .before .before .pattern-cell3 in
+    let mark-of2 = c .before .before .before .mark-of2 in
+    let if3 = c .before .before .if3 in
+    let if4 = c .before .if4 in (
+      suits-pair (args .t .now) (args .base) (args .g .now) (args .j) (pre .2) (pattern-cell .ensures .0) (if2 .taken) (pattern-cell2 .ensures .0) (mark-of .ensures)
+          (pattern-cell3 .ensures .0) (mark-of2 .ensures) (if3 .taken) (if4 .taken) (c .product-mark .ensures .0),
+      (c .product-mark .ensures .1),
+    )
 
 returns-3 : tie.Need-returns-3
 returns-3 c = (suits-none _ _, omega arith)

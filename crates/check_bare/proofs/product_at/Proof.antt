@@ -14,7 +14,11 @@ sub-i c = search needs
 
 -- src/lib.rt:65:16
 is-product-requires : tie.Need-is-product-requires
-is-product-requires c κs = (omega (arith, (c .before .before .before .before .pre .0), (c .if2 .taken), (c .before .if1 .taken)), types-less (c .before .before .before .before .args .t .now) (c .before .before .before .before .args .g .now) (omega (arith, (c .if2 .taken))) (c .before .before .before .before .pre .1))
+is-product-requires c κs =
+    let pre = c .before .before .before .before .pre in
+    let args = c .before .before .before .before .args in
+    let if1 = c .before .if1 in
+    (omega (arith, (pre .0), (c .if2 .taken), (if1 .taken)), types-less (args .t .now) (args .g .now) (omega (arith, (c .if2 .taken))) (pre .1))
 
 -- src/lib.rt:66:29
 mul-wide : tie.Need-mul-wide
@@ -30,7 +34,14 @@ wide-requires c κs = search needs
 
 -- src/lib.rt:66:17
 returns : tie.Need-returns
-returns c = (multiplies-at (c .before .before .before .before .before .before .before .before .args .t .now) (c .before .before .before .before .before .before .before .before .args .g .now) (c .before .before .before .before .before .before .before .before .pre .1) (omega (arith, (c .before .before .before .before .if2 .taken), (c .before .before .before .before .before .if1 .taken))) ((c .before .before .before .is-product .ensures) (c .before .before .if3 .taken)) (c .wide .ensures .0), (c .wide .ensures .1))
+returns c =
+    let pre = c .before .before .before .before .before .before .before .before .pre in
+    let args = c .before .before .before .before .before .before .before .before .args in
+    let if1 = c .before .before .before .before .before .if1 in
+    let if2 = c .before .before .before .before .if2 in
+    let is-product = c .before .before .before .is-product in
+    let if3 = c .before .before .if3 in
+    (multiplies-at (args .t .now) (args .g .now) (pre .1) (omega (arith, (if2 .taken), (if1 .taken))) ((is-product .ensures) (if3 .taken)) (c .wide .ensures .0), (c .wide .ensures .1))
 
 -- src/lib.rt:58:1
 returns-2 : tie.Need-returns-2

@@ -15,7 +15,12 @@ or-own-requires : tie.Need-or-own-requires
 or-own-requires c κs = search needs
 
 returns : tie.Need-returns
-returns c = (own-stands (c .before .before .before .before .before .before .before .args .t .now) (c .before .before .before .before .before .before .before .args .i) (unit-stands (c .before .before .before .before .before .before .before .args .t .now) (c .before .before .before .before .before .before .before .args .i) (c .before .before .before .cell .ensures .0) (c .before .before .if1 .taken) (c .before .unit-mark .ensures .0)) (c .or-own .ensures .0), (c .or-own .ensures .1))
+returns c =
+    let args = c .before .before .before .before .before .before .before .args in
+    let cell = c .before .before .before .cell in
+    let if1 = c .before .before .if1 in
+    let unit-mark = c .before .unit-mark in
+    (own-stands (args .t .now) (args .i) (unit-stands (args .t .now) (args .i) (cell .ensures .0) (if1 .taken) (unit-mark .ensures .0)) (c .or-own .ensures .0), (c .or-own .ensures .1))
 
 cell-requires-2 : tie.Need-cell-requires-2
 cell-requires-2 c κs = search needs
@@ -36,7 +41,24 @@ or-own-requires-2 : tie.Need-or-own-requires-2
 or-own-requires-2 c κs = search needs
 
 returns-2 : tie.Need-returns-2
-returns-2 c = (own-stands (c .before .before .before .before .before .before .before .before .before .before .before .before .before .before .args .t .now) (c .before .before .before .before .before .before .before .before .before .before .before .before .before .before .args .i) (product-stands (c .before .before .before .before .before .before .before .before .before .before .before .before .before .before .args .t .now) (product-of (c .before .before .before .before .before .before .before .before .before .before .before .before .before .before .args .t .now) (c .before .before .before .before .before .before .before .before .before .before .before .before .before .before .args .g .now) (c .before .before .before .before .before .before .before .before .before .before .before .before .before .before .args .i) (c .before .before .before .before .before .before .before .before .before .before .before .before .before .before .pre .1) (c .before .before .before .before .before .before .before .before .before .before .cell .ensures .0) (c .before .before .before .before .before .before .before .before .if2 .taken) (c .before .before .before .before .before .before .before .cell2 .ensures .0) (c .before .before .before .before .before .before .mark-of .ensures) (c .before .before .before .before .before .cell3 .ensures .0) (c .before .before .before .before .mark-of2 .ensures)) (c .before .before .before .if3 .taken) (c .before .before .if4 .taken) (c .before .product-mark .ensures .0)) (c .or-own2 .ensures .0), (c .or-own2 .ensures .1))
+returns-2 c =
+    let pre = c .before .before .before .before .before .before .before .before .before .before .before .before .before .before .pre in
+    let args = c .before .before .before .before .before .before .before .before .before .before .before .before .before .before .args in
+    let cell = c .before .before .before .before .before .before .before .before .before .before .cell in
+    let if2 = c .before .before .before .before .before .before .before .before .if2 in
+    let cell2 = c .before .before .before .before .before .before .before .cell2 in
+    let mark-of = c .before .before .before .before .before .before .mark-of in
+    let cell3 = c .before .before .before .before .before .cell3 in
+    let mark-of2 = c .before .before .before .before .mark-of2 in
+    let if3 = c .before .before .before .if3 in
+    let if4 = c .before .before .if4 in
+    let product-mark = c .before .product-mark in (
+      own-stands (args .t .now) (args .i)
+          (product-stands (args .t .now)
+          (product-of (args .t .now) (args .g .now) (args .i) (pre .1) (cell .ensures .0) (if2 .taken) (cell2 .ensures .0) (mark-of .ensures) (cell3 .ensures .0) (mark-of2 .ensures))
+          (if3 .taken) (if4 .taken) (product-mark .ensures .0)) (c .or-own2 .ensures .0),
+      (c .or-own2 .ensures .1),
+    )
 
 returns-3 : tie.Need-returns-3
 returns-3 c = (stands-none _ _, omega arith)

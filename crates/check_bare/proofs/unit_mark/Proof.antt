@@ -28,7 +28,13 @@ wide-requires : tie.Need-wide-requires Inv-loop μ-loop
 wide-requires c κs = search needs
 
 returns : tie.Need-returns Inv-loop μ-loop
-returns c = (stands-at (c .before .before .before .before .before .before .before .before .args .t .now) (c .before .before .before .before .before .before .before .before .args .g .now) (c .before .before .before .before .before .before .before .before .pre .1) (c .before .before .before .before .loop-test .taken) (unit-is _ _ (c .before .before .before .cell .ensures .0) (c .before .before .if1 .taken)) (c .wide .ensures .0), (c .wide .ensures .1))
+returns c =
+    let pre = c .before .before .before .before .before .before .before .before .pre in
+    let args = c .before .before .before .before .before .before .before .before .args in
+    let loop-test = c .before .before .before .before .loop-test in
+    let cell = c .before .before .before .cell in
+    let if1 = c .before .before .if1 in
+    (stands-at (args .t .now) (args .g .now) (pre .1) (loop-test .taken) (unit-is _ _ (cell .ensures .0) (if1 .taken)) (c .wide .ensures .0), (c .wide .ensures .1))
 
 add-i : tie.Need-add-i Inv-loop μ-loop
 add-i c = search needs

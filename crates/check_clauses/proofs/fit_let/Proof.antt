@@ -23,8 +23,8 @@ cell-requires-2 c κs = search needs
 cell-requires-3 : tie.Need-cell-requires-3
 cell-requires-3 c κs = search needs
 
-fit-requires : tie.Need-fit-requires
-fit-requires c κs = search needs
+fit-known-requires : tie.Need-fit-known-requires
+fit-known-requires c κs = search needs
 
 cell-requires-4 : tie.Need-cell-requires-4
 cell-requires-4 c κs = search needs
@@ -32,13 +32,13 @@ cell-requires-4 c κs = search needs
 cell-requires-5 : tie.Need-cell-requires-5
 cell-requires-5 c κs = search needs
 
-fit-requires-2 : tie.Need-fit-requires-2
-fit-requires-2 c κs = search needs
+fit-known-requires-2 : tie.Need-fit-known-requires-2
+fit-known-requires-2 c κs = search needs
 
 returns : tie.Need-returns
 returns c =
     let w = c .before .before .before .before .before .before in
-    let s = w .before .before .before .before .before .before .before in
+    let s = w .before .before .before .before .before .before .before .before in
     let-known
     (s .args .t .now)
     (s .args .base)
@@ -50,17 +50,17 @@ returns c =
     (w .wide .ensures .0)
     (c .before .before .before .before .before .cell2 .ensures .0)
     (c .before .before .before .before .cell3 .ensures .0)
-    (c .before .before .before .fit .ensures)
+    (c .before .before .before .fit-known .ensures)
     (c .before .before .cell4 .ensures .0)
     (c .before .cell5 .ensures .0)
-    (c .fit2 .ensures)
+    (c .fit-known2 .ensures)
 
 misfit-requires : tie.Need-misfit-requires
 misfit-requires c κs = search needs
 
 returns-2 : tie.Need-returns-2
 returns-2 c =
-    let s = c .before .before .before .before .before .before in
+    let s = c .before .before .before .before .before .before .before in
     let-unknown
     (s .args .t .now)
     (s .args .base)
@@ -81,10 +81,10 @@ fit-let-spec =
     wide-requires
     cell-requires-2
     cell-requires-3
-    fit-requires
+    fit-known-requires
     cell-requires-4
     cell-requires-5
-    fit-requires-2
+    fit-known-requires-2
     returns
     misfit-requires
     returns-2)

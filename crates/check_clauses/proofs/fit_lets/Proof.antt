@@ -9,10 +9,10 @@ use Rattle.check_clauses.proofs.fit_lets.Statement.{statement}
 use Rattle.check_clauses.proofs.fit_lets.Tie as tie
 
 abbrev Inv-loop : tie.InvT-loop
-Inv-loop t g base starts from to n₀ first n e = FitsLeft t starts base from to n (envView t first) (envView t e)
+Inv-loop t g k base starts from to n₀ first n e = FitsLeft t starts base from to n (envView t first) (envView t e)
 
 abbrev μ-loop : tie.MeasureT-loop
-μ-loop t g base starts from to n₀ first n e = to - n
+μ-loop t g k base starts from to n₀ first n e = to - n
 
 loop-holds : tie.Need-loop-holds Inv-loop μ-loop
 loop-holds c = record { same = refl }

@@ -20,7 +20,12 @@ number-requires : tie.Need-number-requires
 number-requires c κs = search needs
 
 returns : tie.Need-returns
-returns c = plain-told (patternOf (c .before .before .before .before .before .before .args .t .now) (c .before .before .before .before .before .before .args .base) (c .before .before .before .before .before .before .args .p)) ((c .number .ensures .0) ∙ (c .before .before .before .before .before .before .pre .tagged) (c .before .before .before .before .before .before .args .p) (omega (arith, (c .before .before .if2 .taken), (c .before .before .before .if1 .taken))))
+returns c =
+    let pre = c .before .before .before .before .before .before .pre in
+    let args = c .before .before .before .before .before .before .args in
+    let if1 = c .before .before .before .if1 in
+    let if2 = c .before .before .if2 in
+    plain-told (patternOf (args .t .now) (args .base) (args .p)) ((c .number .ensures .0) ∙ (pre .tagged) (args .p) (omega (arith, (if2 .taken), (if1 .taken))))
 
 is-plain-requires : tie.Need-is-plain-requires
 is-plain-requires c κs = search needs

@@ -11,8 +11,8 @@ cell-requires c κs = search needs
 no-types-requires : tie.Need-no-types-requires
 no-types-requires c κs = search needs
 
-fit-requires : tie.Need-fit-requires
-fit-requires c κs = search needs
+fit-known-requires : tie.Need-fit-known-requires
+fit-known-requires c κs = search needs
 
 add-fit-lets : tie.Need-add-fit-lets
 add-fit-lets c = search needs
@@ -23,8 +23,8 @@ fit-lets-requires c κs = search needs
 cell-requires-2 : tie.Need-cell-requires-2
 cell-requires-2 c κs = search needs
 
-fit-requires-2 : tie.Need-fit-requires-2
-fit-requires-2 c κs = search needs
+fit-known-requires-2 : tie.Need-fit-known-requires-2
+fit-known-requires-2 c κs = search needs
 
 all-used-requires : tie.Need-all-used-requires
 all-used-requires c κs = search needs
@@ -32,7 +32,7 @@ all-used-requires c κs = search needs
 returns : tie.Need-returns
 returns c h =
     let w = c .before .before .before in
-    let s = w .before .before .before .before .before .before .before .before in
+    let s = w .before .before .before .before .before .before .before .before .before in
     clause-fitted
     (s .args .t .now)
     (s .args .starts .now)
@@ -42,15 +42,15 @@ returns c h =
     (s .args .row)
     (s .args .end)
     (w .before .before .no-types .result)
-    (w .before .fit .result)
+    (w .before .fit-known .result)
     (w .fit-lets .result)
-    (c .before .fit2 .result)
+    (c .before .fit-known2 .result)
     (w .before .before .no-types .ensures)
     (w .before .before .before .cell .ensures .0)
-    (w .before .fit .ensures)
+    (w .before .fit-known .ensures)
     (w .fit-lets .ensures)
     (c .before .before .cell2 .ensures .0)
-    (c .before .fit2 .ensures)
+    (c .before .fit-known2 .ensures)
     (c .all-used .ensures)
 
 returns-2 : tie.Need-returns-2
@@ -62,11 +62,11 @@ types-fit-spec =
     (tie.spec
     cell-requires
     no-types-requires
-    fit-requires
+    fit-known-requires
     add-fit-lets
     fit-lets-requires
     cell-requires-2
-    fit-requires-2
+    fit-known-requires-2
     all-used-requires
     returns
     returns-2)

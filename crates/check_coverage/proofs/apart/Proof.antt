@@ -41,10 +41,22 @@ loop-less : tie.Need-loop-less Inv-loop μ-loop
 loop-less c = search needs
 
 loop-again : tie.Need-loop-again Inv-loop μ-loop
-loop-again c = apart-step _ _ _ _ _ (c .before .before .before .before .before .before .loop .inv) (c .before .before .before .before .before .loop-test .taken) (c .before .before .before .wide .ensures .0) (c .before .before .cell .ensures .0) (c .before .clashes-with .ensures) (c .if1 .taken)
+loop-again c =
+    let loop′ = c .before .before .before .before .before .before .loop in
+    let loop-test = c .before .before .before .before .before .loop-test in
+    let wide = c .before .before .before .wide in
+    let cell = c .before .before .cell in
+    let clashes-with = c .before .clashes-with in
+    apart-step _ _ _ _ _ (loop′ .inv) (loop-test .taken) (wide .ensures .0) (cell .ensures .0) (clashes-with .ensures) (c .if1 .taken)
 
 returns : tie.Need-returns Inv-loop μ-loop
-returns c = apart-not _ _ _ _ _ (c .before .before .before .before .before .before .loop .inv) (c .before .before .before .before .before .loop-test .taken) (c .before .before .before .wide .ensures .0) (c .before .before .cell .ensures .0) (c .before .clashes-with .ensures) (c .if1 .left)
+returns c =
+    let loop′ = c .before .before .before .before .before .before .loop in
+    let loop-test = c .before .before .before .before .before .loop-test in
+    let wide = c .before .before .before .wide in
+    let cell = c .before .before .cell in
+    let clashes-with = c .before .clashes-with in
+    apart-not _ _ _ _ _ (loop′ .inv) (loop-test .taken) (wide .ensures .0) (cell .ensures .0) (clashes-with .ensures) (c .if1 .left)
 
 returns-2 : tie.Need-returns-2 Inv-loop μ-loop
 returns-2 c = apart-all _ _ _ _ _ (c .before .loop .inv) (c .loop-test .left)

@@ -17,16 +17,42 @@ weigh-requires-2 : tie.Need-weigh-requires-2
 weigh-requires-2 c κs = search needs
 
 returns : tie.Need-returns
-returns c = no-fault _ _ (c .before .before .before .before .before .before .before .orthogonal .ensures) (c .before .before .before .before .before .before .if1 .taken) (c .before .before .before .before .before .orthogonal2 .ensures) (c .before .before .before .before .if2 .taken) (c .before .before .before .weigh .ensures) (c .before .before .if3 .taken) (c .before .weigh2 .ensures) (c .if4 .taken)
+returns c =
+    let orthogonal = c .before .before .before .before .before .before .before .orthogonal in
+    let if1 = c .before .before .before .before .before .before .if1 in
+    let orthogonal2 = c .before .before .before .before .before .orthogonal2 in
+    let if2 = c .before .before .before .before .if2 in
+    let weigh = c .before .before .before .weigh in
+    let if3 = c .before .before .if3 in
+    let weigh2 = c .before .weigh2 in
+    no-fault _ _ (orthogonal .ensures) (if1 .taken) (orthogonal2 .ensures) (if2 .taken) (weigh .ensures) (if3 .taken) (weigh2 .ensures) (c .if4 .taken)
 
 returns-2 : tie.Need-returns-2
-returns-2 c = gap-right _ _ (c .before .before .before .before .before .before .before .orthogonal .ensures) (c .before .before .before .before .before .before .if1 .taken) (c .before .before .before .before .before .orthogonal2 .ensures) (c .before .before .before .before .if2 .taken) (c .before .before .before .weigh .ensures) (c .before .before .if3 .taken) (c .before .weigh2 .ensures) (c .if4 .left)
+returns-2 c =
+    let orthogonal = c .before .before .before .before .before .before .before .orthogonal in
+    let if1 = c .before .before .before .before .before .before .if1 in
+    let orthogonal2 = c .before .before .before .before .before .orthogonal2 in
+    let if2 = c .before .before .before .before .if2 in
+    let weigh = c .before .before .before .weigh in
+    let if3 = c .before .before .if3 in
+    let weigh2 = c .before .weigh2 in
+    gap-right _ _ (orthogonal .ensures) (if1 .taken) (orthogonal2 .ensures) (if2 .taken) (weigh .ensures) (if3 .taken) (weigh2 .ensures) (c .if4 .left)
 
 returns-3 : tie.Need-returns-3
-returns-3 c = gap-left _ _ (c .before .before .before .before .before .orthogonal .ensures) (c .before .before .before .before .if1 .taken) (c .before .before .before .orthogonal2 .ensures) (c .before .before .if2 .taken) (c .before .weigh .ensures) (c .if3 .left)
+returns-3 c =
+    let orthogonal = c .before .before .before .before .before .orthogonal in
+    let if1 = c .before .before .before .before .if1 in
+    let orthogonal2 = c .before .before .before .orthogonal2 in
+    let if2 = c .before .before .if2 in
+    let weigh = c .before .weigh in
+    gap-left _ _ (orthogonal .ensures) (if1 .taken) (orthogonal2 .ensures) (if2 .taken) (weigh .ensures) (c .if3 .left)
 
 returns-4 : tie.Need-returns-4
-returns-4 c = overlaps-right _ _ (c .before .before .before .orthogonal .ensures) (c .before .before .if1 .taken) (c .before .orthogonal2 .ensures) (c .if2 .left)
+returns-4 c =
+    let orthogonal = c .before .before .before .orthogonal in
+    let if1 = c .before .before .if1 in
+    let orthogonal2 = c .before .orthogonal2 in
+    overlaps-right _ _ (orthogonal .ensures) (if1 .taken) (orthogonal2 .ensures) (c .if2 .left)
 
 returns-5 : tie.Need-returns-5
 returns-5 c = overlaps-left _ _ (c .before .orthogonal .ensures) (c .if1 .left)

@@ -18,7 +18,11 @@ number-requires : tie.Need-number-requires
 number-requires c κs = search needs
 
 returns : tie.Need-returns
-returns c = (c .number .ensures .0) ∙ (c .before .before .before .before .before .before .pre .tagged) _ (omega (arith, (c .before .before .if2 .taken), (c .before .before .before .if1 .taken)))
+returns c =
+    let pre = c .before .before .before .before .before .before .pre in
+    let if1 = c .before .before .before .if1 in
+    let if2 = c .before .before .if2 in
+    (c .number .ensures .0) ∙ (pre .tagged) _ (omega (arith, (if2 .taken), (if1 .taken)))
 
 pattern-tags-requires : tie.Need-pattern-tags-requires
 pattern-tags-requires c κs = search needs

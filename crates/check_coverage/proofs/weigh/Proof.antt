@@ -36,13 +36,26 @@ weight-requires : tie.Need-weight-requires Inv-loop μ-loop
 weight-requires c κs = search needs
 
 add-sum : tie.Need-add-sum Inv-loop μ-loop
-add-sum c = record { fits = weighed-fits _ _ _ _ _ _ (c .before .before .before .before .before .before .loop .inv) (c .before .before .before .before .before .loop-test .taken) (c .before .before .before .wide .ensures .0) (c .before .before .cell .ensures .0) (c .before .tags-at .ensures) (c .weight .ensures) (c .before .before .before .before .before .before .before .before .before .before .pre .0) }
+add-sum c =
+    let pre = c .before .before .before .before .before .before .before .before .before .before .pre in
+    let loop′ = c .before .before .before .before .before .before .loop in
+    let loop-test = c .before .before .before .before .before .loop-test in
+    let wide = c .before .before .before .wide in
+    let cell = c .before .before .cell in
+    let tags-at = c .before .tags-at in
+    record { fits = weighed-fits _ _ _ _ _ _ (loop′ .inv) (loop-test .taken) (wide .ensures .0) (cell .ensures .0) (tags-at .ensures) (c .weight .ensures) (pre .0) }
 
 loop-less : tie.Need-loop-less Inv-loop μ-loop
 loop-less c = search needs
 
 loop-again : tie.Need-loop-again Inv-loop μ-loop
-loop-again c = weighed-step _ _ _ _ _ _ (c .before .before .before .before .before .before .loop .inv) (c .before .before .before .before .before .loop-test .taken) (c .before .before .before .wide .ensures .0) (c .before .before .cell .ensures .0) (c .before .tags-at .ensures) (c .weight .ensures)
+loop-again c =
+    let loop′ = c .before .before .before .before .before .before .loop in
+    let loop-test = c .before .before .before .before .before .loop-test in
+    let wide = c .before .before .before .wide in
+    let cell = c .before .before .cell in
+    let tags-at = c .before .tags-at in
+    weighed-step _ _ _ _ _ _ (loop′ .inv) (loop-test .taken) (wide .ensures .0) (cell .ensures .0) (tags-at .ensures) (c .weight .ensures)
 
 returns : tie.Need-returns Inv-loop μ-loop
 returns c = weighed-all _ _ _ _ _ _ (c .before .loop .inv) (c .loop-test .left)

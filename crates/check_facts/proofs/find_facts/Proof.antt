@@ -15,7 +15,11 @@ same-length : tie.Need-same-length
 same-length c = search needs
 
 returns : tie.Need-returns
-returns c = ((c .before .before .find-tags .ensures .0) ∙ (c .before .before .before .before .before .before .find-widths .ensures .0), facts-all ((c .before .before .find-tags .ensures .0) ∙ (c .before .before .before .before .before .before .find-widths .ensures .0)) (c .before .before .before .before .before .before .before .before .if1 .taken) refl (c .before .before .find-tags .ensures .1) (c .before .before .find-tags .ensures .2))
+returns c =
+    let if1 = c .before .before .before .before .before .before .before .before .if1 in
+    let find-widths = c .before .before .before .before .before .before .find-widths in
+    let find-tags = c .before .before .find-tags in
+    ((find-tags .ensures .0) ∙ (find-widths .ensures .0), facts-all ((find-tags .ensures .0) ∙ (find-widths .ensures .0)) (if1 .taken) refl (find-tags .ensures .1) (find-tags .ensures .2))
 
 find-widths-requires-2 : tie.Need-find-widths-requires-2
 find-widths-requires-2 c κs = search needs
@@ -24,7 +28,10 @@ same-length-2 : tie.Need-same-length-2
 same-length-2 c = search needs
 
 returns-2 : tie.Need-returns-2
-returns-2 c = ((c .before .before .find-widths2 .ensures .0), facts-short (c .before .before .find-widths2 .ensures .0) (c .before .before .before .before .if1 .left) (c .before .before .find-widths2 .ensures .1))
+returns-2 c =
+    let if1 = c .before .before .before .before .if1 in
+    let find-widths2 = c .before .before .find-widths2 in
+    ((find-widths2 .ensures .0), facts-short (find-widths2 .ensures .0) (if1 .left) (find-widths2 .ensures .1))
 
 pub find-facts-spec : {M : Type 1} → statement M
 find-facts-spec =

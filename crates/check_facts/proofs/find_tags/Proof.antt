@@ -35,7 +35,11 @@ loop-less : tie.Need-loop-less Inv-loop μ-loop
 loop-less c = omega arith
 
 loop-again : tie.Need-loop-again Inv-loop μ-loop
-loop-again c = tagging-step _ _ _ _ _ _ (c .before .before .before .before .loop .inv) (c .before .before .before .loop-test .taken) (c .before .tags-of .ensures) (c .byte .ensures)
+loop-again c =
+    let loop′ = c .before .before .before .before .loop in
+    let loop-test = c .before .before .before .loop-test in
+    let tags-of = c .before .tags-of in
+    tagging-step _ _ _ _ _ _ (loop′ .inv) (loop-test .taken) (tags-of .ensures) (c .byte .ensures)
 
 same-length : tie.Need-same-length Inv-loop μ-loop
 same-length c = (c .before .loop .inv .long)

@@ -32,7 +32,11 @@ loop-less : tie.Need-loop-less Inv-loop μ-loop
 loop-less c = omega arith
 
 loop-again : tie.Need-loop-again Inv-loop μ-loop
-loop-again c = widening-step _ _ _ _ _ (c .before .before .before .before .loop .inv) (c .before .before .before .loop-test .taken) (c .before .width-of .ensures) (c .byte .ensures)
+loop-again c =
+    let loop′ = c .before .before .before .before .loop in
+    let loop-test = c .before .before .before .loop-test in
+    let width-of = c .before .width-of in
+    widening-step _ _ _ _ _ (loop′ .inv) (loop-test .taken) (width-of .ensures) (c .byte .ensures)
 
 same-length : tie.Need-same-length Inv-loop μ-loop
 same-length c = (c .before .loop .inv .long)

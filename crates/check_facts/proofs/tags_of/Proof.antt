@@ -34,16 +34,34 @@ together-requires-2 : tie.Need-together-requires-2
 together-requires-2 c κs = search needs
 
 returns : tie.Need-returns
-returns c = tags-pair _ _ _ _ (c .before .before .before .before .before .before .before .before .before .pre .1) (c .before .before .before .before .before .before .pattern-cell .ensures .0) (c .before .before .before .before .pattern-cell2 .ensures .0) (c .before .before .before .told .ensures) (c .before .before .before .before .before .match .keys1) (c .before .before .pattern-cell3 .ensures .0) (c .before .told2 .ensures) (c .together .ensures)
+returns c =
+    let pre = c .before .before .before .before .before .before .before .before .before .pre in
+    let pattern-cell = c .before .before .before .before .before .before .pattern-cell in
+    let match′ = c .before .before .before .before .before .match in
+    let pattern-cell2 = c .before .before .before .before .pattern-cell2 in
+    let told = c .before .before .before .told in
+    let pattern-cell3 = c .before .before .pattern-cell3 in
+    let told2 = c .before .told2 in
+    tags-pair _ _ _ _ (pre .1) (pattern-cell .ensures .0) (pattern-cell2 .ensures .0) (told .ensures) (match′ .keys1) (pattern-cell3 .ensures .0) (told2 .ensures) (c .together .ensures)
 
 returns-2 : tie.Need-returns-2
-returns-2 c = tags-inj _ _ _ _ (c .before .before .before .before .before .before .before .before .before .pre .1) (c .before .before .before .before .before .before .pattern-cell .ensures .0) (c .before .before .pattern-cell4 .ensures .0) (c .before .told3 .ensures) (injects _ (c .before .before .before .before .if1 .left) (c .before .before .before .if2 .taken)) (c .together2 .ensures)
+returns-2 c =
+    let pre = c .before .before .before .before .before .before .before .before .before .pre in
+    let pattern-cell = c .before .before .before .before .before .before .pattern-cell in
+    let if1 = c .before .before .before .before .if1 in
+    let if2 = c .before .before .before .if2 in
+    let pattern-cell4 = c .before .before .pattern-cell4 in
+    let told3 = c .before .told3 in
+    tags-inj _ _ _ _ (pre .1) (pattern-cell .ensures .0) (pattern-cell4 .ensures .0) (told3 .ensures) (injects _ (if1 .left) (if2 .taken)) (c .together2 .ensures)
 
 returns-3 : tie.Need-returns-3
 returns-3 c = pattern-tags-leaf _ _ _ (c .before .before .pattern-cell .ensures .0) (leaf-below _ (c .if1 .taken))
 
 returns-4 : tie.Need-returns-4
-returns-4 c = pattern-tags-leaf _ _ _ (c .before .before .before .pattern-cell .ensures .0) (leaf-beyond _ (c .if2 .left) (c .before .before .match .rest .1))
+returns-4 c =
+    let pattern-cell = c .before .before .before .pattern-cell in
+    let match′ = c .before .before .match in
+    pattern-tags-leaf _ _ _ (pattern-cell .ensures .0) (leaf-beyond _ (c .if2 .left) (match′ .rest .1))
 
 pub tags-of-spec : {M : Type 1} → statement M
 tags-of-spec =

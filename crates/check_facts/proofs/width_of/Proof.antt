@@ -38,10 +38,26 @@ of-product-requires : tie.Need-of-product-requires
 of-product-requires c κs = search needs
 
 returns : tie.Need-returns
-returns c = width-sum _ _ _ (c .before .before .before .before .before .before .before .before .before .pre .1) (c .before .before .before .before .before .before .cell .ensures .0) (c .before .before .before .before .cell2 .ensures .0) (c .before .before .before .told .ensures) (c .before .before .cell3 .ensures .0) (c .before .told2 .ensures) (c .before .before .before .before .before .match .keys1) (c .of-sum .ensures)
+returns c =
+    let pre = c .before .before .before .before .before .before .before .before .before .pre in
+    let cell = c .before .before .before .before .before .before .cell in
+    let match′ = c .before .before .before .before .before .match in
+    let cell2 = c .before .before .before .before .cell2 in
+    let told = c .before .before .before .told in
+    let cell3 = c .before .before .cell3 in
+    let told2 = c .before .told2 in
+    width-sum _ _ _ (pre .1) (cell .ensures .0) (cell2 .ensures .0) (told .ensures) (cell3 .ensures .0) (told2 .ensures) (match′ .keys1) (c .of-sum .ensures)
 
 returns-2 : tie.Need-returns-2
-returns-2 c = width-product _ _ _ (c .before .before .before .before .before .before .before .before .before .pre .1) (c .before .before .before .before .before .before .cell .ensures .0) (c .before .before .before .before .cell4 .ensures .0) (c .before .before .before .told3 .ensures) (c .before .before .cell5 .ensures .0) (c .before .told4 .ensures) (c .before .before .before .before .before .match .keys2) (c .of-product .ensures)
+returns-2 c =
+    let pre = c .before .before .before .before .before .before .before .before .before .pre in
+    let cell = c .before .before .before .before .before .before .cell in
+    let match′ = c .before .before .before .before .before .match in
+    let cell4 = c .before .before .before .before .cell4 in
+    let told3 = c .before .before .before .told3 in
+    let cell5 = c .before .before .cell5 in
+    let told4 = c .before .told4 in
+    width-product _ _ _ (pre .1) (cell .ensures .0) (cell4 .ensures .0) (told3 .ensures) (cell5 .ensures .0) (told4 .ensures) (match′ .keys2) (c .of-product .ensures)
 
 returns-3 : tie.Need-returns-3
 returns-3 c = width-other _ _ _ (c .before .before .before .before .pre .1) (c .before .cell .ensures .0) (c .match .rest .0 .1) (c .match .rest .1)

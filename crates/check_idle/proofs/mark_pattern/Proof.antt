@@ -25,7 +25,11 @@ same-length c = search needs
 
 -- src/lib.rt:56:1
 returns : tie.Need-returns
-returns c = one-marked-behind (c .before .before .before .before .before .before .before .args .marks .now) (c .before .before .before .before .before .before .before .args .base) _ (c .before .before .put-byte .ensures .0) (c .before .before .before .cell .ensures .0)
+returns c =
+    let args = c .before .before .before .before .before .before .before .args in
+    let cell = c .before .before .before .cell in
+    let put-byte = c .before .before .put-byte in
+    one-marked-behind (args .marks .now) (args .base) _ (put-byte .ensures .0) (cell .ensures .0)
 
 pub mark-pattern-spec : {M : Type 1} → statement M
 mark-pattern-spec =

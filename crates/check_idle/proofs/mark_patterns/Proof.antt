@@ -20,7 +20,11 @@ same-length c = search needs
 
 -- src/lib.rt:71:1
 returns : tie.Need-returns
-returns c = two-marked (c .before .before .before .before .before .before .before .before .before .before .args .marks .now) _ _ (c .before .before .before .before .before .before .mark-pattern .ensures) (c .before .before .mark-pattern2 .ensures)
+returns c =
+    let args = c .before .before .before .before .before .before .before .before .before .before .args in
+    let mark-pattern = c .before .before .before .before .before .before .mark-pattern in
+    let mark-pattern2 = c .before .before .mark-pattern2 in
+    two-marked (args .marks .now) _ _ (mark-pattern .ensures) (mark-pattern2 .ensures)
 
 pub mark-patterns-spec : {M : Type 1} → statement M
 mark-patterns-spec =

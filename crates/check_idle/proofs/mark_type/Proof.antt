@@ -21,7 +21,11 @@ same-length c = search needs
 
 -- src/lib.rt:49:1
 returns : tie.Need-returns
-returns c = one-marked (c .before .before .before .before .before .before .before .args .marks .now) _ (c .before .before .put-byte .ensures .0) (c .before .before .before .cell .ensures .0)
+returns c =
+    let args = c .before .before .before .before .before .before .before .args in
+    let cell = c .before .before .before .cell in
+    let put-byte = c .before .before .put-byte in
+    one-marked (args .marks .now) _ (put-byte .ensures .0) (cell .ensures .0)
 
 pub mark-type-spec : {M : Type 1} → statement M
 mark-type-spec = tie.close (tie.spec cell-requires put-byte-requires same-length returns)

@@ -20,7 +20,11 @@ same-length c = search needs
 
 -- src/lib.rt:64:1
 returns : tie.Need-returns
-returns c = two-marked (c .before .before .before .before .before .before .before .before .before .before .args .marks .now) _ _ (c .before .before .before .before .before .before .mark-type .ensures) (c .before .before .mark-type2 .ensures)
+returns c =
+    let args = c .before .before .before .before .before .before .before .before .before .before .args in
+    let mark-type = c .before .before .before .before .before .before .mark-type in
+    let mark-type2 = c .before .before .mark-type2 in
+    two-marked (args .marks .now) _ _ (mark-type .ensures) (mark-type2 .ensures)
 
 pub mark-types-spec : {M : Type 1} → statement M
 mark-types-spec = tie.close (tie.spec mark-type-requires mark-type-requires-2 same-length returns)

@@ -24,7 +24,12 @@ same-length c = search needs
 
 -- src/lib.rt:107:9
 returns : tie.Need-returns
-returns c = patterns-one (c .before .before .before .before .before .before .before .before .args .t .now) (c .before .before .before .before .before .before .before .before .args .base) (c .before .before .before .before .before .before .before .before .args .n) (c .before .before .before .before .before .before .before .before .args .marks .now) (c .before .before .before .before .before .cell .ensures .0) 0 (c .before .before .before .before .if1 .taken) (omega arith) (c .before .before .mark-pattern .ensures)
+returns c =
+    let args = c .before .before .before .before .before .before .before .before .args in
+    let cell = c .before .before .before .before .before .cell in
+    let if1 = c .before .before .before .before .if1 in
+    let mark-pattern = c .before .before .mark-pattern in
+    patterns-one (args .t .now) (args .base) (args .n) (args .marks .now) (cell .ensures .0) 0 (if1 .taken) (omega arith) (mark-pattern .ensures)
 
 -- src/lib.rt:110:9
 mark-pattern-requires-2 : tie.Need-mark-pattern-requires-2
@@ -36,7 +41,12 @@ same-length-2 c = search needs
 
 -- src/lib.rt:111:9
 returns-2 : tie.Need-returns-2
-returns-2 c = patterns-one (c .before .before .before .before .before .before .before .before .before .args .t .now) (c .before .before .before .before .before .before .before .before .before .args .base) (c .before .before .before .before .before .before .before .before .before .args .n) (c .before .before .before .before .before .before .before .before .before .args .marks .now) (c .before .before .before .before .before .before .cell .ensures .0) 1 (c .before .before .before .before .if2 .taken) (omega arith) (c .before .before .mark-pattern2 .ensures)
+returns-2 c =
+    let args = c .before .before .before .before .before .before .before .before .before .args in
+    let cell = c .before .before .before .before .before .before .cell in
+    let if2 = c .before .before .before .before .if2 in
+    let mark-pattern2 = c .before .before .mark-pattern2 in
+    patterns-one (args .t .now) (args .base) (args .n) (args .marks .now) (cell .ensures .0) 1 (if2 .taken) (omega arith) (mark-pattern2 .ensures)
 
 -- src/lib.rt:114:9
 mark-patterns-requires : tie.Need-mark-patterns-requires
@@ -48,11 +58,21 @@ same-length-3 c = search needs
 
 -- src/lib.rt:97:1
 returns-3 : tie.Need-returns-3
-returns-3 c = patterns-two (c .before .before .before .before .before .before .before .before .before .before .args .t .now) (c .before .before .before .before .before .before .before .before .before .before .args .base) (c .before .before .before .before .before .before .before .before .before .before .args .n) (c .before .before .before .before .before .before .before .before .before .before .args .marks .now) (c .before .before .before .before .before .before .before .cell .ensures .0) (c .before .before .before .before .if3 .taken) (c .before .before .mark-patterns .ensures)
+returns-3 c =
+    let args = c .before .before .before .before .before .before .before .before .before .before .args in
+    let cell = c .before .before .before .before .before .before .before .cell in
+    let if3 = c .before .before .before .before .if3 in
+    let mark-patterns = c .before .before .mark-patterns in
+    patterns-two (args .t .now) (args .base) (args .n) (args .marks .now) (cell .ensures .0) (if3 .taken) (mark-patterns .ensures)
 
 -- src/lib.rt:97:1
 returns-4 : tie.Need-returns-4
-returns-4 c = patterns-named (c .before .before .before .before .before .before .args .t .now) (c .before .before .before .before .before .before .args .base) (c .before .before .before .before .before .before .args .n) (c .before .before .before .before .before .before .args .marks .now) (c .before .before .before .cell .ensures .0) (c .before .before .if1 .left) (c .before .if2 .left) (c .if3 .left) refl
+returns-4 c =
+    let args = c .before .before .before .before .before .before .args in
+    let cell = c .before .before .before .cell in
+    let if1 = c .before .before .if1 in
+    let if2 = c .before .if2 in
+    patterns-named (args .t .now) (args .base) (args .n) (args .marks .now) (cell .ensures .0) (if1 .left) (if2 .left) (c .if3 .left) refl
 
 pub name-patterns-spec : {M : Type 1} → statement M
 name-patterns-spec =

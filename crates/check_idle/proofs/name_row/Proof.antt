@@ -24,7 +24,12 @@ same-length c = search needs
 
 -- src/lib.rt:126:9
 returns : tie.Need-returns
-returns c = λ rs patterns lines f r e. row-type f (c .before .before .before .before .before .before .before .before .args .n) e (c .before .before .before .before .before .cell .ensures .0) (c .before .before .before .before .before .before .before .before .args .marks .now) (c .before .before .before .before .if1 .taken) (c .before .before .name-types .ensures)
+returns c =
+    let args = c .before .before .before .before .before .before .before .before .args in
+    let cell = c .before .before .before .before .before .cell in
+    let if1 = c .before .before .before .before .if1 in
+    let name-types = c .before .before .name-types in
+    λ rs patterns lines f r e. row-type f (args .n) e (cell .ensures .0) (args .marks .now) (if1 .taken) (name-types .ensures)
 
 -- src/lib.rt:129:9
 name-patterns-requires : tie.Need-name-patterns-requires
@@ -36,7 +41,12 @@ same-length-2 c = search needs
 
 -- src/lib.rt:130:9
 returns-2 : tie.Need-returns-2
-returns-2 c = λ rs patterns lines f r e. row-pattern f (c .before .before .before .before .before .before .before .before .before .args .n) e (c .before .before .before .before .before .before .cell .ensures .0) (c .before .before .before .before .before .before .before .before .before .args .marks .now) (c .before .before .before .before .if2 .taken) (c .before .before .name-patterns .ensures)
+returns-2 c =
+    let args = c .before .before .before .before .before .before .before .before .before .args in
+    let cell = c .before .before .before .before .before .before .cell in
+    let if2 = c .before .before .before .before .if2 in
+    let name-patterns = c .before .before .name-patterns in
+    λ rs patterns lines f r e. row-pattern f (args .n) e (cell .ensures .0) (args .marks .now) (if2 .taken) (name-patterns .ensures)
 
 -- src/lib.rt:133:9
 mark-types-requires : tie.Need-mark-types-requires
@@ -48,7 +58,12 @@ same-length-3 c = search needs
 
 -- src/lib.rt:134:9
 returns-3 : tie.Need-returns-3
-returns-3 c = λ rs patterns lines f r e. row-iso f (c .before .before .before .before .before .before .before .before .before .before .args .n) e (c .before .before .before .before .before .before .before .cell .ensures .0) (c .before .before .before .before .before .before .before .before .before .before .args .marks .now) (c .before .before .before .before .if3 .taken) (c .before .before .mark-types .ensures)
+returns-3 c =
+    let args = c .before .before .before .before .before .before .before .before .before .before .args in
+    let cell = c .before .before .before .before .before .before .before .cell in
+    let if3 = c .before .before .before .before .if3 in
+    let mark-types = c .before .before .mark-types in
+    λ rs patterns lines f r e. row-iso f (args .n) e (cell .ensures .0) (args .marks .now) (if3 .taken) (mark-types .ensures)
 
 -- src/lib.rt:137:9
 mark-patterns-requires : tie.Need-mark-patterns-requires
@@ -60,7 +75,12 @@ same-length-4 c = search needs
 
 -- src/lib.rt:138:9
 returns-4 : tie.Need-returns-4
-returns-4 c = λ rs patterns lines f r e. row-clause f (c .before .before .before .before .before .before .before .before .before .before .before .args .n) e (c .before .before .before .before .before .before .before .before .cell .ensures .0) (c .before .before .before .before .before .before .before .before .before .before .before .args .marks .now) (c .before .before .before .before .if4 .taken) (c .before .before .mark-patterns .ensures)
+returns-4 c =
+    let args = c .before .before .before .before .before .before .before .before .before .before .before .args in
+    let cell = c .before .before .before .before .before .before .before .before .cell in
+    let if4 = c .before .before .before .before .if4 in
+    let mark-patterns = c .before .before .mark-patterns in
+    λ rs patterns lines f r e. row-clause f (args .n) e (cell .ensures .0) (args .marks .now) (if4 .taken) (mark-patterns .ensures)
 
 -- src/lib.rt:140:5
 mark-patterns-requires-2 : tie.Need-mark-patterns-requires-2
@@ -72,7 +92,15 @@ same-length-5 c = search needs
 
 -- src/lib.rt:119:1
 returns-5 : tie.Need-returns-5
-returns-5 c = λ rs patterns lines f r e. row-let f (c .before .before .before .before .before .before .before .before .before .before .before .args .n) e (c .before .before .before .before .before .before .before .before .cell .ensures .0) (c .before .before .before .before .before .before .before .before .before .before .before .args .marks .now) (c .before .before .before .before .before .before .before .if1 .left) (c .before .before .before .before .before .before .if2 .left) (c .before .before .before .before .before .if3 .left) (c .before .before .before .before .if4 .left) (c .before .before .mark-patterns2 .ensures)
+returns-5 c =
+    let args = c .before .before .before .before .before .before .before .before .before .before .before .args in
+    let cell = c .before .before .before .before .before .before .before .before .cell in
+    let if1 = c .before .before .before .before .before .before .before .if1 in
+    let if2 = c .before .before .before .before .before .before .if2 in
+    let if3 = c .before .before .before .before .before .if3 in
+    let if4 = c .before .before .before .before .if4 in
+    let mark-patterns2 = c .before .before .mark-patterns2 in
+    λ rs patterns lines f r e. row-let f (args .n) e (cell .ensures .0) (args .marks .now) (if1 .left) (if2 .left) (if3 .left) (if4 .left) (mark-patterns2 .ensures)
 
 pub name-row-spec : {M : Type 1} → statement M
 name-row-spec =

@@ -23,7 +23,12 @@ same-length c = search needs
 
 -- src/lib.rt:89:9
 returns : tie.Need-returns
-returns c = types-two (c .before .before .before .before .before .before .before .before .args .t .now) (c .before .before .before .before .before .before .before .before .args .n) (c .before .before .before .before .before .before .before .before .args .marks .now) (c .before .before .before .before .before .cell .ensures .0) 0 (c .before .before .before .before .if1 .taken) (omega arith) (c .before .before .mark-types .ensures)
+returns c =
+    let args = c .before .before .before .before .before .before .before .before .args in
+    let cell = c .before .before .before .before .before .cell in
+    let if1 = c .before .before .before .before .if1 in
+    let mark-types = c .before .before .mark-types in
+    types-two (args .t .now) (args .n) (args .marks .now) (cell .ensures .0) 0 (if1 .taken) (omega arith) (mark-types .ensures)
 
 -- src/lib.rt:92:9
 mark-types-requires-2 : tie.Need-mark-types-requires-2
@@ -35,11 +40,20 @@ same-length-2 c = search needs
 
 -- src/lib.rt:80:1
 returns-2 : tie.Need-returns-2
-returns-2 c = types-two (c .before .before .before .before .before .before .before .before .before .args .t .now) (c .before .before .before .before .before .before .before .before .before .args .n) (c .before .before .before .before .before .before .before .before .before .args .marks .now) (c .before .before .before .before .before .before .cell .ensures .0) 1 (c .before .before .before .before .if2 .taken) (omega arith) (c .before .before .mark-types2 .ensures)
+returns-2 c =
+    let args = c .before .before .before .before .before .before .before .before .before .args in
+    let cell = c .before .before .before .before .before .before .cell in
+    let if2 = c .before .before .before .before .if2 in
+    let mark-types2 = c .before .before .mark-types2 in
+    types-two (args .t .now) (args .n) (args .marks .now) (cell .ensures .0) 1 (if2 .taken) (omega arith) (mark-types2 .ensures)
 
 -- src/lib.rt:80:1
 returns-3 : tie.Need-returns-3
-returns-3 c = types-named (c .before .before .before .before .before .args .t .now) (c .before .before .before .before .before .args .n) (c .before .before .before .before .before .args .marks .now) (c .before .before .cell .ensures .0) (c .before .if1 .left) (c .if2 .left) refl
+returns-3 c =
+    let args = c .before .before .before .before .before .args in
+    let cell = c .before .before .cell in
+    let if1 = c .before .if1 in
+    types-named (args .t .now) (args .n) (args .marks .now) (cell .ensures .0) (if1 .left) (c .if2 .left) refl
 
 pub name-types-spec : {M : Type 1} → statement M
 name-types-spec =

@@ -28,7 +28,10 @@ sub-n c = search needs
 
 -- src/lib.rt:205:9
 with-row-requires : tie.Need-with-row-requires Inv-loop μ-loop
-with-row-requires c κs = let i = c .before .before .loop .inv .within in let p = c .before .before .before .before .before .before .pre .1 in (c .before .before .before .before .before .before .pre .0, omega arith)
+with-row-requires c κs =
+    let pre = c .before .before .before .before .before .before .pre in
+    let loop′ = c .before .before .loop in
+    let i = loop′ .inv .within in let p = pre .1 in (pre .0, omega arith)
 
 -- src/lib.rt:203:5
 loop-less : tie.Need-loop-less Inv-loop μ-loop
@@ -36,7 +39,11 @@ loop-less c = omega arith
 
 -- src/lib.rt:203:5
 loop-again : tie.Need-loop-again Inv-loop μ-loop
-loop-again c = walking-step (c .before .before .before .before .before .loop .inv) (c .before .before .before .before .loop-test .taken) (c .before .before .with-row .kept .1 .1 .1 .0) (c .before .before .with-row .ensures)
+loop-again c =
+    let loop′ = c .before .before .before .before .before .loop in
+    let loop-test = c .before .before .before .before .loop-test in
+    let with-row = c .before .before .with-row in
+    walking-step (loop′ .inv) (loop-test .taken) (with-row .kept .1 .1 .1 .0) (with-row .ensures)
 
 -- src/lib.rt:197:1
 same-length : tie.Need-same-length Inv-loop μ-loop

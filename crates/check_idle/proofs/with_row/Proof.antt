@@ -29,7 +29,12 @@ same-length c = search needs
 
 -- src/lib.rt:187:9
 returns : tie.Need-returns
-returns c = λ rs patterns lines f h w. walked-root f h w (c .before .before .before .before .before .before .cell .ensures .0) (c .before .before .before .before .before .is-root .ensures) (c .before .before .before .before .if1 .taken) (c .before .before .name-row .ensures rs patterns lines f)
+returns c =
+    let cell = c .before .before .before .before .before .before .cell in
+    let is-root = c .before .before .before .before .before .is-root in
+    let if1 = c .before .before .before .before .if1 in
+    let name-row = c .before .before .name-row in
+    λ rs patterns lines f h w. walked-root f h w (cell .ensures .0) (is-root .ensures) (if1 .taken) (name-row .ensures rs patterns lines f)
 
 -- src/lib.rt:189:8
 byte-at-requires : tie.Need-byte-at-requires
@@ -45,7 +50,11 @@ same-length-2 c = search needs
 
 -- src/lib.rt:191:9
 returns-2 : tie.Need-returns-2
-returns-2 c = λ rs patterns lines f h w. walked-marked f h w (c .before .before .before .before .before .byte-at .ensures) (c .before .before .before .before .if2 .taken) (c .before .before .name-row2 .ensures rs patterns lines f)
+returns-2 c =
+    let byte-at = c .before .before .before .before .before .byte-at in
+    let if2 = c .before .before .before .before .if2 in
+    let name-row2 = c .before .before .name-row2 in
+    λ rs patterns lines f h w. walked-marked f h w (byte-at .ensures) (if2 .taken) (name-row2 .ensures rs patterns lines f)
 
 -- src/lib.rt:193:5
 idle-requires : tie.Need-idle-requires
@@ -57,7 +66,13 @@ same-length-3 c = search needs
 
 -- src/lib.rt:180:1
 returns-3 : tie.Need-returns-3
-returns-3 c = λ rs patterns lines f h w. walked-idle f h w (c .before .before .before .before .before .before .cell .ensures .0) (c .before .before .before .before .before .is-root .ensures) (c .before .before .before .before .if1 .left) (c .before .before .byte-at .ensures) (c .before .if2 .left) (c .idle .ensures) refl
+returns-3 c =
+    let cell = c .before .before .before .before .before .before .cell in
+    let is-root = c .before .before .before .before .before .is-root in
+    let if1 = c .before .before .before .before .if1 in
+    let byte-at = c .before .before .byte-at in
+    let if2 = c .before .if2 in
+    λ rs patterns lines f h w. walked-idle f h w (cell .ensures .0) (is-root .ensures) (if1 .left) (byte-at .ensures) (if2 .left) (c .idle .ensures) refl
 
 pub with-row-spec : {M : Type 1} → statement M
 with-row-spec =

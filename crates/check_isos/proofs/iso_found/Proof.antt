@@ -24,8 +24,11 @@ sooner-requires c κs = search needs
 
 returns-2 : tie.Need-returns-2
 returns-2 c =
+    let is-refused = c .before .before .before .is-refused in
+    let if1 = c .before .before .if1 in
+    let side-fault = c .before .side-fault in
     let a = c .before .before .before .before .before .before .before .args in
-    by-sides (a .pending .place) (a .n) (refusalView (a .pending .refusal)) _ (c .before .before .before .is-refused .ensures) (c .before .before .if1 .left) (c .before .side-fault .ensures) (c .sooner .ensures)
+    by-sides (a .pending .place) (a .n) (refusalView (a .pending .refusal)) _ (is-refused .ensures) (if1 .left) (side-fault .ensures) (c .sooner .ensures)
 
 pub iso-found-spec : {M : Type 1} → statement M
 iso-found-spec =

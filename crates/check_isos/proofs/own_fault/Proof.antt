@@ -21,8 +21,12 @@ clause-fault-requires c κs = search needs
 
 returns : tie.Need-returns
 returns c =
-    own-fault _ _ _ _ _ _ (c .before .before .before .before .word-at .ensures) (c .before .before .before .wide .ensures .0) (c .before .before .cell .ensures .0)
-    (c .before .cell2 .ensures .0) (c .clause-fault .ensures .0)
+    let word-at = c .before .before .before .before .word-at in
+    let wide = c .before .before .before .wide in
+    let cell = c .before .before .cell in
+    let cell2 = c .before .cell2 in
+    own-fault _ _ _ _ _ _ (word-at .ensures) (wide .ensures .0) (cell .ensures .0)
+    (cell2 .ensures .0) (c .clause-fault .ensures .0)
 
 pub own-fault-spec : {M : Type 1} → statement M
 own-fault-spec =

@@ -9,10 +9,10 @@ use Rattle.check_isos.proofs.walk_up.Statement.{statement}
 use Rattle.check_isos.proofs.walk_up.Tie as tie
 
 abbrev Inv-loop : tie.InvT-loop
-Inv-loop t f g base starts stop lines isos n₀ w₀ n w = Walking t base starts stop lines isos n w
+Inv-loop t f g k base starts stop lines isos n₀ w₀ n w = Walking t base starts stop lines isos n w
 
 abbrev μ-loop : tie.MeasureT-loop
-μ-loop t f g base starts stop lines isos n₀ w₀ n w = n
+μ-loop t f g k base starts stop lines isos n₀ w₀ n w = n
 
 none-requires : tie.Need-none-requires Inv-loop μ-loop
 none-requires c κs = search needs

@@ -23,13 +23,22 @@ narrow-requires : tie.Need-narrow-requires
 narrow-requires c κs = search needs
 
 mul-clauses : tie.Need-mul-clauses
-mul-clauses c = let k = c .before .before .before .before .before .is-inside .ensures .0 (c .before .before .before .before .if1 .taken) in omega (arith, k .0, k .1, k .2)
+mul-clauses c =
+    let is-inside = c .before .before .before .before .before .is-inside in
+    let if1 = c .before .before .before .before .if1 in
+    let k = is-inside .ensures .0 (if1 .taken) in omega (arith, k .0, k .1, k .2)
 
 array-write-clauses : tie.Need-array-write-clauses
-array-write-clauses c = let k = c .before .before .before .before .before .is-inside .ensures .0 (c .before .before .before .before .if1 .taken) in omega (arith, k .0, k .1, k .2)
+array-write-clauses c =
+    let is-inside = c .before .before .before .before .before .is-inside in
+    let if1 = c .before .before .before .before .if1 in
+    let k = is-inside .ensures .0 (if1 .taken) in omega (arith, k .0, k .1, k .2)
 
 add-sooner : tie.Need-add-sooner
-add-sooner c = let k = c .before .before .before .before .before .before .before .is-inside .ensures .0 (c .before .before .before .before .before .before .if1 .taken) in omega (arith, k .0, k .1, k .2)
+add-sooner c =
+    let is-inside = c .before .before .before .before .before .before .before .is-inside in
+    let if1 = c .before .before .before .before .before .before .if1 in
+    let k = is-inside .ensures .0 (if1 .taken) in omega (arith, k .0, k .1, k .2)
 
 sooner-requires : tie.Need-sooner-requires
 sooner-requires c κs = search needs

@@ -15,23 +15,37 @@ none-requires : tie.Need-none-requires
 none-requires c κs = search needs
 
 sub-above : tie.Need-sub-above
-sub-above c = let k = c .before .before .before .before .before .is-inside .ensures .0 (c .before .before .before .before .if1 .taken) in omega (arith, k .0, k .1, k .2)
+sub-above c =
+    let is-inside = c .before .before .before .before .before .is-inside in
+    let if1 = c .before .before .before .before .if1 in
+    let k = is-inside .ensures .0 (if1 .taken) in omega (arith, k .0, k .1, k .2)
 
 mul-iso-found : tie.Need-mul-iso-found
-mul-iso-found c = let k = c .before .before .before .before .before .is-inside .ensures .0 (c .before .before .before .before .if1 .taken) in omega (arith, k .0, k .1, k .2)
+mul-iso-found c =
+    let is-inside = c .before .before .before .before .before .is-inside in
+    let if1 = c .before .before .before .before .if1 in
+    let k = is-inside .ensures .0 (if1 .taken) in omega (arith, k .0, k .1, k .2)
 
 sub-iso-found : tie.Need-sub-iso-found
-sub-iso-found c = let k = c .before .before .before .before .before .is-inside .ensures .0 (c .before .before .before .before .if1 .taken) in omega (arith, k .0, k .1, k .2)
+sub-iso-found c =
+    let is-inside = c .before .before .before .before .before .is-inside in
+    let if1 = c .before .before .before .before .if1 in
+    let k = is-inside .ensures .0 (if1 .taken) in omega (arith, k .0, k .1, k .2)
 
 part-iso-found-start : tie.Need-part-iso-found-start
-part-iso-found-start c = let k = c .before .before .before .before .before .before .is-inside .ensures .0 (c .before .before .before .before .before .if1 .taken) in omega (arith, k .0, k .1, k .2)
+part-iso-found-start c =
+    let is-inside = c .before .before .before .before .before .before .is-inside in
+    let if1 = c .before .before .before .before .before .if1 in
+    let k = is-inside .ensures .0 (if1 .taken) in omega (arith, k .0, k .1, k .2)
 
 part-iso-found-end : tie.Need-part-iso-found-end
 part-iso-found-end c = let s = c .before .before .before .before .before .before .before .before .before in omega (arith, array-length (s .args .w .clauses) (s .good .1 .1 .1 .0 .1 .1 .0 .1 .0 .1))
 
 iso-found-requires : tie.Need-iso-found-requires
 iso-found-requires c κs =
-    let k = c .before .before .before .before .before .before .before .is-inside .ensures .0 (c .before .before .before .before .before .before .if1 .taken) in
+    let is-inside = c .before .before .before .before .before .before .before .is-inside in
+    let if1 = c .before .before .before .before .before .before .if1 in
+    let k = is-inside .ensures .0 (if1 .taken) in
     let s = c .before .before .before .before .before .before .before .before .before .before in
     (search needs, search needs, k .2, s .pre .1, s .pre .2)
 

@@ -12,10 +12,17 @@ with-start-requires : tie.Need-with-start-requires
 with-start-requires c κs = search needs
 
 returns : tie.Need-returns
-returns c rs types patterns lines f h w = starts-iso f (c .before .before .before .before .args .n) h (sym (c .before .before .cell .ensures .0) ∙ c .before .if1 .taken) (c .with-start .ensures) w
+returns c rs types patterns lines f h w =
+    let args = c .before .before .before .before .args in
+    let cell = c .before .before .cell in
+    let if1 = c .before .if1 in
+    starts-iso f (args .n) h (sym (cell .ensures .0) ∙ if1 .taken) (c .with-start .ensures) w
 
 returns-2 : tie.Need-returns-2
-returns-2 c rs types patterns lines f h w = starts-other f (c .before .before .before .args .n) h (λ e. c .if1 .left (c .before .cell .ensures .0 ∙ e)) w
+returns-2 c rs types patterns lines f h w =
+    let args = c .before .before .before .args in
+    let cell = c .before .cell in
+    starts-other f (args .n) h (λ e. c .if1 .left (cell .ensures .0 ∙ e)) w
 
 pub with-line-spec : {M : Type 1} → statement M
 with-line-spec = tie.close (tie.spec cell-requires with-start-requires returns returns-2)

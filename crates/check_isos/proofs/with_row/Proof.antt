@@ -18,7 +18,10 @@ with-iso-requires : tie.Need-with-iso-requires
 with-iso-requires c κs = search needs
 
 returns-2 : tie.Need-returns-2
-returns-2 c rs patterns lines f e h late s = c .with-iso .ensures rs patterns lines f h (sym (c .before .before .before .cell .ensures .0) ∙ c .before .if2 .taken) s
+returns-2 c rs patterns lines f e h late s =
+    let cell = c .before .before .before .cell in
+    let if2 = c .before .if2 in
+    c .with-iso .ensures rs patterns lines f h (sym (cell .ensures .0) ∙ if2 .taken) s
 
 returns-3 : tie.Need-returns-3
 returns-3 c rs patterns lines f e h late s = walked-let f h s late (c .before .before .cell .ensures .0) (c .before .if1 .left) (c .if2 .left)

@@ -51,10 +51,32 @@ compare-first-below t =
     compare-first.Pre
 
 abbrev ks-compare-below : ℕ → compare-below-lts.Claims
-ks-compare-below t = (compare-first-below t, compare-first.Post, number-reads.Asked, number-reads.Learnt, named-reads.Asked, named-reads.Learnt, wrapping-add-usize-reads.Asked, wrapping-add-usize-reads.Learnt, meeting-reads.Asked, meeting-reads.Learnt)
+ks-compare-below t = (
+  compare-first-below t,
+  compare-first.Post,
+  number-reads.Asked,
+  number-reads.Learnt,
+  named-reads.Asked,
+  named-reads.Learnt,
+  wrapping-add-usize-reads.Asked,
+  wrapping-add-usize-reads.Learnt,
+  meeting-reads.Asked,
+  meeting-reads.Learnt,
+)
 
 abbrev ks-compare-first : ℕ → compare-first-lts.Claims
-ks-compare-first t = (wrapping-add-usize-reads.Asked, wrapping-add-usize-reads.Learnt, number-reads.Asked, number-reads.Learnt, named-reads.Asked, named-reads.Learnt, meeting-reads.Asked, meeting-reads.Learnt, compare-below-below t, compare-below.Post)
+ks-compare-first t = (
+  wrapping-add-usize-reads.Asked,
+  wrapping-add-usize-reads.Learnt,
+  number-reads.Asked,
+  number-reads.Learnt,
+  named-reads.Asked,
+  named-reads.Learnt,
+  meeting-reads.Asked,
+  meeting-reads.Learnt,
+  compare-below-below t,
+  compare-below.Post,
+)
 
 abbrev compare-below-Inv-loop : compare-below-lts.InvT-loop
 compare-below-Inv-loop t base i j k count p₀ q₀ m₀ n₀ p q m n = Walks t base i j count p q m n
@@ -76,13 +98,25 @@ compare-below-compare-first-requires t c κs =
 
 compare-below-returns : (t : ℕ) → compare-below-lts.Need-returns (ks-compare-below t) (compare-below-at t) compare-below.Post compare-below-Inv-loop compare-below-μ-loop
 compare-below-returns t c =
+    let loop′ = c .before .before .before .loop in
+    let loop-test = c .before .before .loop-test in
+    let compare-first = c .before .compare-first in
     let a = c .before .before .before .before .before .args in
-    walks-clash (a .t .now) (a .base) (a .i) (a .j) (a .count) (c .before .before .before .loop .inv) (c .before .before .loop-test .taken) (c .before .compare-first .ensures) (c .if1 .taken)
+    walks-clash (a .t .now) (a .base) (a .i) (a .j) (a .count) (loop′ .inv) (loop-test .taken) (compare-first .ensures) (c .if1 .taken)
 
 compare-below-returns-2 : (t : ℕ) → compare-below-lts.Need-returns-2 (ks-compare-below t) (compare-below-at t) compare-below.Post compare-below-Inv-loop compare-below-μ-loop
 compare-below-returns-2 t c =
+    let loop′ = c .before .before .before .before .before .before .before .before .loop in
+    let loop-test = c .before .before .before .before .before .before .before .loop-test in
+    let compare-first = c .before .before .before .before .before .before .compare-first in
+    let if1 = c .before .before .before .before .before .if1 in
+    let number = c .before .before .before .before .number in
+    let number2 = c .before .before .before .number2 in
+    let named = c .before .before .named in
+    let if2 = c .before .if2 in
     let a = c .before .before .before .before .before .before .before .before .before .before .args in
-    walks-unit (a .t .now) (a .base) (a .i) (a .j) (a .count) (c .before .before .before .before .before .before .before .before .loop .inv) (c .before .before .before .before .before .before .before .loop-test .taken) (c .before .before .before .before .before .before .compare-first .ensures) (c .before .before .before .before .before .if1 .left) (c .before .before .before .before .number .ensures) (c .before .before .before .number2 .ensures) (c .before .before .named .ensures .1 (not-true _ (c .before .if2 .taken))) (c .wrapping-add-usize .ensures)
+    walks-unit (a .t .now) (a .base) (a .i) (a .j) (a .count) (loop′ .inv) (loop-test .taken) (compare-first .ensures) (if1 .left) (number .ensures) (number2 .ensures)
+    (named .ensures .1 (not-true _ (if2 .taken))) (c .wrapping-add-usize .ensures)
 
 compare-below-meeting-requires : (t : ℕ) → compare-below-lts.Need-meeting-requires (ks-compare-below t) (compare-below-at t) compare-below.Post compare-below-Inv-loop compare-below-μ-loop
 compare-below-meeting-requires t c κs =
@@ -95,9 +129,18 @@ compare-below-loop-less t c =
 
 compare-below-loop-again : (t : ℕ) → compare-below-lts.Need-loop-again (ks-compare-below t) (compare-below-at t) compare-below.Post compare-below-Inv-loop compare-below-μ-loop
 compare-below-loop-again t c =
+    let loop′ = c .before .before .before .before .before .before .before .before .loop in
+    let loop-test = c .before .before .before .before .before .before .before .loop-test in
+    let compare-first = c .before .before .before .before .before .before .compare-first in
+    let if1 = c .before .before .before .before .before .if1 in
+    let number = c .before .before .before .before .number in
+    let number2 = c .before .before .before .number2 in
+    let named = c .before .before .named in
+    let if2 = c .before .if2 in
     let a = c .before .before .before .before .before .before .before .before .before .before .args in
-    let l = c .before .before .named .ensures .0 (not-false _ (c .before .if2 .left)) in
-    walks-step (a .t .now) (a .base) (a .i) (a .j) (a .count) (c .before .before .before .before .before .before .before .before .loop .inv) (c .before .before .before .before .before .before .before .loop-test .taken) (c .before .before .before .before .before .before .compare-first .ensures) (c .before .before .before .before .before .if1 .left) (c .before .before .before .before .number .ensures) (c .before .before .before .number2 .ensures) (l .0) (l .1) (c .meeting .ensures)
+    let l = named .ensures .0 (not-false _ (if2 .left)) in
+    walks-step (a .t .now) (a .base) (a .i) (a .j) (a .count) (loop′ .inv) (loop-test .taken) (compare-first .ensures) (if1 .left) (number .ensures) (number2 .ensures) (l .0) (l .1)
+    (c .meeting .ensures)
 
 compare-below-returns-3 : (t : ℕ) → compare-below-lts.Need-returns-3 (ks-compare-below t) (compare-below-at t) compare-below.Post compare-below-Inv-loop compare-below-μ-loop
 compare-below-returns-3 t c =
@@ -111,8 +154,15 @@ compare-first-returns t c =
 
 compare-first-returns-2 : (t : ℕ) → compare-first-lts.Need-returns-2 (ks-compare-first t) (compare-first-at t) compare-first.Post
 compare-first-returns-2 t c =
+    let wrapping-add-usize = c .before .before .before .before .before .before .wrapping-add-usize in
+    let if1 = c .before .before .before .before .before .if1 in
+    let number = c .before .before .before .before .number in
+    let number2 = c .before .before .before .number2 in
+    let named = c .before .before .named in
+    let if2 = c .before .if2 in
     let a = c .before .before .before .before .before .before .before .before .args in
-    opened-unit (a .t .now) (a .base) (a .p) (a .q) (a .m) (a .n) (c .before .before .before .before .before .before .wrapping-add-usize .ensures) (c .before .before .before .before .before .if1 .left) (c .before .before .before .before .number .ensures) (c .before .before .before .number2 .ensures) (c .before .before .named .ensures .1 (not-true _ (c .before .if2 .taken))) (c .wrapping-add-usize2 .ensures)
+    opened-unit (a .t .now) (a .base) (a .p) (a .q) (a .m) (a .n) (wrapping-add-usize .ensures) (if1 .left) (number .ensures) (number2 .ensures) (named .ensures .1 (not-true _ (if2 .taken)))
+    (c .wrapping-add-usize2 .ensures)
 
 compare-first-meeting-requires : (t : ℕ) → compare-first-lts.Need-meeting-requires (ks-compare-first t) (compare-first-at t) compare-first.Post
 compare-first-meeting-requires t c κs =
@@ -121,22 +171,47 @@ compare-first-meeting-requires t c κs =
 
 compare-first-returns-3 : (t : ℕ) → compare-first-lts.Need-returns-3 (ks-compare-first t) (compare-first-at t) compare-first.Post
 compare-first-returns-3 t c =
+    let wrapping-add-usize = c .before .before .before .before .before .before .before .before .wrapping-add-usize in
+    let if1 = c .before .before .before .before .before .before .before .if1 in
+    let number = c .before .before .before .before .before .before .number in
+    let number2 = c .before .before .before .before .before .number2 in
+    let named = c .before .before .before .before .named in
+    let if2 = c .before .before .before .if2 in
+    let meeting = c .before .before .meeting in
+    let if3 = c .before .if3 in
     let a = c .before .before .before .before .before .before .before .before .before .before .args in
-    let l = c .before .before .before .before .named .ensures .0 (not-false _ (c .before .before .before .if2 .left)) in
-    opened-named (a .t .now) (a .base) (a .p) (a .q) (a .m) (a .n) (c .before .before .before .before .before .before .before .before .wrapping-add-usize .ensures) (c .before .before .before .before .before .before .before .if1 .left) (c .before .before .before .before .before .before .number .ensures) (c .before .before .before .before .before .number2 .ensures) (l .0) (l .1)
-    (lines-end (a .t .now) (a .base) _ _ (c .before .before .meeting .ensures) _ (c .before .if3 .taken) (c .wrapping-add-usize3 .ensures))
+    let l = named .ensures .0 (not-false _ (if2 .left)) in
+    opened-named (a .t .now) (a .base) (a .p) (a .q) (a .m) (a .n) (wrapping-add-usize .ensures) (if1 .left) (number .ensures) (number2 .ensures) (l .0) (l .1)
+    (lines-end (a .t .now) (a .base) _ _ (meeting .ensures) _ (if3 .taken) (c .wrapping-add-usize3 .ensures))
 
 compare-first-compare-below-requires : (t : ℕ) → compare-first-lts.Need-compare-below-requires (ks-compare-first t) (compare-first-at t) compare-first.Post
 compare-first-compare-below-requires t c κs =
+    let wrapping-add-usize = c .before .before .before .before .before .before .before .wrapping-add-usize in
+    let named = c .before .before .before .named in
+    let if2 = c .before .before .if2 in
+    let meeting = c .before .meeting in
     let s = c .before .before .before .before .before .before .before .before .before in
-    let l = c .before .before .before .named .ensures .0 (not-false _ (c .before .before .if2 .left)) in
-    (omega (arith, s .pre .0, l .0), (within-parts (s .pre .1 .0) (l .0) (l .1), next-even (s .args .t .now) (s .args .base) (s .args .p) (s .args .q) (s .args .m) (s .args .n) (c .before .before .before .before .before .before .before .wrapping-add-usize .ensures) (s .pre .1 .1), c .before .meeting .ensures))
+    let l = named .ensures .0 (not-false _ (if2 .left)) in (
+      omega (arith, s .pre .0, l .0),
+      (
+        within-parts (s .pre .1 .0) (l .0) (l .1),
+        next-even (s .args .t .now) (s .args .base) (s .args .p) (s .args .q) (s .args .m) (s .args .n) (wrapping-add-usize .ensures)
+            (s .pre .1 .1),
+        meeting .ensures,
+      ),
+    )
 
 compare-first-returns-4 : (t : ℕ) → compare-first-lts.Need-returns-4 (ks-compare-first t) (compare-first-at t) compare-first.Post
 compare-first-returns-4 t c =
+    let wrapping-add-usize = c .before .before .before .before .before .before .before .before .wrapping-add-usize in
+    let if1 = c .before .before .before .before .before .before .before .if1 in
+    let number = c .before .before .before .before .before .before .number in
+    let number2 = c .before .before .before .before .before .number2 in
+    let named = c .before .before .before .before .named in
+    let if2 = c .before .before .before .if2 in
     let a = c .before .before .before .before .before .before .before .before .before .before .args in
-    let l = c .before .before .before .before .named .ensures .0 (not-false _ (c .before .before .before .if2 .left)) in
-    opened-named (a .t .now) (a .base) (a .p) (a .q) (a .m) (a .n) (c .before .before .before .before .before .before .before .before .wrapping-add-usize .ensures) (c .before .before .before .before .before .before .before .if1 .left) (c .before .before .before .before .before .before .number .ensures) (c .before .before .before .before .before .number2 .ensures) (l .0) (l .1) (c .compare-below .ensures)
+    let l = named .ensures .0 (not-false _ (if2 .left)) in
+    opened-named (a .t .now) (a .base) (a .p) (a .q) (a .m) (a .n) (wrapping-add-usize .ensures) (if1 .left) (number .ensures) (number2 .ensures) (l .0) (l .1) (c .compare-below .ensures)
 
 pub +compare-below+compare-first-spec : {M : Type 1} → statement M
 +compare-below+compare-first-spec = close μ-compare-below μ-compare-first (λ t. compare-below-lts.spec (ks-compare-below t)

@@ -14,7 +14,12 @@ returns-3 : tie.Need-returns-3
 returns-3 c = meets-pair-other (c .before .match .keys1) (c .if1 .left)
 
 returns-4 : tie.Need-returns-4
-returns-4 c = meets-opposed (injects _ (c .before .before .before .before .if2 .left) (c .before .before .before .if3 .taken)) (injects _ (c .before .if5 .left) (c .if6 .taken)) (c .before .before .if4 .left)
+returns-4 c =
+    let if2 = c .before .before .before .before .if2 in
+    let if3 = c .before .before .before .if3 in
+    let if4 = c .before .before .if4 in
+    let if5 = c .before .if5 in
+    meets-opposed (injects _ (if2 .left) (if3 .taken)) (injects _ (if5 .left) (c .if6 .taken)) (if4 .left)
 
 returns-5 : tie.Need-returns-5
 returns-5 c = meets-tag-leaf (injects _ (c .before .before .before .if2 .left) (c .before .before .if3 .taken)) (leaf-below _ (c .if5 .taken))

@@ -39,37 +39,103 @@ walk-returns : (t : ℕ) → walk-lts.Need-returns (ks-walk t) (walk-at t) walk.
 walk-returns t c = told-tagless (c .before .before .before .before .before .before .pre .1) (c .before .number .ensures .0) (c .if1 .taken)
 
 walk-add-field : (t : ℕ) → walk-lts.Need-add-field (ks-walk t) (walk-at t) walk.Post
-walk-add-field t c = omega (arith, (c .before .before .before .before .before .before .pre .1 .line), (c .before .before .before .before .before .before .pre .1 .few))
+walk-add-field t c =
+    let pre = c .before .before .before .before .before .before .pre in
+    omega (arith, (pre .1 .line), (pre .1 .few))
 
 walk-field-requires : (t : ℕ) → walk-lts.Need-field-requires (ks-walk t) (walk-at t) walk.Post
-walk-field-requires t c κs = ((c .before .before .before .before .before .before .pre .1 .whole), omega (arith, (c .before .before .before .before .before .before .pre .1 .line), (c .before .before .before .before .before .before .pre .1 .few)), omega arith)
+walk-field-requires t c κs =
+    let pre = c .before .before .before .before .before .before .pre in
+    ((pre .1 .whole), omega (arith, (pre .1 .line), (pre .1 .few)), omega arith)
 
 walk-field-requires-2 : (t : ℕ) → walk-lts.Need-field-requires-2 (ks-walk t) (walk-at t) walk.Post
-walk-field-requires-2 t c κs = ((c .before .before .before .before .before .before .before .pre .1 .whole), omega (arith, (c .before .before .before .before .before .before .before .pre .1 .line), (c .before .before .before .before .before .before .before .pre .1 .few), (c .before .before .before .before .before .before .before .pre .1 .type)), omega arith)
+walk-field-requires-2 t c κs =
+    let pre = c .before .before .before .before .before .before .before .pre in
+    ((pre .1 .whole), omega (arith, (pre .1 .line), (pre .1 .few), (pre .1 .type)), omega arith)
 
 walk-parts-of-requires : (t : ℕ) → walk-lts.Need-parts-of-requires (ks-walk t) (walk-at t) walk.Post
-walk-parts-of-requires t c κs = ((c .before .before .before .before .before .before .before .before .before .before .pre .1 .whole), omega (arith, (c .before .before .before .before .before .before .before .before .before .before .pre .1 .line), (c .before .before .before .before .before .before .before .before .before .before .pre .1 .few)), omega (arith, (c .before .before .before .before .before .before .before .before .before .before .pre .1 .line), (c .before .before .before .before .before .before .before .before .before .before .pre .1 .few), (c .before .before .before .before .before .before .before .before .before .before .pre .1 .type)), omega arith, omega arith)
+walk-parts-of-requires t c κs =
+    let pre = c .before .before .before .before .before .before .before .before .before .before .pre in
+    ((pre .1 .whole), omega (arith, (pre .1 .line), (pre .1 .few)), omega (arith, (pre .1 .line), (pre .1 .few), (pre .1 .type)), omega arith, omega arith)
 
 walk-parts-of-requires-2 : (t : ℕ) → walk-lts.Need-parts-of-requires-2 (ks-walk t) (walk-at t) walk.Post
-walk-parts-of-requires-2 t c κs = ((c .before .before .before .before .before .before .before .before .before .before .before .pre .1 .whole), omega (arith, (c .before .before .before .before .before .before .before .before .before .before .before .pre .1 .line), (c .before .before .before .before .before .before .before .before .before .before .before .pre .1 .few)), omega (arith, (c .before .before .before .before .before .before .before .before .before .before .before .pre .1 .line), (c .before .before .before .before .before .before .before .before .before .before .before .pre .1 .few), (c .before .before .before .before .before .before .before .before .before .before .before .pre .1 .type)), omega arith, omega arith)
+walk-parts-of-requires-2 t c κs =
+    let pre = c .before .before .before .before .before .before .before .before .before .before .before .pre in
+    ((pre .1 .whole), omega (arith, (pre .1 .line), (pre .1 .few)), omega (arith, (pre .1 .line), (pre .1 .few), (pre .1 .type)), omega arith, omega arith)
 
 walk-walk-requires : (t : ℕ) → walk-lts.Need-walk-requires (ks-walk t) (walk-at t) walk.Post
-walk-walk-requires t c κs = (falls-by (c .before .before .before .before .before .before .before .before .before .before .before .before .before .before .before .pre .0) ((c .before .before .before .before .parts-of .ensures .lower) (c .before .before .if4 .taken)), ready-first (c .before .before .before .before .before .before .before .before .before .before .before .before .before .before .before .pre .1) (c .before .before .before .before .before .before .before .before .field .ensures) (c .before .before .before .before .before .before .before .field2 .ensures) (c .before .before .before .before .before .before .if2 .taken) (c .before .before .before .before .before .if3 .taken) (c .before .before .before .before .parts-of .ensures) (c .before .before .before .parts-of2 .ensures) (c .before .before .if4 .taken) (c .before .if5 .taken))
+walk-walk-requires t c κs =
+    let pre = c .before .before .before .before .before .before .before .before .before .before .before .before .before .before .before .pre in
+    let field = c .before .before .before .before .before .before .before .before .field in
+    let field2 = c .before .before .before .before .before .before .before .field2 in
+    let if2 = c .before .before .before .before .before .before .if2 in
+    let if3 = c .before .before .before .before .before .if3 in
+    let parts-of = c .before .before .before .before .parts-of in
+    let parts-of2 = c .before .before .before .parts-of2 in
+    let if4 = c .before .before .if4 in
+    let if5 = c .before .if5 in (
+      falls-by (pre .0) ((parts-of .ensures .lower) (if4 .taken)),
+      ready-first (pre .1) (field .ensures) (field2 .ensures) (if2 .taken) (if3 .taken) (parts-of .ensures) (parts-of2 .ensures)
+          (if4 .taken) (if5 .taken),
+    )
 
 walk-shared-slice-read-number-2 : (t : ℕ) → walk-lts.Need-shared-slice-read-number-2 (ks-walk t) (walk-at t) walk.Post
-walk-shared-slice-read-number-2 t c = omega (arith, (c .before .before .before .before .before .before .before .before .before .before .before .before .before .before .before .before .before .before .before .before .pre .1 .line), (c .before .before .before .before .before .before .before .before .before .before .before .before .before .before .before .before .before .before .before .before .pre .1 .type), (c .before .before .before .before .before .before .before .before .before .parts-of .ensures .below) (c .before .before .before .before .before .before .before .if4 .taken))
+walk-shared-slice-read-number-2 t c =
+    let far = c .before .before .before .before .before .before .before .before .before .before .before .before .before .before .before .before .before .before .before .before in
+    let pre = far .pre in
+    let parts-of = c .before .before .before .before .before .before .before .before .before .parts-of in
+    let if4 = c .before .before .before .before .before .before .before .if4 in
+    omega (arith, (pre .1 .line), (pre .1 .type), (parts-of .ensures .below) (if4 .taken))
 
 walk-add-walk : (t : ℕ) → walk-lts.Need-add-walk (ks-walk t) (walk-at t) walk.Post
-walk-add-walk t c = omega (arith, (c .before .before .before .before .before .before .before .before .before .before .before .before .before .before .before .before .before .before .before .before .before .pre .1 .room), (c .number2 .ensures .1))
+walk-add-walk t c =
+    let far = c .before .before .before .before .before .before .before .before .before .before .before .before .before .before .before .before .before .before .before .before in
+    let pre = far .before .pre in
+    omega (arith, (pre .1 .room), (c .number2 .ensures .1))
 
 walk-walk-requires-2 : (t : ℕ) → walk-lts.Need-walk-requires-2 (ks-walk t) (walk-at t) walk.Post
-walk-walk-requires-2 t c κs = (falls-by (c .before .before .before .before .before .before .before .before .before .before .before .before .before .before .before .before .before .before .before .before .before .before .pre .0) ((c .before .before .before .before .before .before .before .before .before .before .parts-of2 .ensures .lower) (c .before .before .before .before .before .before .before .before .if5 .taken)), ready-second (c .before .before .before .before .before .before .before .before .before .before .before .before .before .before .before .before .before .before .before .before .before .before .pre .1) (c .before .before .before .before .before .before .before .before .before .before .before .before .before .before .before .field .ensures) (c .before .before .before .before .before .before .before .before .before .before .before .before .before .before .field2 .ensures) (c .before .before .before .before .before .before .before .before .before .before .before .before .before .if2 .taken) (c .before .before .before .before .before .before .before .before .before .before .before .before .if3 .taken) (c .before .before .before .before .before .before .before .before .before .before .before .parts-of .ensures) (c .before .before .before .before .before .before .before .before .before .before .parts-of2 .ensures) (c .before .before .before .before .before .before .before .before .before .if4 .taken) (c .before .before .before .before .before .before .before .before .if5 .taken) (c .before .number2 .ensures .0) (c .before .before .before .before .before .before .walk .ensures .long))
+walk-walk-requires-2 t c κs =
+    let far = c .before .before .before .before .before .before .before .before .before .before .before .before .before .before .before .before .before .before .before .before in
+    let pre = far .before .before .pre in
+    let field = c .before .before .before .before .before .before .before .before .before .before .before .before .before .before .before .field in
+    let field2 = c .before .before .before .before .before .before .before .before .before .before .before .before .before .before .field2 in
+    let if2 = c .before .before .before .before .before .before .before .before .before .before .before .before .before .if2 in
+    let if3 = c .before .before .before .before .before .before .before .before .before .before .before .before .if3 in
+    let parts-of = c .before .before .before .before .before .before .before .before .before .before .before .parts-of in
+    let parts-of2 = c .before .before .before .before .before .before .before .before .before .before .parts-of2 in
+    let if4 = c .before .before .before .before .before .before .before .before .before .if4 in
+    let if5 = c .before .before .before .before .before .before .before .before .if5 in
+    let walk = c .before .before .before .before .before .before .walk in
+    let number2 = c .before .number2 in (
+      falls-by (pre .0) ((parts-of2 .ensures .lower) (if5 .taken)),
+      ready-second (pre .1) (field .ensures) (field2 .ensures) (if2 .taken) (if3 .taken) (parts-of .ensures) (parts-of2 .ensures)
+          (if4 .taken) (if5 .taken) (number2 .ensures .0) (walk .ensures .long),
+    )
 
 walk-same-length : (t : ℕ) → walk-lts.Need-same-length (ks-walk t) (walk-at t) walk.Post
-walk-same-length t c = (c .before .before .walk2 .ensures .long) ∙ (c .before .before .before .before .before .before .before .before .before .walk .ensures .long)
+walk-same-length t c =
+    let walk = c .before .before .before .before .before .before .before .before .before .walk in
+    let walk2 = c .before .before .walk2 in
+    (walk2 .ensures .long) ∙ (walk .ensures .long)
 
 walk-returns-2 : (t : ℕ) → walk-lts.Need-returns-2 (ks-walk t) (walk-at t) walk.Post
-walk-returns-2 t c = told-pair (c .before .before .before .before .before .before .before .before .before .before .before .before .before .before .before .before .before .before .before .before .before .before .before .before .before .pre .1) (c .before .before .before .before .before .before .before .before .before .before .before .before .before .before .before .before .before .before .field .ensures) (c .before .before .before .before .before .before .before .before .before .before .before .before .before .before .before .before .before .field2 .ensures) (c .before .before .before .before .before .before .before .before .before .before .before .before .before .before .before .before .if2 .taken) (c .before .before .before .before .before .before .before .before .before .before .before .before .before .before .before .if3 .taken) (c .before .before .before .before .before .before .before .before .before .before .before .before .before .before .parts-of .ensures) (c .before .before .before .before .before .before .before .before .before .before .before .before .before .parts-of2 .ensures) (c .before .before .before .before .before .before .before .before .before .before .before .before .if4 .taken) (c .before .before .before .before .before .before .before .before .before .before .before .if5 .taken) (c .before .before .before .before .number2 .ensures .0) (c .before .before .before .before .before .before .before .before .before .walk .ensures) (c .before .before .before .before .before .before .if6 .taken) (c .before .before .walk2 .ensures)
+walk-returns-2 t c =
+    let far = c .before .before .before .before .before .before .before .before .before .before .before .before .before .before .before .before .before .before .before .before in
+    let pre = far .before .before .before .before .before .pre in
+    let field = c .before .before .before .before .before .before .before .before .before .before .before .before .before .before .before .before .before .before .field in
+    let field2 = c .before .before .before .before .before .before .before .before .before .before .before .before .before .before .before .before .before .field2 in
+    let if2 = c .before .before .before .before .before .before .before .before .before .before .before .before .before .before .before .before .if2 in
+    let if3 = c .before .before .before .before .before .before .before .before .before .before .before .before .before .before .before .if3 in
+    let parts-of = c .before .before .before .before .before .before .before .before .before .before .before .before .before .before .parts-of in
+    let parts-of2 = c .before .before .before .before .before .before .before .before .before .before .before .before .before .parts-of2 in
+    let if4 = c .before .before .before .before .before .before .before .before .before .before .before .before .if4 in
+    let if5 = c .before .before .before .before .before .before .before .before .before .before .before .if5 in
+    let walk = c .before .before .before .before .before .before .before .before .before .walk in
+    let if6 = c .before .before .before .before .before .before .if6 in
+    let number2 = c .before .before .before .before .number2 in
+    let walk2 = c .before .before .walk2 in
+    told-pair (pre .1) (field .ensures) (field2 .ensures) (if2 .taken) (if3 .taken) (parts-of .ensures) (parts-of2 .ensures) (if4 .taken) (if5 .taken) (number2 .ensures .0) (walk .ensures)
+    (if6 .taken) (walk2 .ensures)
 
 walk-same-length-2 : (t : ℕ) → walk-lts.Need-same-length-2 (ks-walk t) (walk-at t) walk.Post
 walk-same-length-2 t c = (c .before .before .before .walk .ensures .long)
@@ -87,22 +153,55 @@ walk-returns-6 : (t : ℕ) → walk-lts.Need-returns-6 (ks-walk t) (walk-at t) w
 walk-returns-6 t c = told-no refl
 
 walk-parts-of-requires-3 : (t : ℕ) → walk-lts.Need-parts-of-requires-3 (ks-walk t) (walk-at t) walk.Post
-walk-parts-of-requires-3 t c κs = ((c .before .before .before .before .before .before .before .before .before .before .before .before .pre .1 .whole), omega (arith, (c .before .before .before .before .before .before .before .before .before .before .before .before .pre .1 .line), (c .before .before .before .before .before .before .before .before .before .before .before .before .pre .1 .few)), omega (arith, (c .before .before .before .before .before .before .before .before .before .before .before .before .pre .1 .line), (c .before .before .before .before .before .before .before .before .before .before .before .before .pre .1 .few), (c .before .before .before .before .before .before .before .before .before .before .before .before .pre .1 .type)), omega arith, tag-field (c .before .if8 .taken))
+walk-parts-of-requires-3 t c κs =
+    let pre = c .before .before .before .before .before .before .before .before .before .before .before .before .pre in
+    let if8 = c .before .if8 in
+    ((pre .1 .whole), omega (arith, (pre .1 .line), (pre .1 .few)), omega (arith, (pre .1 .line), (pre .1 .few), (pre .1 .type)), omega arith, tag-field (if8 .taken))
 
 walk-mark-requires : (t : ℕ) → walk-lts.Need-mark-requires (ks-walk t) (walk-at t) walk.Post
-walk-mark-requires t c κs = ((c .before .before .before .before .before .before .before .before .before .before .before .before .before .before .before .pre .1 .long), tag-place (c .before .before .before .before .before .before .before .before .before .before .before .before .before .before .before .pre .1) (c .before .before .before .before .before .before .before .field2 .ensures) (c .before .before .before .if9 .taken), (c .before .before .before .before .before .before .before .before .before .before .before .before .before .before .before .pre .1 .one))
+walk-mark-requires t c κs =
+    let pre = c .before .before .before .before .before .before .before .before .before .before .before .before .before .before .before .pre in
+    let field2 = c .before .before .before .before .before .before .before .field2 in
+    let if9 = c .before .before .before .if9 in
+    ((pre .1 .long), tag-place (pre .1) (field2 .ensures) (if9 .taken), (pre .1 .one))
 
 walk-add-walk-2 : (t : ℕ) → walk-lts.Need-add-walk-2 (ks-walk t) (walk-at t) walk.Post
-walk-add-walk-2 t c = omega (arith, (c .before .before .before .before .before .before .before .before .before .before .before .before .before .before .before .before .before .before .pre .1 .room))
+walk-add-walk-2 t c =
+    let pre = c .before .before .before .before .before .before .before .before .before .before .before .before .before .before .before .before .before .before .pre in
+    omega (arith, (pre .1 .room))
 
 walk-walk-requires-3 : (t : ℕ) → walk-lts.Need-walk-requires-3 (ks-walk t) (walk-at t) walk.Post
-walk-walk-requires-3 t c κs = (falls-by (c .before .before .before .before .before .before .before .before .before .before .before .before .before .before .before .before .before .before .before .pre .0) ((c .before .before .before .before .before .before .parts-of3 .ensures .lower) (c .before .before .before .before .before .if10 .taken)), ready-only (c .before .before .before .before .before .before .before .before .before .before .before .before .before .before .before .before .before .before .before .pre .1) (c .before .before .before .before .before .before .before .before .before .before .before .field2 .ensures) (c .before .before .before .before .before .before .before .if9 .taken) (injects _ (c .before .before .before .before .before .before .before .before .before .if7 .left) (c .before .before .before .before .before .before .before .before .if8 .taken)) (c .before .before .before .before .before .before .parts-of3 .ensures) (c .before .before .before .before .before .if10 .taken) (c .before .before .before .mark .ensures .long))
+walk-walk-requires-3 t c κs =
+    let pre = c .before .before .before .before .before .before .before .before .before .before .before .before .before .before .before .before .before .before .before .pre in
+    let field2 = c .before .before .before .before .before .before .before .before .before .before .before .field2 in
+    let if7 = c .before .before .before .before .before .before .before .before .before .if7 in
+    let if8 = c .before .before .before .before .before .before .before .before .if8 in
+    let if9 = c .before .before .before .before .before .before .before .if9 in
+    let parts-of3 = c .before .before .before .before .before .before .parts-of3 in
+    let if10 = c .before .before .before .before .before .if10 in
+    let mark = c .before .before .before .mark in (
+      falls-by (pre .0) ((parts-of3 .ensures .lower) (if10 .taken)),
+      ready-only (pre .1) (field2 .ensures) (if9 .taken) (injects _ (if7 .left) (if8 .taken)) (parts-of3 .ensures) (if10 .taken)
+          (mark .ensures .long),
+    )
 
 walk-same-length-3 : (t : ℕ) → walk-lts.Need-same-length-3 (ks-walk t) (walk-at t) walk.Post
 walk-same-length-3 t c = (c .before .before .walk3 .ensures .long) ∙ (c .before .before .before .before .before .before .mark .ensures .long)
 
 walk-returns-7 : (t : ℕ) → walk-lts.Need-returns-7 (ks-walk t) (walk-at t) walk.Post
-walk-returns-7 t c = told-tag (c .before .before .before .before .before .before .before .before .before .before .before .before .before .before .before .before .before .before .before .before .before .before .pre .1) (c .before .before .before .before .before .before .before .before .before .before .before .before .before .before .field2 .ensures) (c .before .before .before .before .before .before .before .before .before .before .if9 .taken) (injects _ (c .before .before .before .before .before .before .before .before .before .before .before .before .if7 .left) (c .before .before .before .before .before .before .before .before .before .before .before .if8 .taken)) (c .before .before .before .before .before .before .before .before .before .before .before .before .before .before .before .field .ensures) (c .before .before .before .before .before .before .before .before .before .parts-of3 .ensures) (c .before .before .before .before .before .before .before .before .if10 .taken) (c .before .before .before .before .before .before .mark .ensures) (c .before .before .walk3 .ensures)
+walk-returns-7 t c =
+    let far = c .before .before .before .before .before .before .before .before .before .before .before .before .before .before .before .before .before .before .before .before in
+    let pre = far .before .before .pre in
+    let field = c .before .before .before .before .before .before .before .before .before .before .before .before .before .before .before .field in
+    let field2 = c .before .before .before .before .before .before .before .before .before .before .before .before .before .before .field2 in
+    let if7 = c .before .before .before .before .before .before .before .before .before .before .before .before .if7 in
+    let if8 = c .before .before .before .before .before .before .before .before .before .before .before .if8 in
+    let if9 = c .before .before .before .before .before .before .before .before .before .before .if9 in
+    let parts-of3 = c .before .before .before .before .before .before .before .before .before .parts-of3 in
+    let if10 = c .before .before .before .before .before .before .before .before .if10 in
+    let mark = c .before .before .before .before .before .before .mark in
+    let walk3 = c .before .before .walk3 in
+    told-tag (pre .1) (field2 .ensures) (if9 .taken) (injects _ (if7 .left) (if8 .taken)) (field .ensures) (parts-of3 .ensures) (if10 .taken) (mark .ensures) (walk3 .ensures)
 
 walk-returns-8 : (t : ℕ) → walk-lts.Need-returns-8 (ks-walk t) (walk-at t) walk.Post
 walk-returns-8 t c = told-no refl

@@ -21,7 +21,10 @@ wide-requires : tie.Need-wide-requires
 wide-requires c κs = search needs
 
 returns : tie.Need-returns
-returns c = (c .wide .ensures .0) ∙ field-is (c .before .before .before .args .t .now) (c .before .before .before .args .row) (c .before .before .before .args .k) (c .before .before .before .pre .1) (c .before .before .before .pre .2)
+returns c =
+    let pre = c .before .before .before .pre in
+    let args = c .before .before .before .args in
+    (c .wide .ensures .0) ∙ field-is (args .t .now) (args .row) (args .k) (pre .1) (pre .2)
 
 pub field-spec : {M : Type 1} → statement M
 field-spec =

@@ -23,7 +23,12 @@ same-length : tie.Need-same-length
 same-length c = search needs
 
 returns : tie.Need-returns
-returns c = marked-left (c .before .before .before .before .before .before .before .before .before .before .pre .1) (c .before .before .before .before .before .before .before .before .before .before .pre .2) (c .before .before .before .before .before .before .before .before .if1 .taken) (c .before .before .before .before .before .before .unite .ensures) (c .before .before .join .ensures)
+returns c =
+    let pre = c .before .before .before .before .before .before .before .before .before .before .pre in
+    let if1 = c .before .before .before .before .before .before .before .before .if1 in
+    let unite = c .before .before .before .before .before .before .unite in
+    let join = c .before .before .join in
+    marked-left (pre .1) (pre .2) (if1 .taken) (unite .ensures) (join .ensures)
 
 mul-unite-2 : tie.Need-mul-unite-2
 mul-unite-2 c = search needs
@@ -44,7 +49,12 @@ same-length-2 : tie.Need-same-length-2
 same-length-2 c = search needs
 
 returns-2 : tie.Need-returns-2
-returns-2 c = marked-right (c .before .before .before .before .before .before .before .before .before .before .pre .1) (c .before .before .before .before .before .before .before .before .before .before .pre .2) (c .before .before .before .before .before .before .before .before .if1 .left) (c .before .before .before .before .before .before .unite2 .ensures) (c .before .before .join2 .ensures)
+returns-2 c =
+    let pre = c .before .before .before .before .before .before .before .before .before .before .pre in
+    let if1 = c .before .before .before .before .before .before .before .before .if1 in
+    let unite2 = c .before .before .before .before .before .before .unite2 in
+    let join2 = c .before .before .join2 in
+    marked-right (pre .1) (pre .2) (if1 .left) (unite2 .ensures) (join2 .ensures)
 
 pub mark-spec : {M : Type 1} → statement M
 mark-spec =

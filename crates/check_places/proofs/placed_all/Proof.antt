@@ -39,13 +39,29 @@ loop-less : tie.Need-loop-less Inv-loop μ-loop
 loop-less c = omega arith
 
 loop-again : tie.Need-loop-again Inv-loop μ-loop
-loop-again c = placing-next (c .before .before .before .before .before .before .before .before .before .loop .inv) (c .before .before .before .before .before .before .before .before .loop-test .taken) (c .before .before .before .before .before .before .wide .ensures .0) (c .before .before .before .before .before .cell .ensures .0) (c .before .before .before .placed .ensures) (c .if1 .taken)
+loop-again c =
+    let loop′ = c .before .before .before .before .before .before .before .before .before .loop in
+    let loop-test = c .before .before .before .before .before .before .before .before .loop-test in
+    let wide = c .before .before .before .before .before .before .wide in
+    let cell = c .before .before .before .before .before .cell in
+    let placed = c .before .before .before .placed in
+    placing-next (loop′ .inv) (loop-test .taken) (wide .ensures .0) (cell .ensures .0) (placed .ensures) (c .if1 .taken)
 
 same-length : tie.Need-same-length Inv-loop μ-loop
-same-length c = (c .before .before .before .placed .ensures .long) ∙ (c .before .before .before .before .before .before .before .before .before .loop .inv .sided .long) ∙ sym (c .before .before .before .before .before .before .before .before .before .before .before .before .before .before .pre .0 .long)
+same-length c =
+    let pre = c .before .before .before .before .before .before .before .before .before .before .before .before .before .before .pre in
+    let loop′ = c .before .before .before .before .before .before .before .before .before .loop in
+    let placed = c .before .before .before .placed in
+    (placed .ensures .long) ∙ (loop′ .inv .sided .long) ∙ sym (pre .0 .long)
 
 returns : tie.Need-returns Inv-loop μ-loop
-returns c = placing-not (c .before .before .before .before .before .before .before .before .before .loop .inv) (c .before .before .before .before .before .before .before .before .loop-test .taken) (c .before .before .before .before .before .before .wide .ensures .0) (c .before .before .before .before .before .cell .ensures .0) (c .before .before .before .placed .ensures) (c .if1 .left)
+returns c =
+    let loop′ = c .before .before .before .before .before .before .before .before .before .loop in
+    let loop-test = c .before .before .before .before .before .before .before .before .loop-test in
+    let wide = c .before .before .before .before .before .before .wide in
+    let cell = c .before .before .before .before .before .cell in
+    let placed = c .before .before .before .placed in
+    placing-not (loop′ .inv) (loop-test .taken) (wide .ensures .0) (cell .ensures .0) (placed .ensures) (c .if1 .left)
 
 same-length-2 : tie.Need-same-length-2 Inv-loop μ-loop
 same-length-2 c = (c .before .loop .inv .sided .long) ∙ sym (c .before .before .before .before .before .before .pre .0 .long)

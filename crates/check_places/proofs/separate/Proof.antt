@@ -23,7 +23,13 @@ slice-aggregate-placed-all : tie.Need-slice-aggregate-placed-all
 slice-aggregate-placed-all c = search needs
 
 placed-all-requires : tie.Need-placed-all-requires
-placed-all-requires c κs = (started (c .before .before .before .before .before .before .before .before .before .pre .0) (c .before .before .before .before .before .before .before .before .before .pre .1) (c .before .before .before .before .before .before .before .before .before .pre .2) (c .before .before .before .before .before .if1 .left) (c .before .before .before .before .if2 .left) (c .before .before .number .ensures .0) (c .before .if3 .left), (c .before .before .before .before .before .before .before .before .before .pre .3))
+placed-all-requires c κs =
+    let pre = c .before .before .before .before .before .before .before .before .before .pre in
+    let if1 = c .before .before .before .before .before .if1 in
+    let if2 = c .before .before .before .before .if2 in
+    let number = c .before .before .number in
+    let if3 = c .before .if3 in
+    (started (pre .0) (pre .1) (pre .2) (if1 .left) (if2 .left) (number .ensures .0) (if3 .left), (pre .3))
 
 returns-4 : tie.Need-returns-4
 returns-4 c = search needs

@@ -33,7 +33,12 @@ low-requires-2 : tie.Need-low-requires-2
 low-requires-2 c κs = search needs
 
 returns-2 : tie.Need-returns-2
-returns-2 c = full-high _ _ (c .before .before .before .before .before .if1 .left) (c .before .before .before .before .before .before .before .pre .1) refl (c .before .before .before .ones .ensures) (c .before .before .if2 .taken) refl (c .low2 .ensures)
+returns-2 c =
+    let pre = c .before .before .before .before .before .before .before .pre in
+    let if1 = c .before .before .before .before .before .if1 in
+    let ones = c .before .before .before .ones in
+    let if2 = c .before .before .if2 in
+    full-high _ _ (if1 .left) (pre .1) refl (ones .ensures) (if2 .taken) refl (c .low2 .ensures)
 
 returns-3 : tie.Need-returns-3
 returns-3 c = full-not _ _ (c .before .before .before .if1 .left) refl (c .before .ones .ensures) (c .if2 .left)

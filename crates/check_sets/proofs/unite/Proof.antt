@@ -37,7 +37,10 @@ mul-s-3 : tie.Need-mul-s-3
 mul-s-3 c = search needs
 
 slice-read-s-4 : tie.Need-slice-read-s-4
-slice-read-s-4 c = unite-inside (c .before .before .before .before .args .s .now) (c .before .before .before .before .args .c) (bitOr (getD (c .before .before .before .before .args .s .now) 128 0) (getD (c .before .before .before .before .args .s .now) (c .before .before .before .before .args .c) 0)) (c .before .before .before .before .pre .0) (c .before .before .before .before .pre .1)
+slice-read-s-4 c =
+    let pre = c .before .before .before .before .pre in
+    let args = c .before .before .before .before .args in
+    unite-inside (args .s .now) (args .c) (bitOr (getD (args .s .now) 128 0) (getD (args .s .now) (args .c) 0)) (pre .0) (pre .1)
 
 add-s-3 : tie.Need-add-s-3
 add-s-3 c = search needs

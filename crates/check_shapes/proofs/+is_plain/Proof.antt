@@ -34,23 +34,38 @@ is-plain-is-plain-requires t c κs =
 
 is-plain-is-plain-requires-2 : (t : ℕ) → is-plain-lts.Need-is-plain-requires-2 (ks-is-plain t) (is-plain-at t) is-plain.Post
 is-plain-is-plain-requires-2 t c κs =
+    let pattern-cell = c .before .before .before .before .before .pattern-cell in
+    let match′ = c .before .before .before .before .match in
     let s = c .before .before .before .before .before .before .before in
-    (pattern-call (s .args .t .now) (s .args .base) (s .args .p) _ (s .pre .0) (c .before .before .before .before .before .pattern-cell .ensures .0) (pair-no-unit (c .before .before .before .before .match .keys1)) (c .pattern-part2 .ensures), tt)
+    (pattern-call (s .args .t .now) (s .args .base) (s .args .p) _ (s .pre .0) (pattern-cell .ensures .0) (pair-no-unit (match′ .keys1)) (c .pattern-part2 .ensures), tt)
 
 is-plain-returns : (t : ℕ) → is-plain-lts.Need-returns (ks-is-plain t) (is-plain-at t) is-plain.Post
 is-plain-returns t c =
+    let pattern-cell = c .before .before .before .before .before .before .pattern-cell in
+    let match′ = c .before .before .before .before .before .match in
+    let pattern-part = c .before .before .before .before .pattern-part in
+    let is-plain = c .before .before .before .is-plain in
+    let if1 = c .before .before .if1 in
+    let pattern-part2 = c .before .pattern-part2 in
     let s = c .before .before .before .before .before .before .before .before in
-    plain-second (s .args .t .now) (s .args .base) (s .args .p) (c .before .before .before .before .before .before .pattern-cell .ensures .0) (c .before .before .before .before .before .match .keys1) (c .before .before .before .before .pattern-part .ensures) (c .before .before .before .is-plain .ensures) (c .before .before .if1 .taken) (c .before .pattern-part2 .ensures) (c .is-plain2 .ensures)
+    plain-second (s .args .t .now) (s .args .base) (s .args .p) (pattern-cell .ensures .0) (match′ .keys1) (pattern-part .ensures) (is-plain .ensures) (if1 .taken) (pattern-part2 .ensures)
+    (c .is-plain2 .ensures)
 
 is-plain-returns-2 : (t : ℕ) → is-plain-lts.Need-returns-2 (ks-is-plain t) (is-plain-at t) is-plain.Post
 is-plain-returns-2 t c =
+    let pattern-cell = c .before .before .before .before .pattern-cell in
+    let match′ = c .before .before .before .match in
+    let pattern-part = c .before .before .pattern-part in
+    let is-plain = c .before .is-plain in
     let s = c .before .before .before .before .before .before in
-    plain-first (s .args .t .now) (s .args .base) (s .args .p) (c .before .before .before .before .pattern-cell .ensures .0) (c .before .before .before .match .keys1) (c .before .before .pattern-part .ensures) (c .before .is-plain .ensures) (c .if1 .left)
+    plain-first (s .args .t .now) (s .args .base) (s .args .p) (pattern-cell .ensures .0) (match′ .keys1) (pattern-part .ensures) (is-plain .ensures) (c .if1 .left)
 
 is-plain-returns-3 : (t : ℕ) → is-plain-lts.Need-returns-3 (ks-is-plain t) (is-plain-at t) is-plain.Post
 is-plain-returns-3 t c =
+    let pattern-cell = c .before .before .before .pattern-cell in
+    let if2 = c .before .if2 in
     let s = c .before .before .before .before .before in
-    plain-not (s .args .t .now) (s .args .base) (s .args .p) (c .before .before .before .pattern-cell .ensures .0) (injects _ (c .before .if2 .left) (c .if3 .taken))
+    plain-not (s .args .t .now) (s .args .base) (s .args .p) (pattern-cell .ensures .0) (injects _ (if2 .left) (c .if3 .taken))
 
 is-plain-returns-4 : (t : ℕ) → is-plain-lts.Need-returns-4 (ks-is-plain t) (is-plain-at t) is-plain.Post
 is-plain-returns-4 t c =
@@ -59,8 +74,10 @@ is-plain-returns-4 t c =
 
 is-plain-returns-5 : (t : ℕ) → is-plain-lts.Need-returns-5 (ks-is-plain t) (is-plain-at t) is-plain.Post
 is-plain-returns-5 t c =
+    let pattern-cell = c .before .before .before .pattern-cell in
+    let match′ = c .before .before .match in
     let s = c .before .before .before .before .before in
-    plain-end (s .args .t .now) (s .args .base) (s .args .p) (c .before .before .before .pattern-cell .ensures .0) (leaf-beyond _ (c .if3 .left) (c .before .before .match .rest .1))
+    plain-end (s .args .t .now) (s .args .base) (s .args .p) (pattern-cell .ensures .0) (leaf-beyond _ (c .if3 .left) (match′ .rest .1))
 
 pub +is-plain-spec : {M : Type 1} → statement M
 +is-plain-spec = close μ-is-plain λ t. is-plain-lts.spec (ks-is-plain t)

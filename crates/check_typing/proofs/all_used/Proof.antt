@@ -18,9 +18,12 @@ loop-holds c = walked-start _
 
 returns : tie.Need-returns Inv-loop μ-loop
 returns c =
+    let if1 = c .before .before .before .before .if1 in
+    let loop′ = c .before .before .loop in
+    let loop-test = c .before .loop-test in
     let s = c .before .before .before .before .before in
     let full = array-length (s .args .e .line) (s .good .0 .1 .1 .1 .0 .1 .0 .1) in
-    fits-and (c .before .before .before .before .if1 .taken) (walked-wrong _ _ full (c .before .before .loop .inv) (c .before .loop-test .taken) (c .if2 .taken))
+    fits-and (if1 .taken) (walked-wrong _ _ full (loop′ .inv) (loop-test .taken) (c .if2 .taken))
 
 loop-again : tie.Need-loop-again Inv-loop μ-loop
 loop-again c =

@@ -20,7 +20,12 @@ is-refused-requires c κs = search needs
 
 -- src/lib.rt:67:9
 returns : tie.Need-returns
-returns c = ((λ rs f. lines-idle (c .before .before .idle-fault .result) _ rs (c .before .before .idle-fault .ensures rs _ f) (c .before .is-refused .ensures) (c .if1 .taken)), (λ n. refused-flag (c .before .before .idle-fault .result .refusal) (c .before .before .idle-fault .result .refusal) _ (c .before .is-refused .ensures) (c .if1 .taken) refl n))
+returns c =
+    let idle-fault = c .before .before .idle-fault in
+    let is-refused = c .before .is-refused in (
+      (λ rs f. lines-idle (idle-fault .result) _ rs (idle-fault .ensures rs _ f) (is-refused .ensures) (c .if1 .taken)),
+      (λ n. refused-flag (idle-fault .result .refusal) (idle-fault .result .refusal) _ (is-refused .ensures) (c .if1 .taken) refl n),
+    )
 
 -- src/lib.rt:69:5
 isos-fault-requires : tie.Need-isos-fault-requires
@@ -28,7 +33,11 @@ isos-fault-requires c κs = search needs
 
 -- src/lib.rt:57:1
 returns-2 : tie.Need-returns-2
-returns-2 c = ((λ rs f. lines-isos (c .before .before .before .idle-fault .result) (c .isos-fault .result) _ rs (c .before .before .before .idle-fault .ensures rs _ f) (c .before .before .is-refused .ensures) (c .before .if1 .left) (c .isos-fault .ensures .0 rs f)), c .isos-fault .ensures .1)
+returns-2 c =
+    let idle-fault = c .before .before .before .idle-fault in
+    let is-refused = c .before .before .is-refused in
+    let if1 = c .before .if1 in
+    ((λ rs f. lines-isos (idle-fault .result) (c .isos-fault .result) _ rs (idle-fault .ensures rs _ f) (is-refused .ensures) (if1 .left) (c .isos-fault .ensures .0 rs f)), c .isos-fault .ensures .1)
 
 pub lines-fault-spec : {M : Type 1} → statement M
 lines-fault-spec =

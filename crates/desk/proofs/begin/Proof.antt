@@ -20,10 +20,14 @@ same-length : tie.Need-same-length
 same-length c = c .before .before .before .before .settle .kept .1 .0
 
 same-length-2 : tie.Need-same-length-2
-same-length-2 c = c .before .before .before .before .before .before .before .before .before .before .before .before .before .before .before .before .check-file .kept .1 .0
+same-length-2 c =
+    let check-file = c .before .before .before .before .before .before .before .before .before .before .before .before .before .before .before .before .check-file in
+    check-file .kept .1 .0
 
 same-length-3 : tie.Need-same-length-3
-same-length-3 c = c .before .before .before .before .before .before .before .before .before .before .before .before .before .before .before .before .check-file .kept .1 .1 .0
+same-length-3 c =
+    let check-file = c .before .before .before .before .before .before .before .before .before .before .before .before .before .before .before .before .check-file in
+    check-file .kept .1 .1 .0
 
 same-length-4 : tie.Need-same-length-4
 same-length-4 c = c .before .before .before .before .settle .kept .1 .1 .1 .0

@@ -8,7 +8,8 @@ use Rattle.desk.proofs.feed.Statement.{statement}
 use Rattle.desk.proofs.feed.Tie as tie
 
 abbrev Inv-loop : tie.InvT-loop
-Inv-loop chunk file₀ line₀ table₀ work₀ index₀ out₀ desk₀ taken₀ written₀ bytes room file line table work index out desk taken written = Feeds chunk file₀ line₀ table₀ work₀ index₀ out₀ desk₀ file line table work index out desk taken written
+Inv-loop chunk file₀ line₀ table₀ work₀ index₀ out₀ desk₀ taken₀ written₀ bytes room file line table work index out desk taken written = Feeds chunk file₀ line₀ table₀ work₀ index₀ out₀
+    desk₀ file line table work index out desk taken written
 
 abbrev μ-loop : tie.MeasureT-loop
 μ-loop chunk file₀ line₀ table₀ work₀ index₀ out₀ desk₀ taken₀ written₀ bytes room file line table work index out desk taken written = length chunk - taken
@@ -30,13 +31,15 @@ feed-byte-requires c κs = tt
 
 add-taken : tie.Need-add-taken Inv-loop μ-loop
 add-taken c =
-    let i = c .before .before .before .before .before .before .before .before .before .before .before .before .before .before .before .before .before .before .before .before .before in
+    let i′ = c .before .before .before .before .before .before .before .before .before .before .before .before .before .before .before .before .before .before .before .before in
+    let i = i′ .before in
     let g = i .before in
     omega (arith, feeds-left (g .before .loop .inv) (g .goes-on .ensures) (i .if1 .taken), g .before .before .before .before .before .before .before .before .before .good)
 
 loop-less : tie.Need-loop-less Inv-loop μ-loop
 loop-less c =
-    let i = c .before .before .before .before .before .before .before .before .before .before .before .before .before .before .before .before .before .before .before .before .before in
+    let i′ = c .before .before .before .before .before .before .before .before .before .before .before .before .before .before .before .before .before .before .before .before in
+    let i = i′ .before in
     let g = i .before in
     omega (arith, feeds-left (g .before .loop .inv) (g .goes-on .ensures) (i .if1 .taken))
 

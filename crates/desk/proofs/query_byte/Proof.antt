@@ -35,7 +35,8 @@ returns c =
     let a = k .before .before .before .before .before .before .before .args in
     λ file rs l h roomy room.
     reaches-state (c .ready .ensures)
-    (query-ends (a .d) (a .b) false rs l h (i .if1 .taken) (λ x. k .hold .ensures l x (roomy .lines)) (f .front .ensures) (λ p. let x = w .answer .ensures rs p (roomy .works) in printed (x .0) (x .1) room))
+    (query-ends (a .d) (a .b) false rs l h (i .if1 .taken) (λ x. k .hold .ensures l x (roomy .lines)) (f .front .ensures)
+    (λ p. let x = w .answer .ensures rs p (roomy .works) in printed (x .0) (x .1) room))
 
 ready-requires-2 : tie.Need-ready-requires-2
 ready-requires-2 c κs = tt

@@ -25,15 +25,18 @@ same-length-2 c = search needs
 
 returns-2 : tie.Need-returns-2
 returns-2 c =
+    let is-refused = c .before .is-refused in
     let x = c .before .before .before .before .before .before .before in
     let f = x .before .before .before in
     let a = f .before .before .before .before .before .args in
-    export-refused (a .file .now) (a .table .now) (a .work .now) (a .i) (a .budget) (a .output .now) _ _ _ _ (f .if1 .left) (x .check-file .ensures .0) (c .before .is-refused .ensures) (c .if2 .taken) refl
+    export-refused (a .file .now) (a .table .now) (a .work .now) (a .i) (a .budget) (a .output .now) _ _ _ _ (f .if1 .left) (x .check-file .ensures .0) (is-refused .ensures) (c .if2 .taken) refl
 
 export-accepted-requires : tie.Need-export-accepted-requires
 export-accepted-requires c κs =
+    let is-refused = c .before .before .before .before .is-refused in
+    let if2 = c .before .before .before .if2 in
     let x = c .before .before .before .before .before .before .before .before .before .before in
-    work-room _ _ _ _ _ (x .check-file .result) _ (x .check-file .kept .1 .1 .0) (x .check-file .ensures .0) (x .check-file .ensures .1) (c .before .before .before .before .is-refused .ensures) (c .before .before .before .if2 .left)
+    work-room _ _ _ _ _ (x .check-file .result) _ (x .check-file .kept .1 .1 .0) (x .check-file .ensures .0) (x .check-file .ensures .1) (is-refused .ensures) (if2 .left)
 
 clear-bytes-requires : tie.Need-clear-bytes-requires
 clear-bytes-requires c κs = search needs
@@ -49,13 +52,16 @@ same-length-5 c = search needs
 
 returns-3 : tie.Need-returns-3
 returns-3 c =
+    let clear-bytes = c .before .before .clear-bytes in
     let e = c .before .before .before .before .before .before .before .before in
     let q = e .before .before .before .before .before in
     let x = q .before .before .before .before .before .before in
     let f = x .before .before .before in
     let a = f .before .before .before .before .before .args in
-    export-accepted (a .file .now) (a .table .now) (a .work .now) (a .i) (a .budget) (a .output .now) _ _ (e .export-accepted .last .1 .1 .1 .1 .0) _ _ (x .check-file .result) (e .export-accepted .result) _ _ (f .if1 .left) (x .check-file .kept .1 .1 .0) (x .check-file .ensures .0) (x .check-file .ensures .1)
-    (q .is-refused .ensures) (e .before .before .before .before .if2 .left) (e .export-accepted .kept .1 .1 .1 .1 .0) (e .export-accepted .ensures .0) (e .export-accepted .ensures .1) (c .before .before .clear-bytes .ensures) refl refl refl
+    export-accepted (a .file .now) (a .table .now) (a .work .now) (a .i) (a .budget) (a .output .now) _ _ (e .export-accepted .last .1 .1 .1 .1 .0) _ _ (x .check-file .result)
+    (e .export-accepted .result) _ _ (f .if1 .left) (x .check-file .kept .1 .1 .0) (x .check-file .ensures .0) (x .check-file .ensures .1)
+    (q .is-refused .ensures) (e .before .before .before .before .if2 .left) (e .export-accepted .kept .1 .1 .1 .1 .0) (e .export-accepted .ensures .0) (e .export-accepted .ensures .1)
+    (clear-bytes .ensures) refl refl refl
 
 pub export-spec : {M : Type 1} → statement M
 export-spec =

@@ -12,11 +12,23 @@ slice-aggregate-prepare c = search needs
 prepare-requires : tie.Need-prepare-requires
 prepare-requires c κs = search needs
 
-slice-aggregate-export-checked : tie.Need-slice-aggregate-export-checked
-slice-aggregate-export-checked c = search needs
+known-requires : tie.Need-known-requires
+known-requires c κs = search needs
 
 sub-export-checked : tie.Need-sub-export-checked
 sub-export-checked c = search needs
+
+part-counts-start : tie.Need-part-counts-start
+part-counts-start c = search needs
+
+part-counts-end : tie.Need-part-counts-end
+part-counts-end c = search needs
+
+slice-aggregate-export-checked : tie.Need-slice-aggregate-export-checked
+slice-aggregate-export-checked c = search needs
+
+sub-export-checked-2 : tie.Need-sub-export-checked-2
+sub-export-checked-2 c = search needs
 
 part-export-checked-start : tie.Need-part-export-checked-start
 part-export-checked-start c = search needs
@@ -35,14 +47,13 @@ same-length-2 c = search needs
 
 returns : tie.Need-returns
 returns c =
-    let k = c .before .before .before .before in
-    let p = k .before .before .before .before .before in
-    let s = p .before .before .before .before .before in
-    let a = s .args in
-    let h = s .pre in
+    let prepare = c .before .before .before .before .before .before .before .before .before .before .before .before .prepare in
+    let export-checked = c .before .before .before .before .before .export-checked in
+    let a = c .before .before .before .before .before .before .before .before .before .before .before .before .before .before .before .before .before .args in
+    let h = c .before .before .before .before .before .before .before .before .before .before .before .before .before .before .before .before .before .pre in
     let n = front-length (a .room) (a .work .now) h in (
-      front-rest (a .room) (a .work .now) (k .export-checked .last .1 .1 .1 .1 .1 .1 .0) _ h (k .export-checked .kept .1 .1 .1 .1 .1 .1 .0) refl,
-      λ s x long short output. k .export-checked .ensures (x .file) (p .prepare .ensures s x (omega arith)) (omega (arith, n, long)) (omega (arith, n, short)) output,
+      front-rest (a .room) (a .work .now) (export-checked .last .1 .1 .1 .1 .1 .1 .1 .0) _ h (export-checked .kept .1 .1 .1 .1 .1 .1 .1 .0) refl,
+      λ s x long short output. (export-checked .ensures) (x .file) ((prepare .ensures) s x (omega arith)) (omega (arith, n, long)) (omega (arith, n, short)) output,
     )
 
 pub export-accepted-spec : {M : Type 1} → statement M
@@ -51,8 +62,12 @@ export-accepted-spec =
     (tie.spec
     slice-aggregate-prepare
     prepare-requires
-    slice-aggregate-export-checked
+    known-requires
     sub-export-checked
+    part-counts-start
+    part-counts-end
+    slice-aggregate-export-checked
+    sub-export-checked-2
     part-export-checked-start
     part-export-checked-end
     export-checked-requires

@@ -42,7 +42,10 @@ count-types-requires c κs = search needs
 -- src/lib.rt:66:5
 loop-holds : tie.Need-loop-holds Inv-loop μ-loop
 loop-holds c =
-    let a = c .before .before .before .before .before .before .before .before .before .before .before .before in rows-start (a .args .t .now) (a .args .base) (a .args .f) (a .args .rows .now) (a .args .w .now) (c .before .before .count-types .kept .1 .1 .1 .0 ∙ a .pre .0) (c .before .before .before .before .before .before .walk-types .ensures .1) (c .before .before .count-types .ensures)
+    let walk-types = c .before .before .before .before .before .before .walk-types in
+    let count-types = c .before .before .count-types in
+    let a = c .before .before .before .before .before .before .before .before .before .before .before .before in rows-start (a .args .t .now) (a .args .base) (a .args .f)
+    (a .args .rows .now) (a .args .w .now) (count-types .kept .1 .1 .1 .0 ∙ a .pre .0) (walk-types .ensures .1) (count-types .ensures)
 
 -- src/lib.rt:67:9
 sub-x : tie.Need-sub-x Inv-loop μ-loop
@@ -67,7 +70,9 @@ cell-requires c κs = search needs
 -- src/lib.rt:69:9
 take-row-requires : tie.Need-take-row-requires Inv-loop μ-loop
 take-row-requires c κs =
-    (c .before .before .before .before .before .loop .inv .taken .long, c .before .before .before .before .before .before .before .before .before .before .before .before .before .before .before .before .before .before .pre .1)
+    let pre = c .before .before .before .before .before .before .before .before .before .before .before .before .before .before .before .before .before .before .pre in
+    let loop′ = c .before .before .before .before .before .loop in
+    (loop′ .inv .taken .long, pre .1)
 
 -- src/lib.rt:66:5
 loop-less : tie.Need-loop-less Inv-loop μ-loop
@@ -76,12 +81,22 @@ loop-less c = search needs
 -- src/lib.rt:66:5
 loop-again : tie.Need-loop-again Inv-loop μ-loop
 loop-again c =
-    let a = c .before .before .before .before .before .before .before .before .before .before .before .before .before .before .before .before .before .before .before .before .before .args in let l = c .before .before .before .before .before .before .before .before .loop in rows-more (a .t .now) (a .base) (a .f) (a .rows .now) (l .k) (c .before .before .take-row .last .1 .1 .1 .1 .1 .0) (a .w .now) (typesAlong (a .w .now) (typeOf (a .t .now) (a .i) ∷ [])) (l .x) (getD (a .rows .now) (l .x - 1) 0) (c .before .before .before .before .before .wide .result) (c .before .before .before .before .cell .result) (l .inv) (search needs) (c .before .before .take-row .kept .1 .1 .1 .1 .1 .0) refl (c .before .before .before .before .before .wide .ensures .0) (c .before .before .before .before .cell .ensures .0) (c .before .before .take-row .ensures)
+    let far = c .before .before .before .before .before .before .before .before .before .before .before .before .before .before .before .before .before .before .before .before in
+    let args = far .before .args in
+    let loop′ = c .before .before .before .before .before .before .before .before .loop in
+    let wide = c .before .before .before .before .before .wide in
+    let cell = c .before .before .before .before .cell in
+    let take-row = c .before .before .take-row in
+    let a = args in let l = loop′ in rows-more (a .t .now) (a .base) (a .f) (a .rows .now) (l .k) (take-row .last .1 .1 .1 .1 .1 .0) (a .w .now)
+    (typesAlong (a .w .now) (typeOf (a .t .now) (a .i) ∷ [])) (l .x) (getD (a .rows .now) (l .x - 1) 0) (wide .result) (cell .result) (l .inv) (search needs)
+    (take-row .kept .1 .1 .1 .1 .1 .0) refl (wide .ensures .0) (cell .ensures .0) (take-row .ensures)
 
 -- src/lib.rt:58:1
 same-length : tie.Need-same-length Inv-loop μ-loop
 same-length c =
-    c .before .loop .inv .taken .long ∙ sym (c .before .before .before .before .before .before .before .before .before .before .before .before .before .before .pre .0)
+    let pre = c .before .before .before .before .before .before .before .before .before .before .before .before .before .before .pre in
+    let loop′ = c .before .loop in
+    loop′ .inv .taken .long ∙ sym (pre .0)
 
 -- src/lib.rt:58:1
 returns : tie.Need-returns Inv-loop μ-loop

@@ -51,7 +51,14 @@ same-length c = search needs
 -- src/lib.rt:144:9
 returns : tie.Need-returns
 returns c =
-    let a = c .before .before .before .before .before .before .before .before .before .before .before .before .before .before .before .args in value-found (value-some (typeOf (a .t .now) (a .i)) (patternsAt (a .t .now) (a .base) (a .f) (a .rows .now)) (c .before .before .before .before .before .before .before .before .count-gaps .ensures) refl (c .before .before .before .before .before .first-count .ensures) (c .before .before .write-gap .ensures) (c .before .before .before .before .if1 .taken)) (c .before .before .before .before .if1 .taken)
+    let args = c .before .before .before .before .before .before .before .before .before .before .before .before .before .before .before .args in
+    let count-gaps = c .before .before .before .before .before .before .before .before .count-gaps in
+    let first-count = c .before .before .before .before .before .first-count in
+    let if1 = c .before .before .before .before .if1 in
+    let write-gap = c .before .before .write-gap in
+    let a = args in value-found
+    (value-some (typeOf (a .t .now) (a .i)) (patternsAt (a .t .now) (a .base) (a .f) (a .rows .now)) (count-gaps .ensures) refl (first-count .ensures) (write-gap .ensures) (if1 .taken))
+    (if1 .taken)
 
 -- src/lib.rt:135:1
 same-length-2 : tie.Need-same-length-2
@@ -60,7 +67,11 @@ same-length-2 c = search needs
 -- src/lib.rt:135:1
 returns-2 : tie.Need-returns-2
 returns-2 c =
-    let a = c .before .before .before .before .before .before .before .before .before .before .before .args in value-missing (value-none (typeOf (a .t .now) (a .i)) (patternsAt (a .t .now) (a .base) (a .f) (a .rows .now)) (c .before .before .before .before .count-gaps .ensures) refl (c .before .first-count .ensures) (a .out .now) (c .if1 .left))
+    let args = c .before .before .before .before .before .before .before .before .before .before .before .args in
+    let count-gaps = c .before .before .before .before .count-gaps in
+    let first-count = c .before .first-count in
+    let a = args in value-missing
+    (value-none (typeOf (a .t .now) (a .i)) (patternsAt (a .t .now) (a .base) (a .f) (a .rows .now)) (count-gaps .ensures) refl (first-count .ensures) (a .out .now) (c .if1 .left))
 
 pub gap-value-spec : {M : Type 1} → statement M
 gap-value-spec =

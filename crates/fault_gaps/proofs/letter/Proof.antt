@@ -25,16 +25,35 @@ array-read-if2 : tie.Need-array-read-if2
 array-read-if2 c = search needs
 
 returns : tie.Need-returns
-returns c = picks-right (c .before .before .before .before .before .before .before .before .before .args .n) (line-sum (c .before .before .before .before .before .before .before .before .before .args .t .now) (c .before .before .before .before .before .before .before .before .before .args .j) (c .before .before .before .before .before .cell .ensures .0) refl refl (c .before .before .before .before .if1 .taken)) (c .before .before .count-gaps .ensures) (c .before .before .before .before .before .before .before .before .before .pre .1) (c .if2 .taken)
+returns c =
+    let pre = c .before .before .before .before .before .before .before .before .before .pre in
+    let args = c .before .before .before .before .before .before .before .before .before .args in
+    let cell = c .before .before .before .before .before .cell in
+    let if1 = c .before .before .before .before .if1 in
+    let count-gaps = c .before .before .count-gaps in
+    picks-right (args .n) (line-sum (args .t .now) (args .j) (cell .ensures .0) refl refl (if1 .taken)) (count-gaps .ensures) (pre .1) (c .if2 .taken)
 
 returns-2 : tie.Need-returns-2
-returns-2 c = picks-left (c .before .before .before .before .before .before .before .before .before .args .n) (line-sum (c .before .before .before .before .before .before .before .before .before .args .t .now) (c .before .before .before .before .before .before .before .before .before .args .j) (c .before .before .before .before .before .cell .ensures .0) refl refl (c .before .before .before .before .if1 .taken)) (c .before .before .count-gaps .ensures) (c .before .before .before .before .before .before .before .before .before .pre .1) (c .if2 .left)
+returns-2 c =
+    let pre = c .before .before .before .before .before .before .before .before .before .pre in
+    let args = c .before .before .before .before .before .before .before .before .before .args in
+    let cell = c .before .before .before .before .before .cell in
+    let if1 = c .before .before .before .before .if1 in
+    let count-gaps = c .before .before .count-gaps in
+    picks-left (args .n) (line-sum (args .t .now) (args .j) (cell .ensures .0) refl refl (if1 .taken)) (count-gaps .ensures) (pre .1) (c .if2 .left)
 
 returns-3 : tie.Need-returns-3
-returns-3 c = picks-pair (c .before .before .before .before .before .before .args .n) (line-product (c .before .before .before .before .before .before .args .t .now) (c .before .before .before .before .before .before .args .j) (c .before .before .cell .ensures .0) refl refl (c .if3 .taken))
+returns-3 c =
+    let args = c .before .before .before .before .before .before .args in
+    let cell = c .before .before .cell in
+    picks-pair (args .n) (line-product (args .t .now) (args .j) (cell .ensures .0) refl refl (c .if3 .taken))
 
 returns-4 : tie.Need-returns-4
-returns-4 c = picks-unit (c .before .before .before .before .before .before .args .n) (line-other (c .before .before .before .before .before .before .args .t .now) (c .before .before .before .before .before .before .args .j) (c .before .before .cell .ensures .0) (c .before .if1 .left) (c .if3 .left))
+returns-4 c =
+    let args = c .before .before .before .before .before .before .args in
+    let cell = c .before .before .cell in
+    let if1 = c .before .if1 in
+    picks-unit (args .n) (line-other (args .t .now) (args .j) (cell .ensures .0) (if1 .left) (c .if3 .left))
 
 pub letter-spec : {M : Type 1} → statement M
 letter-spec =

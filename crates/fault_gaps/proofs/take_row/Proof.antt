@@ -23,7 +23,10 @@ walk-row-requires c κs = search needs
 -- src/lib.rt:50:9
 returns : tie.Need-returns
 returns c =
-    let a = c .before .before .before .before .before .before .before .before .before .args in let d = c .before .before .before .walk-row in dead-row (a .t .now) (a .base) (a .w .now) (d .last .1 .1 .1 .1 .1 .0) (d .last .1 .1 .1 .1 .1 .1 .0) (a .p) (a .i) (d .result) (d .ensures) (a .k .now) (c .if1 .taken)
+    let args = c .before .before .before .before .before .before .before .before .before .args in
+    let walk-row = c .before .before .before .walk-row in
+    let a = args in let d = walk-row in dead-row (a .t .now) (a .base) (a .w .now) (d .last .1 .1 .1 .1 .1 .0) (d .last .1 .1 .1 .1 .1 .1 .0) (a .p) (a .i) (d .result) (d .ensures)
+    (a .k .now) (c .if1 .taken)
 
 -- src/lib.rt:53:24
 slice-aggregate-count-row : tie.Need-slice-aggregate-count-row
@@ -56,7 +59,13 @@ same-length c = search needs
 -- src/lib.rt:42:1
 returns-2 : tie.Need-returns-2
 returns-2 c =
-    let a = c .before .before .before .before .before .before .before .before .before .before .before .before .before .before .before .before .before .before .before .args in let d = c .before .before .before .before .before .before .before .before .before .before .before .before .before .walk-row in live-row (a .t .now) (a .base) (a .w .now) (d .last .1 .1 .1 .1 .1 .0) (d .last .1 .1 .1 .1 .1 .1 .0) (a .p) (a .i) (d .result) (d .ensures) (c .before .before .before .before .before .before .before .before .before .before .if1 .left) (c .before .before .before .before .before .before .count-row .ensures) (c .before .before .take-away .ensures)
+    let args = c .before .before .before .before .before .before .before .before .before .before .before .before .before .before .before .before .before .before .before .args in
+    let walk-row = c .before .before .before .before .before .before .before .before .before .before .before .before .before .walk-row in
+    let if1 = c .before .before .before .before .before .before .before .before .before .before .if1 in
+    let count-row = c .before .before .before .before .before .before .count-row in
+    let take-away = c .before .before .take-away in
+    let a = args in let d = walk-row in live-row (a .t .now) (a .base) (a .w .now) (d .last .1 .1 .1 .1 .1 .0) (d .last .1 .1 .1 .1 .1 .1 .0) (a .p) (a .i) (d .result) (d .ensures)
+    (if1 .left) (count-row .ensures) (take-away .ensures)
 
 pub take-row-spec : {M : Type 1} → statement M
 take-row-spec =

@@ -27,7 +27,8 @@ array-write-ts c = search needs
 -- src/lib.rt:103:5
 loop-holds : tie.Need-loop-holds Inv-loop μ-loop
 loop-holds c =
-    let a = c .before .before .before in writing-start (a .args .t .now) (a .args .i) (patternsAt (a .args .t .now) (a .args .base) (a .args .f) (a .args .rows .now)) (a .args .out .now) (replicate 128 0) (a .args .n) (length-replicate {A = ℕ} 128 0)
+    let a = c .before .before .before in writing-start (a .args .t .now) (a .args .i) (patternsAt (a .args .t .now) (a .args .base) (a .args .f) (a .args .rows .now)) (a .args .out .now)
+    (replicate 128 0) (a .args .n) (length-replicate {A = ℕ} 128 0)
 
 -- src/lib.rt:105:13
 same-length : tie.Need-same-length Inv-loop μ-loop
@@ -37,7 +38,8 @@ same-length c =
 -- src/lib.rt:105:13
 returns : tie.Need-returns Inv-loop μ-loop
 returns c =
-    let a = c .before .before .before .before .before .before in let l = c .before .before .loop in never-written (a .args .out .now) (l .out) (never-out (l .inv) (search needs) (a .pre .1) (search needs))
+    let loop′ = c .before .before .loop in
+    let a = c .before .before .before .before .before .before in let l = loop′ in never-written (a .args .out .now) (l .out) (never-out (l .inv) (search needs) (a .pre .1) (search needs))
 
 -- src/lib.rt:107:9
 slice-write-out : tie.Need-slice-write-out Inv-loop μ-loop
@@ -75,17 +77,23 @@ part-letter-start c = search needs
 -- src/lib.rt:110:59
 part-letter-end : tie.Need-part-letter-end Inv-loop μ-loop
 part-letter-end c =
-    let l = c .before .before .before .loop in omega (arith, l .inv .long, c .before .before .before .before .before .before .before .pre .1, length-set (l .out) (l .m) 76)
+    let pre = c .before .before .before .before .before .before .before .pre in
+    let loop′ = c .before .before .before .loop in
+    let l = loop′ in omega (arith, l .inv .long, pre .1, length-set (l .out) (l .m) 76)
 
 -- src/lib.rt:110:13
 letter-requires : tie.Need-letter-requires Inv-loop μ-loop
 letter-requires c κs =
-    let l = c .before .before .before .before .loop in (omega (arith, length-take (l .m + 1 - 0) (set (l .out) (l .m) 76), c .before .before .before .before .before .before .before .before .pre .0), omega (arith, c .before .before .before .before .before .before .before .before .pre .0))
+    let pre = c .before .before .before .before .before .before .before .before .pre in
+    let loop′ = c .before .before .before .before .loop in
+    let l = loop′ in (omega (arith, length-take (l .m + 1 - 0) (set (l .out) (l .m) 76), pre .0), omega (arith, pre .0))
 
 -- src/lib.rt:111:9
 slice-write-out-2 : tie.Need-slice-write-out-2 Inv-loop μ-loop
 slice-write-out-2 c =
-    let l = c .before .before .before .before .before .loop in omega (arith, l .inv .long, c .before .before .before .before .before .before .before .before .before .pre .1, length-set (l .out) (l .m) 76)
+    let pre = c .before .before .before .before .before .before .before .before .before .pre in
+    let loop′ = c .before .before .before .before .before .loop in
+    let l = loop′ in omega (arith, l .inv .long, pre .1, length-set (l .out) (l .m) 76)
 
 -- src/lib.rt:112:29
 slice-aggregate-step-types : tie.Need-slice-aggregate-step-types Inv-loop μ-loop
@@ -94,7 +102,9 @@ slice-aggregate-step-types c = search needs
 -- src/lib.rt:112:9
 step-types-requires : tie.Need-step-types-requires Inv-loop μ-loop
 step-types-requires c κs =
-    let l = c .before .before .before .before .before .before .loop in (l .inv .lines, omega (arith, l .inv .lower, c .before .before .before .before .before .before .before .before .before .before .pre .0), search needs)
+    let pre = c .before .before .before .before .before .before .before .before .before .before .pre in
+    let loop′ = c .before .before .before .before .before .before .loop in
+    let l = loop′ in (l .inv .lines, omega (arith, l .inv .lower, pre .0), search needs)
 
 -- src/lib.rt:103:5
 loop-less : tie.Need-loop-less Inv-loop μ-loop
@@ -103,11 +113,14 @@ loop-less c = search needs
 -- src/lib.rt:103:5
 loop-again : tie.Need-loop-again Inv-loop μ-loop
 loop-again c =
+    let letter = c .before .before .before .letter in
+    let step-types = c .before .step-types in
     let a = c .before .before .before .before .before .before .before .before .before .before .before .before in
     let l = c .before .before .before .before .before .before .before .before .loop in
     let e : l .m + 1 - 0 ≡ l .m + 1 = omega arith in
-    writing-next (l .inv) (search needs) (a .pre .1) (search needs) (a .pre .0) (c .before .step-types .kept .1 .0) (c .before .step-types .ensures)
-    (subst (λ z. Picks (typeOf (a .args .t .now) (a .args .i)) (patternsAt (a .args .t .now) (a .args .base) (a .args .f) (a .args .rows .now)) (take z (set (l .out) (l .m) 76)) (typeOf (a .args .t .now) (getD (l .ts) (l .top) 0)) (a .args .n - l .m - 1) (c .before .before .before .letter .result)) e (c .before .before .before .letter .ensures))
+    writing-next (l .inv) (search needs) (a .pre .1) (search needs) (a .pre .0) (step-types .kept .1 .0) (step-types .ensures)
+    (subst (λ z. Picks (typeOf (a .args .t .now) (a .args .i)) (patternsAt (a .args .t .now) (a .args .base) (a .args .f) (a .args .rows .now)) (take z (set (l .out) (l .m) 76))
+    (typeOf (a .args .t .now) (getD (l .ts) (l .top) 0)) (a .args .n - l .m - 1) (letter .result)) e (letter .ensures))
 
 -- src/lib.rt:95:1
 same-length-2 : tie.Need-same-length-2 Inv-loop μ-loop

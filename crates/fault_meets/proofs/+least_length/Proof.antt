@@ -39,17 +39,70 @@ pub +least-length-spec : {M : Type 1} → statement M
     least-length.Post
     (λ c κs. search needs)
     (λ c κs. search needs)
-    (λ c κs. (type-call (c .before .before .before .before .args .t .now) (c .before .before .before .before .args .i) (cellOf (c .before .before .before .before .args .t .now) (c .before .before .before .before .args .i) 2) (c .before .before .before .before .pre .0) (c .before .before .cell .ensures .0) (no-unit (c .before .if1 .taken)) (c .type-part .ensures), tt))
+    (λ c κs.
+    let pre = c .before .before .before .before .pre in
+    let args = c .before .before .before .before .args in
+    let cell = c .before .before .cell in
+    let if1 = c .before .if1 in
+    (type-call (args .t .now) (args .i) (cellOf (args .t .now) (args .i) 2) (pre .0) (cell .ensures .0) (no-unit (if1 .taken)) (c .type-part .ensures), tt))
     (λ c κs. search needs)
-    (λ c κs. (type-call (c .before .before .before .before .before .before .args .t .now) (c .before .before .before .before .before .before .args .i) (cellOf (c .before .before .before .before .before .before .args .t .now) (c .before .before .before .before .before .before .args .i) 3) (c .before .before .before .before .before .before .pre .0) (c .before .before .before .before .cell .ensures .0) (no-unit (c .before .before .before .if1 .taken)) (c .type-part2 .ensures), tt))
+    (λ c κs.
+    let pre = c .before .before .before .before .before .before .pre in
+    let args = c .before .before .before .before .before .before .args in
+    let cell = c .before .before .before .before .cell in
+    let if1 = c .before .before .before .if1 in
+    (type-call (args .t .now) (args .i) (cellOf (args .t .now) (args .i) 3) (pre .0) (cell .ensures .0) (no-unit (if1 .taken)) (c .type-part2 .ensures), tt))
     (λ c κs. search needs)
-    (λ c. length-left (line-sum (c .before .before .before .before .before .before .before .before .before .args .t .now) (c .before .before .before .before .before .before .before .before .before .args .i) (c .before .before .before .before .before .before .before .cell .ensures .0) (c .before .before .before .before .before .type-part .ensures) (c .before .before .before .type-part2 .ensures) (c .before .before .before .before .before .before .if1 .taken)) (c .before .before .before .before .least-length .ensures) (c .before .before .least-length2 .ensures) (c .before .if2 .taken) (c .above .ensures))
+    (λ c.
+    let args = c .before .before .before .before .before .before .before .before .before .args in
+    let cell = c .before .before .before .before .before .before .before .cell in
+    let if1 = c .before .before .before .before .before .before .if1 in
+    let type-part = c .before .before .before .before .before .type-part in
+    let least-length = c .before .before .before .before .least-length in
+    let type-part2 = c .before .before .before .type-part2 in
+    let least-length2 = c .before .before .least-length2 in
+    let if2 = c .before .if2 in
+    length-left (line-sum (args .t .now) (args .i) (cell .ensures .0) (type-part .ensures) (type-part2 .ensures) (if1 .taken)) (least-length .ensures) (least-length2 .ensures)
+    (if2 .taken) (c .above .ensures))
     (λ c κs. search needs)
-    (λ c. length-right (line-sum (c .before .before .before .before .before .before .before .before .before .args .t .now) (c .before .before .before .before .before .before .before .before .before .args .i) (c .before .before .before .before .before .before .before .cell .ensures .0) (c .before .before .before .before .before .type-part .ensures) (c .before .before .before .type-part2 .ensures) (c .before .before .before .before .before .before .if1 .taken)) (c .before .before .before .before .least-length .ensures) (c .before .before .least-length2 .ensures) (c .before .if2 .left) (c .above2 .ensures))
+    (λ c.
+    let args = c .before .before .before .before .before .before .before .before .before .args in
+    let cell = c .before .before .before .before .before .before .before .cell in
+    let if1 = c .before .before .before .before .before .before .if1 in
+    let type-part = c .before .before .before .before .before .type-part in
+    let least-length = c .before .before .before .before .least-length in
+    let type-part2 = c .before .before .before .type-part2 in
+    let least-length2 = c .before .before .least-length2 in
+    let if2 = c .before .if2 in
+    length-right (line-sum (args .t .now) (args .i) (cell .ensures .0) (type-part .ensures) (type-part2 .ensures) (if1 .taken)) (least-length .ensures) (least-length2 .ensures)
+    (if2 .left) (c .above2 .ensures))
     (λ c κs. search needs)
-    (λ c κs. (type-call (c .before .before .before .before .before .args .t .now) (c .before .before .before .before .before .args .i) (cellOf (c .before .before .before .before .before .args .t .now) (c .before .before .before .before .before .args .i) 2) (c .before .before .before .before .before .pre .0) (c .before .before .before .cell .ensures .0) (no-unit (c .before .if3 .taken)) (c .type-part3 .ensures), tt))
+    (λ c κs.
+    let pre = c .before .before .before .before .before .pre in
+    let args = c .before .before .before .before .before .args in
+    let cell = c .before .before .before .cell in
+    let if3 = c .before .if3 in
+    (type-call (args .t .now) (args .i) (cellOf (args .t .now) (args .i) 2) (pre .0) (cell .ensures .0) (no-unit (if3 .taken)) (c .type-part3 .ensures), tt))
     (λ c κs. search needs)
-    (λ c κs. (type-call (c .before .before .before .before .before .before .before .args .t .now) (c .before .before .before .before .before .before .before .args .i) (cellOf (c .before .before .before .before .before .before .before .args .t .now) (c .before .before .before .before .before .before .before .args .i) 3) (c .before .before .before .before .before .before .before .pre .0) (c .before .before .before .before .before .cell .ensures .0) (no-unit (c .before .before .before .if3 .taken)) (c .type-part4 .ensures), tt))
+    (λ c κs.
+    let pre = c .before .before .before .before .before .before .before .pre in
+    let args = c .before .before .before .before .before .before .before .args in
+    let cell = c .before .before .before .before .before .cell in
+    let if3 = c .before .before .before .if3 in
+    (type-call (args .t .now) (args .i) (cellOf (args .t .now) (args .i) 3) (pre .0) (cell .ensures .0) (no-unit (if3 .taken)) (c .type-part4 .ensures), tt))
     (λ c κs. search needs)
-    (λ c. length-pair (line-product (c .before .before .before .before .before .before .before .before .before .args .t .now) (c .before .before .before .before .before .before .before .before .before .args .i) (c .before .before .before .before .before .before .before .cell .ensures .0) (c .before .before .before .before .type-part3 .ensures) (c .before .before .type-part4 .ensures) (c .before .before .before .before .before .if3 .taken)) (c .before .before .before .least-length3 .ensures) (c .before .least-length4 .ensures) (c .above3 .ensures))
-    (λ c. length-unit (line-other (c .before .before .before .before .args .t .now) (c .before .before .before .before .args .i) (c .before .before .cell .ensures .0) (c .before .if1 .left) (c .if3 .left)))
+    (λ c.
+    let args = c .before .before .before .before .before .before .before .before .before .args in
+    let cell = c .before .before .before .before .before .before .before .cell in
+    let if3 = c .before .before .before .before .before .if3 in
+    let type-part3 = c .before .before .before .before .type-part3 in
+    let least-length3 = c .before .before .before .least-length3 in
+    let type-part4 = c .before .before .type-part4 in
+    let least-length4 = c .before .least-length4 in
+    length-pair (line-product (args .t .now) (args .i) (cell .ensures .0) (type-part3 .ensures) (type-part4 .ensures) (if3 .taken)) (least-length3 .ensures) (least-length4 .ensures)
+    (c .above3 .ensures))
+    (λ c.
+    let args = c .before .before .before .before .args in
+    let cell = c .before .before .cell in
+    let if1 = c .before .if1 in
+    length-unit (line-other (args .t .now) (args .i) (cell .ensures .0) (if1 .left) (c .if3 .left)))

@@ -36,7 +36,22 @@ write-common-below t =
     write-common.Pre
 
 abbrev ks-write-common : ℕ → write-common-lts.Claims
-ks-write-common t = (pattern-cell-reads.Asked, pattern-cell-reads.Learnt, write-least-in-reads.Asked, write-least-in-reads.Learnt, pattern-part-reads.Asked, pattern-part-reads.Learnt, put-byte-reads.Asked, put-byte-reads.Learnt, first-part-reads.Asked, first-part-reads.Learnt, write-common-below t, write-common.Post, second-part-reads.Asked, second-part-reads.Learnt)
+ks-write-common t = (
+  pattern-cell-reads.Asked,
+  pattern-cell-reads.Learnt,
+  write-least-in-reads.Asked,
+  write-least-in-reads.Learnt,
+  pattern-part-reads.Asked,
+  pattern-part-reads.Learnt,
+  put-byte-reads.Asked,
+  put-byte-reads.Learnt,
+  first-part-reads.Asked,
+  first-part-reads.Learnt,
+  write-common-below t,
+  write-common.Post,
+  second-part-reads.Asked,
+  second-part-reads.Learnt,
+)
 
 pub +write-common-spec : {M : Type 1} → statement M
 +write-common-spec = close μ-write-common λ t. write-common-lts.spec (ks-write-common t)
@@ -45,36 +60,155 @@ pub +write-common-spec : {M : Type 1} → statement M
     (λ c κs. search needs)
     (λ c κs. search needs)
     (λ c. (c .before .before .write-least-in .kept .1 .1 .1 .1 .0))
-    (λ c. both-var (is-var (c .before .before .before .before .before .before .before .before .args .t .now) (c .before .before .before .before .before .before .before .before .args .base) (c .before .before .before .before .before .before .before .before .args .p) (c .before .before .before .before .before .pattern-cell .ensures .0) (c .before .before .before .before .if1 .taken)) (c .before .before .write-least-in .ensures))
+    (λ c.
+    let args = c .before .before .before .before .before .before .before .before .args in
+    let pattern-cell = c .before .before .before .before .before .pattern-cell in
+    let if1 = c .before .before .before .before .if1 in
+    let write-least-in = c .before .before .write-least-in in
+    both-var (is-var (args .t .now) (args .base) (args .p) (pattern-cell .ensures .0) (if1 .taken)) (write-least-in .ensures))
     (λ c κs. search needs)
     (λ c κs. search needs)
     (λ c. (c .before .before .write-least-in2 .kept .1 .1 .1 .1 .0))
-    (λ c. both-any (c .before .before .before .before .before .before .before .pattern-cell .result) (cellOf (c .before .before .before .before .before .before .before .before .before .before .args .t .now) ((c .before .before .before .before .before .before .before .before .before .before .args .base) + (c .before .before .before .before .before .before .before .before .before .before .args .p)) 2) (patternOf (c .before .before .before .before .before .before .before .before .before .before .args .t .now) (c .before .before .before .before .before .before .before .before .before .before .args .base) (smallerOf (cellOf (c .before .before .before .before .before .before .before .before .before .before .args .t .now) ((c .before .before .before .before .before .before .before .before .before .before .args .base) + (c .before .before .before .before .before .before .before .before .before .before .args .p)) 2) (c .before .before .before .before .before .before .before .before .before .before .args .p))) (patternOf (c .before .before .before .before .before .before .before .before .before .before .args .t .now) (c .before .before .before .before .before .before .before .before .before .before .args .base) (smallerOf (cellOf (c .before .before .before .before .before .before .before .before .before .before .args .t .now) ((c .before .before .before .before .before .before .before .before .before .before .args .base) + (c .before .before .before .before .before .before .before .before .before .before .args .p)) 3) (c .before .before .before .before .before .before .before .before .before .before .args .p))) (node-of (c .before .before .before .before .before .before .before .before .before .before .args .t .now) (c .before .before .before .before .before .before .before .before .before .before .args .base) (c .before .before .before .before .before .before .before .before .before .before .args .p) (c .before .before .before .before .before .before .before .pattern-cell .ensures .0) refl refl) (c .before .before .before .before .before .before .if1 .left) (is-var (c .before .before .before .before .before .before .before .before .before .before .args .t .now) (c .before .before .before .before .before .before .before .before .before .before .args .base) (c .before .before .before .before .before .before .before .before .before .before .args .q) (c .before .before .before .before .before .pattern-cell2 .ensures .0) (c .before .before .before .before .if2 .taken)) (c .before .before .write-least-in2 .ensures))
+    (λ c.
+    let args = c .before .before .before .before .before .before .before .before .before .before .args in
+    let pattern-cell = c .before .before .before .before .before .before .before .pattern-cell in
+    let if1 = c .before .before .before .before .before .before .if1 in
+    let pattern-cell2 = c .before .before .before .before .before .pattern-cell2 in
+    let if2 = c .before .before .before .before .if2 in
+    let write-least-in2 = c .before .before .write-least-in2 in
+    both-any (pattern-cell .result) (cellOf (args .t .now) ((args .base) + (args .p)) 2)
+    (patternOf (args .t .now) (args .base) (smallerOf (cellOf (args .t .now) ((args .base) + (args .p)) 2) (args .p)))
+    (patternOf (args .t .now) (args .base) (smallerOf (cellOf (args .t .now) ((args .base) + (args .p)) 3) (args .p)))
+    (node-of (args .t .now) (args .base) (args .p) (pattern-cell .ensures .0) refl refl) (if1 .left)
+    (is-var (args .t .now) (args .base) (args .q) (pattern-cell2 .ensures .0) (if2 .taken)) (write-least-in2 .ensures))
     (λ c κs. search needs)
     (λ c κs. search needs)
     (λ c κs. search needs)
     (λ c κs. search needs)
-    (λ c κs. (pattern-call (c .before .before .before .before .before .before .before .before .before .before .before .before .before .before .before .args .t .now) (c .before .before .before .before .before .before .before .before .before .before .before .before .before .before .before .args .base) (c .before .before .before .before .before .before .before .before .before .before .before .before .before .before .before .args .p) (cellOf (c .before .before .before .before .before .before .before .before .before .before .before .before .before .before .before .args .t .now) ((c .before .before .before .before .before .before .before .before .before .before .before .before .before .before .before .args .base) + (c .before .before .before .before .before .before .before .before .before .before .before .before .before .before .before .args .p)) 2) (c .before .before .before .before .before .before .before .before .before .before .before .before .before .before .before .pre .0) (c .before .before .before .before .before .before .before .before .before .before .before .before .pattern-cell .ensures .0) (no-unit (c .before .before .before .before .before .before .before .before .if3 .taken)) (c .before .before .before .before .before .before .before .pattern-part .ensures), tt))
+    (λ c κs.
+    let pre = c .before .before .before .before .before .before .before .before .before .before .before .before .before .before .before .pre in
+    let args = c .before .before .before .before .before .before .before .before .before .before .before .before .before .before .before .args in
+    let pattern-cell = c .before .before .before .before .before .before .before .before .before .before .before .before .pattern-cell in
+    let if3 = c .before .before .before .before .before .before .before .before .if3 in
+    let pattern-part = c .before .before .before .before .before .before .before .pattern-part in (
+      pattern-call (args .t .now) (args .base) (args .p) (cellOf (args .t .now) ((args .base) + (args .p)) 2) (pre .0) (pattern-cell .ensures .0) (no-unit (if3 .taken))
+          (pattern-part .ensures),
+      tt,
+    ))
     (λ c. (c .before .before .write-common .kept .1 .1 .1 .1 .1 .0) ∙ (c .before .before .before .before .before .before .before .put-byte .kept .0))
-    (λ c. both-left (c .before .before .before .before .before .before .before .before .before .before .before .before .before .pattern-cell2 .result) (cellOf (c .before .before .before .before .before .before .before .before .before .before .before .before .before .before .before .before .before .before .args .t .now) ((c .before .before .before .before .before .before .before .before .before .before .before .before .before .before .before .before .before .before .args .base) + (c .before .before .before .before .before .before .before .before .before .before .before .before .before .before .before .before .before .before .args .q)) 2) (patternOf (c .before .before .before .before .before .before .before .before .before .before .before .before .before .before .before .before .before .before .args .t .now) (c .before .before .before .before .before .before .before .before .before .before .before .before .before .before .before .before .before .before .args .base) (c .before .before .before .before .before .before .before .before .before .pattern-part2 .result)) (patternOf (c .before .before .before .before .before .before .before .before .before .before .before .before .before .before .before .before .before .before .args .t .now) (c .before .before .before .before .before .before .before .before .before .before .before .before .before .before .before .before .before .before .args .base) (smallerOf (cellOf (c .before .before .before .before .before .before .before .before .before .before .before .before .before .before .before .before .before .before .args .t .now) ((c .before .before .before .before .before .before .before .before .before .before .before .before .before .before .before .before .before .before .args .base) + (c .before .before .before .before .before .before .before .before .before .before .before .before .before .before .before .before .before .before .args .q)) 3) (c .before .before .before .before .before .before .before .before .before .before .before .before .before .before .before .before .before .before .args .q))) (node-of (c .before .before .before .before .before .before .before .before .before .before .before .before .before .before .before .before .before .before .args .t .now) (c .before .before .before .before .before .before .before .before .before .before .before .before .before .before .before .before .before .before .args .base) (c .before .before .before .before .before .before .before .before .before .before .before .before .before .before .before .before .before .before .args .q) (c .before .before .before .before .before .before .before .before .before .before .before .before .before .pattern-cell2 .ensures .0) (c .before .before .before .before .before .before .before .before .before .pattern-part2 .ensures) refl) (c .before .before .before .before .before .before .before .before .before .before .before .before .if2 .left) (is-left (c .before .before .before .before .before .before .before .before .before .before .before .before .before .before .before .before .before .before .args .t .now) (c .before .before .before .before .before .before .before .before .before .before .before .before .before .before .before .before .before .before .args .base) (c .before .before .before .before .before .before .before .before .before .before .before .before .before .before .before .before .before .before .args .p) (c .before .before .before .before .before .before .before .before .before .before .before .before .before .before .before .pattern-cell .ensures .0) (c .before .before .before .before .before .before .before .before .before .before .before .if3 .taken) (c .before .before .before .before .before .before .before .before .before .before .pattern-part .ensures)) (c .before .before .before .before .first-part .ensures) (writes-one (c .before .before .before .before .before .before .before .put-byte .ensures .0) (c .before .before .before .before .before .before .before .put-byte .ensures .1)) (c .before .before .write-common .ensures))
+    (λ c.
+    let args = c .before .before .before .before .before .before .before .before .before .before .before .before .before .before .before .before .before .before .args in
+    let pattern-cell = c .before .before .before .before .before .before .before .before .before .before .before .before .before .before .before .pattern-cell in
+    let pattern-cell2 = c .before .before .before .before .before .before .before .before .before .before .before .before .before .pattern-cell2 in
+    let if2 = c .before .before .before .before .before .before .before .before .before .before .before .before .if2 in
+    let if3 = c .before .before .before .before .before .before .before .before .before .before .before .if3 in
+    let pattern-part = c .before .before .before .before .before .before .before .before .before .before .pattern-part in
+    let pattern-part2 = c .before .before .before .before .before .before .before .before .before .pattern-part2 in
+    let put-byte = c .before .before .before .before .before .before .before .put-byte in
+    let first-part = c .before .before .before .before .first-part in
+    let write-common = c .before .before .write-common in
+    both-left (pattern-cell2 .result) (cellOf (args .t .now) ((args .base) + (args .q)) 2) (patternOf (args .t .now) (args .base) (pattern-part2 .result))
+    (patternOf (args .t .now) (args .base) (smallerOf (cellOf (args .t .now) ((args .base) + (args .q)) 3) (args .q)))
+    (node-of (args .t .now) (args .base) (args .q) (pattern-cell2 .ensures .0) (pattern-part2 .ensures) refl) (if2 .left)
+    (is-left (args .t .now) (args .base) (args .p) (pattern-cell .ensures .0) (if3 .taken) (pattern-part .ensures)) (first-part .ensures)
+    (writes-one (put-byte .ensures .0) (put-byte .ensures .1)) (write-common .ensures))
     (λ c κs. search needs)
     (λ c κs. search needs)
     (λ c κs. search needs)
     (λ c κs. search needs)
-    (λ c κs. (pattern-call (c .before .before .before .before .before .before .before .before .before .before .before .before .before .before .before .before .args .t .now) (c .before .before .before .before .before .before .before .before .before .before .before .before .before .before .before .before .args .base) (c .before .before .before .before .before .before .before .before .before .before .before .before .before .before .before .before .args .p) (cellOf (c .before .before .before .before .before .before .before .before .before .before .before .before .before .before .before .before .args .t .now) ((c .before .before .before .before .before .before .before .before .before .before .before .before .before .before .before .before .args .base) + (c .before .before .before .before .before .before .before .before .before .before .before .before .before .before .before .before .args .p)) 2) (c .before .before .before .before .before .before .before .before .before .before .before .before .before .before .before .before .pre .0) (c .before .before .before .before .before .before .before .before .before .before .before .before .before .pattern-cell .ensures .0) (no-unit (c .before .before .before .before .before .before .before .before .if4 .taken)) (c .before .before .before .before .before .before .before .pattern-part3 .ensures), tt))
-    (λ c. (c .before .before .write-common2 .kept .1 .1 .1 .1 .1 .0) ∙ (c .before .before .before .before .before .before .before .put-byte2 .kept .0))
-    (λ c. both-right (c .before .before .before .before .before .before .before .before .before .before .before .before .before .before .pattern-cell2 .result) (cellOf (c .before .before .before .before .before .before .before .before .before .before .before .before .before .before .before .before .before .before .before .args .t .now) ((c .before .before .before .before .before .before .before .before .before .before .before .before .before .before .before .before .before .before .before .args .base) + (c .before .before .before .before .before .before .before .before .before .before .before .before .before .before .before .before .before .before .before .args .q)) 2) (patternOf (c .before .before .before .before .before .before .before .before .before .before .before .before .before .before .before .before .before .before .before .args .t .now) (c .before .before .before .before .before .before .before .before .before .before .before .before .before .before .before .before .before .before .before .args .base) (c .before .before .before .before .before .before .before .before .before .pattern-part4 .result)) (patternOf (c .before .before .before .before .before .before .before .before .before .before .before .before .before .before .before .before .before .before .before .args .t .now) (c .before .before .before .before .before .before .before .before .before .before .before .before .before .before .before .before .before .before .before .args .base) (smallerOf (cellOf (c .before .before .before .before .before .before .before .before .before .before .before .before .before .before .before .before .before .before .before .args .t .now) ((c .before .before .before .before .before .before .before .before .before .before .before .before .before .before .before .before .before .before .before .args .base) + (c .before .before .before .before .before .before .before .before .before .before .before .before .before .before .before .before .before .before .before .args .q)) 3) (c .before .before .before .before .before .before .before .before .before .before .before .before .before .before .before .before .before .before .before .args .q))) (node-of (c .before .before .before .before .before .before .before .before .before .before .before .before .before .before .before .before .before .before .before .args .t .now) (c .before .before .before .before .before .before .before .before .before .before .before .before .before .before .before .before .before .before .before .args .base) (c .before .before .before .before .before .before .before .before .before .before .before .before .before .before .before .before .before .before .before .args .q) (c .before .before .before .before .before .before .before .before .before .before .before .before .before .before .pattern-cell2 .ensures .0) (c .before .before .before .before .before .before .before .before .before .pattern-part4 .ensures) refl) (c .before .before .before .before .before .before .before .before .before .before .before .before .before .if2 .left) (is-right (c .before .before .before .before .before .before .before .before .before .before .before .before .before .before .before .before .before .before .before .args .t .now) (c .before .before .before .before .before .before .before .before .before .before .before .before .before .before .before .before .before .before .before .args .base) (c .before .before .before .before .before .before .before .before .before .before .before .before .before .before .before .before .before .before .before .args .p) (c .before .before .before .before .before .before .before .before .before .before .before .before .before .before .before .before .pattern-cell .ensures .0) (c .before .before .before .before .before .before .before .before .before .before .before .if4 .taken) (c .before .before .before .before .before .before .before .before .before .before .pattern-part3 .ensures)) (c .before .before .before .before .second-part .ensures) (writes-one (c .before .before .before .before .before .before .before .put-byte2 .ensures .0) (c .before .before .before .before .before .before .before .put-byte2 .ensures .1)) (c .before .before .write-common2 .ensures))
+    (λ c κs.
+    let pre = c .before .before .before .before .before .before .before .before .before .before .before .before .before .before .before .before .pre in
+    let args = c .before .before .before .before .before .before .before .before .before .before .before .before .before .before .before .before .args in
+    let pattern-cell = c .before .before .before .before .before .before .before .before .before .before .before .before .before .pattern-cell in
+    let if4 = c .before .before .before .before .before .before .before .before .if4 in
+    let pattern-part3 = c .before .before .before .before .before .before .before .pattern-part3 in (
+      pattern-call (args .t .now) (args .base) (args .p) (cellOf (args .t .now) ((args .base) + (args .p)) 2) (pre .0) (pattern-cell .ensures .0) (no-unit (if4 .taken))
+          (pattern-part3 .ensures),
+      tt,
+    ))
+    (λ c.
+    let put-byte2 = c .before .before .before .before .before .before .before .put-byte2 in
+    let write-common2 = c .before .before .write-common2 in
+    (write-common2 .kept .1 .1 .1 .1 .1 .0) ∙ (put-byte2 .kept .0))
+    (λ c.
+    let args = c .before .before .before .before .before .before .before .before .before .before .before .before .before .before .before .before .before .before .before .args in
+    let pattern-cell = c .before .before .before .before .before .before .before .before .before .before .before .before .before .before .before .before .pattern-cell in
+    let pattern-cell2 = c .before .before .before .before .before .before .before .before .before .before .before .before .before .before .pattern-cell2 in
+    let if2 = c .before .before .before .before .before .before .before .before .before .before .before .before .before .if2 in
+    let if4 = c .before .before .before .before .before .before .before .before .before .before .before .if4 in
+    let pattern-part3 = c .before .before .before .before .before .before .before .before .before .before .pattern-part3 in
+    let pattern-part4 = c .before .before .before .before .before .before .before .before .before .pattern-part4 in
+    let put-byte2 = c .before .before .before .before .before .before .before .put-byte2 in
+    let second-part = c .before .before .before .before .second-part in
+    let write-common2 = c .before .before .write-common2 in
+    both-right (pattern-cell2 .result) (cellOf (args .t .now) ((args .base) + (args .q)) 2) (patternOf (args .t .now) (args .base) (pattern-part4 .result))
+    (patternOf (args .t .now) (args .base) (smallerOf (cellOf (args .t .now) ((args .base) + (args .q)) 3) (args .q)))
+    (node-of (args .t .now) (args .base) (args .q) (pattern-cell2 .ensures .0) (pattern-part4 .ensures) refl) (if2 .left)
+    (is-right (args .t .now) (args .base) (args .p) (pattern-cell .ensures .0) (if4 .taken) (pattern-part3 .ensures)) (second-part .ensures)
+    (writes-one (put-byte2 .ensures .0) (put-byte2 .ensures .1)) (write-common2 .ensures))
     (λ c κs. search needs)
     (λ c κs. search needs)
     (λ c κs. search needs)
     (λ c κs. search needs)
     (λ c κs. search needs)
     (λ c κs. search needs)
-    (λ c κs. (pattern-call (c .before .before .before .before .before .before .before .before .before .before .before .before .before .before .before .before .before .before .before .args .t .now) (c .before .before .before .before .before .before .before .before .before .before .before .before .before .before .before .before .before .before .before .args .base) (c .before .before .before .before .before .before .before .before .before .before .before .before .before .before .before .before .before .before .before .args .p) (cellOf (c .before .before .before .before .before .before .before .before .before .before .before .before .before .before .before .before .before .before .before .args .t .now) ((c .before .before .before .before .before .before .before .before .before .before .before .before .before .before .before .before .before .before .before .args .base) + (c .before .before .before .before .before .before .before .before .before .before .before .before .before .before .before .before .before .before .before .args .p)) 2) (c .before .before .before .before .before .before .before .before .before .before .before .before .before .before .before .before .before .before .before .pre .0) (c .before .before .before .before .before .before .before .before .before .before .before .before .before .before .before .before .pattern-cell .ensures .0) (no-unit (c .before .before .before .before .before .before .before .before .before .before .if5 .taken)) (c .before .before .before .before .before .before .before .before .before .pattern-part5 .ensures), tt))
+    (λ c κs.
+    let pre = c .before .before .before .before .before .before .before .before .before .before .before .before .before .before .before .before .before .before .before .pre in
+    let args = c .before .before .before .before .before .before .before .before .before .before .before .before .before .before .before .before .before .before .before .args in
+    let pattern-cell = c .before .before .before .before .before .before .before .before .before .before .before .before .before .before .before .before .pattern-cell in
+    let if5 = c .before .before .before .before .before .before .before .before .before .before .if5 in
+    let pattern-part5 = c .before .before .before .before .before .before .before .before .before .pattern-part5 in (
+      pattern-call (args .t .now) (args .base) (args .p) (cellOf (args .t .now) ((args .base) + (args .p)) 2) (pre .0) (pattern-cell .ensures .0) (no-unit (if5 .taken))
+          (pattern-part5 .ensures),
+      tt,
+    ))
     (λ c κs. search needs)
-    (λ c κs. (pattern-call (c .before .before .before .before .before .before .before .before .before .before .before .before .before .before .before .before .before .before .before .before .before .before .before .before .args .t .now) (c .before .before .before .before .before .before .before .before .before .before .before .before .before .before .before .before .before .before .before .before .before .before .before .before .args .base) (c .before .before .before .before .before .before .before .before .before .before .before .before .before .before .before .before .before .before .before .before .before .before .before .before .args .p) (cellOf (c .before .before .before .before .before .before .before .before .before .before .before .before .before .before .before .before .before .before .before .before .before .before .before .before .args .t .now) ((c .before .before .before .before .before .before .before .before .before .before .before .before .before .before .before .before .before .before .before .before .before .before .before .before .args .base) + (c .before .before .before .before .before .before .before .before .before .before .before .before .before .before .before .before .before .before .before .before .before .before .before .before .args .p)) 3) (c .before .before .before .before .before .before .before .before .before .before .before .before .before .before .before .before .before .before .before .before .before .before .before .before .pre .0) (c .before .before .before .before .before .before .before .before .before .before .before .before .before .before .before .before .before .before .before .before .before .pattern-cell .ensures .0) (no-unit (c .before .before .before .before .before .before .before .before .before .before .before .before .before .before .before .if5 .taken)) (c .before .before .before .before .before .before .before .before .before .before .before .before .pattern-part7 .ensures), tt))
-    (λ c. (c .before .before .write-common4 .kept .1 .1 .1 .1 .1 .0) ∙ (c .before .before .before .before .before .before .before .write-common3 .kept .1 .1 .1 .1 .1 .0) ∙ (c .before .before .before .before .before .before .before .before .before .before .before .before .put-byte3 .kept .0))
-    (λ c. both-pair (c .before .before .before .before .before .before .before .before .before .before .before .before .before .before .before .before .before .before .before .before .before .before .pattern-cell2 .result) (cellOf (c .before .before .before .before .before .before .before .before .before .before .before .before .before .before .before .before .before .before .before .before .before .before .before .before .before .before .before .args .t .now) ((c .before .before .before .before .before .before .before .before .before .before .before .before .before .before .before .before .before .before .before .before .before .before .before .before .before .before .before .args .base) + (c .before .before .before .before .before .before .before .before .before .before .before .before .before .before .before .before .before .before .before .before .before .before .before .before .before .before .before .args .q)) 2) (patternOf (c .before .before .before .before .before .before .before .before .before .before .before .before .before .before .before .before .before .before .before .before .before .before .before .before .before .before .before .args .t .now) (c .before .before .before .before .before .before .before .before .before .before .before .before .before .before .before .before .before .before .before .before .before .before .before .before .before .before .before .args .base) (c .before .before .before .before .before .before .before .before .before .before .before .before .before .before .before .before .pattern-part6 .result)) (patternOf (c .before .before .before .before .before .before .before .before .before .before .before .before .before .before .before .before .before .before .before .before .before .before .before .before .before .before .before .args .t .now) (c .before .before .before .before .before .before .before .before .before .before .before .before .before .before .before .before .before .before .before .before .before .before .before .before .before .before .before .args .base) (c .before .before .before .before .before .before .before .before .before .before .before .before .before .before .pattern-part8 .result)) (node-of (c .before .before .before .before .before .before .before .before .before .before .before .before .before .before .before .before .before .before .before .before .before .before .before .before .before .before .before .args .t .now) (c .before .before .before .before .before .before .before .before .before .before .before .before .before .before .before .before .before .before .before .before .before .before .before .before .before .before .before .args .base) (c .before .before .before .before .before .before .before .before .before .before .before .before .before .before .before .before .before .before .before .before .before .before .before .before .before .before .before .args .q) (c .before .before .before .before .before .before .before .before .before .before .before .before .before .before .before .before .before .before .before .before .before .before .pattern-cell2 .ensures .0) (c .before .before .before .before .before .before .before .before .before .before .before .before .before .before .before .before .pattern-part6 .ensures) (c .before .before .before .before .before .before .before .before .before .before .before .before .before .before .pattern-part8 .ensures)) (c .before .before .before .before .before .before .before .before .before .before .before .before .before .before .before .before .before .before .before .before .before .if2 .left) (is-pair (c .before .before .before .before .before .before .before .before .before .before .before .before .before .before .before .before .before .before .before .before .before .before .before .before .before .before .before .args .t .now) (c .before .before .before .before .before .before .before .before .before .before .before .before .before .before .before .before .before .before .before .before .before .before .before .before .before .before .before .args .base) (c .before .before .before .before .before .before .before .before .before .before .before .before .before .before .before .before .before .before .before .before .before .before .before .before .before .before .before .args .p) (c .before .before .before .before .before .before .before .before .before .before .before .before .before .before .before .before .before .before .before .before .before .before .before .before .pattern-cell .ensures .0) (c .before .before .before .before .before .before .before .before .before .before .before .before .before .before .before .before .before .before .if5 .taken) (c .before .before .before .before .before .before .before .before .before .before .before .before .before .before .before .before .before .pattern-part5 .ensures) (c .before .before .before .before .before .before .before .before .before .before .before .before .before .before .before .pattern-part7 .ensures)) (c .before .before .before .before .before .before .before .before .before .first-part2 .ensures) (c .before .before .before .before .second-part2 .ensures) (writes-one (c .before .before .before .before .before .before .before .before .before .before .before .before .put-byte3 .ensures .0) (c .before .before .before .before .before .before .before .before .before .before .before .before .put-byte3 .ensures .1)) (c .before .before .before .before .before .before .before .write-common3 .ensures) (c .before .before .write-common4 .ensures))
+    (λ c κs.
+    let far = c .before .before .before .before .before .before .before .before .before .before .before .before .before .before .before .before .before .before .before .before in
+    let pre = far .before .before .before .before .pre in
+    let args = far .before .before .before .before .args in
+    let pattern-cell = far .before .pattern-cell in
+    let if5 = c .before .before .before .before .before .before .before .before .before .before .before .before .before .before .before .if5 in
+    let pattern-part7 = c .before .before .before .before .before .before .before .before .before .before .before .before .pattern-part7 in (
+      pattern-call (args .t .now) (args .base) (args .p) (cellOf (args .t .now) ((args .base) + (args .p)) 3) (pre .0) (pattern-cell .ensures .0) (no-unit (if5 .taken))
+          (pattern-part7 .ensures),
+      tt,
+    ))
+    (λ c.
+    let put-byte3 = c .before .before .before .before .before .before .before .before .before .before .before .before .put-byte3 in
+    let write-common3 = c .before .before .before .before .before .before .before .write-common3 in
+    let write-common4 = c .before .before .write-common4 in
+    (write-common4 .kept .1 .1 .1 .1 .1 .0) ∙ (write-common3 .kept .1 .1 .1 .1 .1 .0) ∙ (put-byte3 .kept .0))
+    (λ c.
+    let far = c .before .before .before .before .before .before .before .before .before .before .before .before .before .before .before .before .before .before .before .before in
+    let args = far .before .before .before .before .before .before .before .args in
+    let pattern-cell = far .before .before .before .before .pattern-cell in
+    let pattern-cell2 = far .before .before .pattern-cell2 in
+    let if2 = far .before .if2 in
+    let if5 = c .before .before .before .before .before .before .before .before .before .before .before .before .before .before .before .before .before .before .if5 in
+    let pattern-part5 = c .before .before .before .before .before .before .before .before .before .before .before .before .before .before .before .before .before .pattern-part5 in
+    let pattern-part6 = c .before .before .before .before .before .before .before .before .before .before .before .before .before .before .before .before .pattern-part6 in
+    let pattern-part7 = c .before .before .before .before .before .before .before .before .before .before .before .before .before .before .before .pattern-part7 in
+    let pattern-part8 = c .before .before .before .before .before .before .before .before .before .before .before .before .before .before .pattern-part8 in
+    let put-byte3 = c .before .before .before .before .before .before .before .before .before .before .before .before .put-byte3 in
+    let first-part2 = c .before .before .before .before .before .before .before .before .before .first-part2 in
+    let write-common3 = c .before .before .before .before .before .before .before .write-common3 in
+    let second-part2 = c .before .before .before .before .second-part2 in
+    let write-common4 = c .before .before .write-common4 in
+    both-pair (pattern-cell2 .result) (cellOf (args .t .now) ((args .base) + (args .q)) 2) (patternOf (args .t .now) (args .base) (pattern-part6 .result))
+    (patternOf (args .t .now) (args .base) (pattern-part8 .result))
+    (node-of (args .t .now) (args .base) (args .q) (pattern-cell2 .ensures .0) (pattern-part6 .ensures) (pattern-part8 .ensures)) (if2 .left)
+    (is-pair (args .t .now) (args .base) (args .p) (pattern-cell .ensures .0) (if5 .taken) (pattern-part5 .ensures) (pattern-part7 .ensures)) (first-part2 .ensures)
+    (second-part2 .ensures) (writes-one (put-byte3 .ensures .0) (put-byte3 .ensures .1)) (write-common3 .ensures) (write-common4 .ensures))
     (λ c κs. search needs)
     (λ c. (c .before .before .put-byte4 .kept .0))
-    (λ c. both-unit (is-unit (c .before .before .before .before .before .before .before .before .before .before .before .before .before .args .t .now) (c .before .before .before .before .before .before .before .before .before .before .before .before .before .args .base) (c .before .before .before .before .before .before .before .before .before .before .before .before .before .args .p) (c .before .before .before .before .before .before .before .before .before .before .pattern-cell .ensures .0) (c .before .before .before .before .before .before .before .before .before .if1 .left) (c .before .before .before .before .before .before .if3 .left) (c .before .before .before .before .before .if4 .left) (c .before .before .before .before .if5 .left)) (writes-one (c .before .before .put-byte4 .ensures .0) (c .before .before .put-byte4 .ensures .1)))
+    (λ c.
+    let args = c .before .before .before .before .before .before .before .before .before .before .before .before .before .args in
+    let pattern-cell = c .before .before .before .before .before .before .before .before .before .before .pattern-cell in
+    let if1 = c .before .before .before .before .before .before .before .before .before .if1 in
+    let if3 = c .before .before .before .before .before .before .if3 in
+    let if4 = c .before .before .before .before .before .if4 in
+    let if5 = c .before .before .before .before .if5 in
+    let put-byte4 = c .before .before .put-byte4 in
+    both-unit (is-unit (args .t .now) (args .base) (args .p) (pattern-cell .ensures .0) (if1 .left) (if3 .left) (if4 .left) (if5 .left))
+    (writes-one (put-byte4 .ensures .0) (put-byte4 .ensures .1)))

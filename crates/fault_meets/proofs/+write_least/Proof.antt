@@ -30,7 +30,18 @@ write-least-below t =
     and 2 write-least-kinds.ps (falls 2 write-least-kinds.ps _<_ μ-write-least t) write-least.Pre
 
 abbrev ks-write-least : ℕ → write-least-lts.Claims
-ks-write-least t = (cell-reads.Asked, cell-reads.Learnt, type-part-reads.Asked, type-part-reads.Learnt, least-length-reads.Asked, least-length-reads.Learnt, put-byte-reads.Asked, put-byte-reads.Learnt, write-least-below t, write-least.Post)
+ks-write-least t = (
+  cell-reads.Asked,
+  cell-reads.Learnt,
+  type-part-reads.Asked,
+  type-part-reads.Learnt,
+  least-length-reads.Asked,
+  least-length-reads.Learnt,
+  put-byte-reads.Asked,
+  put-byte-reads.Learnt,
+  write-least-below t,
+  write-least.Post,
+)
 
 pub +write-least-spec : {M : Type 1} → statement M
 +write-least-spec = close μ-write-least λ t. write-least-lts.spec (ks-write-least t)
@@ -42,20 +53,88 @@ pub +write-least-spec : {M : Type 1} → statement M
     (λ c κs. search needs)
     (λ c κs. search needs)
     (λ c κs. search needs)
-    (λ c κs. (type-call (c .before .before .before .before .before .before .before .before .before .before .before .before .before .before .args .t .now) (c .before .before .before .before .before .before .before .before .before .before .before .before .before .before .args .i) (cellOf (c .before .before .before .before .before .before .before .before .before .before .before .before .before .before .args .t .now) (c .before .before .before .before .before .before .before .before .before .before .before .before .before .before .args .i) 2) (c .before .before .before .before .before .before .before .before .before .before .before .before .before .before .pre .0) (c .before .before .before .before .before .before .before .before .before .before .before .cell .ensures .0) (no-unit (c .before .before .before .before .before .before .before .before .before .before .if1 .taken)) (c .before .before .before .before .before .before .before .before .before .type-part .ensures), tt))
+    (λ c κs.
+    let pre = c .before .before .before .before .before .before .before .before .before .before .before .before .before .before .pre in
+    let args = c .before .before .before .before .before .before .before .before .before .before .before .before .before .before .args in
+    let cell = c .before .before .before .before .before .before .before .before .before .before .before .cell in
+    let if1 = c .before .before .before .before .before .before .before .before .before .before .if1 in
+    let type-part = c .before .before .before .before .before .before .before .before .before .type-part in
+    (type-call (args .t .now) (args .i) (cellOf (args .t .now) (args .i) 2) (pre .0) (cell .ensures .0) (no-unit (if1 .taken)) (type-part .ensures), tt))
     (λ c. ((c .before .before .write-least .kept) .1 .1 .0) ∙ ((c .before .before .before .before .before .before .put-byte .kept) .0))
-    (λ c. spells-left (line-sum (c .before .before .before .before .before .before .before .before .before .before .before .before .before .before .before .before .before .args .t .now) (c .before .before .before .before .before .before .before .before .before .before .before .before .before .before .before .before .before .args .i) (c .before .before .before .before .before .before .before .before .before .before .before .before .before .before .cell .ensures .0) (c .before .before .before .before .before .before .before .before .before .before .before .before .type-part .ensures) (c .before .before .before .before .before .before .before .before .before .before .before .type-part2 .ensures) (c .before .before .before .before .before .before .before .before .before .before .before .before .before .if1 .taken)) (c .before .before .before .before .before .before .before .before .before .before .least-length .ensures) (c .before .before .before .before .before .before .before .before .before .least-length2 .ensures) (c .before .before .before .before .before .before .before .before .if2 .taken) (writes-one (c .before .before .before .before .before .before .put-byte .ensures .0) (c .before .before .before .before .before .before .put-byte .ensures .1)) (c .before .before .write-least .ensures))
+    (λ c.
+    let args = c .before .before .before .before .before .before .before .before .before .before .before .before .before .before .before .before .before .args in
+    let cell = c .before .before .before .before .before .before .before .before .before .before .before .before .before .before .cell in
+    let if1 = c .before .before .before .before .before .before .before .before .before .before .before .before .before .if1 in
+    let type-part = c .before .before .before .before .before .before .before .before .before .before .before .before .type-part in
+    let type-part2 = c .before .before .before .before .before .before .before .before .before .before .before .type-part2 in
+    let least-length = c .before .before .before .before .before .before .before .before .before .before .least-length in
+    let least-length2 = c .before .before .before .before .before .before .before .before .before .least-length2 in
+    let if2 = c .before .before .before .before .before .before .before .before .if2 in
+    let put-byte = c .before .before .before .before .before .before .put-byte in
+    let write-least = c .before .before .write-least in
+    spells-left (line-sum (args .t .now) (args .i) (cell .ensures .0) (type-part .ensures) (type-part2 .ensures) (if1 .taken)) (least-length .ensures) (least-length2 .ensures)
+    (if2 .taken) (writes-one (put-byte .ensures .0) (put-byte .ensures .1)) (write-least .ensures))
     (λ c κs. search needs)
-    (λ c κs. (type-call (c .before .before .before .before .before .before .before .before .before .before .before .before .before .before .args .t .now) (c .before .before .before .before .before .before .before .before .before .before .before .before .before .before .args .i) (cellOf (c .before .before .before .before .before .before .before .before .before .before .before .before .before .before .args .t .now) (c .before .before .before .before .before .before .before .before .before .before .before .before .before .before .args .i) 3) (c .before .before .before .before .before .before .before .before .before .before .before .before .before .before .pre .0) (c .before .before .before .before .before .before .before .before .before .before .before .cell .ensures .0) (no-unit (c .before .before .before .before .before .before .before .before .before .before .if1 .taken)) (c .before .before .before .before .before .before .before .before .type-part2 .ensures), tt))
+    (λ c κs.
+    let pre = c .before .before .before .before .before .before .before .before .before .before .before .before .before .before .pre in
+    let args = c .before .before .before .before .before .before .before .before .before .before .before .before .before .before .args in
+    let cell = c .before .before .before .before .before .before .before .before .before .before .before .cell in
+    let if1 = c .before .before .before .before .before .before .before .before .before .before .if1 in
+    let type-part2 = c .before .before .before .before .before .before .before .before .type-part2 in
+    (type-call (args .t .now) (args .i) (cellOf (args .t .now) (args .i) 3) (pre .0) (cell .ensures .0) (no-unit (if1 .taken)) (type-part2 .ensures), tt))
     (λ c. ((c .before .before .write-least2 .kept) .1 .1 .0) ∙ ((c .before .before .before .before .before .before .put-byte2 .kept) .0))
-    (λ c. spells-right (line-sum (c .before .before .before .before .before .before .before .before .before .before .before .before .before .before .before .before .before .args .t .now) (c .before .before .before .before .before .before .before .before .before .before .before .before .before .before .before .before .before .args .i) (c .before .before .before .before .before .before .before .before .before .before .before .before .before .before .cell .ensures .0) (c .before .before .before .before .before .before .before .before .before .before .before .before .type-part .ensures) (c .before .before .before .before .before .before .before .before .before .before .before .type-part2 .ensures) (c .before .before .before .before .before .before .before .before .before .before .before .before .before .if1 .taken)) (c .before .before .before .before .before .before .before .before .before .before .least-length .ensures) (c .before .before .before .before .before .before .before .before .before .least-length2 .ensures) (c .before .before .before .before .before .before .before .before .if2 .left) (writes-one (c .before .before .before .before .before .before .put-byte2 .ensures .0) (c .before .before .before .before .before .before .put-byte2 .ensures .1)) (c .before .before .write-least2 .ensures))
+    (λ c.
+    let args = c .before .before .before .before .before .before .before .before .before .before .before .before .before .before .before .before .before .args in
+    let cell = c .before .before .before .before .before .before .before .before .before .before .before .before .before .before .cell in
+    let if1 = c .before .before .before .before .before .before .before .before .before .before .before .before .before .if1 in
+    let type-part = c .before .before .before .before .before .before .before .before .before .before .before .before .type-part in
+    let type-part2 = c .before .before .before .before .before .before .before .before .before .before .before .type-part2 in
+    let least-length = c .before .before .before .before .before .before .before .before .before .before .least-length in
+    let least-length2 = c .before .before .before .before .before .before .before .before .before .least-length2 in
+    let if2 = c .before .before .before .before .before .before .before .before .if2 in
+    let put-byte2 = c .before .before .before .before .before .before .put-byte2 in
+    let write-least2 = c .before .before .write-least2 in
+    spells-right (line-sum (args .t .now) (args .i) (cell .ensures .0) (type-part .ensures) (type-part2 .ensures) (if1 .taken)) (least-length .ensures) (least-length2 .ensures)
+    (if2 .left) (writes-one (put-byte2 .ensures .0) (put-byte2 .ensures .1)) (write-least2 .ensures))
     (λ c κs. search needs)
     (λ c κs. search needs)
-    (λ c κs. (type-call (c .before .before .before .before .before .before .before .before .before .before .before .args .t .now) (c .before .before .before .before .before .before .before .before .before .before .before .args .i) (cellOf (c .before .before .before .before .before .before .before .before .before .before .before .args .t .now) (c .before .before .before .before .before .before .before .before .before .before .before .args .i) 2) (c .before .before .before .before .before .before .before .before .before .before .before .pre .0) (c .before .before .before .before .before .before .before .before .cell .ensures .0) (no-unit (c .before .before .before .before .before .before .if3 .taken)) (c .before .type-part3 .ensures), tt))
+    (λ c κs.
+    let pre = c .before .before .before .before .before .before .before .before .before .before .before .pre in
+    let args = c .before .before .before .before .before .before .before .before .before .before .before .args in
+    let cell = c .before .before .before .before .before .before .before .before .cell in
+    let if3 = c .before .before .before .before .before .before .if3 in
+    let type-part3 = c .before .type-part3 in
+    (type-call (args .t .now) (args .i) (cellOf (args .t .now) (args .i) 2) (pre .0) (cell .ensures .0) (no-unit (if3 .taken)) (type-part3 .ensures), tt))
     (λ c κs. search needs)
-    (λ c κs. (type-call (c .before .before .before .before .before .before .before .before .before .before .before .before .before .before .before .before .args .t .now) (c .before .before .before .before .before .before .before .before .before .before .before .before .before .before .before .before .args .i) (cellOf (c .before .before .before .before .before .before .before .before .before .before .before .before .before .before .before .before .args .t .now) (c .before .before .before .before .before .before .before .before .before .before .before .before .before .before .before .before .args .i) 3) (c .before .before .before .before .before .before .before .before .before .before .before .before .before .before .before .before .pre .0) (c .before .before .before .before .before .before .before .before .before .before .before .before .before .cell .ensures .0) (no-unit (c .before .before .before .before .before .before .before .before .before .before .before .if3 .taken)) (c .before .type-part4 .ensures), tt))
-    (λ c. ((c .before .before .write-least4 .kept) .1 .1 .0) ∙ ((c .before .before .before .before .before .before .before .write-least3 .kept) .1 .1 .0) ∙ ((c .before .before .before .before .before .before .before .before .before .before .before .before .put-byte3 .kept) .0))
-    (λ c. spells-pair (line-product (c .before .before .before .before .before .before .before .before .before .before .before .before .before .before .before .before .before .before .before .args .t .now) (c .before .before .before .before .before .before .before .before .before .before .before .before .before .before .before .before .before .before .before .args .i) (c .before .before .before .before .before .before .before .before .before .before .before .before .before .before .before .before .cell .ensures .0) (c .before .before .before .before .before .before .before .before .before .type-part3 .ensures) (c .before .before .before .before .type-part4 .ensures) (c .before .before .before .before .before .before .before .before .before .before .before .before .before .before .if3 .taken)) (writes-one (c .before .before .before .before .before .before .before .before .before .before .before .before .put-byte3 .ensures .0) (c .before .before .before .before .before .before .before .before .before .before .before .before .put-byte3 .ensures .1)) (c .before .before .before .before .before .before .before .write-least3 .ensures) (c .before .before .write-least4 .ensures))
+    (λ c κs.
+    let pre = c .before .before .before .before .before .before .before .before .before .before .before .before .before .before .before .before .pre in
+    let args = c .before .before .before .before .before .before .before .before .before .before .before .before .before .before .before .before .args in
+    let cell = c .before .before .before .before .before .before .before .before .before .before .before .before .before .cell in
+    let if3 = c .before .before .before .before .before .before .before .before .before .before .before .if3 in
+    let type-part4 = c .before .type-part4 in
+    (type-call (args .t .now) (args .i) (cellOf (args .t .now) (args .i) 3) (pre .0) (cell .ensures .0) (no-unit (if3 .taken)) (type-part4 .ensures), tt))
+    (λ c.
+    let put-byte3 = c .before .before .before .before .before .before .before .before .before .before .before .before .put-byte3 in
+    let write-least3 = c .before .before .before .before .before .before .before .write-least3 in
+    let write-least4 = c .before .before .write-least4 in
+    ((write-least4 .kept) .1 .1 .0) ∙ ((write-least3 .kept) .1 .1 .0) ∙ ((put-byte3 .kept) .0))
+    (λ c.
+    let args = c .before .before .before .before .before .before .before .before .before .before .before .before .before .before .before .before .before .before .before .args in
+    let cell = c .before .before .before .before .before .before .before .before .before .before .before .before .before .before .before .before .cell in
+    let if3 = c .before .before .before .before .before .before .before .before .before .before .before .before .before .before .if3 in
+    let put-byte3 = c .before .before .before .before .before .before .before .before .before .before .before .before .put-byte3 in
+    let type-part3 = c .before .before .before .before .before .before .before .before .before .type-part3 in
+    let write-least3 = c .before .before .before .before .before .before .before .write-least3 in
+    let type-part4 = c .before .before .before .before .type-part4 in
+    let write-least4 = c .before .before .write-least4 in
+    spells-pair (line-product (args .t .now) (args .i) (cell .ensures .0) (type-part3 .ensures) (type-part4 .ensures) (if3 .taken))
+    (writes-one (put-byte3 .ensures .0) (put-byte3 .ensures .1)) (write-least3 .ensures) (write-least4 .ensures))
     (λ c κs. search needs)
     (λ c. (c .before .before .put-byte4 .kept .0))
-    (λ c. spells-unit (line-other (c .before .before .before .before .before .before .before .before .before .args .t .now) (c .before .before .before .before .before .before .before .before .before .args .i) (c .before .before .before .before .before .before .cell .ensures .0) (c .before .before .before .before .before .if1 .left) (c .before .before .before .before .if3 .left)) (writes-one (c .before .before .put-byte4 .ensures .0) (c .before .before .put-byte4 .ensures .1)))
+    (λ c.
+    let args = c .before .before .before .before .before .before .before .before .before .args in
+    let cell = c .before .before .before .before .before .before .cell in
+    let if1 = c .before .before .before .before .before .if1 in
+    let if3 = c .before .before .before .before .if3 in
+    let put-byte4 = c .before .before .put-byte4 in
+    spells-unit (line-other (args .t .now) (args .i) (cell .ensures .0) (if1 .left) (if3 .left)) (writes-one (put-byte4 .ensures .0) (put-byte4 .ensures .1)))

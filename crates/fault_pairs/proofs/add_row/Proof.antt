@@ -14,7 +14,8 @@ abbrev μ-loop : tie.MeasureT-loop
 
 loop-holds : tie.Need-loop-holds Inv-loop μ-loop
 loop-holds c =
-    let a = c .before .before .before in inner-start (a .args .t .now) (a .args .base) (a .args .f) (a .args .rows .now) (typeOf (a .args .t .now) (a .args .i)) (patternOf (a .args .t .now) (a .args .base) (a .args .p)) (a .args .out .now) (a .args .best) (a .pre .2)
+    let a = c .before .before .before in inner-start (a .args .t .now) (a .args .base) (a .args .f) (a .args .rows .now) (typeOf (a .args .t .now) (a .args .i))
+    (patternOf (a .args .t .now) (a .args .base) (a .args .p)) (a .args .out .now) (a .args .best) (a .pre .2)
 
 sub-y : tie.Need-sub-y Inv-loop μ-loop
 sub-y c = search needs
@@ -43,7 +44,13 @@ loop-less c = search needs
 
 loop-again : tie.Need-loop-again Inv-loop μ-loop
 loop-again c =
-    let a = c .before .before .before .before .before .before .before .before .before .before .before .before .args in let l = c .before .before .before .before .before .before .before .before .loop in inner-more (a .t .now) (a .base) (a .f) (a .rows .now) (c .before .before .before .before .before .wide .result) (c .before .before .before .before .cell .result) (l .inv) (search needs) (c .before .before .with-pair .kept .1 .1 .1 .1 .1 .1 .0) (c .before .before .with-pair .ensures .0) (c .before .before .before .before .before .wide .ensures .0) (c .before .before .before .before .cell .ensures .0) (c .before .before .with-pair .ensures .1)
+    let args = c .before .before .before .before .before .before .before .before .before .before .before .before .args in
+    let loop′ = c .before .before .before .before .before .before .before .before .loop in
+    let wide = c .before .before .before .before .before .wide in
+    let cell = c .before .before .before .before .cell in
+    let with-pair = c .before .before .with-pair in
+    let a = args in let l = loop′ in inner-more (a .t .now) (a .base) (a .f) (a .rows .now) (wide .result) (cell .result) (l .inv) (search needs) (with-pair .kept .1 .1 .1 .1 .1 .1 .0)
+    (with-pair .ensures .0) (wide .ensures .0) (cell .ensures .0) (with-pair .ensures .1)
 
 same-length : tie.Need-same-length Inv-loop μ-loop
 same-length c =

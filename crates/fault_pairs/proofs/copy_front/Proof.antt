@@ -32,7 +32,9 @@ loop-less c = search needs
 
 loop-again : tie.Need-loop-again Inv-loop μ-loop
 loop-again c =
-    (copied (c .before .before .loop .inv .0) (omega (arith, c .before .before .before .pre .0)) (omega (arith, c .before .before .before .pre .1)), omega arith)
+    let pre = c .before .before .before .pre in
+    let loop′ = c .before .before .loop in
+    (copied (loop′ .inv .0) (omega (arith, pre .0)) (omega (arith, pre .1)), omega arith)
 
 same-length : tie.Need-same-length Inv-loop μ-loop
 same-length c =

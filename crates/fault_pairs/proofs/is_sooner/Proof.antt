@@ -55,7 +55,9 @@ loop-less c = search needs
 
 loop-again : tie.Need-loop-again Inv-loop μ-loop
 loop-again c =
-    alike-more (c .before .before .before .before .before .before .before .loop .inv) (search needs) (c .before .before .before .if3 .left) (c .if4 .left)
+    let loop′ = c .before .before .before .before .before .before .before .loop in
+    let if3 = c .before .before .before .if3 in
+    alike-more (loop′ .inv) (search needs) (if3 .left) (c .if4 .left)
 
 returns-5 : tie.Need-returns-5 Inv-loop μ-loop
 returns-5 c =

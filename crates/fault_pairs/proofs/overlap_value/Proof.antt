@@ -69,7 +69,15 @@ loop-less c = search needs
 
 loop-again : tie.Need-loop-again Inv-loop μ-loop
 loop-again c =
-    let a = c .before .before .before .before .before .before .before .before .before .before .before .before .before .args in let l = c .before .before .before .before .before .before .before .before .before .loop in outer-more (a .t .now) (a .base) (a .f) (a .rows .now) (c .before .before .before .before .before .before .wide .result) (c .before .before .before .before .before .cell .result) (l .inv) (search needs) (c .before .before .add-row .kept .1 .1 .1 .1 .1 .1 .1 .0) (c .before .before .add-row .ensures .0) (c .before .before .before .before .before .before .wide .ensures .0) (c .before .before .before .before .before .cell .ensures .0) (subst (λ z. AddsAll (typeOf (a .t .now) (a .i)) (patternOf (a .t .now) (a .base) (c .before .before .before .before .before .cell .result)) (patternsAt (a .t .now) (a .base) (a .f) z) (l .out) (c .before .before .add-row .last .1 .1 .1 .1 .1 .1 .1 .0) (l .best) (c .before .before .add-row .result)) (take-rest (a .rows .now) (l .x)) (c .before .before .add-row .ensures .1))
+    let args = c .before .before .before .before .before .before .before .before .before .before .before .before .before .args in
+    let loop′ = c .before .before .before .before .before .before .before .before .before .loop in
+    let wide = c .before .before .before .before .before .before .wide in
+    let cell = c .before .before .before .before .before .cell in
+    let add-row = c .before .before .add-row in
+    let a = args in let l = loop′ in outer-more (a .t .now) (a .base) (a .f) (a .rows .now) (wide .result) (cell .result) (l .inv) (search needs) (add-row .kept .1 .1 .1 .1 .1 .1 .1 .0)
+    (add-row .ensures .0) (wide .ensures .0) (cell .ensures .0)
+    (subst (λ z. AddsAll (typeOf (a .t .now) (a .i)) (patternOf (a .t .now) (a .base) (cell .result)) (patternsAt (a .t .now) (a .base) (a .f) z) (l .out)
+    (add-row .last .1 .1 .1 .1 .1 .1 .1 .0) (l .best) (add-row .result)) (take-rest (a .rows .now) (l .x)) (add-row .ensures .1))
 
 same-length : tie.Need-same-length Inv-loop μ-loop
 same-length c =

@@ -47,10 +47,13 @@ same-length c = search needs
 
 returns-3 : tie.Need-returns-3
 returns-3 c =
+    let if2 = c .before .before .before .before .before .before .if2 in
+    let if3 = c .before .before .before .before .before .if3 in
+    let copy-front = c .before .before .copy-front in
     let w = c .before .before .before .before .before .before .before .before in (
-      c .before .before .before .before .before .before .if2 .left,
+      if2 .left,
       adds-first (tried {blank = replicate 127 0} (sym (w .before .before .before .compare .ensures .0) ∙ w .before .before .if1 .left)
-          (length-replicate {A = ℕ} 127 0) (w .write-common .ensures)) (c .before .before .before .before .before .if3 .taken) (c .before .before .copy-front .ensures .0),
+          (length-replicate {A = ℕ} 127 0) (w .write-common .ensures)) (if3 .taken) (copy-front .ensures .0),
     )
 
 sub-is-sooner : tie.Need-sub-is-sooner

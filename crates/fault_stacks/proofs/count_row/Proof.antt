@@ -22,8 +22,15 @@ no-more-requires c κs = search needs
 -- src/lib.rt:52:5
 loop-holds : tie.Need-loop-holds Inv-loop μ-loop
 loop-holds c =
+    let no-more = c .before .before .no-more in
     let a = c .before .before .before .before .before .before .before .before in
-    record { lower = search needs; upper = omega arith; long = c .before .before .no-more .kept .0 ∙ a .pre .2; holds = row-start (a .args .t .now) (a .args .base) (a .args .ps .now) (a .args .ts .now) (a .pre .0) (a .pre .1) (c .before .before .no-more .ensures) }
+    record {
+      lower = search needs;
+      upper = omega arith;
+      long = no-more .kept .0 ∙ a .pre .2;
+      holds =
+          row-start (a .args .t .now) (a .args .base) (a .args .ps .now) (a .args .ts .now) (a .pre .0) (a .pre .1) (no-more .ensures);
+    }
 
 -- src/lib.rt:53:9
 sub-c : tie.Need-sub-c Inv-loop μ-loop
@@ -56,13 +63,15 @@ loop-less c = search needs
 -- src/lib.rt:52:5
 loop-again : tie.Need-loop-again Inv-loop μ-loop
 loop-again c =
+    let count-pattern = c .before .before .count-pattern in
     let a = c .before .before .before .before .before .before .before .before .before .before .before .before .before .before .before .before in
     let l = c .before .before .before .before .before .before .before .loop in
     record {
       lower = omega (arith, l .inv .upper);
       upper = omega (arith, l .inv .upper);
-      long = c .before .before .count-pattern .kept .1 .1 .1 .1 .0 ∙ l .inv .long;
-      holds = row-step (a .args .t .now) (a .args .base) (a .args .ps .now) (a .args .ts .now) (l .c) (omega arith) (omega (arith, l .inv .upper, a .pre .0)) (omega (arith, l .inv .upper, a .pre .1)) (l .inv .holds) (c .before .before .count-pattern .ensures);
+      long = count-pattern .kept .1 .1 .1 .1 .0 ∙ l .inv .long;
+      holds = row-step (a .args .t .now) (a .args .base) (a .args .ps .now) (a .args .ts .now) (l .c) (omega arith) (omega (arith, l .inv .upper, a .pre .0))
+          (omega (arith, l .inv .upper, a .pre .1)) (l .inv .holds) (count-pattern .ensures);
     }
 
 -- src/lib.rt:46:1

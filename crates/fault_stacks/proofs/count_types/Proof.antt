@@ -22,8 +22,9 @@ no-more-requires c κs = search needs
 -- src/lib.rt:39:5
 loop-holds : tie.Need-loop-holds Inv-loop μ-loop
 loop-holds c =
+    let no-more = c .before .before .no-more in
     let a = c .before .before .before .before .before .before .before in
-    record { lower = search needs; upper = omega arith; long = c .before .before .no-more .kept .0 ∙ a .pre .1; holds = types-start (a .args .t .now) (a .args .ts .now) (a .pre .0) (c .before .before .no-more .ensures) }
+    record { lower = search needs; upper = omega arith; long = no-more .kept .0 ∙ a .pre .1; holds = types-start (a .args .t .now) (a .args .ts .now) (a .pre .0) (no-more .ensures) }
 
 -- src/lib.rt:40:9
 sub-c : tie.Need-sub-c Inv-loop μ-loop

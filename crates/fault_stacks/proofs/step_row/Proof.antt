@@ -20,19 +20,46 @@ pattern-cell-requires : tie.Need-pattern-cell-requires
 pattern-cell-requires c κs = search needs
 
 returns : tie.Need-returns
-returns c = row-U-not (c .before .before .before .before .before .before .args .t .now) (c .before .before .before .before .before .before .args .base) (c .before .before .before .before .before .before .args .ps .now) (c .before .before .before .before .before .before .args .top) (c .before .before .before .before .before .before .args .c) (omega (arith, (c .before .before .before .before .before .before .pre .0), (c .before .before .before .before .before .before .pre .2))) 2 (c .before .before .pattern-cell .ensures .0) (c .if2 .taken) refl (c .before .if1 .taken)
+returns c =
+    let pre = c .before .before .before .before .before .before .pre in
+    let args = c .before .before .before .before .before .before .args in
+    let pattern-cell = c .before .before .pattern-cell in
+    let if1 = c .before .if1 in
+    row-U-not (args .t .now) (args .base) (args .ps .now) (args .top) (args .c) (omega (arith, (pre .0), (pre .2))) 2 (pattern-cell .ensures .0) (c .if2 .taken) refl (if1 .taken)
 
 returns-2 : tie.Need-returns-2
-returns-2 c = row-U-not (c .before .before .before .before .before .before .before .args .t .now) (c .before .before .before .before .before .before .before .args .base) (c .before .before .before .before .before .before .before .args .ps .now) (c .before .before .before .before .before .before .before .args .top) (c .before .before .before .before .before .before .before .args .c) (omega (arith, (c .before .before .before .before .before .before .before .pre .0), (c .before .before .before .before .before .before .before .pre .2))) 3 (c .before .before .before .pattern-cell .ensures .0) (c .if3 .taken) refl (c .before .before .if1 .taken)
+returns-2 c =
+    let pre = c .before .before .before .before .before .before .before .pre in
+    let args = c .before .before .before .before .before .before .before .args in
+    let pattern-cell = c .before .before .before .pattern-cell in
+    let if1 = c .before .before .if1 in
+    row-U-not (args .t .now) (args .base) (args .ps .now) (args .top) (args .c) (omega (arith, (pre .0), (pre .2))) 3 (pattern-cell .ensures .0) (c .if3 .taken) refl (if1 .taken)
 
 returns-3 : tie.Need-returns-3
-returns-3 c = row-U-not (c .before .before .before .before .before .before .before .before .args .t .now) (c .before .before .before .before .before .before .before .before .args .base) (c .before .before .before .before .before .before .before .before .args .ps .now) (c .before .before .before .before .before .before .before .before .args .top) (c .before .before .before .before .before .before .before .before .args .c) (omega (arith, (c .before .before .before .before .before .before .before .before .pre .0), (c .before .before .before .before .before .before .before .before .pre .2))) 4 (c .before .before .before .before .pattern-cell .ensures .0) (c .if4 .taken) refl (c .before .before .before .if1 .taken)
+returns-3 c =
+    let pre = c .before .before .before .before .before .before .before .before .pre in
+    let args = c .before .before .before .before .before .before .before .before .args in
+    let pattern-cell = c .before .before .before .before .pattern-cell in
+    let if1 = c .before .before .before .if1 in
+    row-U-not (args .t .now) (args .base) (args .ps .now) (args .top) (args .c) (omega (arith, (pre .0), (pre .2))) 4 (pattern-cell .ensures .0) (c .if4 .taken) refl (if1 .taken)
 
 returns-4 : tie.Need-returns-4
-returns-4 c = row-U (c .before .before .before .before .before .before .before .before .args .t .now) (c .before .before .before .before .before .before .before .before .args .base) (c .before .before .before .before .before .before .before .before .args .ps .now) (c .before .before .before .before .before .before .before .before .args .top) (c .before .before .before .before .before .before .before .before .args .c) (omega (arith, (c .before .before .before .before .before .before .before .before .pre .0), (c .before .before .before .before .before .before .before .before .pre .2))) (c .before .before .before .before .pattern-cell .ensures .0) (c .before .before .if2 .left) (c .before .if3 .left) (c .if4 .left) (c .before .before .before .if1 .taken)
+returns-4 c =
+    let pre = c .before .before .before .before .before .before .before .before .pre in
+    let args = c .before .before .before .before .before .before .before .before .args in
+    let pattern-cell = c .before .before .before .before .pattern-cell in
+    let if1 = c .before .before .before .if1 in
+    let if2 = c .before .before .if2 in
+    let if3 = c .before .if3 in
+    row-U (args .t .now) (args .base) (args .ps .now) (args .top) (args .c) (omega (arith, (pre .0), (pre .2))) (pattern-cell .ensures .0) (if2 .left) (if3 .left) (c .if4 .left) (if1 .taken)
 
 returns-5 : tie.Need-returns-5
-returns-5 c = row-L-var (c .before .before .before .before .before .before .before .args .t .now) (c .before .before .before .before .before .before .before .args .base) (c .before .before .before .before .before .before .before .args .ps .now) (c .before .before .before .before .before .before .before .args .top) (c .before .before .before .before .before .before .before .args .c) (omega (arith, (c .before .before .before .before .before .before .before .pre .0), (c .before .before .before .before .before .before .before .pre .2))) (c .before .before .before .pattern-cell .ensures .0) (c .if6 .taken) (c .before .if5 .taken)
+returns-5 c =
+    let pre = c .before .before .before .before .before .before .before .pre in
+    let args = c .before .before .before .before .before .before .before .args in
+    let pattern-cell = c .before .before .before .pattern-cell in
+    let if5 = c .before .if5 in
+    row-L-var (args .t .now) (args .base) (args .ps .now) (args .top) (args .c) (omega (arith, (pre .0), (pre .2))) (pattern-cell .ensures .0) (c .if6 .taken) (if5 .taken)
 
 pattern-part-requires : tie.Need-pattern-part-requires
 pattern-part-requires c κs = search needs
@@ -47,13 +74,31 @@ same-length : tie.Need-same-length
 same-length c = search needs
 
 returns-6 : tie.Need-returns-6
-returns-6 c = row-L (c .before .before .before .before .before .before .before .before .before .args .t .now) (c .before .before .before .before .before .before .before .before .before .args .base) (c .before .before .before .before .before .before .before .before .before .args .ps .now) (c .before .before .before .before .before .before .before .before .before .args .top) (c .before .before .before .before .before .before .before .before .before .args .c) (omega (arith, (c .before .before .before .before .before .before .before .before .before .pre .0), (c .before .before .before .before .before .before .before .before .before .pre .2))) (c .pattern-part .result) (c .before .before .before .before .before .pattern-cell .ensures .0) (c .before .if7 .taken) (c .before .before .before .if5 .taken) (c .pattern-part .ensures)
+returns-6 c =
+    let pre = c .before .before .before .before .before .before .before .before .before .pre in
+    let args = c .before .before .before .before .before .before .before .before .before .args in
+    let pattern-cell = c .before .before .before .before .before .pattern-cell in
+    let if5 = c .before .before .before .if5 in
+    let if7 = c .before .if7 in
+    row-L (args .t .now) (args .base) (args .ps .now) (args .top) (args .c) (omega (arith, (pre .0), (pre .2))) (c .pattern-part .result) (pattern-cell .ensures .0) (if7 .taken) (if5 .taken)
+    (c .pattern-part .ensures)
 
 returns-7 : tie.Need-returns-7
-returns-7 c = row-L-not (c .before .before .before .before .before .before .before .before .args .t .now) (c .before .before .before .before .before .before .before .before .args .base) (c .before .before .before .before .before .before .before .before .args .ps .now) (c .before .before .before .before .before .before .before .before .args .top) (c .before .before .before .before .before .before .before .before .args .c) (omega (arith, (c .before .before .before .before .before .before .before .before .pre .0), (c .before .before .before .before .before .before .before .before .pre .2))) (c .before .before .before .before .pattern-cell .ensures .0) (c .before .if6 .left) (c .if7 .left) (c .before .before .if5 .taken)
+returns-7 c =
+    let pre = c .before .before .before .before .before .before .before .before .pre in
+    let args = c .before .before .before .before .before .before .before .before .args in
+    let pattern-cell = c .before .before .before .before .pattern-cell in
+    let if5 = c .before .before .if5 in
+    let if6 = c .before .if6 in
+    row-L-not (args .t .now) (args .base) (args .ps .now) (args .top) (args .c) (omega (arith, (pre .0), (pre .2))) (pattern-cell .ensures .0) (if6 .left) (c .if7 .left) (if5 .taken)
 
 returns-8 : tie.Need-returns-8
-returns-8 c = row-R-var (c .before .before .before .before .before .before .before .before .args .t .now) (c .before .before .before .before .before .before .before .before .args .base) (c .before .before .before .before .before .before .before .before .args .ps .now) (c .before .before .before .before .before .before .before .before .args .top) (c .before .before .before .before .before .before .before .before .args .c) (omega (arith, (c .before .before .before .before .before .before .before .before .pre .0), (c .before .before .before .before .before .before .before .before .pre .2))) (c .before .before .before .before .pattern-cell .ensures .0) (c .if9 .taken) (c .before .if8 .taken)
+returns-8 c =
+    let pre = c .before .before .before .before .before .before .before .before .pre in
+    let args = c .before .before .before .before .before .before .before .before .args in
+    let pattern-cell = c .before .before .before .before .pattern-cell in
+    let if8 = c .before .if8 in
+    row-R-var (args .t .now) (args .base) (args .ps .now) (args .top) (args .c) (omega (arith, (pre .0), (pre .2))) (pattern-cell .ensures .0) (c .if9 .taken) (if8 .taken)
 
 pattern-part-requires-2 : tie.Need-pattern-part-requires-2
 pattern-part-requires-2 c κs = search needs
@@ -68,10 +113,23 @@ same-length-2 : tie.Need-same-length-2
 same-length-2 c = search needs
 
 returns-9 : tie.Need-returns-9
-returns-9 c = row-R (c .before .before .before .before .before .before .before .before .before .before .args .t .now) (c .before .before .before .before .before .before .before .before .before .before .args .base) (c .before .before .before .before .before .before .before .before .before .before .args .ps .now) (c .before .before .before .before .before .before .before .before .before .before .args .top) (c .before .before .before .before .before .before .before .before .before .before .args .c) (omega (arith, (c .before .before .before .before .before .before .before .before .before .before .pre .0), (c .before .before .before .before .before .before .before .before .before .before .pre .2))) (c .pattern-part2 .result) (c .before .before .before .before .before .before .pattern-cell .ensures .0) (c .before .if10 .taken) (c .before .before .before .if8 .taken) (c .pattern-part2 .ensures)
+returns-9 c =
+    let pre = c .before .before .before .before .before .before .before .before .before .before .pre in
+    let args = c .before .before .before .before .before .before .before .before .before .before .args in
+    let pattern-cell = c .before .before .before .before .before .before .pattern-cell in
+    let if8 = c .before .before .before .if8 in
+    let if10 = c .before .if10 in
+    row-R (args .t .now) (args .base) (args .ps .now) (args .top) (args .c) (omega (arith, (pre .0), (pre .2))) (c .pattern-part2 .result) (pattern-cell .ensures .0) (if10 .taken)
+    (if8 .taken) (c .pattern-part2 .ensures)
 
 returns-10 : tie.Need-returns-10
-returns-10 c = row-R-not (c .before .before .before .before .before .before .before .before .before .args .t .now) (c .before .before .before .before .before .before .before .before .before .args .base) (c .before .before .before .before .before .before .before .before .before .args .ps .now) (c .before .before .before .before .before .before .before .before .before .args .top) (c .before .before .before .before .before .before .before .before .before .args .c) (omega (arith, (c .before .before .before .before .before .before .before .before .before .pre .0), (c .before .before .before .before .before .before .before .before .before .pre .2))) (c .before .before .before .before .before .pattern-cell .ensures .0) (c .before .if9 .left) (c .if10 .left) (c .before .before .if8 .taken)
+returns-10 c =
+    let pre = c .before .before .before .before .before .before .before .before .before .pre in
+    let args = c .before .before .before .before .before .before .before .before .before .args in
+    let pattern-cell = c .before .before .before .before .before .pattern-cell in
+    let if8 = c .before .before .if8 in
+    let if9 = c .before .if9 in
+    row-R-not (args .t .now) (args .base) (args .ps .now) (args .top) (args .c) (omega (arith, (pre .0), (pre .2))) (pattern-cell .ensures .0) (if9 .left) (c .if10 .left) (if8 .taken)
 
 sub-next : tie.Need-sub-next
 sub-next c = search needs
@@ -86,7 +144,15 @@ same-length-3 : tie.Need-same-length-3
 same-length-3 c = search needs
 
 returns-11 : tie.Need-returns-11
-returns-11 c = row-P-var (c .before .before .before .before .before .before .before .before .args .t .now) (c .before .before .before .before .before .before .before .before .args .base) (c .before .before .before .before .before .before .before .before .args .ps .now) (c .before .before .before .before .before .before .before .before .args .top) (c .before .before .before .before .before .before .before .before .args .c) (omega (arith, (c .before .before .before .before .before .before .before .before .pre .0), (c .before .before .before .before .before .before .before .before .pre .2))) (c .before .before .before .if1 .left) (c .before .before .if5 .left) (c .before .if8 .left) (c .before .before .before .before .pattern-cell .ensures .0) (c .if11 .taken) (c .before .before .before .before .before .before .before .before .pre .1)
+returns-11 c =
+    let pre = c .before .before .before .before .before .before .before .before .pre in
+    let args = c .before .before .before .before .before .before .before .before .args in
+    let pattern-cell = c .before .before .before .before .pattern-cell in
+    let if1 = c .before .before .before .if1 in
+    let if5 = c .before .before .if5 in
+    let if8 = c .before .if8 in
+    row-P-var (args .t .now) (args .base) (args .ps .now) (args .top) (args .c) (omega (arith, (pre .0), (pre .2))) (if1 .left) (if5 .left) (if8 .left) (pattern-cell .ensures .0)
+    (c .if11 .taken) (pre .1)
 
 pattern-part-requires-3 : tie.Need-pattern-part-requires-3
 pattern-part-requires-3 c κs = search needs
@@ -104,16 +170,39 @@ mul-ps-5 : tie.Need-mul-ps-5
 mul-ps-5 c = search needs
 
 slice-write-ps-5 : tie.Need-slice-write-ps-5
-slice-write-ps-5 c = omega (arith, (c .before .before .before .before .before .before .before .before .before .before .before .pre .0), (c .before .before .before .before .before .before .before .before .before .before .before .pre .2), length-set (c .before .before .before .before .before .before .before .before .before .before .before .args .ps .now) (c .before .before .before .before .before .before .before .before .before .before .before .args .top) (c .before .pattern-part3 .result))
+slice-write-ps-5 c =
+    let pre = c .before .before .before .before .before .before .before .before .before .before .before .pre in
+    let args = c .before .before .before .before .before .before .before .before .before .before .before .args in
+    let pattern-part3 = c .before .pattern-part3 in
+    omega (arith, (pre .0), (pre .2), length-set (args .ps .now) (args .top) (pattern-part3 .result))
 
 same-length-4 : tie.Need-same-length-4
 same-length-4 c = search needs
 
 returns-12 : tie.Need-returns-12
-returns-12 c = row-P (c .before .before .before .before .before .before .before .before .before .before .before .args .t .now) (c .before .before .before .before .before .before .before .before .before .before .before .args .base) (c .before .before .before .before .before .before .before .before .before .before .before .args .ps .now) (c .before .before .before .before .before .before .before .before .before .before .before .args .top) (c .before .before .before .before .before .before .before .before .before .before .before .args .c) (omega (arith, (c .before .before .before .before .before .before .before .before .before .before .before .pre .0), (c .before .before .before .before .before .before .before .before .before .before .before .pre .2))) (c .before .before .before .before .before .before .if1 .left) (c .before .before .before .before .before .if5 .left) (c .before .before .before .before .if8 .left) (c .pattern-part4 .result) (c .before .pattern-part3 .result) (c .before .before .before .before .before .before .before .pattern-cell .ensures .0) (c .before .before .if12 .taken) (c .before .before .before .before .before .before .before .before .before .before .before .pre .1) (c .pattern-part4 .ensures) (c .before .pattern-part3 .ensures)
+returns-12 c =
+    let pre = c .before .before .before .before .before .before .before .before .before .before .before .pre in
+    let args = c .before .before .before .before .before .before .before .before .before .before .before .args in
+    let pattern-cell = c .before .before .before .before .before .before .before .pattern-cell in
+    let if1 = c .before .before .before .before .before .before .if1 in
+    let if5 = c .before .before .before .before .before .if5 in
+    let if8 = c .before .before .before .before .if8 in
+    let if12 = c .before .before .if12 in
+    let pattern-part3 = c .before .pattern-part3 in
+    row-P (args .t .now) (args .base) (args .ps .now) (args .top) (args .c) (omega (arith, (pre .0), (pre .2))) (if1 .left) (if5 .left) (if8 .left) (c .pattern-part4 .result)
+    (pattern-part3 .result) (pattern-cell .ensures .0) (if12 .taken) (pre .1) (c .pattern-part4 .ensures) (pattern-part3 .ensures)
 
 returns-13 : tie.Need-returns-13
-returns-13 c = row-P-not (c .before .before .before .before .before .before .before .before .before .args .t .now) (c .before .before .before .before .before .before .before .before .before .args .base) (c .before .before .before .before .before .before .before .before .before .args .ps .now) (c .before .before .before .before .before .before .before .before .before .args .top) (c .before .before .before .before .before .before .before .before .before .args .c) (omega (arith, (c .before .before .before .before .before .before .before .before .before .pre .0), (c .before .before .before .before .before .before .before .before .before .pre .2))) (c .before .before .before .before .if1 .left) (c .before .before .before .if5 .left) (c .before .before .if8 .left) (c .before .before .before .before .before .pattern-cell .ensures .0) (c .before .if11 .left) (c .if12 .left)
+returns-13 c =
+    let pre = c .before .before .before .before .before .before .before .before .before .pre in
+    let args = c .before .before .before .before .before .before .before .before .before .args in
+    let pattern-cell = c .before .before .before .before .before .pattern-cell in
+    let if1 = c .before .before .before .before .if1 in
+    let if5 = c .before .before .before .if5 in
+    let if8 = c .before .before .if8 in
+    let if11 = c .before .if11 in
+    row-P-not (args .t .now) (args .base) (args .ps .now) (args .top) (args .c) (omega (arith, (pre .0), (pre .2))) (if1 .left) (if5 .left) (if8 .left) (pattern-cell .ensures .0)
+    (if11 .left) (c .if12 .left)
 
 pub step-row-spec : {M : Type 1} → statement M
 step-row-spec =

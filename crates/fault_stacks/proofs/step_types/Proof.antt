@@ -45,7 +45,9 @@ same-length c = search needs
 -- src/lib.rt:69:9
 returns-2 : tie.Need-returns-2
 returns-2 c =
-    let a = c .before .before .before .before .before .before in types-L (a .args .t .now) (a .args .ts .now) (a .args .top) (omega (arith, a .pre .0, a .pre .2)) (c .first-part .result) (c .before .if2 .taken) (c .first-part .ensures)
+    let if2 = c .before .if2 in
+    let a = c .before .before .before .before .before .before in types-L (a .args .t .now) (a .args .ts .now) (a .args .top) (omega (arith, a .pre .0, a .pre .2)) (c .first-part .result)
+    (if2 .taken) (c .first-part .ensures)
 
 -- src/lib.rt:71:9
 second-part-requires : tie.Need-second-part-requires
@@ -66,7 +68,9 @@ same-length-2 c = search needs
 -- src/lib.rt:74:9
 returns-3 : tie.Need-returns-3
 returns-3 c =
-    let a = c .before .before .before .before .before .before .before in types-R (a .args .t .now) (a .args .ts .now) (a .args .top) (omega (arith, a .pre .0, a .pre .2)) (c .before .second-part .result) (c .if3 .taken) (c .before .second-part .ensures)
+    let second-part = c .before .second-part in
+    let a = c .before .before .before .before .before .before .before in types-R (a .args .t .now) (a .args .ts .now) (a .args .top) (omega (arith, a .pre .0, a .pre .2))
+    (second-part .result) (c .if3 .taken) (second-part .ensures)
 
 -- src/lib.rt:76:16
 sub-next : tie.Need-sub-next
@@ -83,7 +87,8 @@ mul-ts-3 c = search needs
 -- src/lib.rt:77:5
 slice-write-ts-3 : tie.Need-slice-write-ts-3
 slice-write-ts-3 c =
-    let a = c .before .before .before .before .before .before .before .before in omega (arith, a .pre .0, a .pre .2, length-set (a .args .ts .now) (a .args .top) (c .before .before .second-part .result))
+    let second-part = c .before .before .second-part in
+    let a = c .before .before .before .before .before .before .before .before in omega (arith, a .pre .0, a .pre .2, length-set (a .args .ts .now) (a .args .top) (second-part .result))
 
 -- src/lib.rt:59:1
 same-length-3 : tie.Need-same-length-3
@@ -92,7 +97,12 @@ same-length-3 c = search needs
 -- src/lib.rt:59:1
 returns-4 : tie.Need-returns-4
 returns-4 c =
-    let a = c .before .before .before .before .before .before .before .before in types-P (a .args .t .now) (a .args .ts .now) (a .args .top) (omega (arith, a .pre .0, a .pre .2)) (c .first-part2 .result) (c .before .before .second-part .result) (c .before .before .before .before .before .if1 .left) (c .before .before .before .if2 .left) (c .before .if3 .left) (a .pre .1) (c .before .before .second-part .ensures) (c .first-part2 .ensures)
+    let if1 = c .before .before .before .before .before .if1 in
+    let if2 = c .before .before .before .if2 in
+    let second-part = c .before .before .second-part in
+    let if3 = c .before .if3 in
+    let a = c .before .before .before .before .before .before .before .before in types-P (a .args .t .now) (a .args .ts .now) (a .args .top) (omega (arith, a .pre .0, a .pre .2))
+    (c .first-part2 .result) (second-part .result) (if1 .left) (if2 .left) (if3 .left) (a .pre .1) (second-part .ensures) (c .first-part2 .ensures)
 
 pub step-types-spec : {M : Type 1} → statement M
 step-types-spec =

@@ -42,7 +42,9 @@ shared-slice-read-step-types c = search needs
 -- src/lib.rt:140:9
 step-types-requires : tie.Need-step-types-requires Inv-loop μ-loop
 step-types-requires c κs =
-    let l = c .before .before .before .before .loop in (l .inv .long, omega (arith, l .inv .lower, c .before .before .before .before .before .before .before .before .pre .1), search needs)
+    let pre = c .before .before .before .before .before .before .before .before .pre in
+    let loop′ = c .before .before .before .before .loop in
+    let l = loop′ in (l .inv .long, omega (arith, l .inv .lower, pre .1), search needs)
 
 -- src/lib.rt:141:9
 add-n : tie.Need-add-n Inv-loop μ-loop
@@ -55,7 +57,10 @@ loop-less c = search needs
 -- src/lib.rt:136:5
 loop-again : tie.Need-loop-again Inv-loop μ-loop
 loop-again c =
-    let l = c .before .before .before .before .before .before .before .loop in types-more (l .inv) (search needs) (search needs) (c .before .before .before .before .before .before .before .before .before .before .before .pre .1) (c .before .before .step-types .kept .1 .0) (c .before .before .step-types .ensures)
+    let pre = c .before .before .before .before .before .before .before .before .before .before .before .pre in
+    let loop′ = c .before .before .before .before .before .before .before .loop in
+    let step-types = c .before .before .step-types in
+    let l = loop′ in types-more (l .inv) (search needs) (search needs) (pre .1) (step-types .kept .1 .0) (step-types .ensures)
 
 -- src/lib.rt:129:1
 same-length-2 : tie.Need-same-length-2 Inv-loop μ-loop

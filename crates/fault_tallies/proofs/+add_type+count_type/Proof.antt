@@ -44,7 +44,22 @@ count-type-below t =
     and 2 count-type-kinds.ps (falls 2 count-type-kinds.ps _<_ μ-count-type t) count-type.Pre
 
 abbrev ks-add-type : ℕ → add-type-lts.Claims
-ks-add-type t = (copy-reads.Asked, copy-reads.Learnt, shift-reads.Asked, shift-reads.Learnt, cell-reads.Asked, cell-reads.Learnt, halves-reads.Asked, halves-reads.Learnt, add-type-below t, add-type.Post, count-type-below t, count-type.Post, add-reads.Asked, add-reads.Learnt)
+ks-add-type t = (
+  copy-reads.Asked,
+  copy-reads.Learnt,
+  shift-reads.Asked,
+  shift-reads.Learnt,
+  cell-reads.Asked,
+  cell-reads.Learnt,
+  halves-reads.Asked,
+  halves-reads.Learnt,
+  add-type-below t,
+  add-type.Post,
+  count-type-below t,
+  count-type.Post,
+  add-reads.Asked,
+  add-reads.Learnt,
+)
 
 abbrev ks-count-type : ℕ → count-type-lts.Claims
 ks-count-type t = (add-type-below t, add-type.Post, copy-reads.Asked, copy-reads.Learnt)
@@ -63,24 +78,77 @@ pub +add-type+count-type-spec : {M : Type 1} → statement M
     add-type-μ-loop
     (λ c. search needs)
     (λ c κs. search needs)
-    (λ c. going-start (c .before .before .before .before .before .before .args .t .now) (c .before .before .before .before .before .before .args .i) (search needs) (search needs) (c .before .copy .ensures))
+    (λ c.
+    let args = c .before .before .before .before .before .before .args in
+    let copy = c .before .copy in
+    going-start (args .t .now) (args .i) (search needs) (search needs) (copy .ensures))
     (λ c. search needs)
     (λ c κs. search needs)
     (λ c κs. search needs)
     (λ c κs. search needs)
     (λ c. search needs)
-    (λ c κs. (add-less _ _ _ (c .before .before .before .before .before .before .before .before .before .before .before .before .before .before .before .pre .0) ((c .before .before .before .before .before .before .before .before .loop .inv) .below) (halves-fall (c .before .before .before .before .before .before .before .before .before .before .before .before .before .before .before .args .t .now) (c .before .before .before .before .before .before .before .before .loop .j) (c .before .before .before .before .cell .ensures .0) (no-unit (c .before .before .before .if1 .taken)) (c .before .before .halves .ensures) .0), search needs))
-    (λ c. halves-fall (c .before .before .before .before .before .before .before .before .before .before .before .before .before .before .before .before .before .before .args .t .now) (c .before .before .before .before .before .before .before .before .before .before .before .loop .j) (c .before .before .before .before .before .before .before .cell .ensures .0) (no-unit (c .before .before .before .before .before .before .if1 .taken)) (c .before .before .before .before .before .halves .ensures) .1)
-    (λ c. going-sum (c .before .before .before .before .before .before .before .before .before .before .before .before .before .before .before .before .before .before .args .t .now) (c .before .before .before .before .before .before .before .before .before .before .before .before .before .before .before .before .before .before .args .i) (c .before .before .before .before .before .before .before .before .before .before .before .loop .inv) (c .before .before .before .before .before .before .before .before .before .shift .ensures) (c .before .before .before .before .before .before .before .cell .ensures .0) (c .before .before .before .before .before .halves .ensures) (c .before .before .before .before .before .before .if1 .taken) (search needs) (search needs) (c .before .before .add-type .ensures))
+    (λ c κs.
+    let pre = c .before .before .before .before .before .before .before .before .before .before .before .before .before .before .before .pre in
+    let args = c .before .before .before .before .before .before .before .before .before .before .before .before .before .before .before .args in
+    let loop′ = c .before .before .before .before .before .before .before .before .loop in
+    let cell = c .before .before .before .before .cell in
+    let if1 = c .before .before .before .if1 in
+    let halves = c .before .before .halves in
+    (add-less _ _ _ (pre .0) ((loop′ .inv) .below) (halves-fall (args .t .now) (loop′ .j) (cell .ensures .0) (no-unit (if1 .taken)) (halves .ensures) .0), search needs))
+    (λ c.
+    let args = c .before .before .before .before .before .before .before .before .before .before .before .before .before .before .before .before .before .before .args in
+    let loop′ = c .before .before .before .before .before .before .before .before .before .before .before .loop in
+    let cell = c .before .before .before .before .before .before .before .cell in
+    let if1 = c .before .before .before .before .before .before .if1 in
+    let halves = c .before .before .before .before .before .halves in
+    halves-fall (args .t .now) (loop′ .j) (cell .ensures .0) (no-unit (if1 .taken)) (halves .ensures) .1)
+    (λ c.
+    let args = c .before .before .before .before .before .before .before .before .before .before .before .before .before .before .before .before .before .before .args in
+    let loop′ = c .before .before .before .before .before .before .before .before .before .before .before .loop in
+    let shift = c .before .before .before .before .before .before .before .before .before .shift in
+    let cell = c .before .before .before .before .before .before .before .cell in
+    let if1 = c .before .before .before .before .before .before .if1 in
+    let halves = c .before .before .before .before .before .halves in
+    let add-type = c .before .before .add-type in
+    going-sum (args .t .now) (args .i) (loop′ .inv) (shift .ensures) (cell .ensures .0) (halves .ensures) (if1 .taken) (search needs) (search needs) (add-type .ensures))
     (λ c κs. search needs)
     (λ c. search needs)
-    (λ c κs. (count-less _ _ _ (c .before .before .before .before .before .before .before .before .before .before .before .before .before .before .before .pre .0) ((c .before .before .before .before .before .before .before .before .loop .inv) .below) (halves-fall (c .before .before .before .before .before .before .before .before .before .before .before .before .before .before .before .args .t .now) (c .before .before .before .before .before .before .before .before .loop .j) (c .before .before .before .before .cell .ensures .0) (no-unit (c .before .before .if2 .taken)) (c .before .halves2 .ensures) .0), search needs))
-    (λ c. halves-fall (c .before .before .before .before .before .before .before .before .before .before .before .before .before .before .before .before .before .args .t .now) (c .before .before .before .before .before .before .before .before .before .before .loop .j) (c .before .before .before .before .before .before .cell .ensures .0) (no-unit (c .before .before .before .before .if2 .taken)) (c .before .before .before .halves2 .ensures) .1)
-    (λ c. going-product (c .before .before .before .before .before .before .before .before .before .before .before .before .before .before .before .before .before .args .t .now) (c .before .before .before .before .before .before .before .before .before .before .before .before .before .before .before .before .before .args .i) (c .before .before .before .before .before .before .before .before .before .before .loop .inv) (c .before .before .before .before .before .before .before .before .shift .ensures) (c .before .before .before .before .before .before .cell .ensures .0) (c .before .before .before .halves2 .ensures) (c .before .before .before .before .if2 .taken) (search needs) (c .before .count-type .ensures))
+    (λ c κs.
+    let pre = c .before .before .before .before .before .before .before .before .before .before .before .before .before .before .before .pre in
+    let args = c .before .before .before .before .before .before .before .before .before .before .before .before .before .before .before .args in
+    let loop′ = c .before .before .before .before .before .before .before .before .loop in
+    let cell = c .before .before .before .before .cell in
+    let if2 = c .before .before .if2 in
+    let halves2 = c .before .halves2 in
+    (count-less _ _ _ (pre .0) ((loop′ .inv) .below) (halves-fall (args .t .now) (loop′ .j) (cell .ensures .0) (no-unit (if2 .taken)) (halves2 .ensures) .0), search needs))
+    (λ c.
+    let args = c .before .before .before .before .before .before .before .before .before .before .before .before .before .before .before .before .before .args in
+    let loop′ = c .before .before .before .before .before .before .before .before .before .before .loop in
+    let cell = c .before .before .before .before .before .before .cell in
+    let if2 = c .before .before .before .before .if2 in
+    let halves2 = c .before .before .before .halves2 in
+    halves-fall (args .t .now) (loop′ .j) (cell .ensures .0) (no-unit (if2 .taken)) (halves2 .ensures) .1)
+    (λ c.
+    let args = c .before .before .before .before .before .before .before .before .before .before .before .before .before .before .before .before .before .args in
+    let loop′ = c .before .before .before .before .before .before .before .before .before .before .loop in
+    let shift = c .before .before .before .before .before .before .before .before .shift in
+    let cell = c .before .before .before .before .before .before .cell in
+    let if2 = c .before .before .before .before .if2 in
+    let halves2 = c .before .before .before .halves2 in
+    let count-type = c .before .count-type in
+    going-product (args .t .now) (args .i) (loop′ .inv) (shift .ensures) (cell .ensures .0) (halves2 .ensures) (if2 .taken) (search needs) (count-type .ensures))
     (λ c. search needs)
     (λ c κs. search needs)
     (λ c. search needs)
-    (λ c. going-end (c .before .before .before .before .before .before .before .before .before .before .before .before .before .before .before .before .before .before .args .t .now) (c .before .before .before .before .before .before .before .before .before .before .before .before .before .before .before .before .before .before .args .i) (c .before .before .before .before .before .before .before .before .before .before .before .loop .inv) (c .before .before .before .before .before .before .before .before .before .shift .ensures) (c .before .before .before .before .before .before .before .cell .ensures .0) (c .before .before .before .before .before .before .if1 .left) (c .before .before .before .before .before .if2 .left) (c .before .before .add .ensures)))
+    (λ c.
+    let args = c .before .before .before .before .before .before .before .before .before .before .before .before .before .before .before .before .before .before .args in
+    let loop′ = c .before .before .before .before .before .before .before .before .before .before .before .loop in
+    let shift = c .before .before .before .before .before .before .before .before .before .shift in
+    let cell = c .before .before .before .before .before .before .before .cell in
+    let if1 = c .before .before .before .before .before .before .if1 in
+    let if2 = c .before .before .before .before .before .if2 in
+    let add = c .before .before .add in
+    going-end (args .t .now) (args .i) (loop′ .inv) (shift .ensures) (cell .ensures .0) (if1 .left) (if2 .left) (add .ensures)))
     λ t. count-type-lts.spec
     (add-type-below t, add-type.Post, copy-reads.Asked, copy-reads.Learnt)
     (count-type-at t)
@@ -90,4 +158,7 @@ pub +add-type+count-type-spec : {M : Type 1} → statement M
     (λ c. search needs)
     (λ c κs. search needs)
     (λ c. search needs)
-    (λ c. λ W h. held-copy (c .before .before .copy .ensures) (held-as _ (λ n. zero-add _) ((c .before .before .before .before .before .before .add-type .ensures) W (λ n. 0) h held-zeros)))
+    (λ c.
+    let add-type = c .before .before .before .before .before .before .add-type in
+    let copy = c .before .before .copy in
+    λ W h. held-copy (copy .ensures) (held-as _ (λ n. zero-add _) ((add-type .ensures) W (λ n. 0) h held-zeros)))

@@ -36,7 +36,22 @@ count-pattern-below t =
     count-pattern.Pre
 
 abbrev ks-count-pattern : ℕ → count-pattern-lts.Claims
-ks-count-pattern t = (pattern-cell-reads.Asked, pattern-cell-reads.Learnt, count-type-reads.Asked, count-type-reads.Learnt, pattern-part-reads.Asked, pattern-part-reads.Learnt, first-part-reads.Asked, first-part-reads.Learnt, count-pattern-below t, count-pattern.Post, shift-reads.Asked, shift-reads.Learnt, second-part-reads.Asked, second-part-reads.Learnt)
+ks-count-pattern t = (
+  pattern-cell-reads.Asked,
+  pattern-cell-reads.Learnt,
+  count-type-reads.Asked,
+  count-type-reads.Learnt,
+  pattern-part-reads.Asked,
+  pattern-part-reads.Learnt,
+  first-part-reads.Asked,
+  first-part-reads.Learnt,
+  count-pattern-below t,
+  count-pattern.Post,
+  shift-reads.Asked,
+  shift-reads.Learnt,
+  second-part-reads.Asked,
+  second-part-reads.Learnt,
+)
 
 pub +count-pattern-spec : {M : Type 1} → statement M
 +count-pattern-spec = close μ-count-pattern λ t. count-pattern-lts.spec (ks-count-pattern t)
@@ -45,28 +60,110 @@ pub +count-pattern-spec : {M : Type 1} → statement M
     (λ c κs. search needs)
     (λ c κs. search needs)
     (λ c. search needs)
-    (λ c. λ W h. as-var (typeOf (c .before .before .before .before .before .before .before .before .args .t .now) (c .before .before .before .before .before .before .before .before .args .i)) W (is-var (c .before .before .before .before .before .before .before .before .args .t .now) (c .before .before .before .before .before .before .before .before .args .base) (c .before .before .before .before .before .before .before .before .args .p) (c .before .before .before .before .before .pattern-cell .ensures .0) (c .before .before .before .before .if1 .taken)) ((c .before .before .count-type .ensures) W h))
+    (λ c.
+    let args = c .before .before .before .before .before .before .before .before .args in
+    let pattern-cell = c .before .before .before .before .before .pattern-cell in
+    let if1 = c .before .before .before .before .if1 in
+    let count-type = c .before .before .count-type in
+    λ W h. as-var (typeOf (args .t .now) (args .i)) W (is-var (args .t .now) (args .base) (args .p) (pattern-cell .ensures .0) (if1 .taken)) ((count-type .ensures) W h))
     (λ c κs. search needs)
     (λ c κs. search needs)
-    (λ c κs. (pattern-call (c .before .before .before .before .before .before .before .before .args .t .now) (c .before .before .before .before .before .before .before .before .args .base) (c .before .before .before .before .before .before .before .before .args .p) (cellOf (c .before .before .before .before .before .before .before .before .args .t .now) ((c .before .before .before .before .before .before .before .before .args .base) + (c .before .before .before .before .before .before .before .before .args .p)) 2) (c .before .before .before .before .before .before .before .before .pre .0) (c .before .before .before .before .before .pattern-cell .ensures .0) (no-unit (c .before .before .before .if2 .taken)) (c .before .before .pattern-part .ensures), search needs))
-    (λ c κs. search needs)
-    (λ c. search needs)
-    (λ c. λ W h. as-tag (typeOf (c .before .before .before .before .before .before .before .before .before .before .before .before .before .before .before .args .t .now) (c .before .before .before .before .before .before .before .before .before .before .before .before .before .before .before .args .i)) W left (is-left (c .before .before .before .before .before .before .before .before .before .before .before .before .before .before .before .args .t .now) (c .before .before .before .before .before .before .before .before .before .before .before .before .before .before .before .args .base) (c .before .before .before .before .before .before .before .before .before .before .before .before .before .before .before .args .p) (c .before .before .before .before .before .before .before .before .before .before .before .before .pattern-cell .ensures .0) (c .before .before .before .before .before .before .before .before .before .before .if2 .taken) (c .before .before .before .before .before .before .before .before .before .pattern-part .ensures)) (c .before .before .before .before .before .before .before .before .first-part .ensures) (held-shift (c .before .before .shift .ensures) ((c .before .before .before .before .before .before .count-pattern .ensures) W h)))
-    (λ c κs. search needs)
-    (λ c κs. search needs)
-    (λ c κs. (pattern-call (c .before .before .before .before .before .before .before .before .before .args .t .now) (c .before .before .before .before .before .before .before .before .before .args .base) (c .before .before .before .before .before .before .before .before .before .args .p) (cellOf (c .before .before .before .before .before .before .before .before .before .args .t .now) ((c .before .before .before .before .before .before .before .before .before .args .base) + (c .before .before .before .before .before .before .before .before .before .args .p)) 2) (c .before .before .before .before .before .before .before .before .before .pre .0) (c .before .before .before .before .before .before .pattern-cell .ensures .0) (no-unit (c .before .before .before .if3 .taken)) (c .before .before .pattern-part2 .ensures), search needs))
-    (λ c κs. search needs)
-    (λ c. search needs)
-    (λ c. λ W h. as-tag (typeOf (c .before .before .before .before .before .before .before .before .before .before .before .before .before .before .before .before .args .t .now) (c .before .before .before .before .before .before .before .before .before .before .before .before .before .before .before .before .args .i)) W right (is-right (c .before .before .before .before .before .before .before .before .before .before .before .before .before .before .before .before .args .t .now) (c .before .before .before .before .before .before .before .before .before .before .before .before .before .before .before .before .args .base) (c .before .before .before .before .before .before .before .before .before .before .before .before .before .before .before .before .args .p) (c .before .before .before .before .before .before .before .before .before .before .before .before .before .pattern-cell .ensures .0) (c .before .before .before .before .before .before .before .before .before .before .if3 .taken) (c .before .before .before .before .before .before .before .before .before .pattern-part2 .ensures)) (c .before .before .before .before .before .before .before .before .second-part .ensures) (held-shift (c .before .before .shift2 .ensures) ((c .before .before .before .before .before .before .count-pattern2 .ensures) W h)))
-    (λ c κs. search needs)
-    (λ c κs. search needs)
-    (λ c κs. (pattern-call (c .before .before .before .before .before .before .before .before .before .before .args .t .now) (c .before .before .before .before .before .before .before .before .before .before .args .base) (c .before .before .before .before .before .before .before .before .before .before .args .p) (cellOf (c .before .before .before .before .before .before .before .before .before .before .args .t .now) ((c .before .before .before .before .before .before .before .before .before .before .args .base) + (c .before .before .before .before .before .before .before .before .before .before .args .p)) 3) (c .before .before .before .before .before .before .before .before .before .before .pre .0) (c .before .before .before .before .before .before .before .pattern-cell .ensures .0) (no-unit (c .before .before .before .if4 .taken)) (c .before .before .pattern-part3 .ensures), search needs))
-    (λ c κs. search needs)
-    (λ c κs. search needs)
-    (λ c κs. (pattern-call (c .before .before .before .before .before .before .before .before .before .before .before .before .before .before .before .before .args .t .now) (c .before .before .before .before .before .before .before .before .before .before .before .before .before .before .before .before .args .base) (c .before .before .before .before .before .before .before .before .before .before .before .before .before .before .before .before .args .p) (cellOf (c .before .before .before .before .before .before .before .before .before .before .before .before .before .before .before .before .args .t .now) ((c .before .before .before .before .before .before .before .before .before .before .before .before .before .before .before .before .args .base) + (c .before .before .before .before .before .before .before .before .before .before .before .before .before .before .before .before .args .p)) 2) (c .before .before .before .before .before .before .before .before .before .before .before .before .before .before .before .before .pre .0) (c .before .before .before .before .before .before .before .before .before .before .before .before .before .pattern-cell .ensures .0) (no-unit (c .before .before .before .before .before .before .before .before .before .if4 .taken)) (c .before .before .pattern-part4 .ensures), search needs))
-    (λ c κs. search needs)
-    (λ c. search needs)
-    (λ c. λ W h. as-pair (typeOf (c .before .before .before .before .before .before .before .before .before .before .before .before .before .before .before .before .before .before .before .before .before .before .before .args .t .now) (c .before .before .before .before .before .before .before .before .before .before .before .before .before .before .before .before .before .before .before .before .before .before .before .args .i)) W (is-pair (c .before .before .before .before .before .before .before .before .before .before .before .before .before .before .before .before .before .before .before .before .before .before .before .args .t .now) (c .before .before .before .before .before .before .before .before .before .before .before .before .before .before .before .before .before .before .before .before .before .before .before .args .base) (c .before .before .before .before .before .before .before .before .before .before .before .before .before .before .before .before .before .before .before .before .before .before .before .args .p) (c .before .before .before .before .before .before .before .before .before .before .before .before .before .before .before .before .before .before .before .before .pattern-cell .ensures .0) (c .before .before .before .before .before .before .before .before .before .before .before .before .before .before .before .before .if4 .taken) (c .before .before .before .before .before .before .before .before .before .pattern-part4 .ensures) (c .before .before .before .before .before .before .before .before .before .before .before .before .before .before .before .pattern-part3 .ensures)) (c .before .before .before .before .before .before .before .before .first-part2 .ensures) (c .before .before .before .before .before .before .before .before .before .before .before .before .before .before .second-part2 .ensures) (held-shift (c .before .before .shift3 .ensures) ((c .before .before .before .before .before .before .count-pattern4 .ensures) _ ((c .before .before .before .before .before .before .before .before .before .before .before .before .count-pattern3 .ensures) W h))))
+    (λ c κs.
+    let pre = c .before .before .before .before .before .before .before .before .pre in
+    let args = c .before .before .before .before .before .before .before .before .args in
+    let pattern-cell = c .before .before .before .before .before .pattern-cell in
+    let if2 = c .before .before .before .if2 in
+    let pattern-part = c .before .before .pattern-part in (
+      pattern-call (args .t .now) (args .base) (args .p) (cellOf (args .t .now) ((args .base) + (args .p)) 2) (pre .0) (pattern-cell .ensures .0) (no-unit (if2 .taken))
+          (pattern-part .ensures),
+      search needs,
+    ))
     (λ c κs. search needs)
     (λ c. search needs)
-    (λ c. λ W h. as-unit (typeOf (c .before .before .before .before .before .before .before .before .before .before .before .args .t .now) (c .before .before .before .before .before .before .before .before .before .before .before .args .i)) W (is-unit (c .before .before .before .before .before .before .before .before .before .before .before .args .t .now) (c .before .before .before .before .before .before .before .before .before .before .before .args .base) (c .before .before .before .before .before .before .before .before .before .before .before .args .p) (c .before .before .before .before .before .before .before .before .pattern-cell .ensures .0) (c .before .before .before .before .before .before .before .if1 .left) (c .before .before .before .before .before .before .if2 .left) (c .before .before .before .before .before .if3 .left) (c .before .before .before .before .if4 .left)) (held-shift (c .before .before .shift4 .ensures) h))
+    (λ c.
+    let args = c .before .before .before .before .before .before .before .before .before .before .before .before .before .before .before .args in
+    let pattern-cell = c .before .before .before .before .before .before .before .before .before .before .before .before .pattern-cell in
+    let if2 = c .before .before .before .before .before .before .before .before .before .before .if2 in
+    let pattern-part = c .before .before .before .before .before .before .before .before .before .pattern-part in
+    let first-part = c .before .before .before .before .before .before .before .before .first-part in
+    let count-pattern = c .before .before .before .before .before .before .count-pattern in
+    let shift = c .before .before .shift in
+    λ W h. as-tag (typeOf (args .t .now) (args .i)) W left (is-left (args .t .now) (args .base) (args .p) (pattern-cell .ensures .0) (if2 .taken) (pattern-part .ensures))
+    (first-part .ensures) (held-shift (shift .ensures) ((count-pattern .ensures) W h)))
+    (λ c κs. search needs)
+    (λ c κs. search needs)
+    (λ c κs.
+    let pre = c .before .before .before .before .before .before .before .before .before .pre in
+    let args = c .before .before .before .before .before .before .before .before .before .args in
+    let pattern-cell = c .before .before .before .before .before .before .pattern-cell in
+    let if3 = c .before .before .before .if3 in
+    let pattern-part2 = c .before .before .pattern-part2 in (
+      pattern-call (args .t .now) (args .base) (args .p) (cellOf (args .t .now) ((args .base) + (args .p)) 2) (pre .0) (pattern-cell .ensures .0) (no-unit (if3 .taken))
+          (pattern-part2 .ensures),
+      search needs,
+    ))
+    (λ c κs. search needs)
+    (λ c. search needs)
+    (λ c.
+    let args = c .before .before .before .before .before .before .before .before .before .before .before .before .before .before .before .before .args in
+    let pattern-cell = c .before .before .before .before .before .before .before .before .before .before .before .before .before .pattern-cell in
+    let if3 = c .before .before .before .before .before .before .before .before .before .before .if3 in
+    let pattern-part2 = c .before .before .before .before .before .before .before .before .before .pattern-part2 in
+    let second-part = c .before .before .before .before .before .before .before .before .second-part in
+    let count-pattern2 = c .before .before .before .before .before .before .count-pattern2 in
+    let shift2 = c .before .before .shift2 in
+    λ W h. as-tag (typeOf (args .t .now) (args .i)) W right (is-right (args .t .now) (args .base) (args .p) (pattern-cell .ensures .0) (if3 .taken) (pattern-part2 .ensures))
+    (second-part .ensures) (held-shift (shift2 .ensures) ((count-pattern2 .ensures) W h)))
+    (λ c κs. search needs)
+    (λ c κs. search needs)
+    (λ c κs.
+    let pre = c .before .before .before .before .before .before .before .before .before .before .pre in
+    let args = c .before .before .before .before .before .before .before .before .before .before .args in
+    let pattern-cell = c .before .before .before .before .before .before .before .pattern-cell in
+    let if4 = c .before .before .before .if4 in
+    let pattern-part3 = c .before .before .pattern-part3 in (
+      pattern-call (args .t .now) (args .base) (args .p) (cellOf (args .t .now) ((args .base) + (args .p)) 3) (pre .0) (pattern-cell .ensures .0) (no-unit (if4 .taken))
+          (pattern-part3 .ensures),
+      search needs,
+    ))
+    (λ c κs. search needs)
+    (λ c κs. search needs)
+    (λ c κs.
+    let pre = c .before .before .before .before .before .before .before .before .before .before .before .before .before .before .before .before .pre in
+    let args = c .before .before .before .before .before .before .before .before .before .before .before .before .before .before .before .before .args in
+    let pattern-cell = c .before .before .before .before .before .before .before .before .before .before .before .before .before .pattern-cell in
+    let if4 = c .before .before .before .before .before .before .before .before .before .if4 in
+    let pattern-part4 = c .before .before .pattern-part4 in (
+      pattern-call (args .t .now) (args .base) (args .p) (cellOf (args .t .now) ((args .base) + (args .p)) 2) (pre .0) (pattern-cell .ensures .0) (no-unit (if4 .taken))
+          (pattern-part4 .ensures),
+      search needs,
+    ))
+    (λ c κs. search needs)
+    (λ c. search needs)
+    (λ c.
+    let far = c .before .before .before .before .before .before .before .before .before .before .before .before .before .before .before .before .before .before .before .before in
+    let args = far .before .before .before .args in
+    let pattern-cell = far .pattern-cell in
+    let if4 = c .before .before .before .before .before .before .before .before .before .before .before .before .before .before .before .before .if4 in
+    let pattern-part3 = c .before .before .before .before .before .before .before .before .before .before .before .before .before .before .before .pattern-part3 in
+    let second-part2 = c .before .before .before .before .before .before .before .before .before .before .before .before .before .before .second-part2 in
+    let count-pattern3 = c .before .before .before .before .before .before .before .before .before .before .before .before .count-pattern3 in
+    let pattern-part4 = c .before .before .before .before .before .before .before .before .before .pattern-part4 in
+    let first-part2 = c .before .before .before .before .before .before .before .before .first-part2 in
+    let count-pattern4 = c .before .before .before .before .before .before .count-pattern4 in
+    let shift3 = c .before .before .shift3 in
+    λ W h. as-pair (typeOf (args .t .now) (args .i)) W
+    (is-pair (args .t .now) (args .base) (args .p) (pattern-cell .ensures .0) (if4 .taken) (pattern-part4 .ensures) (pattern-part3 .ensures)) (first-part2 .ensures)
+    (second-part2 .ensures) (held-shift (shift3 .ensures) ((count-pattern4 .ensures) _ ((count-pattern3 .ensures) W h))))
+    (λ c κs. search needs)
+    (λ c. search needs)
+    (λ c.
+    let args = c .before .before .before .before .before .before .before .before .before .before .before .args in
+    let pattern-cell = c .before .before .before .before .before .before .before .before .pattern-cell in
+    let if1 = c .before .before .before .before .before .before .before .if1 in
+    let if2 = c .before .before .before .before .before .before .if2 in
+    let if3 = c .before .before .before .before .before .if3 in
+    let if4 = c .before .before .before .before .if4 in
+    let shift4 = c .before .before .shift4 in
+    λ W h. as-unit (typeOf (args .t .now) (args .i)) W (is-unit (args .t .now) (args .base) (args .p) (pattern-cell .ensures .0) (if1 .left) (if2 .left) (if3 .left) (if4 .left))
+    (held-shift (shift4 .ensures) h))

@@ -59,7 +59,9 @@ loop-less c = search needs
 -- src/lib.rt:35:5
 loop-again : tie.Need-loop-again Inv-loop μ-loop
 loop-again c =
-    let a = c .before .before .before .before .before .before .before .args in let l = c .before .before .before .before .loop in each-one plusOf (a .k .now) (a .o .now) (l .k) (l .i) (c .plus .result) (l .inv) (search needs) (c .plus .ensures)
+    let args = c .before .before .before .before .before .before .before .args in
+    let loop′ = c .before .before .before .before .loop in
+    let a = args in let l = loop′ in each-one plusOf (a .k .now) (a .o .now) (l .k) (l .i) (c .plus .result) (l .inv) (search needs) (c .plus .ensures)
 
 -- src/lib.rt:30:1
 same-length : tie.Need-same-length Inv-loop μ-loop

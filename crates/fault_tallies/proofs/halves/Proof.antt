@@ -25,11 +25,17 @@ cell-requires-2 c κs = search needs
 
 -- src/lib.rt:76:9
 returns : tie.Need-returns
-returns c = record { turned = false; few-is = c .before .before .before .before .type-part .ensures; many-is = c .before .before .before .type-part2 .ensures }
+returns c =
+    let type-part = c .before .before .before .before .type-part in
+    let type-part2 = c .before .before .before .type-part2 in
+    record { turned = false; few-is = type-part .ensures; many-is = type-part2 .ensures }
 
 -- src/lib.rt:70:1
 returns-2 : tie.Need-returns-2
-returns-2 c = record { turned = true; few-is = c .before .before .before .type-part2 .ensures; many-is = c .before .before .before .before .type-part .ensures }
+returns-2 c =
+    let type-part = c .before .before .before .before .type-part in
+    let type-part2 = c .before .before .before .type-part2 in
+    record { turned = true; few-is = type-part2 .ensures; many-is = type-part .ensures }
 
 pub halves-spec : {M : Type 1} → statement M
 halves-spec =

@@ -15,16 +15,28 @@ type-part-requires : tie.Need-type-part-requires
 type-part-requires c κs = search needs
 
 returns : tie.Need-returns
-returns c = sum-right (c .before .before .before .before .args .t .now) (c .before .before .before .before .args .i) (c .before .before .cell .ensures .0) (c .before .if1 .taken) (c .type-part .ensures)
+returns c =
+    let args = c .before .before .before .before .args in
+    let cell = c .before .before .cell in
+    let if1 = c .before .if1 in
+    sum-right (args .t .now) (args .i) (cell .ensures .0) (if1 .taken) (c .type-part .ensures)
 
 type-part-requires-2 : tie.Need-type-part-requires-2
 type-part-requires-2 c κs = search needs
 
 returns-2 : tie.Need-returns-2
-returns-2 c = product-right (c .before .before .before .before .before .args .t .now) (c .before .before .before .before .before .args .i) (c .before .before .before .cell .ensures .0) (c .before .if2 .taken) (c .type-part2 .ensures)
+returns-2 c =
+    let args = c .before .before .before .before .before .args in
+    let cell = c .before .before .before .cell in
+    let if2 = c .before .if2 in
+    product-right (args .t .now) (args .i) (cell .ensures .0) (if2 .taken) (c .type-part2 .ensures)
 
 returns-3 : tie.Need-returns-3
-returns-3 c = no-part (c .before .before .before .before .args .t .now) (c .before .before .before .before .args .i) (c .before .before .cell .ensures .0) right (c .before .if1 .left) (c .if2 .left)
+returns-3 c =
+    let args = c .before .before .before .before .args in
+    let cell = c .before .before .cell in
+    let if1 = c .before .if1 in
+    no-part (args .t .now) (args .i) (cell .ensures .0) right (if1 .left) (c .if2 .left)
 
 pub second-part-spec : {M : Type 1} → statement M
 second-part-spec =

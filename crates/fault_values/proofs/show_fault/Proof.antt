@@ -11,7 +11,9 @@ returns : tie.Need-returns
 returns c = let a = c .before .before .before .args in fault-other (a .t .now) (a .base) (a .lines) (a .number) (a .place) (a .out .now) (inl (c .if1 .taken))
 
 returns-2 : tie.Need-returns-2
-returns-2 c = let a = c .before .before .before .before .args in fault-other (a .t .now) (a .base) (a .lines) (a .number) (a .place) (a .out .now) (inr (c .if2 .taken))
+returns-2 c =
+    let args = c .before .before .before .before .args in
+    let a = args in fault-other (a .t .now) (a .base) (a .lines) (a .number) (a .place) (a .out .now) (inr (c .if2 .taken))
 
 clauses-from-requires : tie.Need-clauses-from-requires
 clauses-from-requires c κs = search needs
@@ -40,7 +42,9 @@ part-show-side-start : tie.Need-part-show-side-start
 part-show-side-start c = search needs
 
 part-show-side-end : tie.Need-part-show-side-end
-part-show-side-end c = let k = c .before .before .before .before .clauses-from in omega (arith, array-length (k .result .rows) (k .ok .1 .1 .0 .1 .0 .1))
+part-show-side-end c =
+    let clauses-from = c .before .before .before .before .clauses-from in
+    let k = clauses-from in omega (arith, array-length (k .result .rows) (k .ok .1 .1 .0 .1 .0 .1))
 
 show-side-requires : tie.Need-show-side-requires
 show-side-requires c κs = search needs

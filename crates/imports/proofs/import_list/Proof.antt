@@ -14,7 +14,12 @@ not-filed-requires : tie.Need-not-filed-requires
 not-filed-requires c κs = search needs
 
 returns : tie.Need-returns
-returns c = let a = c .before .before .before .before .before .before .args in list-long (typeOf (a .t .now) (a .i)) (typeOf (a .t .now) (a .j)) (a .list .now) (a .out .now) (c .before .before .count-lines .ensures) (c .before .if1 .taken) (c .not-filed .result) (ap refusalView (c .not-filed .ensures .0)) (c .not-filed .ensures .1)
+returns c =
+    let args = c .before .before .before .before .before .before .before .args in
+    let count-lines = c .before .before .count-lines in
+    let if1 = c .before .if1 in
+    let a = args in list-long (typeOf (a .t .now) (a .i)) (typeOf (a .t .now) (a .j)) (a .list .now) (a .out .now) (count-lines .ensures) (if1 .taken) (c .not-filed .result)
+    (ap refusalView (c .not-filed .ensures .0)) (c .not-filed .ensures .1)
 
 count-values-requires : tie.Need-count-values-requires
 count-values-requires c κs = search needs
@@ -32,7 +37,17 @@ not-filed-requires-2 : tie.Need-not-filed-requires-2
 not-filed-requires-2 c κs = search needs
 
 returns-2 : tie.Need-returns-2
-returns-2 c = let a = c .before .before .before .before .before .before .before .before .before .before .before .before .args in list-bad (typeOf (a .t .now) (a .i)) (typeOf (a .t .now) (a .j)) (a .list .now) (a .out .now) (c .before .before .before .before .before .before .before .before .count-lines .ensures) (c .before .before .before .before .before .before .before .if1 .left) (c .before .before .before .before .before .before .count-values .ensures) (c .before .before .before .before .before .count-values2 .ensures) (c .before .before .before .read-list .last .1 .1 .1 .1 .0) (c .before .before .before .read-list .result) (search needs) (c .before .before .before .read-list .ensures) (not-true _ (c .before .if2 .taken)) (c .not-filed2 .result) (ap refusalView (c .not-filed2 .ensures .0)) (c .not-filed2 .ensures .1)
+returns-2 c =
+    let args = c .before .before .before .before .before .before .before .before .before .before .before .before .before .args in
+    let count-lines = c .before .before .before .before .before .before .before .before .count-lines in
+    let if1 = c .before .before .before .before .before .before .before .if1 in
+    let count-values = c .before .before .before .before .before .before .count-values in
+    let count-values2 = c .before .before .before .before .before .count-values2 in
+    let read-list = c .before .before .before .read-list in
+    let if2 = c .before .if2 in
+    let a = args in list-bad (typeOf (a .t .now) (a .i)) (typeOf (a .t .now) (a .j)) (a .list .now) (a .out .now) (count-lines .ensures) (if1 .left) (count-values .ensures)
+    (count-values2 .ensures) (read-list .last .1 .1 .1 .1 .0) (read-list .result) (search needs) (read-list .ensures) (not-true _ (if2 .taken)) (c .not-filed2 .result)
+    (ap refusalView (c .not-filed2 .ensures .0)) (c .not-filed2 .ensures .1)
 
 slice-aggregate-write-file : tie.Need-slice-aggregate-write-file
 slice-aggregate-write-file c = search needs
@@ -44,7 +59,18 @@ same-length : tie.Need-same-length
 same-length c = search needs
 
 returns-3 : tie.Need-returns-3
-returns-3 c = let a = c .before .before .before .before .before .before .before .before .before .before .before .before .before .before .before .before .args in list-good (typeOf (a .t .now) (a .i)) (typeOf (a .t .now) (a .j)) (a .list .now) (a .out .now) (c .before .before .before .before .before .before .before .before .before .before .before .before .count-lines .ensures) (c .before .before .before .before .before .before .before .before .before .before .before .if1 .left) (c .before .before .before .before .before .before .before .before .before .before .count-values .ensures) (c .before .before .before .before .before .before .before .before .before .count-values2 .ensures) (c .before .before .before .before .before .before .before .read-list .last .1 .1 .1 .1 .0) (c .before .before .before .before .before .before .before .read-list .result) (search needs) (c .before .before .before .before .before .before .before .read-list .ensures) (not-false _ (c .before .before .before .before .before .if2 .left)) (c .before .before .before .before .before .before .before .read-list .kept .1 .1 .1 .1 .0) (c .before .before .write-file .ensures)
+returns-3 c =
+    let args = c .before .before .before .before .before .before .before .before .before .before .before .before .before .before .before .before .before .args in
+    let count-lines = c .before .before .before .before .before .before .before .before .before .before .before .before .count-lines in
+    let if1 = c .before .before .before .before .before .before .before .before .before .before .before .if1 in
+    let count-values = c .before .before .before .before .before .before .before .before .before .before .count-values in
+    let count-values2 = c .before .before .before .before .before .before .before .before .before .count-values2 in
+    let read-list = c .before .before .before .before .before .before .before .read-list in
+    let if2 = c .before .before .before .before .before .if2 in
+    let write-file = c .before .before .write-file in
+    let a = args in list-good (typeOf (a .t .now) (a .i)) (typeOf (a .t .now) (a .j)) (a .list .now) (a .out .now) (count-lines .ensures) (if1 .left) (count-values .ensures)
+    (count-values2 .ensures) (read-list .last .1 .1 .1 .1 .0) (read-list .result) (search needs) (read-list .ensures) (not-false _ (if2 .left)) (read-list .kept .1 .1 .1 .1 .0)
+    (write-file .ensures)
 
 pub import-list-spec : {M : Type 1} → statement M
 import-list-spec =

@@ -41,7 +41,12 @@ same-length-3 c = search needs
 
 -- src/lib.rt:61:1
 returns-3 : tie.Need-returns-3
-returns-3 c = enters-new _ _ _ _ _ _ (c .before .before .before .before .before .before .find-entry .ensures) (c .before .before .before .before .before .if1 .left) (c .before .before .before .before .if2 .left) (c .before .before .store-entry .ensures)
+returns-3 c =
+    let find-entry = c .before .before .before .before .before .before .find-entry in
+    let if1 = c .before .before .before .before .before .if1 in
+    let if2 = c .before .before .before .before .if2 in
+    let store-entry = c .before .before .store-entry in
+    enters-new _ _ _ _ _ _ (find-entry .ensures) (if1 .left) (if2 .left) (store-entry .ensures)
 
 pub enter-entry-spec : {M : Type 1} → statement M
 enter-entry-spec =

@@ -28,7 +28,11 @@ loop-less : tie.Need-loop-less Inv-loop μ-loop
 loop-less c = omega arith
 
 loop-again : tie.Need-loop-again Inv-loop μ-loop
-loop-again c = searched-step (c .before .before .before .loop .inv) (c .before .before .loop-test .taken) (c .before .same-entry .ensures) (c .if1 .left)
+loop-again c =
+    let loop′ = c .before .before .before .loop in
+    let loop-test = c .before .before .loop-test in
+    let same-entry = c .before .same-entry in
+    searched-step (loop′ .inv) (loop-test .taken) (same-entry .ensures) (c .if1 .left)
 
 returns-2 : tie.Need-returns-2 Inv-loop μ-loop
 returns-2 c = searched-end (c .before .loop .inv) (c .loop-test .left)

@@ -14,7 +14,11 @@ cell-requires-2 : tie.Need-cell-requires-2
 cell-requires-2 c κs = search needs
 
 returns-2 : tie.Need-returns-2
-returns-2 c = same-second _ _ _ _ _ (c .before .before .before .cell .ensures .0) (c .before .before .if1 .left) (c .before .cell2 .ensures .0) (c .if2 .taken)
+returns-2 c =
+    let cell = c .before .before .before .cell in
+    let if1 = c .before .before .if1 in
+    let cell2 = c .before .cell2 in
+    same-second _ _ _ _ _ (cell .ensures .0) (if1 .left) (cell2 .ensures .0) (c .if2 .taken)
 
 cell-requires-3 : tie.Need-cell-requires-3
 cell-requires-3 c κs = search needs

@@ -62,8 +62,14 @@ same-length c = search needs
 -- src/lib.rt:50:1
 returns : tie.Need-returns
 returns c =
-    stored _ _ _ _ _ (c .before .before .before .before .before .before .before .before .before .before .before .before .before .narrow .ensures) (c .before .before .before .before .before .before .before .before .before .before .before .before .store-word .ensures) (c .before .before .before .before .before .before .before .before .narrow2 .ensures) (c .before .before .before .before .before .before .before .store-word2 .ensures)
-    (c .before .before .before .narrow3 .ensures) (c .before .before .store-word3 .ensures)
+    let narrow = c .before .before .before .before .before .before .before .before .before .before .before .before .before .narrow in
+    let store-word = c .before .before .before .before .before .before .before .before .before .before .before .before .store-word in
+    let narrow2 = c .before .before .before .before .before .before .before .before .narrow2 in
+    let store-word2 = c .before .before .before .before .before .before .before .store-word2 in
+    let narrow3 = c .before .before .before .narrow3 in
+    let store-word3 = c .before .before .store-word3 in
+    stored _ _ _ _ _ (narrow .ensures) (store-word .ensures) (narrow2 .ensures) (store-word2 .ensures)
+    (narrow3 .ensures) (store-word3 .ensures)
 
 pub store-entry-spec : {M : Type 1} → statement M
 store-entry-spec =

@@ -24,7 +24,11 @@ loop-less : tie.Need-loop-less Inv-loop μ-loop
 loop-less c = search needs
 
 loop-again : tie.Need-loop-again Inv-loop μ-loop
-loop-again c = printed-next (c .before .before .before .before .before .loop .inv) (c .before .before .before .before .loop-test .taken) (c .before .before .put-entry .ensures) (c .before .before .put-entry .kept .1 .1 .1 .0)
+loop-again c =
+    let loop′ = c .before .before .before .before .before .loop in
+    let loop-test = c .before .before .before .before .loop-test in
+    let put-entry = c .before .before .put-entry in
+    printed-next (loop′ .inv) (loop-test .taken) (put-entry .ensures) (put-entry .kept .1 .1 .1 .0)
 
 same-length : tie.Need-same-length Inv-loop μ-loop
 same-length c = c .before .loop .inv .wide

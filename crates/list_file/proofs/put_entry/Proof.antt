@@ -21,7 +21,13 @@ same-length : tie.Need-same-length
 same-length c = search needs
 
 returns : tie.Need-returns
-returns c = let a = c .before .before .before .before .before .before .before .before .before .args in entry-printed (kindView (a .kind)) (a .s .now) (a .row) (c .before .before .before .before .before .cell .ensures) (c .before .before .before .before .cell2 .ensures) (c .before .before .before .cell3 .ensures) (λ x y z. prints-writes (c .before .before .put-row .ensures x y z))
+returns c =
+    let args = c .before .before .before .before .before .before .before .before .before .args in
+    let cell = c .before .before .before .before .before .cell in
+    let cell2 = c .before .before .before .before .cell2 in
+    let cell3 = c .before .before .before .cell3 in
+    let put-row = c .before .before .put-row in
+    let a = args in entry-printed (kindView (a .kind)) (a .s .now) (a .row) (cell .ensures) (cell2 .ensures) (cell3 .ensures) (λ x y z. prints-writes (put-row .ensures x y z))
 
 pub put-entry-spec : {M : Type 1} → statement M
 put-entry-spec =

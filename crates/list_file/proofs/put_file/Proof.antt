@@ -24,7 +24,16 @@ same-length : tie.Need-same-length
 same-length c = search needs
 
 returns : tie.Need-returns
-returns c = (λ x y. let a = c .before .before .before .before .before .before .before .before .before .before .before .before .before .before .before .before .before .before .before .before .args in file-printed (entriesAt typeLine (a .ts .now) 0 (a .m .types)) (entriesAt patternLine (a .ps .now) 0 (a .m .patterns)) (entriesAt clauseLine (a .cs .now) 0 (a .m .clauses)) (isoRow (a .m .from) (a .m .to)) (c .before .before .before .before .before .before .before .before .before .before .before .before .before .before .put-entries .ensures) (c .before .before .before .before .before .before .before .before .before .before .put-entries2 .ensures) (prints-writes (c .before .before .before .before .before .before .put-row .ensures x y (omega arith))) (c .before .before .put-entries3 .ensures))
+returns c =
+    let far = c .before .before .before .before .before .before .before .before .before .before .before .before .before .before .before .before .before .before .before .before in
+    let args = far .args in
+    let put-entries = c .before .before .before .before .before .before .before .before .before .before .before .before .before .before .put-entries in
+    let put-entries2 = c .before .before .before .before .before .before .before .before .before .before .put-entries2 in
+    let put-row = c .before .before .before .before .before .before .put-row in
+    let put-entries3 = c .before .before .put-entries3 in
+    (λ x y. let a = args in file-printed (entriesAt typeLine (a .ts .now) 0 (a .m .types)) (entriesAt patternLine (a .ps .now) 0 (a .m .patterns))
+    (entriesAt clauseLine (a .cs .now) 0 (a .m .clauses)) (isoRow (a .m .from) (a .m .to)) (put-entries .ensures) (put-entries2 .ensures)
+    (prints-writes (put-row .ensures x y (omega arith))) (put-entries3 .ensures))
 
 pub put-file-spec : {M : Type 1} → statement M
 put-file-spec =

@@ -21,7 +21,13 @@ over-requires c κs = search needs
 
 -- src/lib.rt:119:9
 returns : tie.Need-returns
-returns c = let a = c .before .before .before .before .before .before .args in file-heavy (typeOf (a .t .now) (a .i)) (typeOf (a .t .now) (a .j)) (a .tos .now) (a .n) (a .out .now) (c .before .before .before .before .before .before .pre) {x = mostTags (typeOf (a .t .now) (a .i))} (λ x y. x) (c .before .before .type-tags .ensures) (c .before .if1 .taken) _ (c .over .ensures)
+returns c =
+    let pre = c .before .before .before .before .before .before .before .pre in
+    let args = c .before .before .before .before .before .before .before .args in
+    let type-tags = c .before .before .type-tags in
+    let if1 = c .before .if1 in
+    let a = args in file-heavy (typeOf (a .t .now) (a .i)) (typeOf (a .t .now) (a .j)) (a .tos .now) (a .n) (a .out .now) (pre .1) {x = mostTags (typeOf (a .t .now) (a .i))} (λ x y. x)
+    (type-tags .ensures) (if1 .taken) _ (c .over .ensures)
 
 -- src/lib.rt:121:19
 type-tags-requires-2 : tie.Need-type-tags-requires-2
@@ -33,7 +39,13 @@ over-requires-2 c κs = search needs
 
 -- src/lib.rt:122:9
 returns-2 : tie.Need-returns-2
-returns-2 c = let a = c .before .before .before .before .before .before .before .before .args in file-heavy (typeOf (a .t .now) (a .i)) (typeOf (a .t .now) (a .j)) (a .tos .now) (a .n) (a .out .now) (c .before .before .before .before .before .before .before .before .pre) {x = mostTags (typeOf (a .t .now) (a .j))} (λ x y. y) (c .before .before .type-tags2 .ensures) (c .before .if2 .taken) _ (c .over2 .ensures)
+returns-2 c =
+    let pre = c .before .before .before .before .before .before .before .before .before .pre in
+    let args = c .before .before .before .before .before .before .before .before .before .args in
+    let type-tags2 = c .before .before .type-tags2 in
+    let if2 = c .before .if2 in
+    let a = args in file-heavy (typeOf (a .t .now) (a .i)) (typeOf (a .t .now) (a .j)) (a .tos .now) (a .n) (a .out .now) (pre .1) {x = mostTags (typeOf (a .t .now) (a .j))} (λ x y. y)
+    (type-tags2 .ensures) (if2 .taken) _ (c .over2 .ensures)
 
 -- src/lib.rt:124:5
 write-rows-requires : tie.Need-write-rows-requires
@@ -45,7 +57,16 @@ same-length c = search needs
 
 -- src/lib.rt:111:1
 returns-3 : tie.Need-returns-3
-returns-3 c = let a = c .before .before .before .before .before .before .before .before .before .before .before .args in file-light (typeOf (a .t .now) (a .i)) (typeOf (a .t .now) (a .j)) (a .tos .now) (a .n) (a .out .now) (c .before .before .before .before .before .before .before .before .before .before .before .pre) (c .before .before .before .before .before .before .before .type-tags .ensures) (c .before .before .before .before .before .before .if1 .left) (c .before .before .before .before .before .type-tags2 .ensures) (c .before .before .before .before .if2 .left) (c .before .before .write-rows .ensures)
+returns-3 c =
+    let pre = c .before .before .before .before .before .before .before .before .before .before .before .before .pre in
+    let args = c .before .before .before .before .before .before .before .before .before .before .before .before .args in
+    let type-tags = c .before .before .before .before .before .before .before .type-tags in
+    let if1 = c .before .before .before .before .before .before .if1 in
+    let type-tags2 = c .before .before .before .before .before .type-tags2 in
+    let if2 = c .before .before .before .before .if2 in
+    let write-rows = c .before .before .write-rows in
+    let a = args in file-light (typeOf (a .t .now) (a .i)) (typeOf (a .t .now) (a .j)) (a .tos .now) (a .n) (a .out .now) (pre .1) (type-tags .ensures) (if1 .left) (type-tags2 .ensures)
+    (if2 .left) (write-rows .ensures)
 
 pub write-file-spec : {M : Type 1} → statement M
 write-file-spec =

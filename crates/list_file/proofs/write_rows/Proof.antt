@@ -27,7 +27,12 @@ write-pairs-requires : tie.Need-write-pairs-requires
 write-pairs-requires c κs = search needs
 
 returns : tie.Need-returns
-returns c = let a = c .before .before .before .before .before .before .before .before .before .before .before .before .before .before .before .args in file-over (typeOf (a .t .now) (a .i)) (typeOf (a .t .now) (a .j)) (a .tos .now) (a .n) (a .out .now) (c .before .before .before .before .before .before .before .before .before .before .before .before .before .before .before .pre) (c .before .before .before .write-pairs .ensures) (search needs) (search needs) (c .if1 .taken) _ refl refl
+returns c =
+    let pre = c .before .before .before .before .before .before .before .before .before .before .before .before .before .before .before .before .pre in
+    let args = c .before .before .before .before .before .before .before .before .before .before .before .before .before .before .before .before .args in
+    let write-pairs = c .before .before .before .write-pairs in
+    let a = args in file-over (typeOf (a .t .now) (a .i)) (typeOf (a .t .now) (a .j)) (a .tos .now) (a .n) (a .out .now) (pre .1) (write-pairs .ensures) (search needs) (search needs)
+    (c .if1 .taken) _ refl refl
 
 slice-aggregate-put-file : tie.Need-slice-aggregate-put-file
 slice-aggregate-put-file c = search needs
@@ -45,7 +50,17 @@ same-length : tie.Need-same-length
 same-length c = search needs
 
 returns-2 : tie.Need-returns-2
-returns-2 c = let a = c .before .before .before .before .before .before .before .before .before .before .before .before .before .before .before .before .before .before .before .before .before .before .args in file-made (typeOf (a .t .now) (a .i)) (typeOf (a .t .now) (a .j)) (a .tos .now) (a .n) (a .out .now) (c .before .before .before .before .before .before .before .before .before .before .before .before .before .before .before .before .before .before .before .before .before .before .pre) (c .before .before .before .before .before .before .before .before .before .before .write-pairs .ensures) (search needs) (search needs) (search needs) (c .before .before .before .before .before .before .before .before .before .before .before .before .before .before .before .before .before .write-type .ensures) (c .before .before .before .before .before .before .before .before .before .before .before .before .before .before .write-type2 .ensures) (c .before .before .before .before .before .before .before .if1 .left) (c .before .before .put-file .ensures) _ refl refl
+returns-2 c =
+    let far = c .before .before .before .before .before .before .before .before .before .before .before .before .before .before .before .before .before .before .before .before in
+    let pre = far .before .before .before .pre in
+    let args = far .before .before .before .args in
+    let write-type = c .before .before .before .before .before .before .before .before .before .before .before .before .before .before .before .before .before .write-type in
+    let write-type2 = c .before .before .before .before .before .before .before .before .before .before .before .before .before .before .write-type2 in
+    let write-pairs = c .before .before .before .before .before .before .before .before .before .before .write-pairs in
+    let if1 = c .before .before .before .before .before .before .before .if1 in
+    let put-file = c .before .before .put-file in
+    let a = args in file-made (typeOf (a .t .now) (a .i)) (typeOf (a .t .now) (a .j)) (a .tos .now) (a .n) (a .out .now) (pre .1) (write-pairs .ensures) (search needs) (search needs)
+    (search needs) (write-type .ensures) (write-type2 .ensures) (if1 .left) (put-file .ensures) _ refl refl
 
 pub write-rows-spec : {M : Type 1} → statement M
 write-rows-spec =

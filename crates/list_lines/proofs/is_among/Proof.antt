@@ -20,7 +20,12 @@ wide-requires : tie.Need-wide-requires Inv-loop μ-loop
 wide-requires c κs = search needs
 
 returns : tie.Need-returns Inv-loop μ-loop
-returns c = past-hit (c .before .before .before .before .loop .inv) (c .before .before .before .loop-test .taken) (c .before .before .word-at .ensures) (c .before .wide .ensures .0) (c .if1 .taken)
+returns c =
+    let loop′ = c .before .before .before .before .loop in
+    let loop-test = c .before .before .before .loop-test in
+    let word-at = c .before .before .word-at in
+    let wide = c .before .wide in
+    past-hit (loop′ .inv) (loop-test .taken) (word-at .ensures) (wide .ensures .0) (c .if1 .taken)
 
 add-i : tie.Need-add-i Inv-loop μ-loop
 add-i c = search needs
@@ -29,7 +34,12 @@ loop-less : tie.Need-loop-less Inv-loop μ-loop
 loop-less c = search needs
 
 loop-again : tie.Need-loop-again Inv-loop μ-loop
-loop-again c = past-step (c .before .before .before .before .loop .inv) (c .before .before .before .loop-test .taken) (c .before .before .word-at .ensures) (c .before .wide .ensures .0) (c .if1 .left)
+loop-again c =
+    let loop′ = c .before .before .before .before .loop in
+    let loop-test = c .before .before .before .loop-test in
+    let word-at = c .before .before .word-at in
+    let wide = c .before .wide in
+    past-step (loop′ .inv) (loop-test .taken) (word-at .ensures) (wide .ensures .0) (c .if1 .left)
 
 returns-2 : tie.Need-returns-2 Inv-loop μ-loop
 returns-2 c = past-end (c .before .loop .inv) (c .loop-test .left)

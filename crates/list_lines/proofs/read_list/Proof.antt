@@ -16,7 +16,12 @@ same-length : tie.Need-same-length
 same-length c = search needs
 
 returns-3 : tie.Need-returns-3
-returns-3 c = (λ a b. list-read a b _ (c .before .before .before .before .before .before .before .before .args .tos .now) (c .before .before .read-tos .last .1 .1 .0) (c .before .before .read-tos .result) (c .before .before .before .before .before .if1 .left) (c .before .before .before .before .if2 .left) (c .before .before .read-tos .ensures))
+returns-3 c =
+    let args = c .before .before .before .before .before .before .before .before .args in
+    let if1 = c .before .before .before .before .before .if1 in
+    let if2 = c .before .before .before .before .if2 in
+    let read-tos = c .before .before .read-tos in
+    (λ a b. list-read a b _ (args .tos .now) (read-tos .last .1 .1 .0) (read-tos .result) (if1 .left) (if2 .left) (read-tos .ensures))
 
 pub read-list-spec : {M : Type 1} → statement M
 read-list-spec = tie.close (tie.spec returns returns-2 read-tos-requires same-length returns-3)

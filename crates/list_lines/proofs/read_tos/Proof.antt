@@ -40,13 +40,24 @@ same-length : tie.Need-same-length Inv-loop μ-loop
 same-length c = c .before .before .before .before .before .before .loop .inv .long
 
 returns : tie.Need-returns Inv-loop μ-loop
-returns c = line-bad (c .before .before .before .before .before .before .loop .inv) (c .before .before .before .before .before .loop-test .taken) (c .before .before .before .before .line-end .ensures) (c .before .before .to-of .ensures) (c .enum-told .given .1)
+returns c =
+    let loop′ = c .before .before .before .before .before .before .loop in
+    let loop-test = c .before .before .before .before .before .loop-test in
+    let line-end = c .before .before .before .before .line-end in
+    let to-of = c .before .before .to-of in
+    line-bad (loop′ .inv) (loop-test .taken) (line-end .ensures) (to-of .ensures) (c .enum-told .given .1)
 
 same-length-2 : tie.Need-same-length-2 Inv-loop μ-loop
 same-length-2 c = c .before .before .before .before .before .before .before .before .loop .inv .long
 
 returns-2 : tie.Need-returns-2 Inv-loop μ-loop
-returns-2 c = to-high (c .before .before .before .before .before .before .before .before .loop .inv) (c .before .before .before .before .before .before .before .loop-test .taken) (c .before .before .before .before .before .before .line-end .ensures) (c .before .before .before .before .to-of .ensures) (c .before .before .to .given .1) (c .if1 .taken)
+returns-2 c =
+    let loop′ = c .before .before .before .before .before .before .before .before .loop in
+    let loop-test = c .before .before .before .before .before .before .before .loop-test in
+    let line-end = c .before .before .before .before .before .before .line-end in
+    let to-of = c .before .before .before .before .to-of in
+    let to = c .before .before .to in
+    to-high (loop′ .inv) (loop-test .taken) (line-end .ensures) (to-of .ensures) (to .given .1) (c .if1 .taken)
 
 is-among-requires : tie.Need-is-among-requires Inv-loop μ-loop
 is-among-requires c κs = search needs
@@ -55,7 +66,14 @@ same-length-3 : tie.Need-same-length-3 Inv-loop μ-loop
 same-length-3 c = c .before .before .before .before .before .before .before .before .before .before .before .loop .inv .long
 
 returns-3 : tie.Need-returns-3 Inv-loop μ-loop
-returns-3 c = to-again (c .before .before .before .before .before .before .before .before .before .before .before .loop .inv) (c .before .before .before .before .before .before .before .before .before .before .loop-test .taken) (c .before .before .before .before .before .before .before .before .before .line-end .ensures) (c .before .before .before .before .before .before .before .to-of .ensures) (c .before .before .before .before .before .to .given .1) (c .before .is-among .ensures) (c .if2 .taken)
+returns-3 c =
+    let loop′ = c .before .before .before .before .before .before .before .before .before .before .before .loop in
+    let loop-test = c .before .before .before .before .before .before .before .before .before .before .loop-test in
+    let line-end = c .before .before .before .before .before .before .before .before .before .line-end in
+    let to-of = c .before .before .before .before .before .before .before .to-of in
+    let to = c .before .before .before .before .before .to in
+    let is-among = c .before .is-among in
+    to-again (loop′ .inv) (loop-test .taken) (line-end .ensures) (to-of .ensures) (to .given .1) (is-among .ensures) (c .if2 .taken)
 
 narrow-requires : tie.Need-narrow-requires Inv-loop μ-loop
 narrow-requires c κs = search needs
@@ -64,13 +82,30 @@ store-word-requires : tie.Need-store-word-requires Inv-loop μ-loop
 store-word-requires c κs = search needs
 
 add-k : tie.Need-add-k Inv-loop μ-loop
-add-k c = omega (arith, c .before .before .before .before .before .before .before .before .before .before .before .before .before .before .before .before .loop .inv .fewer, c .before .before .before .before .before .before .before .before .before .before .before .before .before .before .before .loop-test .taken)
+add-k c =
+    let loop′ = c .before .before .before .before .before .before .before .before .before .before .before .before .before .before .before .before .loop in
+    let loop-test = c .before .before .before .before .before .before .before .before .before .before .before .before .before .before .before .loop-test in
+    omega (arith, loop′ .inv .fewer, loop-test .taken)
 
 loop-less : tie.Need-loop-less Inv-loop μ-loop
-loop-less c = omega (arith, c .before .before .before .before .before .before .before .before .before .before .before .before .before .before .line-end .ensures .further (c .before .before .before .before .before .before .before .before .before .before .before .before .before .before .before .loop-test .taken))
+loop-less c =
+    let loop-test = c .before .before .before .before .before .before .before .before .before .before .before .before .before .before .before .loop-test in
+    let line-end = c .before .before .before .before .before .before .before .before .before .before .before .before .before .before .line-end in
+    omega (arith, line-end .ensures .further (loop-test .taken))
 
 loop-again : tie.Need-loop-again Inv-loop μ-loop
-loop-again c = reading-next (c .before .before .before .before .before .before .before .before .before .before .before .before .before .before .before .before .loop .inv) (c .before .before .before .before .before .before .before .before .before .before .before .before .before .before .before .loop-test .taken) (c .before .before .before .before .before .before .before .before .before .before .before .before .before .before .line-end .ensures) (c .before .before .before .before .before .before .before .before .before .before .before .before .to-of .ensures) (c .before .before .before .before .before .before .before .before .before .before .to .given .1) (c .before .before .before .before .before .before .before .before .if1 .left) (c .before .before .before .before .before .before .is-among .ensures) (c .before .before .before .before .before .if2 .left) (c .before .before .before .narrow .ensures) (c .before .before .store-word .ensures)
+loop-again c =
+    let loop′ = c .before .before .before .before .before .before .before .before .before .before .before .before .before .before .before .before .loop in
+    let loop-test = c .before .before .before .before .before .before .before .before .before .before .before .before .before .before .before .loop-test in
+    let line-end = c .before .before .before .before .before .before .before .before .before .before .before .before .before .before .line-end in
+    let to-of = c .before .before .before .before .before .before .before .before .before .before .before .before .to-of in
+    let to = c .before .before .before .before .before .before .before .before .before .before .to in
+    let if1 = c .before .before .before .before .before .before .before .before .if1 in
+    let is-among = c .before .before .before .before .before .before .is-among in
+    let if2 = c .before .before .before .before .before .if2 in
+    let narrow = c .before .before .before .narrow in
+    let store-word = c .before .before .store-word in
+    reading-next (loop′ .inv) (loop-test .taken) (line-end .ensures) (to-of .ensures) (to .given .1) (if1 .left) (is-among .ensures) (if2 .left) (narrow .ensures) (store-word .ensures)
 
 same-length-4 : tie.Need-same-length-4 Inv-loop μ-loop
 same-length-4 c = c .before .loop .inv .long

@@ -14,10 +14,17 @@ enum-told : tie.Need-enum-told
 enum-told c = search needs
 
 returns : tie.Need-returns
-returns c = let s = c .before .before .before .before .args .s .now in no-from (c .before .before .before .before .args .k) s (wrong s (c .enum-told .given .1) (c .before .before .number .ensures))
+returns c =
+    let args = c .before .before .before .before .args in
+    let number = c .before .before .number in
+    let s = args .s .now in no-from (args .k) s (wrong s (c .enum-told .given .1) (number .ensures))
 
 returns-2 : tie.Need-returns-2
-returns-2 c = let s = c .before .before .before .before .before .before .args .s .now in other-from (c .before .before .before .before .before .before .args .k) s (value s (c .before .before .from .given .1) (c .before .before .before .before .number .ensures)) (c .if1 .taken)
+returns-2 c =
+    let args = c .before .before .before .before .before .before .args in
+    let number = c .before .before .before .before .number in
+    let from = c .before .before .from in
+    let s = args .s .now in other-from (args .k) s (value s (from .given .1) (number .ensures)) (c .if1 .taken)
 
 field-requires : tie.Need-field-requires
 field-requires c κs = search needs
@@ -29,7 +36,13 @@ enum-told-2 : tie.Need-enum-told-2
 enum-told-2 c = search needs
 
 returns-3 : tie.Need-returns-3
-returns-3 c = let s = c .before .before .before .before .before .before .before .before .before .args .s .now in no-to (c .before .before .before .before .before .before .before .before .before .args .k) s (value s (c .before .before .before .before .before .from .given .1) (c .before .before .before .before .before .before .before .number .ensures)) (c .before .before .before .if1 .left) (wrong s (c .enum-told2 .given .1) (c .before .before .field .ensures))
+returns-3 c =
+    let args = c .before .before .before .before .before .before .before .before .before .args in
+    let number = c .before .before .before .before .before .before .before .number in
+    let from = c .before .before .before .before .before .from in
+    let if1 = c .before .before .before .if1 in
+    let field = c .before .before .field in
+    let s = args .s .now in no-to (args .k) s (value s (from .given .1) (number .ensures)) (if1 .left) (wrong s (c .enum-told2 .given .1) (field .ensures))
 
 end-requires : tie.Need-end-requires
 end-requires c κs = search needs

@@ -20,10 +20,18 @@ enum-told : tie.Need-enum-told
 enum-told c = search needs
 
 returns : tie.Need-returns
-returns c = let l = c .before .before .before .before .before .before .before .args .line .now in in-text (c .before .before .before .before .before .before .before .args .k) l (text-past l _ _ (c .before .before .before .c .given .1) (c .before .before .before .before .before .before-ending .ensures)) (c .before .front .ensures) (c .to-in .ensures)
+returns c =
+    let args = c .before .before .before .before .before .before .before .args in
+    let before-ending = c .before .before .before .before .before .before-ending in
+    let c′ = c .before .before .before .c in
+    let front = c .before .front in
+    let l = args .line .now in in-text (args .k) l (text-past l _ _ (c′ .given .1) (before-ending .ensures)) (front .ensures) (c .to-in .ensures)
 
 returns-2 : tie.Need-returns-2
-returns-2 c = let l = c .before .before .before .before .args .line .now in no-ending (c .before .before .before .before .args .k) l (text-other l _ (c .enum-told .given .1) (c .before .before .before-ending .ensures))
+returns-2 c =
+    let args = c .before .before .before .before .args in
+    let before-ending = c .before .before .before-ending in
+    let l = args .line .now in no-ending (args .k) l (text-other l _ (c .enum-told .given .1) (before-ending .ensures))
 
 pub to-of-spec : {M : Type 1} → statement M
 to-of-spec =

@@ -21,7 +21,7 @@ returns : tie.Need-returns
 returns c =
     let q = c .before in
     let r = q .before .before .before .before in
-    let s = r .before .before .before .before .before .before .before in
+    let s = r .before .before .before .before .before .before .before .before in
     λ rs o run low long short.
     to-spent run low (s .args .budget) (r .run-setting .result) (r .run-setting .ensures rs o run low long short (omega arith)) (q .is-refused .ensures) (c .if1 .taken) (s .args .tos .now)
 
@@ -54,9 +54,10 @@ returns-2 c =
     let j = x .before .before in
     let q = j .before .before in
     let r = q .before .before .before .before in
-    let s = r .before .before .before .before .before .before .before in
+    let s = r .before .before .before .before .before .before .before .before in
     λ rs o run low long short.
-    to-stored run low (s .args .budget) (r .run-setting .result) (r .run-setting .ensures rs o run low long short (omega arith)) (q .is-refused .ensures) (j .before .if1 .left) (j .iso-cell .result) (x .rank-at .result .number) (x .rank-at .result .end) (j .iso-cell .ensures) (x .rank-at .ensures) (n .narrow .ensures) (w .store-word .ensures)
+    to-stored run low (s .args .budget) (r .run-setting .result) (r .run-setting .ensures rs o run low long short (omega arith)) (q .is-refused .ensures) (j .before .if1 .left)
+    (j .iso-cell .result) (x .rank-at .result .number) (x .rank-at .result .end) (j .iso-cell .ensures) (x .rank-at .ensures) (n .narrow .ensures) (w .store-word .ensures)
 
 pub find-to-spec : {M : Type 1} → statement M
 find-to-spec =

@@ -8,10 +8,10 @@ use Rattle.list_targets.proofs.find_tos.Statement.{statement}
 use Rattle.list_targets.proofs.find_tos.Tie as tie
 
 abbrev Inv-loop : tie.InvT-loop
-Inv-loop t base index isos i n budget work₀ tos₀ k₀ work tos k = Through t base index isos i n budget work₀ tos₀ work tos k
+Inv-loop t counts base index isos i n budget work₀ tos₀ k₀ work tos k = Through t base index isos i n budget work₀ tos₀ work tos k
 
 abbrev μ-loop : tie.MeasureT-loop
-μ-loop t base index isos i n budget work₀ tos₀ k₀ work tos k = n - k
+μ-loop t counts base index isos i n budget work₀ tos₀ k₀ work tos k = n - k
 
 loop-holds : tie.Need-loop-holds Inv-loop μ-loop
 loop-holds c = through-start _ _ _ _ _ _ _ _ _
@@ -20,10 +20,16 @@ find-to-requires : tie.Need-find-to-requires Inv-loop μ-loop
 find-to-requires c κs = search needs
 
 same-length : tie.Need-same-length Inv-loop μ-loop
-same-length c = c .before .before .before .before .before .find-to .kept .1 .1 .1 .1 .1 .1 .1 .0 ∙ c .before .before .before .before .before .before .before .before .before .loop .inv .works
+same-length c =
+    let loop′ = c .before .before .before .before .before .before .before .before .before .loop in
+    let find-to = c .before .before .before .before .before .find-to in
+    find-to .kept .1 .1 .1 .1 .1 .1 .1 .1 .0 ∙ loop′ .inv .works
 
 same-length-2 : tie.Need-same-length-2 Inv-loop μ-loop
-same-length-2 c = c .before .before .before .before .before .find-to .kept .1 .1 .1 .1 .1 .1 .1 .1 .0 ∙ c .before .before .before .before .before .before .before .before .before .loop .inv .wide
+same-length-2 c =
+    let loop′ = c .before .before .before .before .before .before .before .before .before .loop in
+    let find-to = c .before .before .before .before .before .find-to in
+    find-to .kept .1 .1 .1 .1 .1 .1 .1 .1 .1 .0 ∙ loop′ .inv .wide
 
 returns : tie.Need-returns Inv-loop μ-loop
 returns c =
@@ -41,7 +47,8 @@ loop-again : tie.Need-loop-again Inv-loop μ-loop
 loop-again c =
     let f = c .before .before .before .before .before in
     let h = f .before .before .before in
-    through-next (h .before .loop .inv) (h .loop-test .taken) (f .find-to .ensures) (not-false _ (c .if1 .left)) (f .find-to .kept .1 .1 .1 .1 .1 .1 .1 .0) (f .find-to .kept .1 .1 .1 .1 .1 .1 .1 .1 .0)
+    through-next (h .before .loop .inv) (h .loop-test .taken) (f .find-to .ensures) (not-false _ (c .if1 .left)) (f .find-to .kept .1 .1 .1 .1 .1 .1 .1 .1 .0)
+    (f .find-to .kept .1 .1 .1 .1 .1 .1 .1 .1 .1 .0)
 
 same-length-3 : tie.Need-same-length-3 Inv-loop μ-loop
 same-length-3 c = c .before .loop .inv .works

@@ -18,7 +18,8 @@ cell-requires c κs = search needs
 returns : tie.Need-returns
 returns c =
     let r = c .before in
-    c .cell .ensures .0 ∙ ap (λ x. cellOf (r .before .before .before .before .args .t .now) x (r .before .before .before .before .args .k)) (r .place2 .ensures .0 ∙ ap (placeAt (r .before .before .before .before .args .index .now)) (r .before .place .ensures .0))
+    c .cell .ensures .0 ∙ ap (λ x. cellOf (r .before .before .before .before .args .t .now) x (r .before .before .before .before .args .k))
+    (r .place2 .ensures .0 ∙ ap (placeAt (r .before .before .before .before .args .index .now)) (r .before .place .ensures .0))
 
 pub iso-cell-spec : {M : Type 1} → statement M
 iso-cell-spec = tie.close (tie.spec place-requires place-requires-2 cell-requires returns)

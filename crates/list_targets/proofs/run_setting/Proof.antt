@@ -35,9 +35,10 @@ returns c =
     let f = k .before .before .before in
     let u = f .before .before .before in
     let j = u .before .before in
-    let s = j .before .before .before .before .before in
+    let s = j .before .before .before .before .before .before in
     λ rs o run low long short room.
-    setting-ran run low (s .args .budget) (j .iso-cell .result) (u .unrank-at .result) _ _ _ (j .iso-cell .ensures) (u .unrank-at .ensures) refl (f .front .ensures) (k .run-checked .ensures rs (run .prepared) long short room .0)
+    setting-ran run low (s .args .budget) (j .iso-cell .result) (u .unrank-at .result) _ _ _ (j .iso-cell .ensures) (u .unrank-at .ensures) refl (f .front .ensures)
+    (k .run-checked .ensures rs (run .prepared) long short room .0)
 
 pub run-setting-spec : {M : Type 1} → statement M
 run-setting-spec =

@@ -36,22 +36,84 @@ pub +write-type-spec : {M : Type 1} → statement M
     (λ c κs. search needs)
     (λ c κs. search needs)
     (λ c κs. search needs)
-    (λ c κs. (type-call (c .before .before .before .before .before .before .before .args .t .now) (c .before .before .before .before .before .before .before .args .i) (c .before .before .cell2 .result) (c .before .before .before .before .before .before .before .pre .0) (c .before .before .before .before .cell .ensures .0) (no-unit (c .before .before .before .if1 .taken)) (c .before .smaller .ensures), tt))
+    (λ c κs.
+    let pre = c .before .before .before .before .before .before .before .pre in
+    let args = c .before .before .before .before .before .before .before .args in
+    let cell = c .before .before .before .before .cell in
+    let if1 = c .before .before .before .if1 in
+    let cell2 = c .before .before .cell2 in
+    let smaller = c .before .smaller in
+    (type-call (args .t .now) (args .i) (cell2 .result) (pre .0) (cell .ensures .0) (no-unit (if1 .taken)) (smaller .ensures), tt))
     (λ c κs. search needs)
     (λ c κs. search needs)
-    (λ c κs. (type-call (c .before .before .before .before .before .before .before .before .before .before .before .before .before .args .t .now) (c .before .before .before .before .before .before .before .before .before .before .before .before .before .args .i) (c .before .before .cell3 .result) (c .before .before .before .before .before .before .before .before .before .before .before .before .before .pre .0) (c .before .before .before .before .before .before .before .before .before .before .cell .ensures .0) (no-unit (c .before .before .before .before .before .before .before .before .before .if1 .taken)) (c .before .smaller2 .ensures), tt))
+    (λ c κs.
+    let pre = c .before .before .before .before .before .before .before .before .before .before .before .before .before .pre in
+    let args = c .before .before .before .before .before .before .before .before .before .before .before .before .before .args in
+    let cell = c .before .before .before .before .before .before .before .before .before .before .cell in
+    let if1 = c .before .before .before .before .before .before .before .before .before .if1 in
+    let cell3 = c .before .before .cell3 in
+    let smaller2 = c .before .smaller2 in
+    (type-call (args .t .now) (args .i) (cell3 .result) (pre .0) (cell .ensures .0) (no-unit (if1 .taken)) (smaller2 .ensures), tt))
     (λ c κs. search needs)
     (λ c. search needs)
-    (λ c. sum-done (typeOf (c .before .before .before .before .before .before .before .before .before .before .before .before .before .before .before .before .before .before .before .before .args .t .now) (c .before .before .before .before .before .before .before .before .before .before .before .before .before .before .smaller .result)) (typeOf (c .before .before .before .before .before .before .before .before .before .before .before .before .before .before .before .before .before .before .before .before .args .t .now) (c .before .before .before .before .before .before .before .before .smaller2 .result)) (c .before .before .before .before .before .before .before .before .before .before .before .before .write-type .ensures) (c .before .before .before .before .before .before .write-type2 .ensures) (line-sum (c .before .before .before .before .before .before .before .before .before .before .before .before .before .before .before .before .before .before .before .before .args .t .now) (c .before .before .before .before .before .before .before .before .before .before .before .before .before .before .before .before .before .before .before .before .args .i) (c .before .before .before .before .before .before .before .before .before .before .before .before .before .before .before .before .before .cell .ensures .0) (part-of (c .before .before .before .before .before .before .before .before .before .before .before .before .before .before .before .before .before .before .before .before .args .i) (c .before .before .before .before .before .before .before .before .before .before .before .before .before .before .before .cell2 .ensures .0) (c .before .before .before .before .before .before .before .before .before .before .before .before .before .before .smaller .ensures)) (part-of (c .before .before .before .before .before .before .before .before .before .before .before .before .before .before .before .before .before .before .before .before .args .i) (c .before .before .before .before .before .before .before .before .before .cell3 .ensures .0) (c .before .before .before .before .before .before .before .before .smaller2 .ensures)) (c .before .before .before .before .before .before .before .before .before .before .before .before .before .before .before .before .if1 .taken)) (c .before .before .enter-entry .ensures))
+    (λ c.
+    let far = c .before .before .before .before .before .before .before .before .before .before .before .before .before .before .before .before .before .before .before .before in
+    let args = far .args in
+    let cell = c .before .before .before .before .before .before .before .before .before .before .before .before .before .before .before .before .before .cell in
+    let if1 = c .before .before .before .before .before .before .before .before .before .before .before .before .before .before .before .before .if1 in
+    let cell2 = c .before .before .before .before .before .before .before .before .before .before .before .before .before .before .before .cell2 in
+    let smaller = c .before .before .before .before .before .before .before .before .before .before .before .before .before .before .smaller in
+    let write-type = c .before .before .before .before .before .before .before .before .before .before .before .before .write-type in
+    let cell3 = c .before .before .before .before .before .before .before .before .before .cell3 in
+    let smaller2 = c .before .before .before .before .before .before .before .before .smaller2 in
+    let write-type2 = c .before .before .before .before .before .before .write-type2 in
+    let enter-entry = c .before .before .enter-entry in
+    sum-done (typeOf (args .t .now) (smaller .result)) (typeOf (args .t .now) (smaller2 .result)) (write-type .ensures) (write-type2 .ensures)
+    (line-sum (args .t .now) (args .i) (cell .ensures .0) (part-of (args .i) (cell2 .ensures .0) (smaller .ensures)) (part-of (args .i) (cell3 .ensures .0) (smaller2 .ensures))
+    (if1 .taken)) (enter-entry .ensures))
     (λ c κs. search needs)
     (λ c κs. search needs)
-    (λ c κs. (type-call (c .before .before .before .before .before .before .before .before .args .t .now) (c .before .before .before .before .before .before .before .before .args .i) (c .before .before .cell4 .result) (c .before .before .before .before .before .before .before .before .pre .0) (c .before .before .before .before .before .cell .ensures .0) (no-unit (c .before .before .before .if2 .taken)) (c .before .smaller3 .ensures), tt))
+    (λ c κs.
+    let pre = c .before .before .before .before .before .before .before .before .pre in
+    let args = c .before .before .before .before .before .before .before .before .args in
+    let cell = c .before .before .before .before .before .cell in
+    let if2 = c .before .before .before .if2 in
+    let cell4 = c .before .before .cell4 in
+    let smaller3 = c .before .smaller3 in
+    (type-call (args .t .now) (args .i) (cell4 .result) (pre .0) (cell .ensures .0) (no-unit (if2 .taken)) (smaller3 .ensures), tt))
     (λ c κs. search needs)
     (λ c κs. search needs)
-    (λ c κs. (type-call (c .before .before .before .before .before .before .before .before .before .before .before .before .before .before .args .t .now) (c .before .before .before .before .before .before .before .before .before .before .before .before .before .before .args .i) (c .before .before .cell5 .result) (c .before .before .before .before .before .before .before .before .before .before .before .before .before .before .pre .0) (c .before .before .before .before .before .before .before .before .before .before .before .cell .ensures .0) (no-unit (c .before .before .before .before .before .before .before .before .before .if2 .taken)) (c .before .smaller4 .ensures), tt))
+    (λ c κs.
+    let pre = c .before .before .before .before .before .before .before .before .before .before .before .before .before .before .pre in
+    let args = c .before .before .before .before .before .before .before .before .before .before .before .before .before .before .args in
+    let cell = c .before .before .before .before .before .before .before .before .before .before .before .cell in
+    let if2 = c .before .before .before .before .before .before .before .before .before .if2 in
+    let cell5 = c .before .before .cell5 in
+    let smaller4 = c .before .smaller4 in
+    (type-call (args .t .now) (args .i) (cell5 .result) (pre .0) (cell .ensures .0) (no-unit (if2 .taken)) (smaller4 .ensures), tt))
     (λ c κs. search needs)
     (λ c. search needs)
-    (λ c. product-done (typeOf (c .before .before .before .before .before .before .before .before .before .before .before .before .before .before .before .before .before .before .before .before .before .args .t .now) (c .before .before .before .before .before .before .before .before .before .before .before .before .before .before .smaller3 .result)) (typeOf (c .before .before .before .before .before .before .before .before .before .before .before .before .before .before .before .before .before .before .before .before .before .args .t .now) (c .before .before .before .before .before .before .before .before .smaller4 .result)) (c .before .before .before .before .before .before .before .before .before .before .before .before .write-type3 .ensures) (c .before .before .before .before .before .before .write-type4 .ensures) (line-product (c .before .before .before .before .before .before .before .before .before .before .before .before .before .before .before .before .before .before .before .before .before .args .t .now) (c .before .before .before .before .before .before .before .before .before .before .before .before .before .before .before .before .before .before .before .before .before .args .i) (c .before .before .before .before .before .before .before .before .before .before .before .before .before .before .before .before .before .before .cell .ensures .0) (part-of (c .before .before .before .before .before .before .before .before .before .before .before .before .before .before .before .before .before .before .before .before .before .args .i) (c .before .before .before .before .before .before .before .before .before .before .before .before .before .before .before .cell4 .ensures .0) (c .before .before .before .before .before .before .before .before .before .before .before .before .before .before .smaller3 .ensures)) (part-of (c .before .before .before .before .before .before .before .before .before .before .before .before .before .before .before .before .before .before .before .before .before .args .i) (c .before .before .before .before .before .before .before .before .before .cell5 .ensures .0) (c .before .before .before .before .before .before .before .before .smaller4 .ensures)) (c .before .before .before .before .before .before .before .before .before .before .before .before .before .before .before .before .if2 .taken)) (c .before .before .enter-entry2 .ensures))
+    (λ c.
+    let far = c .before .before .before .before .before .before .before .before .before .before .before .before .before .before .before .before .before .before .before .before in
+    let args = far .before .args in
+    let cell = c .before .before .before .before .before .before .before .before .before .before .before .before .before .before .before .before .before .before .cell in
+    let if2 = c .before .before .before .before .before .before .before .before .before .before .before .before .before .before .before .before .if2 in
+    let cell4 = c .before .before .before .before .before .before .before .before .before .before .before .before .before .before .before .cell4 in
+    let smaller3 = c .before .before .before .before .before .before .before .before .before .before .before .before .before .before .smaller3 in
+    let write-type3 = c .before .before .before .before .before .before .before .before .before .before .before .before .write-type3 in
+    let cell5 = c .before .before .before .before .before .before .before .before .before .cell5 in
+    let smaller4 = c .before .before .before .before .before .before .before .before .smaller4 in
+    let write-type4 = c .before .before .before .before .before .before .write-type4 in
+    let enter-entry2 = c .before .before .enter-entry2 in
+    product-done (typeOf (args .t .now) (smaller3 .result)) (typeOf (args .t .now) (smaller4 .result)) (write-type3 .ensures) (write-type4 .ensures)
+    (line-product (args .t .now) (args .i) (cell .ensures .0) (part-of (args .i) (cell4 .ensures .0) (smaller3 .ensures)) (part-of (args .i) (cell5 .ensures .0) (smaller4 .ensures))
+    (if2 .taken)) (enter-entry2 .ensures))
     (λ c κs. search needs)
     (λ c. search needs)
-    (λ c. unit-done (line-other (c .before .before .before .before .before .before .before .before .before .args .t .now) (c .before .before .before .before .before .before .before .before .before .args .i) (c .before .before .before .before .before .before .cell .ensures .0) (c .before .before .before .before .before .if1 .left) (c .before .before .before .before .if2 .left)) (c .before .before .enter-entry3 .ensures))
+    (λ c.
+    let args = c .before .before .before .before .before .before .before .before .before .args in
+    let cell = c .before .before .before .before .before .before .cell in
+    let if1 = c .before .before .before .before .before .if1 in
+    let if2 = c .before .before .before .before .if2 in
+    let enter-entry3 = c .before .before .enter-entry3 in
+    unit-done (line-other (args .t .now) (args .i) (cell .ensures .0) (if1 .left) (if2 .left)) (enter-entry3 .ensures))

@@ -20,7 +20,12 @@ same-length-2 : tie.Need-same-length-2
 same-length-2 c = search needs
 
 returns : tie.Need-returns
-returns c = let a = c .before .before .before .before .before .before .before .before .before .before .before .before .before .before .before .args in clause-done (typeOf (a .t .now) (a .i)) (typeOf (a .t .now) (a .j)) (a .k) (a .n) (c .before .before .before .before .before .before .before .before .before .before .write-value .ensures) (c .before .before .before .before .before .before .write-value2 .ensures) (c .before .before .store-entry .ensures)
+returns c =
+    let args = c .before .before .before .before .before .before .before .before .before .before .before .before .before .before .before .before .args in
+    let write-value = c .before .before .before .before .before .before .before .before .before .before .write-value in
+    let write-value2 = c .before .before .before .before .before .before .write-value2 in
+    let store-entry = c .before .before .store-entry in
+    let a = args in clause-done (typeOf (a .t .now) (a .i)) (typeOf (a .t .now) (a .j)) (a .k) (a .n) (write-value .ensures) (write-value2 .ensures) (store-entry .ensures)
 
 pub write-clause-spec : {M : Type 1} → statement M
 write-clause-spec =

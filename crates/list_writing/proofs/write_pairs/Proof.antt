@@ -6,10 +6,10 @@ use Rattle.list_writing.proofs.write_pairs.Statement.{statement}
 use Rattle.list_writing.proofs.write_pairs.Tie as tie
 
 abbrev Inv-loop : tie.InvT-loop
-Inv-loop t i j tos n s₀ q₀ k₀ end₀ s q k end = Pairs (typeOf t i) (typeOf t j) tos n s₀ q₀ s q k end
+Inv-loop t counts i j tos n s₀ q₀ k₀ end₀ s q k end = Pairs (typeOf t i) (typeOf t j) tos n s₀ q₀ s q k end
 
 abbrev μ-loop : tie.MeasureT-loop
-μ-loop t i j tos n s₀ q₀ k₀ end₀ s q k end = n - k
+μ-loop t counts i j tos n s₀ q₀ k₀ end₀ s q k end = n - k
 
 loop-holds : tie.Need-loop-holds Inv-loop μ-loop
 loop-holds c = pairs-start _ _ _ _ _ _
@@ -30,7 +30,15 @@ loop-less : tie.Need-loop-less Inv-loop μ-loop
 loop-less c = search needs
 
 loop-again : tie.Need-loop-again Inv-loop μ-loop
-loop-again c = pairs-next (c .before .before .before .before .before .before .before .before .before .before .loop .inv) (c .before .before .before .before .before .before .before .before .before .loop-test .taken) (c .before .before .before .before .before .before .before .before .before .before .before .before .before .before .before .pre) (c .before .before .before .before .before .before .before .before .word-at .ensures) (c .before .before .before .before .before .before .before .wide .ensures .0) (c .before .before .before .before .write-clause .ensures) (c .before .before .before .before .write-clause .kept .1 .1 .1 .1 .1 .0) (c .before .before .before .before .write-clause .kept .1 .1 .1 .1 .1 .1 .1 .0)
+loop-again c =
+    let pre = c .before .before .before .before .before .before .before .before .before .before .before .before .before .before .before .before .pre in
+    let loop′ = c .before .before .before .before .before .before .before .before .before .before .loop in
+    let loop-test = c .before .before .before .before .before .before .before .before .before .loop-test in
+    let word-at = c .before .before .before .before .before .before .before .before .word-at in
+    let wide = c .before .before .before .before .before .before .before .wide in
+    let write-clause = c .before .before .before .before .write-clause in
+    pairs-next (loop′ .inv) (loop-test .taken) (pre .1) (word-at .ensures) (wide .ensures .0) (write-clause .ensures) (write-clause .kept .1 .1 .1 .1 .1 .1 .0)
+    (write-clause .kept .1 .1 .1 .1 .1 .1 .1 .1 .0)
 
 same-length : tie.Need-same-length Inv-loop μ-loop
 same-length c = c .before .loop .inv .long

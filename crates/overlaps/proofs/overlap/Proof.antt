@@ -22,13 +22,19 @@ same-length-2 c = search needs
 
 returns : tie.Need-returns
 returns c =
+    let check-file = c .before .before .before .before .before .before .before .before .check-file in
+    let is-refused = c .before .before .is-refused in
+    let if1 = c .before .if1 in
     let a = c .before .before .before .before .before .before .before .before .before .before .before .before .before .before .args in
-    overlap-refused (a .file .now) (a .table .now) (a .work .now) (a .i) (a .j) _ _ _ (c .not-compared .result) (c .before .before .before .before .before .before .before .before .check-file .ensures .0) (c .before .before .is-refused .ensures) (c .before .if1 .taken) (c .not-compared .ensures)
+    overlap-refused (a .file .now) (a .table .now) (a .work .now) (a .i) (a .j) _ _ _ (c .not-compared .result) (check-file .ensures .0) (is-refused .ensures) (if1 .taken) (c .not-compared .ensures)
 
 overlap-checked-requires : tie.Need-overlap-checked-requires
 overlap-checked-requires c κs =
+    let check-file = c .before .before .before .before .before .before .before .before .check-file in
+    let is-refused = c .before .before .is-refused in
+    let if1 = c .before .if1 in
     let a = c .before .before .before .before .before .before .before .before .before .before .before .before .before .before .args in
-    omega (arith, c .before .before .before .before .before .before .before .before .check-file .kept, table-long (a .file .now) (a .table .now) (a .work .now) (a .i) (a .j) _ _ (c .before .before .before .before .before .before .before .before .check-file .result) (c .before .before .before .before .before .before .before .before .check-file .ensures .0) (c .before .before .is-refused .ensures) (c .before .if1 .left))
+    omega (arith, check-file .kept, table-long (a .file .now) (a .table .now) (a .work .now) (a .i) (a .j) _ _ (check-file .result) (check-file .ensures .0) (is-refused .ensures) (if1 .left))
 
 same-length-3 : tie.Need-same-length-3
 same-length-3 c = search needs
@@ -38,8 +44,12 @@ same-length-4 c = search needs
 
 returns-2 : tie.Need-returns-2
 returns-2 c =
+    let check-file = c .before .before .before .before .before .before .before .before .before .check-file in
+    let is-refused = c .before .before .before .is-refused in
+    let if1 = c .before .before .if1 in
     let a = c .before .before .before .before .before .before .before .before .before .before .before .before .before .before .before .args in
-    overlap-accepted (a .file .now) (a .table .now) (a .work .now) (a .i) (a .j) _ _ (c .before .before .before .before .before .before .before .before .before .check-file .result) (c .before .before .before .before .before .before .before .before .before .check-file .ensures .0) (c .before .before .before .is-refused .ensures) (c .before .before .if1 .left) (c .overlap-checked .result) (c .before .before .before .before .before .before .before .before .before .check-file .ensures .1) (c .overlap-checked .ensures)
+    overlap-accepted (a .file .now) (a .table .now) (a .work .now) (a .i) (a .j) _ _ (check-file .result) (check-file .ensures .0) (is-refused .ensures) (if1 .left)
+    (c .overlap-checked .result) (check-file .ensures .1) (c .overlap-checked .ensures)
 
 pub overlap-spec : {M : Type 1} → statement M
 overlap-spec =

@@ -11,18 +11,20 @@ not-compared-requires c κs = search needs
 
 returns : tie.Need-returns
 returns c =
+    let if1 = c .before .if1 in
     let a = c .before .before .before .args in
     let e = c .not-compared .ensures in
-    left-absent (a .t .now) (a .types) (a .patterns) (a .i) (a .j) (c .not-compared .result) (ap (λ x. refusalView (x .refusal)) (e .0)) (ap (λ x. x .place) (e .0)) (e .1) (e .2) (c .before .if1 .taken)
+    left-absent (a .t .now) (a .types) (a .patterns) (a .i) (a .j) (c .not-compared .result) (ap (λ x. refusalView (x .refusal)) (e .0)) (ap (λ x. x .place) (e .0)) (e .1) (e .2) (if1 .taken)
 
 not-compared-requires-2 : tie.Need-not-compared-requires-2
 not-compared-requires-2 c κs = search needs
 
 returns-2 : tie.Need-returns-2
 returns-2 c =
+    let if2 = c .before .if2 in
     let a = c .before .before .before .before .args in
     let e = c .not-compared2 .ensures in
-    right-absent (a .t .now) (a .types) (a .patterns) (a .i) (a .j) (c .not-compared2 .result) (ap (λ x. refusalView (x .refusal)) (e .0)) (ap (λ x. x .place) (e .0)) (e .1) (e .2) (c .before .if2 .taken)
+    right-absent (a .t .now) (a .types) (a .patterns) (a .i) (a .j) (c .not-compared2 .result) (ap (λ x. refusalView (x .refusal)) (e .0)) (ap (λ x. x .place) (e .0)) (e .1) (e .2) (if2 .taken)
 
 compare-requires : tie.Need-compare-requires
 compare-requires c κs = search needs
@@ -32,8 +34,11 @@ cast-t12 c = search needs
 
 returns-3 : tie.Need-returns-3
 returns-3 c =
+    let if1 = c .before .before .before .if1 in
+    let if2 = c .before .before .if2 in
+    let compare = c .before .compare in
     let a = c .before .before .before .before .before .args in
-    both-there (a .t .now) (a .types) (a .patterns) (a .i) (a .j) _ (c .before .before .before .if1 .left) (c .before .before .if2 .left) (c .before .compare .ensures) refl refl refl refl
+    both-there (a .t .now) (a .types) (a .patterns) (a .i) (a .j) _ (if1 .left) (if2 .left) (compare .ensures) refl refl refl refl
 
 pub overlap-checked-spec : {M : Type 1} → statement M
 overlap-checked-spec =

@@ -25,7 +25,12 @@ same-length-4 : tie.Need-same-length-4
 same-length-4 c = search needs
 
 returns : tie.Need-returns
-returns c = let a = c .before .before .before .before .before .before .before .before .before .before .before .before .before .args in let e = c .refused .ensures in marked-short (a .file .now) (a .table .now) (a .work .now) (a .lines .now) (a .settings .now) (a .script .now) (a .budget) (c .before .before .is-short .ensures) (c .before .if1 .taken) (c .refused .result) (e .0) (ap refusalView (e .1)) (e .2) (e .3)
+returns c =
+    let args = c .before .before .before .before .before .before .before .before .before .before .before .before .before .args in
+    let is-short = c .before .before .is-short in
+    let if1 = c .before .if1 in
+    let a = args in let e = c .refused .ensures in marked-short (a .file .now) (a .table .now) (a .work .now) (a .lines .now) (a .settings .now) (a .script .now) (a .budget)
+    (is-short .ensures) (if1 .taken) (c .refused .result) (e .0) (ap refusalView (e .1)) (e .2) (e .3)
 
 count-lines-requires : tie.Need-count-lines-requires
 count-lines-requires c κs = search needs
@@ -49,7 +54,15 @@ same-length-8 : tie.Need-same-length-8
 same-length-8 c = search needs
 
 returns-2 : tie.Need-returns-2
-returns-2 c = let a = c .before .before .before .before .before .before .before .before .before .before .before .before .before .before .before .before .args in let e = c .refused2 .ensures in marked-long (a .file .now) (a .table .now) (a .work .now) (a .lines .now) (a .settings .now) (a .script .now) (a .budget) (c .before .before .before .before .before .is-short .ensures) (c .before .before .before .before .if1 .left) (c .before .before .before .count-lines .ensures) (c .before .before .is-long .ensures) (c .before .if2 .taken) (c .refused2 .result) (e .0) (ap refusalView (e .1)) (e .2) (e .3)
+returns-2 c =
+    let args = c .before .before .before .before .before .before .before .before .before .before .before .before .before .before .before .before .args in
+    let is-short = c .before .before .before .before .before .is-short in
+    let if1 = c .before .before .before .before .if1 in
+    let count-lines = c .before .before .before .count-lines in
+    let is-long = c .before .before .is-long in
+    let if2 = c .before .if2 in
+    let a = args in let e = c .refused2 .ensures in marked-long (a .file .now) (a .table .now) (a .work .now) (a .lines .now) (a .settings .now) (a .script .now) (a .budget)
+    (is-short .ensures) (if1 .left) (count-lines .ensures) (is-long .ensures) (if2 .taken) (c .refused2 .result) (e .0) (ap refusalView (e .1)) (e .2) (e .3)
 
 check-file-requires : tie.Need-check-file-requires
 check-file-requires c κs = search needs
@@ -73,10 +86,30 @@ same-length-12 : tie.Need-same-length-12
 same-length-12 c = search needs
 
 returns-3 : tie.Need-returns-3
-returns-3 c = let a = c .before .before .before .before .before .before .before .before .before .before .before .before .before .before .before .before .before .before .before .before .before .before .before .before .before .before .args in let e = c .refused3 .ensures in marked-refused (a .file .now) (a .table .now) (a .work .now) (a .lines .now) (a .settings .now) (a .script .now) (a .budget) (c .before .before .before .before .before .before .before .before .before .before .before .before .before .before .before .is-short .ensures) (c .before .before .before .before .before .before .before .before .before .before .before .before .before .before .if1 .left) (c .before .before .before .before .before .before .before .before .before .before .before .before .before .count-lines .ensures) (c .before .before .before .before .before .before .before .before .before .before .before .before .is-long .ensures) (c .before .before .before .before .before .before .before .before .before .before .before .if2 .left) (c .before .before .before .before .before .before .before .before .check-file .result) (c .before .before .before .before .before .before .before .before .check-file .ensures .0) (c .before .before .is-refused .ensures) (c .before .if3 .taken) (c .refused3 .result) (e .0) (e .1) (e .2) (e .3)
+returns-3 c =
+    let far = c .before .before .before .before .before .before .before .before .before .before .before .before .before .before .before .before .before .before .before .before in
+    let args = far .before .before .before .before .before .before .args in
+    let is-short = c .before .before .before .before .before .before .before .before .before .before .before .before .before .before .before .is-short in
+    let if1 = c .before .before .before .before .before .before .before .before .before .before .before .before .before .before .if1 in
+    let count-lines = c .before .before .before .before .before .before .before .before .before .before .before .before .before .count-lines in
+    let is-long = c .before .before .before .before .before .before .before .before .before .before .before .before .is-long in
+    let if2 = c .before .before .before .before .before .before .before .before .before .before .before .if2 in
+    let check-file = c .before .before .before .before .before .before .before .before .check-file in
+    let is-refused = c .before .before .is-refused in
+    let if3 = c .before .if3 in
+    let a = args in let e = c .refused3 .ensures in marked-refused (a .file .now) (a .table .now) (a .work .now) (a .lines .now) (a .settings .now) (a .script .now) (a .budget)
+    (is-short .ensures) (if1 .left) (count-lines .ensures) (is-long .ensures) (if2 .left) (check-file .result) (check-file .ensures .0) (is-refused .ensures) (if3 .taken)
+    (c .refused3 .result) (e .0) (e .1) (e .2) (e .3)
 
 play-accepted-requires : tie.Need-play-accepted-requires
-play-accepted-requires c κs = let a = c .before .before .before .before .before .before .before .before .before .before .before .before .before .before .before .before .before .before .before .before .before .before .before .before .before .before .before .before .before .args in let k = c .before .before .before .before .before .before .before .before .before .before .before .check-file .kept .1 .1 .0 in let h = enough (a .table .now) (a .work .now) (a .lines .now) (a .settings .now) (sym (c .before .before .before .before .before .before .before .before .before .before .before .before .before .before .before .before .before .before .is-short .ensures) ∙ c .before .before .before .before .before .before .before .before .before .before .before .before .before .before .before .before .before .if1 .left) .1 in omega (arith, k, h)
+play-accepted-requires c κs =
+    let far = c .before .before .before .before .before .before .before .before .before .before .before .before .before .before .before .before .before .before .before .before in
+    let args = far .before .before .before .before .before .before .before .before .before .args in
+    let is-short = c .before .before .before .before .before .before .before .before .before .before .before .before .before .before .before .before .before .before .is-short in
+    let if1 = c .before .before .before .before .before .before .before .before .before .before .before .before .before .before .before .before .before .if1 in
+    let check-file = c .before .before .before .before .before .before .before .before .before .before .before .check-file in
+    let a = args in let k = check-file .kept .1 .1 .0 in let h = enough (a .table .now) (a .work .now) (a .lines .now) (a .settings .now) (sym (is-short .ensures) ∙ if1 .left) .1 in omega
+    (arith, k, h)
 
 settled-requires : tie.Need-settled-requires
 settled-requires c κs = search needs
@@ -94,7 +127,21 @@ same-length-16 : tie.Need-same-length-16
 same-length-16 c = search needs
 
 returns-4 : tie.Need-returns-4
-returns-4 c = let a = c .before .before .before .before .before .before .before .before .before .before .before .before .before .before .before .before .before .before .before .before .before .before .before .before .before .before .before .before .before .before .before .before .before .before .before .before .before .args in let e = c .settled .ensures in marked-played (a .file .now) (a .table .now) (a .work .now) (a .lines .now) (a .settings .now) (a .script .now) (a .budget) (c .before .before .before .before .before .before .before .before .before .before .before .before .before .before .before .before .before .before .before .before .before .before .before .before .before .before .is-short .ensures) (c .before .before .before .before .before .before .before .before .before .before .before .before .before .before .before .before .before .before .before .before .before .before .before .before .before .if1 .left) (c .before .before .before .before .before .before .before .before .before .before .before .before .before .before .before .before .before .before .before .before .before .before .before .before .count-lines .ensures) (c .before .before .before .before .before .before .before .before .before .before .before .before .before .before .before .before .before .before .before .before .before .before .before .is-long .ensures) (c .before .before .before .before .before .before .before .before .before .before .before .before .before .before .before .before .before .before .before .before .before .before .if2 .left) (c .before .before .before .before .before .before .before .before .before .before .before .before .before .before .before .before .before .before .before .check-file .result) (c .before .before .before .before .before .before .before .before .before .before .before .before .before .before .before .before .before .before .before .check-file .ensures .0) (c .before .before .before .before .before .before .before .before .before .before .before .before .before .is-refused .ensures) (c .before .before .before .before .before .before .before .before .before .before .before .before .if3 .left) (c .before .before .before .before .before .before .before .before .before .before .before .before .before .before .before .before .before .before .before .check-file .ensures .1) (c .before .before .before .before .before .before .before .play-accepted .ensures) (c .settled .result) (e .0) (e .1) (e .2) (e .3)
+returns-4 c =
+    let far = c .before .before .before .before .before .before .before .before .before .before .before .before .before .before .before .before .before .before .before .before in
+    let args = far .before .before .before .before .before .before .before .before .before .before .before .before .before .before .before .before .before .args in
+    let is-short = far .before .before .before .before .before .before .is-short in
+    let if1 = far .before .before .before .before .before .if1 in
+    let count-lines = far .before .before .before .before .count-lines in
+    let is-long = far .before .before .before .is-long in
+    let if2 = far .before .before .if2 in
+    let check-file = c .before .before .before .before .before .before .before .before .before .before .before .before .before .before .before .before .before .before .before .check-file in
+    let is-refused = c .before .before .before .before .before .before .before .before .before .before .before .before .before .is-refused in
+    let if3 = c .before .before .before .before .before .before .before .before .before .before .before .before .if3 in
+    let play-accepted = c .before .before .before .before .before .before .before .play-accepted in
+    let a = args in let e = c .settled .ensures in marked-played (a .file .now) (a .table .now) (a .work .now) (a .lines .now) (a .settings .now) (a .script .now) (a .budget)
+    (is-short .ensures) (if1 .left) (count-lines .ensures) (is-long .ensures) (if2 .left) (check-file .result) (check-file .ensures .0) (is-refused .ensures) (if3 .left)
+    (check-file .ensures .1) (play-accepted .ensures) (c .settled .result) (e .0) (e .1) (e .2) (e .3)
 
 pub play-marked-spec : {M : Type 1} → statement M
 play-marked-spec =

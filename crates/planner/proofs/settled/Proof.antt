@@ -11,7 +11,11 @@ refused-requires : tie.Need-refused-requires
 refused-requires c κs = search needs
 
 returns : tie.Need-returns
-returns c = let z = sym (c .before .before .is-refused .ensures) ∙ c .before .if1 .taken in let e = c .refused .ensures in (e .0, e .1, e .2 ∙ sym (ap (λ b. cond b 0 (c .before .before .before .args .n)) z), e .3 ∙ sym (ap not z))
+returns c =
+    let args = c .before .before .before .args in
+    let is-refused = c .before .before .is-refused in
+    let if1 = c .before .if1 in
+    let z = sym (is-refused .ensures) ∙ if1 .taken in let e = c .refused .ensures in (e .0, e .1, e .2 ∙ sym (ap (λ b. cond b 0 (args .n)) z), e .3 ∙ sym (ap not z))
 
 returns-2 : tie.Need-returns-2
 returns-2 c = let z = sym (c .before .is-refused .ensures) ∙ c .if1 .left in (refl, refl, sym (ap (λ b. cond b 0 (c .before .before .args .n)) z), sym (ap not z))

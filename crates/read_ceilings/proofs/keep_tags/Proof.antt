@@ -31,7 +31,13 @@ same-length : tie.Need-same-length
 same-length c = search needs
 
 returns : tie.Need-returns
-returns c = let a = c .before .before .before .before .before .before .before .before .before .before .args in tags-pattern (a .g .now) (a .c) (a .r) (c .before .before .before .before .before .before .before .enum-told .given .1) (c .before .before .before .before .before .next-tags .ensures) (c .before .before .before .low .ensures) (c .before .before .put-byte .ensures .0)
+returns c =
+    let args = c .before .before .before .before .before .before .before .before .before .before .args in
+    let enum-told = c .before .before .before .before .before .before .before .enum-told in
+    let next-tags = c .before .before .before .before .before .next-tags in
+    let low = c .before .before .before .low in
+    let put-byte = c .before .before .put-byte in
+    let a = args in tags-pattern (a .g .now) (a .c) (a .r) (enum-told .given .1) (next-tags .ensures) (low .ensures) (put-byte .ensures .0)
 
 returns-2 : tie.Need-returns-2
 returns-2 c = let a = c .before .before .before .args in tags-type (a .g .now) (a .c) (a .r) (c .enum-told2 .given .1)

@@ -25,10 +25,16 @@ enum-told-5 : tie.Need-enum-told-5
 enum-told-5 c = search needs
 
 returns : tie.Need-returns
-returns c = let a = c .before .before .before .before .args in size-type (a .t .now) (a .c) (a .r) (c .before .enum-told .given .1) (c .type-nodes .ensures)
+returns c =
+    let args = c .before .before .before .before .args in
+    let enum-told = c .before .enum-told in
+    let a = args in size-type (a .t .now) (a .c) (a .r) (enum-told .given .1) (c .type-nodes .ensures)
 
 returns-2 : tie.Need-returns-2
-returns-2 c = let a = c .before .before .before .before .args in size-pattern (a .t .now) (a .c) (a .r) (c .before .enum-told2 .given .1) (c .pattern-nodes .ensures)
+returns-2 c =
+    let args = c .before .before .before .before .args in
+    let enum-told2 = c .before .enum-told2 in
+    let a = args in size-pattern (a .t .now) (a .c) (a .r) (enum-told2 .given .1) (c .pattern-nodes .ensures)
 
 returns-3 : tie.Need-returns-3
 returns-3 c = let a = c .before .before .before .args in size-iso (a .t .now) (a .c) (a .r) (c .enum-told3 .given .1)

@@ -17,7 +17,12 @@ add-result-2 : tie.Need-add-result-2
 add-result-2 c = search needs
 
 returns : tie.Need-returns
-returns c = let s = c .before .before .before .before .before .args in next-type-node (s .t .now) (s .kind) (s .a) (s .b) (parted _ (c .before .before .before .if1 .left) (c .before .before .if2 .taken)) (c .before .cell .ensures .0) (c .cell2 .ensures .0)
+returns c =
+    let args = c .before .before .before .before .before .args in
+    let if1 = c .before .before .before .if1 in
+    let if2 = c .before .before .if2 in
+    let cell = c .before .cell in
+    let s = args in next-type-node (s .t .now) (s .kind) (s .a) (s .b) (parted _ (if1 .left) (if2 .taken)) (cell .ensures .0) (c .cell2 .ensures .0)
 
 returns-2 : tie.Need-returns-2
 returns-2 c = let s = c .before .before .args in next-type-whole (s .t .now) (s .kind) (s .a) (s .b) (whole-below _ (c .if1 .taken))

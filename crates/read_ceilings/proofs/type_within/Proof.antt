@@ -8,7 +8,10 @@ type-nodes-requires : tie.Need-type-nodes-requires
 type-nodes-requires c κs = search needs
 
 returns : tie.Need-returns
-returns c = let a = c .before .before .before .before .before .args in type-kept (a .t .now) (a .g .now) (a .c) (a .r) (c .before .if1 .taken) (c .type-nodes .ensures)
+returns c =
+    let args = c .before .before .before .before .before .args in
+    let if1 = c .before .if1 in
+    let a = args in type-kept (a .t .now) (a .g .now) (a .c) (a .r) (if1 .taken) (c .type-nodes .ensures)
 
 returns-2 : tie.Need-returns-2
 returns-2 c = let a = c .before .before .before .before .args in type-many (a .t .now) (a .g .now) (a .c) (a .r) (c .if1 .left)

@@ -26,19 +26,34 @@ enum-told-5 : tie.Need-enum-told-5
 enum-told-5 c = search needs
 
 returns : tie.Need-returns
-returns c = let a = c .before .before .before .before .before .args in within-type (a .t .now) (a .g .now) (a .c) (a .r) (c .before .enum-told .given .1) (c .type-within .ensures)
+returns c =
+    let args = c .before .before .before .before .before .args in
+    let enum-told = c .before .enum-told in
+    let a = args in within-type (a .t .now) (a .g .now) (a .c) (a .r) (enum-told .given .1) (c .type-within .ensures)
 
 returns-2 : tie.Need-returns-2
-returns-2 c = let a = c .before .before .before .before .before .args in within-pattern (a .t .now) (a .g .now) (a .c) (a .r) (c .before .enum-told2 .given .1) (c .pattern-within .ensures)
+returns-2 c =
+    let args = c .before .before .before .before .before .args in
+    let enum-told2 = c .before .enum-told2 in
+    let a = args in within-pattern (a .t .now) (a .g .now) (a .c) (a .r) (enum-told2 .given .1) (c .pattern-within .ensures)
 
 returns-3 : tie.Need-returns-3
-returns-3 c = let a = c .before .before .before .before .before .args in within-iso (a .t .now) (a .g .now) (a .c) (a .r) (c .before .enum-told3 .given .1)
+returns-3 c =
+    let args = c .before .before .before .before .before .args in
+    let enum-told3 = c .before .enum-told3 in
+    let a = args in within-iso (a .t .now) (a .g .now) (a .c) (a .r) (enum-told3 .given .1)
 
 returns-4 : tie.Need-returns-4
-returns-4 c = let a = c .before .before .before .before .before .args in within-clause (a .t .now) (a .g .now) (a .c) (a .r) (c .before .enum-told4 .given .1)
+returns-4 c =
+    let args = c .before .before .before .before .before .args in
+    let enum-told4 = c .before .enum-told4 in
+    let a = args in within-clause (a .t .now) (a .g .now) (a .c) (a .r) (enum-told4 .given .1)
 
 returns-5 : tie.Need-returns-5
-returns-5 c = let a = c .before .before .before .before .before .args in within-let (a .t .now) (a .g .now) (a .c) (a .r) (c .before .enum-told5 .given .1)
+returns-5 c =
+    let args = c .before .before .before .before .before .args in
+    let enum-told5 = c .before .enum-told5 in
+    let a = args in within-let (a .t .now) (a .g .now) (a .c) (a .r) (enum-told5 .given .1)
 
 pub within-ceilings-spec : {M : Type 1} → statement M
 within-ceilings-spec =

@@ -14,7 +14,11 @@ returns : tie.Need-returns
 returns c = let a = c .before .before .before .args in let-iso (c .before .before .both-below .ensures) (a .i) (a .isos) (c .before .if1 .taken)
 
 returns-2 : tie.Need-returns-2
-returns-2 c = let a = c .before .before .before .args in let-no-iso (c .before .before .both-below .ensures) (a .i) (a .isos) (c .before .if1 .taken) (c .if2 .left)
+returns-2 c =
+    let args = c .before .before .before .args in
+    let both-below = c .before .before .both-below in
+    let if1 = c .before .if1 in
+    let a = args in let-no-iso (both-below .ensures) (a .i) (a .isos) (if1 .taken) (c .if2 .left)
 
 returns-3 : tie.Need-returns-3
 returns-3 c = let a = c .before .before .args in let-no-pattern (c .before .both-below .ensures) (a .i) (a .isos) (c .if1 .left)

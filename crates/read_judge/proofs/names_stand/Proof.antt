@@ -35,19 +35,34 @@ let-names-requires : tie.Need-let-names-requires
 let-names-requires c κs = search needs
 
 returns : tie.Need-returns
-returns c = type-stands (c .before .before .before .args .c) (c .before .before .before .args .r) (c .before .enum-told .given .1) (c .type-names .ensures)
+returns c =
+    let args = c .before .before .before .args in
+    let enum-told = c .before .enum-told in
+    type-stands (args .c) (args .r) (enum-told .given .1) (c .type-names .ensures)
 
 returns-2 : tie.Need-returns-2
-returns-2 c = pattern-stands (c .before .before .before .args .c) (c .before .before .before .args .r) (c .before .enum-told2 .given .1) (c .pattern-names .ensures)
+returns-2 c =
+    let args = c .before .before .before .args in
+    let enum-told2 = c .before .enum-told2 in
+    pattern-stands (args .c) (args .r) (enum-told2 .given .1) (c .pattern-names .ensures)
 
 returns-3 : tie.Need-returns-3
-returns-3 c = iso-stands (c .before .before .before .args .c) (c .before .before .before .args .r) (c .before .enum-told3 .given .1) (c .both-below .ensures)
+returns-3 c =
+    let args = c .before .before .before .args in
+    let enum-told3 = c .before .enum-told3 in
+    iso-stands (args .c) (args .r) (enum-told3 .given .1) (c .both-below .ensures)
 
 returns-4 : tie.Need-returns-4
-returns-4 c = clause-stands (c .before .before .before .args .c) (c .before .before .before .args .r) (c .before .enum-told4 .given .1) (c .both-below2 .ensures)
+returns-4 c =
+    let args = c .before .before .before .args in
+    let enum-told4 = c .before .enum-told4 in
+    clause-stands (args .c) (args .r) (enum-told4 .given .1) (c .both-below2 .ensures)
 
 returns-5 : tie.Need-returns-5
-returns-5 c = let-stands (c .before .before .before .args .c) (c .before .before .before .args .r) (c .before .enum-told5 .given .1) (c .let-names .ensures)
+returns-5 c =
+    let args = c .before .before .before .args in
+    let enum-told5 = c .before .enum-told5 in
+    let-stands (args .c) (args .r) (enum-told5 .given .1) (c .let-names .ensures)
 
 pub names-stand-spec : {M : Type 1} → statement M
 names-stand-spec =

@@ -18,15 +18,26 @@ shared-slice-read-if2 : tie.Need-shared-slice-read-if2
 shared-slice-read-if2 c = search needs
 
 returns-2 : tie.Need-returns-2
-returns-2 c = counted-closed (c .before .before .before .before .before .args .s .now) (c .before .before .if1 .left) (c .before .before .before .count-feeds .ensures) (c .if2 .taken)
+returns-2 c =
+    let args = c .before .before .before .before .before .args in
+    let count-feeds = c .before .before .before .count-feeds in
+    let if1 = c .before .before .if1 in
+    counted-closed (args .s .now) (if1 .left) (count-feeds .ensures) (c .if2 .taken)
 
 add-result : tie.Need-add-result
 add-result c =
-    let l = counted-open (c .before .before .before .before .before .args .s .now) (c .before .before .if1 .left) (c .before .before .before .count-feeds .ensures) (c .if2 .left) .1 in
+    let args = c .before .before .before .before .before .args in
+    let count-feeds = c .before .before .before .count-feeds in
+    let if1 = c .before .before .if1 in
+    let l = counted-open (args .s .now) (if1 .left) (count-feeds .ensures) (c .if2 .left) .1 in
     omega arith
 
 returns-3 : tie.Need-returns-3
-returns-3 c = counted-open (c .before .before .before .before .before .args .s .now) (c .before .before .if1 .left) (c .before .before .before .count-feeds .ensures) (c .if2 .left) .0
+returns-3 c =
+    let args = c .before .before .before .before .before .args in
+    let count-feeds = c .before .before .before .count-feeds in
+    let if1 = c .before .before .if1 in
+    counted-open (args .s .now) (if1 .left) (count-feeds .ensures) (c .if2 .left) .0
 
 pub count-lines-spec : {M : Type 1} → statement M
 count-lines-spec =

@@ -28,7 +28,8 @@ same-length-4 c = search needs
 
 returns : tie.Need-returns
 returns c =
-    sheet-given _ _ _ _ _ _ _ _ _ _ _ _ (c .before .before .before .before .before .before .before .before .before .before .sheet .ensures) (c .number-of .ensures) refl refl
+    let sheet = c .before .before .before .before .before .before .before .before .before .before .sheet in
+    sheet-given _ _ _ _ _ _ _ _ _ _ _ _ (sheet .ensures) (c .number-of .ensures) refl refl
 
 pub rulefile-sheet-spec : {M : Type 1} → statement M
 rulefile-sheet-spec =

@@ -31,7 +31,11 @@ enum-known-p-2 : tie.Need-enum-known-p-2 Inv-loop μ-loop
 enum-known-p-2 c = search needs
 
 answer-end-requires : tie.Need-answer-end-requires Inv-loop μ-loop
-answer-end-requires c κs = ready-done _ (c .before .before .before .before .before .before .before .p2 .given .1) (c .before .before .before .before .before .before .before .before .before .before .before .before .before .before .before .before .before .before .before .before .before .answer-some .ensures)
+answer-end-requires c κs =
+    let far = c .before .before .before .before .before .before .before .before .before .before .before .before .before .before .before .before .before .before .before .before in
+    let answer-some = far .before .answer-some in
+    let p2 = c .before .before .before .before .before .before .before .p2 in
+    ready-done _ (p2 .given .1) (answer-some .ensures)
 
 same-length : tie.Need-same-length Inv-loop μ-loop
 same-length c =
@@ -113,7 +117,8 @@ sub-turns c = search needs
 
 loop-less : tie.Need-loop-less Inv-loop μ-loop
 loop-less c =
-    let h = c .before .before .before .before .before .before .before .before .before .before .before .before .before .before .before .before .before .before .before .before .before .before .loop-test .taken in
+    let h′ = c .before .before .before .before .before .before .before .before .before .before .before .before .before .before .before .before .before .before .before .before in
+    let h = h′ .before .before .loop-test .taken in
     omega (arith, h)
 
 loop-again : tie.Need-loop-again Inv-loop μ-loop

@@ -88,7 +88,16 @@ loop-again c =
     let l = t .before in
     let i = l .before in
     let a = i .before .before .before .before .before .before .before .before in
-    fed-next (i .loop .inv) (a .pre) (k .feed .result) (t .tail .ensures) (l .loop-test .taken) (k .feed .ensures) (record { file = k .feed .kept .1 .1 .0; line = k .feed .kept .1 .1 .1 .0; table = k .feed .kept .1 .1 .1 .1 .0; work = k .feed .kept .1 .1 .1 .1 .1 .0; index = k .feed .kept .1 .1 .1 .1 .1 .1 .0; out = k .feed .kept .1 .1 .1 .1 .1 .1 .1 .0 })
+    fed-next (i .loop .inv) (a .pre) (k .feed .result) (t .tail .ensures) (l .loop-test .taken) (k .feed .ensures)
+    (record {
+      file = k .feed .kept .1 .1 .0;
+      line = k .feed .kept .1 .1 .1 .0;
+      table = k .feed .kept .1 .1 .1 .1 .0;
+      work = k .feed .kept .1 .1 .1 .1 .1 .0;
+      index =
+          k .feed .kept .1 .1 .1 .1 .1 .1 .0;
+      out = k .feed .kept .1 .1 .1 .1 .1 .1 .1 .0;
+    })
 
 behind-requires : tie.Need-behind-requires Inv-loop μ-loop
 behind-requires c κs = search needs

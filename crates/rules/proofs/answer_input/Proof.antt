@@ -46,16 +46,23 @@ returns c =
     let q = k .before .before .before .before .before .before .before in
     let m = q .before .before in
     let a = m .before .before .before .before .before .before .before .before .before .args in
-    input-bytes (a .d) (a .i) (a .chunk .now) (a .file .now) (a .line .now) (a .table .now) (a .index .now) (k .answer-chunk .last .1 .1 .0) (k .answer-chunk .last .1 .1 .1 .0) (k .answer-chunk .last .1 .1 .1 .1 .0) (k .answer-chunk .last .1 .1 .1 .1 .1 .1 .0) (k .answer-chunk .result) (m .i .given .1) (q .front .ensures) (k .answer-chunk .ensures)
+    input-bytes (a .d) (a .i) (a .chunk .now) (a .file .now) (a .line .now) (a .table .now) (a .index .now) (k .answer-chunk .last .1 .1 .0) (k .answer-chunk .last .1 .1 .1 .0)
+    (k .answer-chunk .last .1 .1 .1 .1 .0) (k .answer-chunk .last .1 .1 .1 .1 .1 .1 .0) (k .answer-chunk .result) (m .i .given .1) (q .front .ensures) (k .answer-chunk .ensures)
 
 returns-2 : tie.Need-returns-2
-returns-2 c = let a = c .before .before .before .before .before .before .before .before .before .args in input-again (a .d) (a .i) (a .chunk .now) (a .file .now) (a .line .now) (a .table .now) (a .index .now) (c .enum-told .given .1)
+returns-2 c =
+    let args = c .before .before .before .before .before .before .before .before .before .args in
+    let a = args in input-again (a .d) (a .i) (a .chunk .now) (a .file .now) (a .line .now) (a .table .now) (a .index .now) (c .enum-told .given .1)
 
 returns-3 : tie.Need-returns-3
-returns-3 c = let a = c .before .before .before .before .before .before .before .before .before .args in input-end (a .d) (a .i) (a .chunk .now) (a .file .now) (a .line .now) (a .table .now) (a .index .now) (c .enum-told2 .given .1)
+returns-3 c =
+    let args = c .before .before .before .before .before .before .before .before .before .args in
+    let a = args in input-end (a .d) (a .i) (a .chunk .now) (a .file .now) (a .line .now) (a .table .now) (a .index .now) (c .enum-told2 .given .1)
 
 returns-4 : tie.Need-returns-4
-returns-4 c = let a = c .before .before .before .before .before .before .before .before .before .args in input-failed (a .d) (a .i) (a .chunk .now) (a .file .now) (a .line .now) (a .table .now) (a .index .now) (c .enum-told3 .given .1)
+returns-4 c =
+    let args = c .before .before .before .before .before .before .before .before .before .args in
+    let a = args in input-failed (a .d) (a .i) (a .chunk .now) (a .file .now) (a .line .now) (a .table .now) (a .index .now) (c .enum-told3 .given .1)
 
 pub answer-input-spec : {M : Type 1} → statement M
 answer-input-spec =

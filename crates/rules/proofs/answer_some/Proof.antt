@@ -39,7 +39,16 @@ returns c =
     let k = c .before .before .before .before .before .before .before .before .before .before .before .before in
     let a = k .before .before .before .before .before .before .before .before .before .before .before .before .before .before .before .before .before in
     let r = k .before .before .before .before .before .before .before .before .before in
-    reached-input (r .read-some .result) (r .read-some .last .0) (k .answer-input .result) (a .pre) (record { file = k .answer-input .kept .1 .1 .1 .0; line = k .answer-input .kept .1 .1 .1 .1 .0; table = k .answer-input .kept .1 .1 .1 .1 .1 .0; work = k .answer-input .kept .1 .1 .1 .1 .1 .1 .0; index = k .answer-input .kept .1 .1 .1 .1 .1 .1 .1 .0; out = k .answer-input .kept .1 .1 .1 .1 .1 .1 .1 .1 .0 }) (k .answer-input .ensures)
+    reached-input (r .read-some .result) (r .read-some .last .0) (k .answer-input .result) (a .pre)
+    (record {
+      file = k .answer-input .kept .1 .1 .1 .0;
+      line = k .answer-input .kept .1 .1 .1 .1 .0;
+      table = k .answer-input .kept .1 .1 .1 .1 .1 .0;
+      work =
+          k .answer-input .kept .1 .1 .1 .1 .1 .1 .0;
+      index = k .answer-input .kept .1 .1 .1 .1 .1 .1 .1 .0;
+      out = k .answer-input .kept .1 .1 .1 .1 .1 .1 .1 .1 .0;
+    }) (k .answer-input .ensures)
 
 pub answer-some-spec : {M : Type 1} → statement M
 answer-some-spec =

@@ -111,7 +111,13 @@ flatten-returns : (t : ℕ) → flatten-lts.Need-returns (
   flatten-below t,
   flatten.Post,
 ) (flatten-at t) flatten.Post
-flatten-returns t c = flatten-variable (c .before .before .before .before .before .before .before .before .before .args .t .now) (c .before .before .before .before .before .before .before .before .before .args .base) (c .before .before .before .before .before .before .before .before .before .args .j) (c .before .before .before .before .before .before .pattern-cell .ensures .0) (c .before .before .before .before .before .if1 .taken) (c .before .before .before .pattern-cell2 .ensures .0) (c .before .before .put-variable .ensures)
+flatten-returns t c =
+    let args = c .before .before .before .before .before .before .before .before .before .args in
+    let pattern-cell = c .before .before .before .before .before .before .pattern-cell in
+    let if1 = c .before .before .before .before .before .if1 in
+    let pattern-cell2 = c .before .before .before .pattern-cell2 in
+    let put-variable = c .before .before .put-variable in
+    flatten-variable (args .t .now) (args .base) (args .j) (pattern-cell .ensures .0) (if1 .taken) (pattern-cell2 .ensures .0) (put-variable .ensures)
 
 -- src/lib.rt:88:37
 flatten-letter-requires : (t : ℕ) → flatten-lts.Need-letter-requires (
@@ -213,7 +219,13 @@ flatten-flatten-requires : (t : ℕ) → flatten-lts.Need-flatten-requires (
   flatten-below t,
   flatten.Post,
 ) (flatten-at t) flatten.Post
-flatten-flatten-requires t c κs = (pattern-call (c .before .before .before .before .before .before .before .before .before .before .before .before .before .args .t .now) (c .before .before .before .before .before .before .before .before .before .before .before .before .before .args .base) (c .before .before .before .before .before .before .before .before .before .before .before .before .before .args .j) (cellOf (c .before .before .before .before .before .before .before .before .before .before .before .before .before .args .t .now) ((c .before .before .before .before .before .before .before .before .before .before .before .before .before .args .base) + (c .before .before .before .before .before .before .before .before .before .before .before .before .before .args .j)) 2) (c .before .before .before .before .before .before .before .before .before .before .before .before .before .pre .0) (c .before .before .before .before .before .before .before .before .before .before .pattern-cell .ensures .0) (no-unit (c .before .before .if3 .taken)) (c .before .part .ensures), tt)
+flatten-flatten-requires t c κs =
+    let pre = c .before .before .before .before .before .before .before .before .before .before .before .before .before .pre in
+    let args = c .before .before .before .before .before .before .before .before .before .before .before .before .before .args in
+    let pattern-cell = c .before .before .before .before .before .before .before .before .before .before .pattern-cell in
+    let if3 = c .before .before .if3 in
+    let part = c .before .part in
+    (pattern-call (args .t .now) (args .base) (args .j) (cellOf (args .t .now) ((args .base) + (args .j)) 2) (pre .0) (pattern-cell .ensures .0) (no-unit (if3 .taken)) (part .ensures), tt)
 
 -- src/lib.rt:95:13
 flatten-same-length-3 : (t : ℕ) → flatten-lts.Need-same-length-3 (
@@ -247,7 +259,11 @@ flatten-returns-3 : (t : ℕ) → flatten-lts.Need-returns-3 (
   flatten-below t,
   flatten.Post,
 ) (flatten-at t) flatten.Post
-flatten-returns-3 t c = half-none (c .before .before .before .before .before .before .before .before .before .before .put-number .ensures) (positive (c .before .before .before .before .before .before .before .if2 .left)) (c .before .before .before .flatten .ensures .before)
+flatten-returns-3 t c =
+    let put-number = c .before .before .before .before .before .before .before .before .before .before .put-number in
+    let if2 = c .before .before .before .before .before .before .before .if2 in
+    let flatten = c .before .before .before .flatten in
+    half-none (put-number .ensures) (positive (if2 .left)) (flatten .ensures .before)
 
 -- src/lib.rt:97:33
 flatten-part-requires-2 : (t : ℕ) → flatten-lts.Need-part-requires-2 (
@@ -281,7 +297,13 @@ flatten-flatten-requires-2 : (t : ℕ) → flatten-lts.Need-flatten-requires-2 (
   flatten-below t,
   flatten.Post,
 ) (flatten-at t) flatten.Post
-flatten-flatten-requires-2 t c κs = (pattern-call (c .before .before .before .before .before .before .before .before .before .before .before .before .before .before .before .before .before .before .before .args .t .now) (c .before .before .before .before .before .before .before .before .before .before .before .before .before .before .before .before .before .before .before .args .base) (c .before .before .before .before .before .before .before .before .before .before .before .before .before .before .before .before .before .before .before .args .j) (cellOf (c .before .before .before .before .before .before .before .before .before .before .before .before .before .before .before .before .before .before .before .args .t .now) ((c .before .before .before .before .before .before .before .before .before .before .before .before .before .before .before .before .before .before .before .args .base) + (c .before .before .before .before .before .before .before .before .before .before .before .before .before .before .before .before .before .before .before .args .j)) 3) (c .before .before .before .before .before .before .before .before .before .before .before .before .before .before .before .before .before .before .before .pre .0) (c .before .before .before .before .before .before .before .before .before .before .before .before .before .before .before .before .pattern-cell .ensures .0) (no-unit (c .before .before .before .before .before .before .before .before .if3 .taken)) (c .before .part2 .ensures), tt)
+flatten-flatten-requires-2 t c κs =
+    let pre = c .before .before .before .before .before .before .before .before .before .before .before .before .before .before .before .before .before .before .before .pre in
+    let args = c .before .before .before .before .before .before .before .before .before .before .before .before .before .before .before .before .before .before .before .args in
+    let pattern-cell = c .before .before .before .before .before .before .before .before .before .before .before .before .before .before .before .before .pattern-cell in
+    let if3 = c .before .before .before .before .before .before .before .before .if3 in
+    let part2 = c .before .part2 in
+    (pattern-call (args .t .now) (args .base) (args .j) (cellOf (args .t .now) ((args .base) + (args .j)) 3) (pre .0) (pattern-cell .ensures .0) (no-unit (if3 .taken)) (part2 .ensures), tt)
 
 -- src/lib.rt:97:9
 flatten-same-length-4 : (t : ℕ) → flatten-lts.Need-same-length-4 (
@@ -315,7 +337,21 @@ flatten-returns-4 : (t : ℕ) → flatten-lts.Need-returns-4 (
   flatten-below t,
   flatten.Post,
 ) (flatten-at t) flatten.Post
-flatten-returns-4 t c = flatten-pair (c .before .before .before .before .before .before .before .before .before .before .before .before .before .before .before .before .before .before .before .before .before .before .args .t .now) (c .before .before .before .before .before .before .before .before .before .before .before .before .before .before .before .before .before .before .before .before .before .before .args .base) (c .before .before .before .before .before .before .before .before .before .before .before .before .before .before .before .before .before .before .before .before .before .before .args .j) (c .before .before .before .before .before .before .before .before .before .before .before .before .before .before .before .before .before .before .before .pattern-cell .ensures .0) (c .before .before .before .before .before .before .before .before .before .before .before .before .before .before .before .before .letter .ensures) (c .before .before .before .before .before .before .before .before .before .before .before .before .before .before .before .put-number .ensures) (positive (c .before .before .before .before .before .before .before .before .before .before .before .before .if2 .left)) (c .before .before .before .before .before .before .before .before .before .before .part .ensures) (c .before .before .before .before .before .before .before .before .flatten .ensures) (c .before .before .before .before .before .before .before .before .before .before .before .if3 .taken) (c .before .before .before .before .part2 .ensures) (positive (c .before .before .before .before .before .if4 .left)) (c .before .before .before .before .before .before .before .before .flatten .kept .1 .1 .1 .0) (c .before .before .flatten2 .ensures)
+flatten-returns-4 t c =
+    let far = c .before .before .before .before .before .before .before .before .before .before .before .before .before .before .before .before .before .before .before .before in
+    let args = far .before .before .args in
+    let pattern-cell = c .before .before .before .before .before .before .before .before .before .before .before .before .before .before .before .before .before .before .before .pattern-cell in
+    let letter = c .before .before .before .before .before .before .before .before .before .before .before .before .before .before .before .before .letter in
+    let put-number = c .before .before .before .before .before .before .before .before .before .before .before .before .before .before .before .put-number in
+    let if2 = c .before .before .before .before .before .before .before .before .before .before .before .before .if2 in
+    let if3 = c .before .before .before .before .before .before .before .before .before .before .before .if3 in
+    let part = c .before .before .before .before .before .before .before .before .before .before .part in
+    let flatten = c .before .before .before .before .before .before .before .before .flatten in
+    let if4 = c .before .before .before .before .before .if4 in
+    let part2 = c .before .before .before .before .part2 in
+    let flatten2 = c .before .before .flatten2 in
+    flatten-pair (args .t .now) (args .base) (args .j) (pattern-cell .ensures .0) (letter .ensures) (put-number .ensures) (positive (if2 .left)) (part .ensures) (flatten .ensures)
+    (if3 .taken) (part2 .ensures) (positive (if4 .left)) (flatten .kept .1 .1 .1 .0) (flatten2 .ensures)
 
 -- src/lib.rt:100:42
 flatten-part-requires-3 : (t : ℕ) → flatten-lts.Need-part-requires-3 (
@@ -349,7 +385,17 @@ flatten-flatten-requires-3 : (t : ℕ) → flatten-lts.Need-flatten-requires-3 (
   flatten-below t,
   flatten.Post,
 ) (flatten-at t) flatten.Post
-flatten-flatten-requires-3 t c κs = (pattern-call (c .before .before .before .before .before .before .before .before .before .before .before .before .before .before .before .args .t .now) (c .before .before .before .before .before .before .before .before .before .before .before .before .before .before .before .args .base) (c .before .before .before .before .before .before .before .before .before .before .before .before .before .before .before .args .j) (cellOf (c .before .before .before .before .before .before .before .before .before .before .before .before .before .before .before .args .t .now) ((c .before .before .before .before .before .before .before .before .before .before .before .before .before .before .before .args .base) + (c .before .before .before .before .before .before .before .before .before .before .before .before .before .before .before .args .j)) 2) (c .before .before .before .before .before .before .before .before .before .before .before .before .before .before .before .pre .0) (c .before .before .before .before .before .before .before .before .before .before .before .before .pattern-cell .ensures .0) (injects-no-unit (injects (c .before .before .before .before .before .before .before .before .before .before .before .before .pattern-cell .result) (c .before .before .before .if5 .left) (c .before .before .if6 .taken))) (c .before .part3 .ensures), tt)
+flatten-flatten-requires-3 t c κs =
+    let pre = c .before .before .before .before .before .before .before .before .before .before .before .before .before .before .before .pre in
+    let args = c .before .before .before .before .before .before .before .before .before .before .before .before .before .before .before .args in
+    let pattern-cell = c .before .before .before .before .before .before .before .before .before .before .before .before .pattern-cell in
+    let if5 = c .before .before .before .if5 in
+    let if6 = c .before .before .if6 in
+    let part3 = c .before .part3 in (
+      pattern-call (args .t .now) (args .base) (args .j) (cellOf (args .t .now) ((args .base) + (args .j)) 2) (pre .0) (pattern-cell .ensures .0)
+          (injects-no-unit (injects (pattern-cell .result) (if5 .left) (if6 .taken))) (part3 .ensures),
+      tt,
+    )
 
 -- src/lib.rt:79:1
 flatten-same-length-5 : (t : ℕ) → flatten-lts.Need-same-length-5 (
@@ -383,7 +429,18 @@ flatten-returns-5 : (t : ℕ) → flatten-lts.Need-returns-5 (
   flatten-below t,
   flatten.Post,
 ) (flatten-at t) flatten.Post
-flatten-returns-5 t c = flatten-tag (c .before .before .before .before .before .before .before .before .before .before .before .before .before .before .before .before .before .before .args .t .now) (c .before .before .before .before .before .before .before .before .before .before .before .before .before .before .before .before .before .before .args .base) (c .before .before .before .before .before .before .before .before .before .before .before .before .before .before .before .before .before .before .args .j) (c .before .before .before .before .before .before .before .before .before .before .before .before .before .before .before .pattern-cell .ensures .0) (c .before .before .before .before .before .before .before .before .before .before .before .before .letter .ensures) (c .before .before .before .before .before .before .before .before .before .before .before .put-number .ensures) (positive (c .before .before .before .before .before .before .before .before .if2 .left)) (c .before .before .before .before .part3 .ensures) (c .before .before .flatten3 .ensures) (c .before .before .before .before .before .before .if5 .left) (c .before .before .before .before .before .if6 .taken)
+flatten-returns-5 t c =
+    let args = c .before .before .before .before .before .before .before .before .before .before .before .before .before .before .before .before .before .before .args in
+    let pattern-cell = c .before .before .before .before .before .before .before .before .before .before .before .before .before .before .before .pattern-cell in
+    let letter = c .before .before .before .before .before .before .before .before .before .before .before .before .letter in
+    let put-number = c .before .before .before .before .before .before .before .before .before .before .before .put-number in
+    let if2 = c .before .before .before .before .before .before .before .before .if2 in
+    let if5 = c .before .before .before .before .before .before .if5 in
+    let if6 = c .before .before .before .before .before .if6 in
+    let part3 = c .before .before .before .before .part3 in
+    let flatten3 = c .before .before .flatten3 in
+    flatten-tag (args .t .now) (args .base) (args .j) (pattern-cell .ensures .0) (letter .ensures) (put-number .ensures) (positive (if2 .left)) (part3 .ensures) (flatten3 .ensures)
+    (if5 .left) (if6 .taken)
 
 -- src/lib.rt:79:1
 flatten-same-length-6 : (t : ℕ) → flatten-lts.Need-same-length-6 (
@@ -417,7 +474,13 @@ flatten-returns-6 : (t : ℕ) → flatten-lts.Need-returns-6 (
   flatten-below t,
   flatten.Post,
 ) (flatten-at t) flatten.Post
-flatten-returns-6 t c = flatten-low (c .before .before .before .before .before .before .before .before .before .before .before .before .args .t .now) (c .before .before .before .before .before .before .before .before .before .before .before .before .args .base) (c .before .before .before .before .before .before .before .before .before .before .before .before .args .j) (c .before .before .before .before .before .before .before .before .before .pattern-cell .ensures .0) (c .before .before .before .before .before .before .letter .ensures) (c .before .before .before .before .before .put-number .ensures) (c .before .before .before .before .before .before .before .before .if1 .left) (c .if5 .taken)
+flatten-returns-6 t c =
+    let args = c .before .before .before .before .before .before .before .before .before .before .before .before .args in
+    let pattern-cell = c .before .before .before .before .before .before .before .before .before .pattern-cell in
+    let if1 = c .before .before .before .before .before .before .before .before .if1 in
+    let letter = c .before .before .before .before .before .before .letter in
+    let put-number = c .before .before .before .before .before .put-number in
+    flatten-low (args .t .now) (args .base) (args .j) (pattern-cell .ensures .0) (letter .ensures) (put-number .ensures) (if1 .left) (c .if5 .taken)
 
 -- src/lib.rt:79:1
 flatten-same-length-7 : (t : ℕ) → flatten-lts.Need-same-length-7 (
@@ -451,7 +514,14 @@ flatten-returns-7 : (t : ℕ) → flatten-lts.Need-returns-7 (
   flatten-below t,
   flatten.Post,
 ) (flatten-at t) flatten.Post
-flatten-returns-7 t c = flatten-high (c .before .before .before .before .before .before .before .before .before .before .before .before .before .args .t .now) (c .before .before .before .before .before .before .before .before .before .before .before .before .before .args .base) (c .before .before .before .before .before .before .before .before .before .before .before .before .before .args .j) (c .before .before .before .before .before .before .before .before .before .before .pattern-cell .ensures .0) (c .before .before .before .before .before .before .before .letter .ensures) (c .before .before .before .before .before .before .put-number .ensures) (c .before .before .before .before .before .before .before .before .before .if1 .left) (c .if6 .left) (c .before .before .if3 .left)
+flatten-returns-7 t c =
+    let args = c .before .before .before .before .before .before .before .before .before .before .before .before .before .args in
+    let pattern-cell = c .before .before .before .before .before .before .before .before .before .before .pattern-cell in
+    let if1 = c .before .before .before .before .before .before .before .before .before .if1 in
+    let letter = c .before .before .before .before .before .before .before .letter in
+    let put-number = c .before .before .before .before .before .before .put-number in
+    let if3 = c .before .before .if3 in
+    flatten-high (args .t .now) (args .base) (args .j) (pattern-cell .ensures .0) (letter .ensures) (put-number .ensures) (if1 .left) (c .if6 .left) (if3 .left)
 
 pub +flatten-spec : {M : Type 1} → statement M
 +flatten-spec = close μ-flatten λ t. flatten-lts.spec (

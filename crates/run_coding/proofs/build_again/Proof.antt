@@ -22,7 +22,12 @@ same-length c = search needs
 
 -- src/lib.rt:320:9
 returns : tie.Need-returns
-returns c = λ w top b low. built-var (c .before .before .before .before .before .before .before .before .before .before .args .t .now) (c .before .before .before .before .before .before .before .before .before .before .args .base) (c .before .before .before .before .before .before .before .before .before .before .args .j) (c .before .before .before .before .before .before .before .before .before .before .args .vars .now) (c .before .before .before .before .before .before .before .before .before .before .args .work .now) top (c .before .before .before .before .before .variable .ensures .0) (c .before .before .before .before .if1 .taken) w (c .before .before .build-var .ensures top b low)
+returns c =
+    let args = c .before .before .before .before .before .before .before .before .before .before .args in
+    let variable = c .before .before .before .before .before .variable in
+    let if1 = c .before .before .before .before .if1 in
+    let build-var = c .before .before .build-var in
+    λ w top b low. built-var (args .t .now) (args .base) (args .j) (args .vars .now) (args .work .now) top (variable .ensures .0) (if1 .taken) w (build-var .ensures top b low)
 
 -- src/lib.rt:322:5
 build-other-requires : tie.Need-build-other-requires

@@ -23,7 +23,13 @@ same-length c = search needs
 
 -- src/lib.rt:272:9
 returns : tie.Need-returns
-returns c = λ w top b low. built-flat (patternOf (c .before .before .before .before .before .before .before .before .before .before .args .t .now) (c .before .before .before .before .before .before .before .before .before .before .args .base) (c .before .before .before .before .before .before .before .before .before .before .args .j)) (c .before .before .before .before .before .before .before .before .before .before .args .vars .now) (c .before .before .before .before .before .before .before .before .before .before .args .work .now) top (c .before .before .build-flat .kept .1 .1 .1 .0) (c .before .before .build-flat .ensures _ top (stands-there (c .before .before .before .before .before .before .before .before .before .before .args .j) (c .before .before .before .before .before .entry .ensures .0) (c .before .before .before .before .if1 .taken) w) b low)
+returns c =
+    let args = c .before .before .before .before .before .before .before .before .before .before .args in
+    let entry = c .before .before .before .before .before .entry in
+    let if1 = c .before .before .before .before .if1 in
+    let build-flat = c .before .before .build-flat in
+    λ w top b low. built-flat (patternOf (args .t .now) (args .base) (args .j)) (args .vars .now) (args .work .now) top (build-flat .kept .1 .1 .1 .0)
+    (build-flat .ensures _ top (stands-there (args .j) (entry .ensures .0) (if1 .taken) w) b low)
 
 -- src/lib.rt:274:5
 build-at-requires : tie.Need-build-at-requires

@@ -40,7 +40,15 @@ same-length c = search needs
 
 -- src/lib.rt:147:9
 returns : tie.Need-returns
-returns c = line-var (c .before .before .before .before .before .before .before .before .before .before .args .t .now) (c .before .before .before .before .before .before .before .before .before .before .args .base) (c .before .before .before .before .before .before .before .before .before .before .args .j) (c .before .before .before .before .before .before .before .pattern-cell .ensures .0) (c .before .before .before .before .before .before .if1 .taken) (c .before .before .before .before .before .pattern-cell2 .ensures .0) (c .before .before .before .variable-number .ensures) refl (c .before .before .store-word .ensures) (c .before .before .before .before .before .before .before .before .before .before .pre .0) (c .before .before .before .before .before .before .before .before .before .before .pre .2)
+returns c =
+    let pre = c .before .before .before .before .before .before .before .before .before .before .pre in
+    let args = c .before .before .before .before .before .before .before .before .before .before .args in
+    let pattern-cell = c .before .before .before .before .before .before .before .pattern-cell in
+    let if1 = c .before .before .before .before .before .before .if1 in
+    let pattern-cell2 = c .before .before .before .before .before .pattern-cell2 in
+    let variable-number = c .before .before .before .variable-number in
+    let store-word = c .before .before .store-word in
+    line-var (args .t .now) (args .base) (args .j) (pattern-cell .ensures .0) (if1 .taken) (pattern-cell2 .ensures .0) (variable-number .ensures) refl (store-word .ensures) (pre .0) (pre .2)
 
 -- src/lib.rt:149:9
 flatten-requires : tie.Need-flatten-requires
@@ -64,7 +72,14 @@ same-length-2 c = search needs
 
 -- src/lib.rt:153:9
 returns-2 : tie.Need-returns-2
-returns-2 c = line-none _ (c .before .before .before .before .before .before .before .before .before .before .before .before .before .before .before .before .before .args .j) (c .before .before .before .before .before .before .before .before .before .before .before .flatten .ensures) (c .before .before .before .before .before .before .before .put-stop .ensures .0) (c .before .before .before .before .before .before .before .put-stop .ensures .2) refl (c .before .before .store-word2 .ensures) (c .before .before .before .before .before .before .before .before .before .before .before .before .before .before .before .before .before .pre .0) (let a = c .before .before .before .before .before .before .before .put-stop .kept .0 in let b = c .before .before .before .before .before .before .before .before .before .before .before .flatten .kept .1 .1 .1 .0 in let l = c .before .before .before .before .before .before .before .before .before .before .before .before .before .before .before .before .before .pre .2 in omega (arith, a, b, l))
+returns-2 c =
+    let pre = c .before .before .before .before .before .before .before .before .before .before .before .before .before .before .before .before .before .pre in
+    let args = c .before .before .before .before .before .before .before .before .before .before .before .before .before .before .before .before .before .args in
+    let flatten = c .before .before .before .before .before .before .before .before .before .before .before .flatten in
+    let put-stop = c .before .before .before .before .before .before .before .put-stop in
+    let store-word2 = c .before .before .store-word2 in
+    line-none _ (args .j) (flatten .ensures) (put-stop .ensures .0) (put-stop .ensures .2) refl (store-word2 .ensures) (pre .0)
+    (let a = put-stop .kept .0 in let b = flatten .kept .1 .1 .1 .0 in let l = pre .2 in omega (arith, a, b, l))
 
 -- src/lib.rt:155:22
 add-store-word-3 : tie.Need-add-store-word-3
@@ -84,7 +99,16 @@ same-length-3 c = search needs
 
 -- src/lib.rt:138:1
 returns-3 : tie.Need-returns-3
-returns-3 c = line-flat _ (c .before .before .before .before .before .before .before .before .before .before .before .before .before .before .before .before .before .before .args .j) (c .before .before .before .before .before .before .before .before .before .before .before .before .flatten .ensures) (c .before .before .before .before .before .before .before .before .put-stop .ensures .0) (c .before .before .before .before .before .before .before .before .put-stop .ensures .1 (positive (c .before .before .before .before .before .if2 .left))) (positive (c .before .before .before .before .before .if2 .left)) refl (c .before .before .before .narrow .ensures) (c .before .before .store-word3 .ensures) (c .before .before .before .before .before .before .before .before .before .before .before .before .before .before .before .before .before .before .pre .0) (c .before .before .before .before .before .before .before .before .before .before .before .before .before .before .before .before .before .before .pre .1) (c .before .before .before .before .before .before .before .before .before .before .before .before .flatten .kept .1 .1 .1 .0)
+returns-3 c =
+    let pre = c .before .before .before .before .before .before .before .before .before .before .before .before .before .before .before .before .before .before .pre in
+    let args = c .before .before .before .before .before .before .before .before .before .before .before .before .before .before .before .before .before .before .args in
+    let flatten = c .before .before .before .before .before .before .before .before .before .before .before .before .flatten in
+    let put-stop = c .before .before .before .before .before .before .before .before .put-stop in
+    let if2 = c .before .before .before .before .before .if2 in
+    let narrow = c .before .before .before .narrow in
+    let store-word3 = c .before .before .store-word3 in
+    line-flat _ (args .j) (flatten .ensures) (put-stop .ensures .0) (put-stop .ensures .1 (positive (if2 .left))) (positive (if2 .left)) refl (narrow .ensures) (store-word3 .ensures)
+    (pre .0) (pre .1) (flatten .kept .1 .1 .1 .0)
 
 pub code-line-spec : {M : Type 1} → statement M
 code-line-spec =

@@ -28,7 +28,10 @@ same-length c = search needs
 
 -- src/lib.rt:165:9
 returns : tie.Need-returns Inv-loop μ-loop
-returns c = none-coded (c .before .before .before .before .before .before .before .args .t .now) (c .before .before .before .before .before .before .before .args .base) (c .before .before .before .before .before .before .before .args .code .now) refl (c .before .before .before .store-word .ensures)
+returns c =
+    let args = c .before .before .before .before .before .before .before .args in
+    let store-word = c .before .before .before .store-word in
+    none-coded (args .t .now) (args .base) (args .code .now) refl (store-word .ensures)
 
 -- src/lib.rt:168:9
 same-length-2 : tie.Need-same-length-2 Inv-loop μ-loop
@@ -36,15 +39,26 @@ same-length-2 c = search needs
 
 -- src/lib.rt:168:9
 returns-2 : tie.Need-returns-2 Inv-loop μ-loop
-returns-2 c = none-coded (c .before .before .before .before .before .before .before .before .args .t .now) (c .before .before .before .before .before .before .before .before .args .base) (c .before .before .before .before .before .before .before .before .args .code .now) refl (c .before .before .before .before .store-word .ensures)
+returns-2 c =
+    let args = c .before .before .before .before .before .before .before .before .args in
+    let store-word = c .before .before .before .before .store-word in
+    none-coded (args .t .now) (args .base) (args .code .now) refl (store-word .ensures)
 
 -- src/lib.rt:172:5
 loop-holds : tie.Need-loop-holds Inv-loop μ-loop
-loop-holds c = (listing-start (c .before .before .before .before .before .before .before .before .args .t .now) (c .before .before .before .before .before .before .before .before .args .base) _, refl)
+loop-holds c =
+    let args = c .before .before .before .before .before .before .before .before .args in
+    (listing-start (args .t .now) (args .base) _, refl)
 
 -- src/lib.rt:173:9
 code-line-requires : tie.Need-code-line-requires Inv-loop μ-loop
-code-line-requires c κs = (let a = c .before .before .before .if2 .left in let b = c .before .loop-test .taken in omega (arith, a, b), c .before .before .loop .inv .0 .low, let a = c .before .before .before .before .if1 .left in let b = c .before .before .loop .inv .1 in let k = c .before .before .before .before .before .before .before .store-word .kept .0 in omega (arith, a, b, k))
+code-line-requires c κs =
+    let store-word = c .before .before .before .before .before .before .before .store-word in
+    let if1 = c .before .before .before .before .if1 in
+    let if2 = c .before .before .before .if2 in
+    let loop′ = c .before .before .loop in
+    let loop-test = c .before .loop-test in
+    (let a = if2 .left in let b = loop-test .taken in omega (arith, a, b), loop′ .inv .0 .low, let a = if1 .left in let b = loop′ .inv .1 in let k = store-word .kept .0 in omega (arith, a, b, k))
 
 -- src/lib.rt:174:9
 add-j : tie.Need-add-j Inv-loop μ-loop
@@ -56,7 +70,12 @@ loop-less c = search needs
 
 -- src/lib.rt:172:5
 loop-again : tie.Need-loop-again Inv-loop μ-loop
-loop-again c = (listing-next (c .before .before .before .before .before .loop .j) (c .before .before .before .before .before .loop .inv .0) (c .before .before .code-line .ensures) (let a = c .before .before .before .before .before .before .if2 .left in let b = c .before .before .before .before .loop-test .taken in omega (arith, a, b)), c .before .before .code-line .kept .1 .1 .1 .0 ∙ c .before .before .before .before .before .loop .inv .1)
+loop-again c =
+    let if2 = c .before .before .before .before .before .before .if2 in
+    let loop′ = c .before .before .before .before .before .loop in
+    let loop-test = c .before .before .before .before .loop-test in
+    let code-line = c .before .before .code-line in
+    (listing-next (loop′ .j) (loop′ .inv .0) (code-line .ensures) (let a = if2 .left in let b = loop-test .taken in omega (arith, a, b)), code-line .kept .1 .1 .1 .0 ∙ loop′ .inv .1)
 
 -- src/lib.rt:176:25
 narrow-requires : tie.Need-narrow-requires Inv-loop μ-loop
@@ -68,11 +87,25 @@ store-word-requires-2 c κs = search needs
 
 -- src/lib.rt:160:1
 same-length-3 : tie.Need-same-length-3 Inv-loop μ-loop
-same-length-3 c = c .before .before .store-word2 .kept .0 ∙ c .before .before .before .before .before .before .loop .inv .1 ∙ c .before .before .before .before .before .before .before .before .before .before .before .store-word .kept .0
+same-length-3 c =
+    let store-word = c .before .before .before .before .before .before .before .before .before .before .before .store-word in
+    let loop′ = c .before .before .before .before .before .before .loop in
+    let store-word2 = c .before .before .store-word2 in
+    store-word2 .kept .0 ∙ loop′ .inv .1 ∙ store-word .kept .0
 
 -- src/lib.rt:160:1
 returns-3 : tie.Need-returns-3 Inv-loop μ-loop
-returns-3 c = all-coded (c .before .before .before .before .before .before .before .before .before .before .before .before .before .before .before .args .t .now) (c .before .before .before .before .before .before .before .before .before .before .before .before .before .before .before .args .base) (c .before .before .before .before .before .before .before .before .before .before .before .before .before .before .before .args .patterns) (c .before .before .before .before .before .before .loop .inv .0) (c .before .before .before .before .before .loop-test .left) (c .before .before .before .before .before .before .before .if2 .left) (c .before .before .before .narrow .ensures) (let a = c .before .before .before .before .before .before .before .before .if1 .left in let b = c .before .before .before .before .before .before .loop .inv .1 in let k = c .before .before .before .before .before .before .before .before .before .before .before .store-word .kept .0 in omega (arith, a, b, k)) (c .before .before .store-word2 .ensures)
+returns-3 c =
+    let args = c .before .before .before .before .before .before .before .before .before .before .before .before .before .before .before .args in
+    let store-word = c .before .before .before .before .before .before .before .before .before .before .before .store-word in
+    let if1 = c .before .before .before .before .before .before .before .before .if1 in
+    let if2 = c .before .before .before .before .before .before .before .if2 in
+    let loop′ = c .before .before .before .before .before .before .loop in
+    let loop-test = c .before .before .before .before .before .loop-test in
+    let narrow = c .before .before .before .narrow in
+    let store-word2 = c .before .before .store-word2 in
+    all-coded (args .t .now) (args .base) (args .patterns) (loop′ .inv .0) (loop-test .left) (if2 .left) (narrow .ensures)
+    (let a = if1 .left in let b = loop′ .inv .1 in let k = store-word .kept .0 in omega (arith, a, b, k)) (store-word2 .ensures)
 
 pub code-patterns-spec : {M : Type 1} → statement M
 code-patterns-spec =

@@ -31,11 +31,21 @@ wide-requires-2 c κs = search needs
 
 -- src/lib.rt:184:9
 returns : tie.Need-returns
-returns c = (entry-in (c .before .before .before .before .before .before .args .code .now) (c .before .before .before .before .before .before .args .j) (c .before .before .before .before .word-at .ensures) (c .before .before .before .wide .ensures .0) (c .before .before .if1 .taken) refl (c .before .word-at2 .ensures) (c .wide2 .ensures .0), c .wide2 .ensures .1)
+returns c =
+    let args = c .before .before .before .before .before .before .args in
+    let word-at = c .before .before .before .before .word-at in
+    let wide = c .before .before .before .wide in
+    let if1 = c .before .before .if1 in
+    let word-at2 = c .before .word-at2 in
+    (entry-in (args .code .now) (args .j) (word-at .ensures) (wide .ensures .0) (if1 .taken) refl (word-at2 .ensures) (c .wide2 .ensures .0), c .wide2 .ensures .1)
 
 -- src/lib.rt:180:1
 returns-2 : tie.Need-returns-2
-returns-2 c = (entry-out (c .before .before .before .before .args .code .now) (c .before .before .before .before .args .j) (c .before .before .word-at .ensures) (c .before .wide .ensures .0) (c .if1 .left), lit< tt)
+returns-2 c =
+    let args = c .before .before .before .before .args in
+    let word-at = c .before .before .word-at in
+    let wide = c .before .wide in
+    (entry-out (args .code .now) (args .j) (word-at .ensures) (wide .ensures .0) (c .if1 .left), lit< tt)
 
 pub entry-spec : {M : Type 1} → statement M
 entry-spec =

@@ -22,7 +22,12 @@ same-length c = search needs
 
 -- src/lib.rt:248:9
 returns : tie.Need-returns
-returns c = matched-var (c .before .before .before .before .before .before .before .before .before .before .args .t .now) (c .before .before .before .before .before .before .before .before .before .before .args .base) (c .before .before .before .before .before .before .before .before .before .before .args .j) (c .before .before .before .before .before .before .before .before .before .before .args .vars .now) (c .before .before .before .before .before .variable .ensures .0) (c .before .before .before .before .if1 .taken) (c .before .before .put-range .ensures)
+returns c =
+    let args = c .before .before .before .before .before .before .before .before .before .before .args in
+    let variable = c .before .before .before .before .before .variable in
+    let if1 = c .before .before .before .before .if1 in
+    let put-range = c .before .before .put-range in
+    matched-var (args .t .now) (args .base) (args .j) (args .vars .now) (variable .ensures .0) (if1 .taken) (put-range .ensures)
 
 -- src/lib.rt:250:5
 match-other-requires : tie.Need-match-other-requires

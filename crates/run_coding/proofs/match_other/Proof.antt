@@ -23,7 +23,12 @@ same-length c = search needs
 
 -- src/lib.rt:220:9
 returns : tie.Need-returns
-returns c = λ w v a e. c .before .before .match-flat .ensures _ v (stands-there (c .before .before .before .before .before .before .before .before .before .before .args .j) (c .before .before .before .before .before .entry .ensures .0) (c .before .before .before .before .if1 .taken) w) a e
+returns c =
+    let args = c .before .before .before .before .before .before .before .before .before .before .args in
+    let entry = c .before .before .before .before .before .entry in
+    let if1 = c .before .before .before .before .if1 in
+    let match-flat = c .before .before .match-flat in
+    λ w v a e. match-flat .ensures _ v (stands-there (args .j) (entry .ensures .0) (if1 .taken) w) a e
 
 -- src/lib.rt:222:11
 match-at-requires : tie.Need-match-at-requires
@@ -43,7 +48,10 @@ same-length-2 c = search needs
 
 -- src/lib.rt:203:1
 returns-2 : tie.Need-returns-2
-returns-2 c = matched-at (c .before .before .before .before .before .before .before .before .before .before .before .before .args .t .now) (c .before .before .before .before .before .before .before .before .before .before .before .before .args .base) (c .before .before .before .before .before .before .before .before .before .before .before .before .args .j) (c .before .before .before .before .before .before .before .before .before .before .before .before .args .vars .now) (λ v a f. sym (c .enum-told .given .1) ∙ c .before .before .before .before .match-at .ensures .0 v a f) (c .before .before .before .before .match-at .ensures .1)
+returns-2 c =
+    let args = c .before .before .before .before .before .before .before .before .before .before .before .before .args in
+    let match-at = c .before .before .before .before .match-at in
+    matched-at (args .t .now) (args .base) (args .j) (args .vars .now) (λ v a f. sym (c .enum-told .given .1) ∙ match-at .ensures .0 v a f) (match-at .ensures .1)
 
 -- src/lib.rt:203:1
 same-length-3 : tie.Need-same-length-3
@@ -51,7 +59,10 @@ same-length-3 c = search needs
 
 -- src/lib.rt:203:1
 returns-3 : tie.Need-returns-3
-returns-3 c = missed-at (c .before .before .before .before .before .before .before .before .before .before .before .before .args .t .now) (c .before .before .before .before .before .before .before .before .before .before .before .before .args .base) (c .before .before .before .before .before .before .before .before .before .before .before .before .args .j) (c .before .before .before .before .before .before .before .before .before .before .before .before .args .vars .now) (λ v a f. sym (c .enum-told2 .given .1) ∙ c .before .before .before .before .match-at .ensures .0 v a f) (c .before .before .before .before .match-at .ensures .1)
+returns-3 c =
+    let args = c .before .before .before .before .before .before .before .before .before .before .before .before .args in
+    let match-at = c .before .before .before .before .match-at in
+    missed-at (args .t .now) (args .base) (args .j) (args .vars .now) (λ v a f. sym (c .enum-told2 .given .1) ∙ match-at .ensures .0 v a f) (match-at .ensures .1)
 
 pub match-other-spec : {M : Type 1} → statement M
 match-other-spec =

@@ -28,7 +28,11 @@ same-length c = search needs
 
 -- src/lib.rt:55:1
 returns-3 : tie.Need-returns-3
-returns-3 c = put-one (c .before .before .before .before .before .if1 .left) (c .before .before .before .before .if2 .left) (c .before .before .store-word .ensures)
+returns-3 c =
+    let if1 = c .before .before .before .before .before .if1 in
+    let if2 = c .before .before .before .before .if2 in
+    let store-word = c .before .before .store-word in
+    put-one (if1 .left) (if2 .left) (store-word .ensures)
 
 pub put-number-spec : {M : Type 1} → statement M
 put-number-spec =

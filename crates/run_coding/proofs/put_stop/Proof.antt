@@ -22,7 +22,10 @@ same-length c = search needs
 
 -- src/lib.rt:118:1
 returns-2 : tie.Need-returns-2
-returns-2 c = (c .before .before .put-number .ensures, (λ h. positive (c .before .before .before .before .if1 .left)), λ h. absurd (c .before .before .before .before .if1 .left h))
+returns-2 c =
+    let if1 = c .before .before .before .before .if1 in
+    let put-number = c .before .before .put-number in
+    (put-number .ensures, (λ h. positive (if1 .left)), λ h. absurd (if1 .left h))
 
 pub put-stop-spec : {M : Type 1} → statement M
 put-stop-spec = tie.close (tie.spec returns put-number-requires same-length returns-2)

@@ -26,7 +26,11 @@ same-length c = search needs
 
 -- src/lib.rt:69:1
 returns-2 : tie.Need-returns-2
-returns-2 c = flat-var (c .before .before .before .before .before .if1 .left) (c .before .before .before .narrow .ensures) (c .before .before .put-number .ensures)
+returns-2 c =
+    let if1 = c .before .before .before .before .before .if1 in
+    let narrow = c .before .before .before .narrow in
+    let put-number = c .before .before .put-number in
+    flat-var (if1 .left) (narrow .ensures) (put-number .ensures)
 
 pub put-variable-spec : {M : Type 1} → statement M
 put-variable-spec =

@@ -17,7 +17,10 @@ sub-result c = search needs
 
 -- src/lib.rt:196:9
 returns : tie.Need-returns
-returns c = (λ t base w h. variable-is (c .before .before .before .args .code .now) (c .before .before .before .args .j) (c .before .entry .ensures .0) (c .if1 .taken) t base w h, let e = c .before .entry .ensures .1 in omega (arith, e))
+returns c =
+    let args = c .before .before .before .args in
+    let entry = c .before .entry in
+    (λ t base w h. variable-is (args .code .now) (args .j) (entry .ensures .0) (c .if1 .taken) t base w h, let e = entry .ensures .1 in omega (arith, e))
 
 -- src/lib.rt:190:1
 returns-2 : tie.Need-returns-2

@@ -17,7 +17,9 @@ use Rattle.run_flat.proofs.build_var.Reads as build-var-reads
 use Rattle.run_flat.proofs.narrower.Reads as narrower-reads
 
 abbrev Inv-loop : tie.InvT-loop
-Inv-loop code p vars work₀ from k₀ at₀ work k at = ((q : Pat) (top : ℕ) → Stands code p q → Below vars top → top ≤ from → from + length (built q (take top work₀) vars) ≤ length work₀ → Written code work₀ top vars from (built q (take top work₀) vars) k work at) × (length work ≡ length work₀)
+Inv-loop code p vars work₀ from k₀ at₀ work k at =
+    ((q : Pat) (top : ℕ) → Stands code p q → Below vars top → top ≤ from → from + length (built q (take top work₀) vars) ≤ length work₀ → Written code work₀ top vars from
+    (built q (take top work₀) vars) k work at) × (length work ≡ length work₀)
 
 abbrev μ-loop : tie.MeasureT-loop
 μ-loop code p vars work₀ from k₀ at₀ work k at = length code - k
@@ -52,7 +54,12 @@ loop-less c = search needs
 
 -- src/lib.rt:169:5
 loop-again : tie.Need-loop-again Inv-loop μ-loop
-loop-again c = (λ q top st b low fits. written-var (c .before .before .before .before .before .before .before .before .loop .inv .0 q top st b low fits) refl (c .before .before .before .before .before .if1 .taken) (c .before .before .before .before .wide .ensures .0) low fits (c .before .before .build-var .ensures top b), c .before .before .build-var .kept .1 .1 .0 ∙ c .before .before .before .before .before .before .before .before .loop .inv .1)
+loop-again c =
+    let loop′ = c .before .before .before .before .before .before .before .before .loop in
+    let if1 = c .before .before .before .before .before .if1 in
+    let wide = c .before .before .before .before .wide in
+    let build-var = c .before .before .build-var in
+    (λ q top st b low fits. written-var (loop′ .inv .0 q top st b low fits) refl (if1 .taken) (wide .ensures .0) low fits (build-var .ensures top b), build-var .kept .1 .1 .0 ∙ loop′ .inv .1)
 
 -- src/lib.rt:177:13
 same-length : tie.Need-same-length Inv-loop μ-loop
@@ -76,7 +83,15 @@ loop-less-2 c = search needs
 
 -- src/lib.rt:169:5
 loop-again-2 : tie.Need-loop-again-2 Inv-loop μ-loop
-loop-again-2 c = (λ q top st b low fits. written-letter (c .before .before .before .before .before .before .before .before .before .loop .inv .0 q top st b low fits) refl (c .before .before .before .before .before .before .if1 .left) (c .before .before .before .before .before .if2 .left) (c .before .before .before .narrower .ensures) (c .before .before .put-byte .ensures .0) (c .before .before .put-byte .ensures .1), c .before .before .put-byte .kept .0 ∙ c .before .before .before .before .before .before .before .before .before .loop .inv .1)
+loop-again-2 c =
+    let loop′ = c .before .before .before .before .before .before .before .before .before .loop in
+    let if1 = c .before .before .before .before .before .before .if1 in
+    let if2 = c .before .before .before .before .before .if2 in
+    let narrower = c .before .before .before .narrower in
+    let put-byte = c .before .before .put-byte in (
+      λ q top st b low fits. written-letter (loop′ .inv .0 q top st b low fits) refl (if1 .left) (if2 .left) (narrower .ensures) (put-byte .ensures .0) (put-byte .ensures .1),
+      put-byte .kept .0 ∙ loop′ .inv .1,
+    )
 
 -- src/lib.rt:159:1
 same-length-2 : tie.Need-same-length-2 Inv-loop μ-loop

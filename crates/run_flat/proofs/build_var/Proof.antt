@@ -25,7 +25,14 @@ same-length : tie.Need-same-length
 same-length c = search needs
 
 returns : tie.Need-returns
-returns c = let a = c .before .before .before .before .before .before .before .before .before .before .args in range-copied (a .n) (c .before .before .before .before .before .before .before .word-at .ensures) (c .before .before .before .before .before .before .wide .ensures .0) (c .before .before .before .before .word-at2 .ensures) (c .before .before .before .wide2 .ensures .0) (c .before .before .copy-range .ensures .0)
+returns c =
+    let args = c .before .before .before .before .before .before .before .before .before .before .args in
+    let word-at = c .before .before .before .before .before .before .before .word-at in
+    let wide = c .before .before .before .before .before .before .wide in
+    let word-at2 = c .before .before .before .before .word-at2 in
+    let wide2 = c .before .before .before .wide2 in
+    let copy-range = c .before .before .copy-range in
+    let a = args in range-copied (a .n) (word-at .ensures) (wide .ensures .0) (word-at2 .ensures) (wide2 .ensures .0) (copy-range .ensures .0)
 
 pub build-var-spec : {M : Type 1} → statement M
 build-var-spec =

@@ -18,7 +18,8 @@ use Rattle.run_flat.proofs.put_range.Reads as put-range-reads
 use Rattle.run_flat.proofs.wider.Reads as wider-reads
 
 abbrev Inv-loop : tie.InvT-loop
-Inv-loop code p s from end vars₀ k₀ at₀ vars k at = ((q : Pat) (v : Val) → Stands code p q → At s from v → end ≡ from + length (letters v) → Before code s end (alike q v) (ranges q v from vars₀) k at vars) × (length vars ≡ length vars₀)
+Inv-loop code p s from end vars₀ k₀ at₀ vars k at =
+    ((q : Pat) (v : Val) → Stands code p q → At s from v → end ≡ from + length (letters v) → Before code s end (alike q v) (ranges q v from vars₀) k at vars) × (length vars ≡ length vars₀)
 
 abbrev μ-loop : tie.MeasureT-loop
 μ-loop code p s from end vars₀ k₀ at₀ vars k at = length code - k
@@ -57,7 +58,13 @@ loop-less c = search needs
 
 -- src/lib.rt:114:5
 loop-again : tie.Need-loop-again Inv-loop μ-loop
-loop-again c = (λ q v st a e. var-next (c .before .before .before .before .before .before .before .before .before .loop .inv .0 q v st a e) refl (c .before .before .before .before .before .before .if1 .taken) (c .before .before .before .wide .ensures .0) (c .before .before .before .before .before .flat-end .ensures) (c .before .before .put-range .ensures), c .before .before .put-range .kept .0 ∙ c .before .before .before .before .before .before .before .before .before .loop .inv .1)
+loop-again c =
+    let loop′ = c .before .before .before .before .before .before .before .before .before .loop in
+    let if1 = c .before .before .before .before .before .before .if1 in
+    let flat-end = c .before .before .before .before .before .flat-end in
+    let wide = c .before .before .before .wide in
+    let put-range = c .before .before .put-range in
+    (λ q v st a e. var-next (loop′ .inv .0 q v st a e) refl (if1 .taken) (wide .ensures .0) (flat-end .ensures) (put-range .ensures), put-range .kept .0 ∙ loop′ .inv .1)
 
 -- src/lib.rt:124:13
 same-length : tie.Need-same-length Inv-loop μ-loop
@@ -73,7 +80,10 @@ same-length-2 c = c .before .before .before .before .before .loop .inv .1
 
 -- src/lib.rt:127:13
 returns-2 : tie.Need-returns-2 Inv-loop μ-loop
-returns-2 c = λ q v st a e. let w = letter-within (c .before .before .before .before .before .loop .inv .0 q v st a e) refl (c .before .if2 .left) in absurd (omega (arith, w, c .if3 .taken))
+returns-2 c =
+    let loop′ = c .before .before .before .before .before .loop in
+    let if2 = c .before .if2 in
+    λ q v st a e. let w = letter-within (loop′ .inv .0 q v st a e) refl (if2 .left) in absurd (omega (arith, w, c .if3 .taken))
 
 -- src/lib.rt:129:18
 shared-slice-read-wider : tie.Need-shared-slice-read-wider Inv-loop μ-loop
@@ -89,7 +99,12 @@ same-length-3 c = c .before .before .before .before .before .before .before .bef
 
 -- src/lib.rt:130:13
 returns-3 : tie.Need-returns-3 Inv-loop μ-loop
-returns-3 c = λ q v st a e. letter-differs (c .before .before .before .before .before .before .before .before .loop .inv .0 q v st a e) refl (c .before .before .before .before .before .if1 .left) (c .before .before .before .before .if2 .left) (λ z. c .if4 .taken (c .before .wider .ensures ∙ z))
+returns-3 c =
+    let loop′ = c .before .before .before .before .before .before .before .before .loop in
+    let if1 = c .before .before .before .before .before .if1 in
+    let if2 = c .before .before .before .before .if2 in
+    let wider = c .before .wider in
+    λ q v st a e. letter-differs (loop′ .inv .0 q v st a e) refl (if1 .left) (if2 .left) (λ z. c .if4 .taken (wider .ensures ∙ z))
 
 -- src/lib.rt:132:9
 add-at : tie.Need-add-at Inv-loop μ-loop
@@ -101,7 +116,12 @@ loop-less-2 c = search needs
 
 -- src/lib.rt:114:5
 loop-again-2 : tie.Need-loop-again-2 Inv-loop μ-loop
-loop-again-2 c = (λ q v st a e. letter-next (c .before .before .before .before .before .before .before .before .loop .inv .0 q v st a e) refl (c .before .before .before .before .before .if1 .left) (c .before .before .before .before .if2 .left) (sym (c .before .wider .ensures) ∙ c .if4 .left), c .before .before .before .before .before .before .before .before .loop .inv .1)
+loop-again-2 c =
+    let loop′ = c .before .before .before .before .before .before .before .before .loop in
+    let if1 = c .before .before .before .before .before .if1 in
+    let if2 = c .before .before .before .before .if2 in
+    let wider = c .before .wider in
+    (λ q v st a e. letter-next (loop′ .inv .0 q v st a e) refl (if1 .left) (if2 .left) (sym (wider .ensures) ∙ c .if4 .left), loop′ .inv .1)
 
 -- src/lib.rt:98:1
 same-length-4 : tie.Need-same-length-4 Inv-loop μ-loop

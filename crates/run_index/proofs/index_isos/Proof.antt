@@ -11,7 +11,8 @@ use Rattle.run_index.proofs.index_isos.Statement.{statement}
 use Rattle.run_index.proofs.index_isos.Tie as tie
 
 abbrev Inv-loop : tie.InvT-loop
-Inv-loop t above lines isos index₀ n₀ l₀ index n l = Indexing t above lines isos index₀ n index (l .first) (l .isos) × (isos < indexLength → (drop indexLength index ≡ drop indexLength index₀) × (l .first < indexLength) × (l .isos ≤ indexLength))
+Inv-loop t above lines isos index₀ n₀ l₀ index n l = Indexing t above lines isos index₀ n index (l .first) (l .isos) ×
+    (isos < indexLength → (drop indexLength index ≡ drop indexLength index₀) × (l .first < indexLength) × (l .isos ≤ indexLength))
 
 abbrev μ-loop : tie.MeasureT-loop
 μ-loop t above lines isos index₀ n₀ l₀ index n l = n
@@ -45,8 +46,12 @@ loop-less c = omega arith
 
 loop-again : tie.Need-loop-again Inv-loop μ-loop
 loop-again c =
-    let b = c .before .before .before .before in
-    (indexing-step (b .before .loop .inv .0) (b .loop-test .taken) (c .before .before .with-row .kept .1 .0) (c .before .before .with-row .ensures .0), λ h. let i = b .before .loop .inv .1 h in let r = c .before .before .with-row .ensures .1 (i .1) (i .2) in (r .0 ∙ i .0, r .1, r .2))
+    let with-row = c .before .before .with-row in
+    let b = c .before .before .before .before in (
+      indexing-step (b .before .loop .inv .0) (b .loop-test .taken) (with-row .kept .1 .0) (with-row .ensures .0),
+      λ h. let i = b .before .loop .inv .1 h in let r = with-row .ensures .1
+          (i .1) (i .2) in (r .0 ∙ i .0, r .1, r .2),
+    )
 
 same-length : tie.Need-same-length Inv-loop μ-loop
 same-length c =
@@ -54,7 +59,17 @@ same-length c =
     c .before .loop .inv .0 .kept ∙ b .store-word2 .kept .0 ∙ b .before .before .before .before .store-word .kept .0
 
 returns : tie.Need-returns Inv-loop μ-loop
-returns c = let same = c .before .before .before .before .store-word2 .kept .0 ∙ c .before .before .before .before .before .before .before .before .store-word .kept .0 in ((λ rs types patterns f ea ei long. indexing-end (c .before .loop .inv .0) (c .loop-test .left) rs types patterns f ea ei (omega (arith, same, long))), λ h. c .before .loop .inv .1 h .0 ∙ tail-two (c .before .before .before .before .before .before .before .before .before .before .before .before .before .args .index .now) 4161 (c .before .before .before .before .before .before .before .before .before .narrow .result) (c .before .before .before .before .before .before .before .before .before .before .before .before .before .args .isos) 4161 (omega arith) (c .before .before .before .before .before .before .before .before .store-word .ensures) h (c .before .before .before .before .store-word2 .ensures))
+returns c =
+    let args = c .before .before .before .before .before .before .before .before .before .before .before .before .before .args in
+    let narrow = c .before .before .before .before .before .before .before .before .before .narrow in
+    let store-word = c .before .before .before .before .before .before .before .before .store-word in
+    let store-word2 = c .before .before .before .before .store-word2 in
+    let loop′ = c .before .loop in
+    let same = store-word2 .kept .0 ∙ store-word .kept .0 in (
+      (λ rs types patterns f ea ei long. indexing-end (loop′ .inv .0) (c .loop-test .left) rs types patterns f ea ei (omega (arith, same, long))),
+      λ h. loop′ .inv .1 h .0 ∙ tail-two
+          (args .index .now) 4161 (narrow .result) (args .isos) 4161 (omega arith) (store-word .ensures) h (store-word2 .ensures),
+    )
 
 pub index-isos-spec : {M : Type 1} → statement M
 index-isos-spec =

@@ -24,7 +24,14 @@ same-length : tie.Need-same-length
 same-length c = search needs
 
 returns-2 : tie.Need-returns-2
-returns-2 c = ((λ t rs types patterns lines f h e s. clause-row f h s e (c .before .before .before .narrow .ensures) (c .before .before .store-word .ensures)), λ a b. (tail-one (c .before .before .before .before .before .before .before .args .index .now) (c .before .before .before .before .before .before .before .args .l .first - 1) (c .before .before .before .narrow .result) (omega (arith, a)) (c .before .before .store-word .ensures), omega (arith, a), b))
+returns-2 c =
+    let args = c .before .before .before .before .before .before .before .args in
+    let narrow = c .before .before .before .narrow in
+    let store-word = c .before .before .store-word in (
+      (λ t rs types patterns lines f h e s. clause-row f h s e (narrow .ensures) (store-word .ensures)),
+      λ a b.
+          (tail-one (args .index .now) (args .l .first - 1) (narrow .result) (omega (arith, a)) (store-word .ensures), omega (arith, a), b),
+    )
 
 pub with-clause-spec : {M : Type 1} → statement M
 with-clause-spec =

@@ -36,7 +36,20 @@ same-length : tie.Need-same-length
 same-length c = search needs
 
 returns-3 : tie.Need-returns-3
-returns-3 c = ((λ t rs types patterns lines f h e s. iso-row f h s e (c .before .before .before .before .before .before .before .before .narrow .ensures) (c .before .before .before .before .before .before .before .store-word .ensures) (c .before .before .before .narrow2 .ensures) (c .before .before .store-word2 .ensures)), λ x y. (tail-two (c .before .before .before .before .before .before .before .before .before .before .before .before .before .args .index .now) (c .before .before .before .before .before .before .before .before .before .before .before .before .before .args .l .first - 1) (c .before .before .before .before .before .before .before .before .narrow .result) (c .before .before .before .before .before .before .before .before .before .before .before .before .before .args .l .isos - 1) (c .before .before .before .narrow2 .result) (omega (arith, x)) (c .before .before .before .before .before .before .before .store-word .ensures) (omega (arith, y)) (c .before .before .store-word2 .ensures), omega (arith, x), omega (arith, y)))
+returns-3 c =
+    let args = c .before .before .before .before .before .before .before .before .before .before .before .before .before .args in
+    let narrow = c .before .before .before .before .before .before .before .before .narrow in
+    let store-word = c .before .before .before .before .before .before .before .store-word in
+    let narrow2 = c .before .before .before .narrow2 in
+    let store-word2 = c .before .before .store-word2 in (
+      (λ t rs types patterns lines f h e s. iso-row f h s e (narrow .ensures) (store-word .ensures) (narrow2 .ensures) (store-word2 .ensures)),
+      λ x y. (
+        tail-two (args .index .now) (args .l .first - 1) (narrow .result) (args .l .isos - 1) (narrow2 .result) (omega (arith, x)) (store-word .ensures) (omega (arith, y))
+            (store-word2 .ensures),
+        omega (arith, x),
+        omega (arith, y),
+      ),
+    )
 
 pub with-iso-spec : {M : Type 1} → statement M
 with-iso-spec =

@@ -16,8 +16,9 @@ same-length c = search needs
 
 returns : tie.Need-returns
 returns c =
+    let with-clause = c .before .before .with-clause in
     let b = c .before .before .before .before in
-    ((λ rs types patterns lines f h late s. c .before .before .with-clause .ensures .0 _ rs types patterns lines f h (sym (b .before .cell .ensures .0) ∙ b .if1 .taken) s), c .before .before .with-clause .ensures .1)
+    ((λ rs types patterns lines f h late s. with-clause .ensures .0 _ rs types patterns lines f h (sym (b .before .cell .ensures .0) ∙ b .if1 .taken) s), with-clause .ensures .1)
 
 with-iso-requires : tie.Need-with-iso-requires
 with-iso-requires c κs = search needs
@@ -27,8 +28,9 @@ same-length-2 c = search needs
 
 returns-2 : tie.Need-returns-2
 returns-2 c =
+    let with-iso = c .before .before .with-iso in
     let b = c .before .before .before .before in
-    ((λ rs types patterns lines f h late s. c .before .before .with-iso .ensures .0 _ rs types patterns lines f h (sym (b .before .before .cell .ensures .0) ∙ b .if2 .taken) s), c .before .before .with-iso .ensures .1)
+    ((λ rs types patterns lines f h late s. with-iso .ensures .0 _ rs types patterns lines f h (sym (b .before .before .cell .ensures .0) ∙ b .if2 .taken) s), with-iso .ensures .1)
 
 returns-3 : tie.Need-returns-3
 returns-3 c = ((λ rs types patterns lines f h late s. other-row f h s late (c .before .before .cell .ensures .0) (c .before .if1 .left) (c .if2 .left)), λ a b. (refl, a, b))

@@ -29,7 +29,20 @@ build-at-below t =
     and 3 build-at-kinds.ps (falls 3 build-at-kinds.ps _<_ μ-build-at t) build-at.Pre
 
 abbrev ks-build-at : ℕ → build-at-lts.Claims
-ks-build-at t = (pattern-cell-reads.Asked, pattern-cell-reads.Learnt, build-var-reads.Asked, build-var-reads.Learnt, letter-reads.Asked, letter-reads.Learnt, put-byte-reads.Asked, put-byte-reads.Learnt, part-reads.Asked, part-reads.Learnt, build-at-below t, build-at.Post)
+ks-build-at t = (
+  pattern-cell-reads.Asked,
+  pattern-cell-reads.Learnt,
+  build-var-reads.Asked,
+  build-var-reads.Learnt,
+  letter-reads.Asked,
+  letter-reads.Learnt,
+  put-byte-reads.Asked,
+  put-byte-reads.Learnt,
+  part-reads.Asked,
+  part-reads.Learnt,
+  build-at-below t,
+  build-at.Post,
+)
 
 pub +build-at-spec : {M : Type 1} → statement M
 +build-at-spec = close μ-build-at λ t. build-at-lts.spec (ks-build-at t)
@@ -39,20 +52,82 @@ pub +build-at-spec : {M : Type 1} → statement M
     (λ c κs. search needs)
     (λ c κs. search needs)
     (λ c. search needs)
-    (λ c. build-variable (c .before .before .before .before .before .before .before .before .before .before .args .t .now) (c .before .before .before .before .before .before .before .before .before .before .args .base) (c .before .before .before .before .before .before .before .before .before .before .args .j) (c .before .before .before .before .before .before .pattern-cell .ensures .0) (c .before .before .before .before .before .if1 .taken) (c .before .before .before .before .pattern-cell2 .ensures .0) (c .before .before .build-var .ensures))
+    (λ c.
+    let args = c .before .before .before .before .before .before .before .before .before .before .args in
+    let pattern-cell = c .before .before .before .before .before .before .pattern-cell in
+    let if1 = c .before .before .before .before .before .if1 in
+    let pattern-cell2 = c .before .before .before .before .pattern-cell2 in
+    let build-var = c .before .before .build-var in
+    build-variable (args .t .now) (args .base) (args .j) (pattern-cell .ensures .0) (if1 .taken) (pattern-cell2 .ensures .0) (build-var .ensures))
     (λ c κs. search needs)
     (λ c κs. search needs)
     (λ c κs. search needs)
-    (λ c κs. (pattern-call (c .before .before .before .before .before .before .before .before .before .before .before .before .before .args .t .now) (c .before .before .before .before .before .before .before .before .before .before .before .before .before .args .base) (c .before .before .before .before .before .before .before .before .before .before .before .before .before .args .j) (cellOf (c .before .before .before .before .before .before .before .before .before .before .before .before .before .args .t .now) ((c .before .before .before .before .before .before .before .before .before .before .before .before .before .args .base) + (c .before .before .before .before .before .before .before .before .before .before .before .before .before .args .j)) 2) (c .before .before .before .before .before .before .before .before .before .before .before .before .before .pre .0) (c .before .before .before .before .before .before .before .before .before .pattern-cell .ensures .0) (no-unit (c .before .before .if2 .taken)) (c .before .part .ensures), tt))
+    (λ c κs.
+    let pre = c .before .before .before .before .before .before .before .before .before .before .before .before .before .pre in
+    let args = c .before .before .before .before .before .before .before .before .before .before .before .before .before .args in
+    let pattern-cell = c .before .before .before .before .before .before .before .before .before .pattern-cell in
+    let if2 = c .before .before .if2 in
+    let part = c .before .part in
+    (pattern-call (args .t .now) (args .base) (args .j) (cellOf (args .t .now) ((args .base) + (args .j)) 2) (pre .0) (pattern-cell .ensures .0) (no-unit (if2 .taken)) (part .ensures), tt))
     (λ c κs. search needs)
-    (λ c κs. (pattern-call (c .before .before .before .before .before .before .before .before .before .before .before .before .before .before .before .before .before .before .args .t .now) (c .before .before .before .before .before .before .before .before .before .before .before .before .before .before .before .before .before .before .args .base) (c .before .before .before .before .before .before .before .before .before .before .before .before .before .before .before .before .before .before .args .j) (cellOf (c .before .before .before .before .before .before .before .before .before .before .before .before .before .before .before .before .before .before .args .t .now) ((c .before .before .before .before .before .before .before .before .before .before .before .before .before .before .before .before .before .before .args .base) + (c .before .before .before .before .before .before .before .before .before .before .before .before .before .before .before .before .before .before .args .j)) 3) (c .before .before .before .before .before .before .before .before .before .before .before .before .before .before .before .before .before .before .pre .0) (c .before .before .before .before .before .before .before .before .before .before .before .before .before .before .pattern-cell .ensures .0) (no-unit (c .before .before .before .before .before .before .before .if2 .taken)) (c .before .part2 .ensures), tt))
+    (λ c κs.
+    let pre = c .before .before .before .before .before .before .before .before .before .before .before .before .before .before .before .before .before .before .pre in
+    let args = c .before .before .before .before .before .before .before .before .before .before .before .before .before .before .before .before .before .before .args in
+    let pattern-cell = c .before .before .before .before .before .before .before .before .before .before .before .before .before .before .pattern-cell in
+    let if2 = c .before .before .before .before .before .before .before .if2 in
+    let part2 = c .before .part2 in
+    (pattern-call (args .t .now) (args .base) (args .j) (cellOf (args .t .now) ((args .base) + (args .j)) 3) (pre .0) (pattern-cell .ensures .0) (no-unit (if2 .taken)) (part2 .ensures), tt))
     (λ c. search needs)
-    (λ c. build-pair (c .before .before .before .before .before .before .before .before .before .before .before .before .before .before .before .before .before .before .before .before .before .args .t .now) (c .before .before .before .before .before .before .before .before .before .before .before .before .before .before .before .before .before .before .before .before .before .args .base) (c .before .before .before .before .before .before .before .before .before .before .before .before .before .before .before .before .before .before .before .before .before .args .j) (c .before .before .before .before .before .before .before .before .before .before .before .before .before .before .before .before .before .pattern-cell .ensures .0) (c .before .before .before .before .before .before .before .before .before .before .before .before .before .before .letter .ensures) (c .before .before .before .before .before .before .before .before .before .before .before .before .before .put-byte .ensures) (c .before .before .before .before .before .before .before .before .before .part .ensures) (c .before .before .before .before .before .before .before .build-at .ensures) (c .before .before .before .before .before .before .before .before .before .before .if2 .taken) (c .before .before .before .before .part2 .ensures) (c .before .before .build-at2 .kept .1 .1 .1 .1 .0) (c .before .before .build-at2 .ensures))
+    (λ c.
+    let far = c .before .before .before .before .before .before .before .before .before .before .before .before .before .before .before .before .before .before .before .before in
+    let args = far .before .args in
+    let pattern-cell = c .before .before .before .before .before .before .before .before .before .before .before .before .before .before .before .before .before .pattern-cell in
+    let letter = c .before .before .before .before .before .before .before .before .before .before .before .before .before .before .letter in
+    let put-byte = c .before .before .before .before .before .before .before .before .before .before .before .before .before .put-byte in
+    let if2 = c .before .before .before .before .before .before .before .before .before .before .if2 in
+    let part = c .before .before .before .before .before .before .before .before .before .part in
+    let build-at = c .before .before .before .before .before .before .before .build-at in
+    let part2 = c .before .before .before .before .part2 in
+    let build-at2 = c .before .before .build-at2 in
+    build-pair (args .t .now) (args .base) (args .j) (pattern-cell .ensures .0) (letter .ensures) (put-byte .ensures) (part .ensures) (build-at .ensures) (if2 .taken) (part2 .ensures)
+    (build-at2 .kept .1 .1 .1 .1 .0) (build-at2 .ensures))
     (λ c κs. search needs)
-    (λ c κs. (pattern-call (c .before .before .before .before .before .before .before .before .before .before .before .before .before .before .before .args .t .now) (c .before .before .before .before .before .before .before .before .before .before .before .before .before .before .before .args .base) (c .before .before .before .before .before .before .before .before .before .before .before .before .before .before .before .args .j) (cellOf (c .before .before .before .before .before .before .before .before .before .before .before .before .before .before .before .args .t .now) ((c .before .before .before .before .before .before .before .before .before .before .before .before .before .before .before .args .base) + (c .before .before .before .before .before .before .before .before .before .before .before .before .before .before .before .args .j)) 2) (c .before .before .before .before .before .before .before .before .before .before .before .before .before .before .before .pre .0) (c .before .before .before .before .before .before .before .before .before .before .before .pattern-cell .ensures .0) (injects-no-unit (injects (c .before .before .before .before .before .before .before .before .before .before .before .pattern-cell .result) (c .before .before .before .if3 .left) (c .before .before .if4 .taken))) (c .before .part3 .ensures), tt))
+    (λ c κs.
+    let pre = c .before .before .before .before .before .before .before .before .before .before .before .before .before .before .before .pre in
+    let args = c .before .before .before .before .before .before .before .before .before .before .before .before .before .before .before .args in
+    let pattern-cell = c .before .before .before .before .before .before .before .before .before .before .before .pattern-cell in
+    let if3 = c .before .before .before .if3 in
+    let if4 = c .before .before .if4 in
+    let part3 = c .before .part3 in (
+      pattern-call (args .t .now) (args .base) (args .j) (cellOf (args .t .now) ((args .base) + (args .j)) 2) (pre .0) (pattern-cell .ensures .0)
+          (injects-no-unit (injects (pattern-cell .result) (if3 .left) (if4 .taken))) (part3 .ensures),
+      tt,
+    ))
     (λ c. search needs)
-    (λ c. build-tag (c .before .before .before .before .before .before .before .before .before .before .before .before .before .before .before .before .before .before .args .t .now) (c .before .before .before .before .before .before .before .before .before .before .before .before .before .before .before .before .before .before .args .base) (c .before .before .before .before .before .before .before .before .before .before .before .before .before .before .before .before .before .before .args .j) (c .before .before .before .before .before .before .before .before .before .before .before .before .before .before .pattern-cell .ensures .0) (c .before .before .before .before .before .before .before .before .before .before .before .letter .ensures) (c .before .before .before .before .before .before .before .before .before .before .put-byte .ensures) (c .before .before .before .before .part3 .ensures) (c .before .before .build-at3 .ensures) (c .before .before .before .before .before .before .if3 .left) (c .before .before .before .before .before .if4 .taken))
+    (λ c.
+    let args = c .before .before .before .before .before .before .before .before .before .before .before .before .before .before .before .before .before .before .args in
+    let pattern-cell = c .before .before .before .before .before .before .before .before .before .before .before .before .before .before .pattern-cell in
+    let letter = c .before .before .before .before .before .before .before .before .before .before .before .letter in
+    let put-byte = c .before .before .before .before .before .before .before .before .before .before .put-byte in
+    let if3 = c .before .before .before .before .before .before .if3 in
+    let if4 = c .before .before .before .before .before .if4 in
+    let part3 = c .before .before .before .before .part3 in
+    let build-at3 = c .before .before .build-at3 in
+    build-tag (args .t .now) (args .base) (args .j) (pattern-cell .ensures .0) (letter .ensures) (put-byte .ensures) (part3 .ensures) (build-at3 .ensures) (if3 .left) (if4 .taken))
     (λ c. search needs)
-    (λ c. build-low (c .before .before .before .before .before .before .before .before .before .before .before .before .args .t .now) (c .before .before .before .before .before .before .before .before .before .before .before .before .args .base) (c .before .before .before .before .before .before .before .before .before .before .before .before .args .j) (c .before .before .before .before .before .before .before .before .pattern-cell .ensures .0) (c .before .before .before .before .before .letter .ensures) (c .before .before .before .before .put-byte .ensures) (c .before .before .before .before .before .before .before .if1 .left) (c .if3 .taken))
+    (λ c.
+    let args = c .before .before .before .before .before .before .before .before .before .before .before .before .args in
+    let pattern-cell = c .before .before .before .before .before .before .before .before .pattern-cell in
+    let if1 = c .before .before .before .before .before .before .before .if1 in
+    let letter = c .before .before .before .before .before .letter in
+    let put-byte = c .before .before .before .before .put-byte in
+    build-low (args .t .now) (args .base) (args .j) (pattern-cell .ensures .0) (letter .ensures) (put-byte .ensures) (if1 .left) (c .if3 .taken))
     (λ c. search needs)
-    (λ c. build-high (c .before .before .before .before .before .before .before .before .before .before .before .before .before .args .t .now) (c .before .before .before .before .before .before .before .before .before .before .before .before .before .args .base) (c .before .before .before .before .before .before .before .before .before .before .before .before .before .args .j) (c .before .before .before .before .before .before .before .before .before .pattern-cell .ensures .0) (c .before .before .before .before .before .before .letter .ensures) (c .before .before .before .before .before .put-byte .ensures) (c .before .before .before .before .before .before .before .before .if1 .left) (c .if4 .left) (c .before .before .if2 .left))
+    (λ c.
+    let args = c .before .before .before .before .before .before .before .before .before .before .before .before .before .args in
+    let pattern-cell = c .before .before .before .before .before .before .before .before .before .pattern-cell in
+    let if1 = c .before .before .before .before .before .before .before .before .if1 in
+    let letter = c .before .before .before .before .before .before .letter in
+    let put-byte = c .before .before .before .before .before .put-byte in
+    let if2 = c .before .before .if2 in
+    build-high (args .t .now) (args .base) (args .j) (pattern-cell .ensures .0) (letter .ensures) (put-byte .ensures) (if1 .left) (c .if4 .left) (if2 .left))

@@ -13,7 +13,11 @@ same-length : tie.Need-same-length
 same-length c = search needs
 
 returns : tie.Need-returns
-returns c = let a = c .before .before .before .before .before .before .before .args in var-told (a .vars .now) (a .n) (c .before .before .before .before .known-end .ensures) (c .before .before .put-range .ensures)
+returns c =
+    let args = c .before .before .before .before .before .before .before .args in
+    let known-end = c .before .before .before .before .known-end in
+    let put-range = c .before .before .put-range in
+    let a = args in var-told (a .vars .now) (a .n) (known-end .ensures) (put-range .ensures)
 
 pub match-var-spec : {M : Type 1} → statement M
 match-var-spec = tie.close (tie.spec known-end-requires put-range-requires same-length returns)

@@ -24,9 +24,12 @@ same-length c = search needs
 
 returns : tie.Need-returns
 returns c =
+    let narrow2 = c .before .before .before .narrow2 in
+    let store-word2 = c .before .before .store-word2 in
     let d = c .before .before .before .before .before .before .before in
     let b = c .before .before .before .before .before .before .before .before in
-    let a = b .before .before .before .before .args in range-put (a .vars .now) (a .n) (a .from) (a .to) (b .before .before .if1 .taken) (b .narrow .ensures) (d .store-word .ensures) (c .before .before .before .narrow2 .ensures) (c .before .before .store-word2 .ensures)
+    let a = b .before .before .before .before .args in range-put (a .vars .now) (a .n) (a .from) (a .to) (b .before .before .if1 .taken) (b .narrow .ensures) (d .store-word .ensures)
+    (narrow2 .ensures) (store-word2 .ensures)
 
 returns-2 : tie.Need-returns-2
 returns-2 c =

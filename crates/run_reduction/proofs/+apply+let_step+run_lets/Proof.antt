@@ -4,7 +4,8 @@ use lib.ListN.{length}
 use mathlib.Core.Path.{_≡_, refl, sym, ap, _∙_}
 use Rattle.run_coding.specs.Coded.{Coded}
 use Rattle.run_reduction.specs.Frames.{sidedLets}
-use Rattle.run_reduction.proofs.Framing.{Letting, applied-none, unmatched, apply-done, apply-spent, stepped-late, step-done, step-spent, letting-start, letting-next, lets-spent, lets-end, lets-fall, apply-falls, step-falls, rows-in, span-small}
+use Rattle.run_reduction.proofs.Framing.{Letting, applied-none, unmatched, apply-done, apply-spent, stepped-late, step-done, step-spent, letting-start}
+use Rattle.run_reduction.proofs.Framing.{letting-next, lets-spent, lets-end, lets-fall, apply-falls, step-falls, rows-in, span-small}
 use borrow.Author.Needs.{needs}
 use Prim.Native.Nat.{ℕ, _<_}
 use borrow.Fn.Kinds.{In}
@@ -195,7 +196,13 @@ apply-returns-2 : (t : ℕ) → apply-lts.Need-returns-2 (
   give-reads.Asked,
   give-reads.Learnt,
 ) (apply-at t) apply.Post
-apply-returns-2 t c = λ z. unmatched (c .before .before .before .before .before .before .before .before .before .before .before .before .args .t .now) (c .before .before .before .before .before .before .before .before .before .before .before .before .args .base) (c .before .before .before .before .before .before .before .before .before .before .before .before .args .index .now) (c .before .before .before .before .before .before .before .before .before .before .before .before .args .back) (c .before .before .before .before .before .before .before .before .before .before .before .before .args .i) (c .before .before .choose .result) (c .before .before .before .before .before .before .before .before .before .before .before .before .args .at) (c .before .before .before .before .before .before .before .before .before .before .before .before .args .end) (c .before .before .before .before .before .before .before .before .before .before .before .before .args .dest) (c .before .before .before .before .before .before .before .before .before .before .before .before .args .free) (c .before .before .before .before .before .before .before .before .before .before .before .before .args .left) (c .before .before .choose .ensures z) (c .before .before .before .before .before .before .place .ensures .0) (c .before .before .before .before .before .next-place .ensures .0) (c .if2 .taken)
+apply-returns-2 t c =
+    let args = c .before .before .before .before .before .before .before .before .before .before .before .before .args in
+    let place = c .before .before .before .before .before .before .place in
+    let next-place = c .before .before .before .before .before .next-place in
+    let choose = c .before .before .choose in
+    λ z. unmatched (args .t .now) (args .base) (args .index .now) (args .back) (args .i) (choose .result) (args .at) (args .end) (args .dest) (args .free) (args .left) (choose .ensures z)
+    (place .ensures .0) (next-place .ensures .0) (c .if2 .taken)
 
 -- src/lib.rt:359:9
 apply-place-requires-2 : (t : ℕ) → apply-lts.Need-place-requires-2 (
@@ -297,7 +304,12 @@ apply-run-lets-requires : (t : ℕ) → apply-lts.Need-run-lets-requires (
   give-reads.Asked,
   give-reads.Learnt,
 ) (apply-at t) apply.Post
-apply-run-lets-requires t c κs = (lets-fall (c .before .before .before .before .before .before .before .before .before .before .before .before .before .before .before .before .args .i) (c .before .before .before .before .before .before .before .before .before .before .before .before .before .before .before .before .pre .0), (rows-in (c .before .before .before .place2 .ensures .1), c .before .before .next-place2 .ensures .1))
+apply-run-lets-requires t c κs =
+    let pre = c .before .before .before .before .before .before .before .before .before .before .before .before .before .before .before .before .pre in
+    let args = c .before .before .before .before .before .before .before .before .before .before .before .before .before .before .before .before .args in
+    let place2 = c .before .before .before .place2 in
+    let next-place2 = c .before .before .next-place2 in
+    (lets-fall (args .i) (pre .0), (rows-in (place2 .ensures .1), next-place2 .ensures .1))
 
 -- src/lib.rt:375:23
 apply-enum-known-top : (t : ℕ) → apply-lts.Need-enum-known-top (
@@ -416,7 +428,22 @@ apply-returns-3 : (t : ℕ) → apply-lts.Need-returns-3 (
   give-reads.Asked,
   give-reads.Learnt,
 ) (apply-at t) apply.Post
-apply-returns-3 t c = λ z. apply-done (c .before .before .before .before .before .before .before .before .before .before .before .before .before .before .before .before .before .before .before .before .before .before .before .before .before .before .before .before .before .args .t .now) (c .before .before .before .before .before .before .before .before .before .before .before .before .before .before .before .before .before .before .before .before .before .before .before .before .before .before .before .before .before .args .base) (c .before .before .before .before .before .before .before .before .before .before .before .before .before .before .before .before .before .before .before .before .before .before .before .before .before .before .before .before .before .args .index .now) (c .before .before .before .before .before .before .before .before .before .before .before .before .before .before .before .before .before .before .before .before .before .before .before .before .before .before .before .before .before .args .back) (c .before .before .before .before .before .before .before .before .before .before .before .before .before .before .before .before .before .before .before .before .before .before .before .before .before .before .before .before .before .args .i) (c .before .before .before .before .before .before .before .before .before .before .before .before .before .before .before .before .before .before .before .choose .result) (c .before .before .before .before .before .before .before .before .before .before .before .before .before .before .before .before .place2 .result) (c .before .before .before .before .before .before .before .before .before .before .before .before .before .before .before .next-place2 .result) (c .before .before .before .before .before .before .before .before .before .before .before .before .before .before .before .before .before .before .before .before .before .before .before .before .before .before .before .before .before .args .at) (c .before .before .before .before .before .before .before .before .before .before .before .before .before .before .before .before .before .before .before .before .before .before .before .before .before .before .before .before .before .args .end) (c .before .before .before .before .before .before .before .before .before .before .before .before .before .before .before .before .before .before .before .before .before .before .before .before .before .before .before .before .before .args .dest) (c .before .before .before .before .before .before .before .before .before .before .before .before .before .before .before .before .before .before .before .before .before .before .before .before .before .before .before .before .before .args .free) (c .before .before .before .before .before .before .before .before .before .before .before .before .before .before .before .before .before .before .before .before .before .before .before .before .before .before .before .before .before .args .left) (c .before .before .before .before .before .before .before .before .before .before .before .before .before .before .before .before .before .before .before .choose .ensures z) (c .before .before .before .before .before .before .before .before .before .before .before .before .before .before .before .before .before .before .before .before .before .before .before .place .ensures .0) (c .before .before .before .before .before .before .before .before .before .before .before .before .before .before .before .before .before .before .before .before .before .before .next-place .ensures .0) (c .before .before .before .before .before .before .before .before .before .before .before .before .before .before .before .before .place2 .ensures .0) (c .before .before .before .before .before .before .before .before .before .before .before .before .before .before .before .next-place2 .ensures .0) (c .before .before .before .before .before .before .before .before .before .before .before .before .before .before .before .before .before .before .before .before .before .before .before .before .if1 .left) (c .before .before .before .before .before .before .before .before .before .before .before .before .run-lets .ensures z) (c .before .before .before .before .before .before .before .top .given .1) (c .before .before .before .before .before .before .before .before .before .before .before .before .run-lets .kept .1 .1 .1 .1 .1 .1 .1 .1 .0) (c .before .before .before .before .before .line .ensures) (c .before .before .give .ensures z)
+apply-returns-3 t c =
+    let far = c .before .before .before .before .before .before .before .before .before .before .before .before .before .before .before .before .before .before .before .before in
+    let args = far .before .before .before .before .before .before .before .before .before .args in
+    let if1 = far .before .before .before .before .if1 in
+    let place = far .before .before .before .place in
+    let next-place = far .before .before .next-place in
+    let choose = c .before .before .before .before .before .before .before .before .before .before .before .before .before .before .before .before .before .before .before .choose in
+    let place2 = c .before .before .before .before .before .before .before .before .before .before .before .before .before .before .before .before .place2 in
+    let next-place2 = c .before .before .before .before .before .before .before .before .before .before .before .before .before .before .before .next-place2 in
+    let run-lets = c .before .before .before .before .before .before .before .before .before .before .before .before .run-lets in
+    let top = c .before .before .before .before .before .before .before .top in
+    let line = c .before .before .before .before .before .line in
+    let give = c .before .before .give in
+    λ z. apply-done (args .t .now) (args .base) (args .index .now) (args .back) (args .i) (choose .result) (place2 .result) (next-place2 .result) (args .at) (args .end) (args .dest)
+    (args .free) (args .left) (choose .ensures z) (place .ensures .0) (next-place .ensures .0) (place2 .ensures .0) (next-place2 .ensures .0) (if1 .left) (run-lets .ensures z)
+    (top .given .1) (run-lets .kept .1 .1 .1 .1 .1 .1 .1 .1 .0) (line .ensures) (give .ensures z)
 
 -- src/lib.rt:318:1
 apply-same-length-3 : (t : ℕ) → apply-lts.Need-same-length-3 (
@@ -450,7 +477,19 @@ apply-returns-4 : (t : ℕ) → apply-lts.Need-returns-4 (
   give-reads.Asked,
   give-reads.Learnt,
 ) (apply-at t) apply.Post
-apply-returns-4 t c = λ z. apply-spent (c .before .before .before .before .before .before .before .before .before .before .before .before .before .before .before .before .before .before .before .before .before .before .args .t .now) (c .before .before .before .before .before .before .before .before .before .before .before .before .before .before .before .before .before .before .before .before .before .before .args .base) (c .before .before .before .before .before .before .before .before .before .before .before .before .before .before .before .before .before .before .before .before .before .before .args .index .now) (c .before .before .before .before .before .before .before .before .before .before .before .before .before .before .before .before .before .before .before .before .before .before .args .back) (c .before .before .before .before .before .before .before .before .before .before .before .before .before .before .before .before .before .before .before .before .before .before .args .i) (c .before .before .before .before .before .before .before .before .before .before .before .before .choose .result) (c .before .before .before .before .before .before .before .before .before .place2 .result) (c .before .before .before .before .before .before .before .before .next-place2 .result) (c .before .before .before .before .before .before .before .before .before .before .before .before .before .before .before .before .before .before .before .before .before .before .args .at) (c .before .before .before .before .before .before .before .before .before .before .before .before .before .before .before .before .before .before .before .before .before .before .args .end) (c .before .before .before .before .before .before .before .before .before .before .before .before .before .before .before .before .before .before .before .before .before .before .args .dest) (c .before .before .before .before .before .before .before .before .before .before .before .before .before .before .before .before .before .before .before .before .before .before .args .free) (c .before .before .before .before .before .before .before .before .before .before .before .before .before .before .before .before .before .before .before .before .before .before .args .left) (c .before .before .before .before .before .before .before .before .before .before .before .before .choose .ensures z) (c .before .before .before .before .before .before .before .before .before .before .before .before .before .before .before .before .place .ensures .0) (c .before .before .before .before .before .before .before .before .before .before .before .before .before .before .before .next-place .ensures .0) (c .before .before .before .before .before .before .before .before .before .place2 .ensures .0) (c .before .before .before .before .before .before .before .before .next-place2 .ensures .0) (c .before .before .before .before .before .before .before .before .before .before .before .before .before .before .before .before .before .if1 .left) (c .before .before .before .before .before .run-lets .ensures z) (c .enum-told .given .1)
+apply-returns-4 t c =
+    let far = c .before .before .before .before .before .before .before .before .before .before .before .before .before .before .before .before .before .before .before .before in
+    let args = far .before .before .args in
+    let if1 = c .before .before .before .before .before .before .before .before .before .before .before .before .before .before .before .before .before .if1 in
+    let place = c .before .before .before .before .before .before .before .before .before .before .before .before .before .before .before .before .place in
+    let next-place = c .before .before .before .before .before .before .before .before .before .before .before .before .before .before .before .next-place in
+    let choose = c .before .before .before .before .before .before .before .before .before .before .before .before .choose in
+    let place2 = c .before .before .before .before .before .before .before .before .before .place2 in
+    let next-place2 = c .before .before .before .before .before .before .before .before .next-place2 in
+    let run-lets = c .before .before .before .before .before .run-lets in
+    λ z. apply-spent (args .t .now) (args .base) (args .index .now) (args .back) (args .i) (choose .result) (place2 .result) (next-place2 .result) (args .at) (args .end) (args .dest)
+    (args .free) (args .left) (choose .ensures z) (place .ensures .0) (next-place .ensures .0) (place2 .ensures .0) (next-place2 .ensures .0) (if1 .left) (run-lets .ensures z)
+    (c .enum-told .given .1)
 
 -- src/lib.rt:235:9
 let-step-cell-requires : (t : ℕ) → let-step-lts.Need-cell-requires (
@@ -484,7 +523,11 @@ let-step-returns : (t : ℕ) → let-step-lts.Need-returns (
   further-reads.Asked,
   further-reads.Learnt,
 ) (let-step-at t) let-step.Post
-let-step-returns t c = λ z os d l e f g u w m laid is less b small run little bound env room most. stepped-late (c .before .before .before .before .before .before .before .args .t .now) (c .before .before .before .before .before .before .before .args .base) (c .before .before .before .before .before .before .before .args .back) (c .before .before .before .before .before .before .before .args .i) (c .before .cell .result) (c .before .before .before .before .before .before .before .args .row) l is less (c .before .cell .ensures .0) (c .if1 .taken)
+let-step-returns t c =
+    let args = c .before .before .before .before .before .before .before .args in
+    let cell = c .before .cell in
+    λ z os d l e f g u w m laid is less b small run little bound env room most. stepped-late (args .t .now) (args .base) (args .back) (args .i) (cell .result) (args .row) l is less
+    (cell .ensures .0) (c .if1 .taken)
 
 -- src/lib.rt:239:9
 let-step-line-requires : (t : ℕ) → let-step-lts.Need-line-requires (
@@ -535,7 +578,12 @@ let-step-apply-requires : (t : ℕ) → let-step-lts.Need-apply-requires (
   further-reads.Asked,
   further-reads.Learnt,
 ) (let-step-at t) let-step.Post
-let-step-apply-requires t c κs = (apply-falls (c .before .before .before .before .before .before .before .before .before .before .before .before .before .before .args .i) (c .before .before .before .before .before .before .before .before .cell .result) (c .before .before .before .before .before .before .before .before .before .before .before .before .before .before .pre .0) (c .before .before .before .before .before .before .before .if1 .left), tt)
+let-step-apply-requires t c κs =
+    let pre = c .before .before .before .before .before .before .before .before .before .before .before .before .before .before .pre in
+    let args = c .before .before .before .before .before .before .before .before .before .before .before .before .before .before .args in
+    let cell = c .before .before .before .before .before .before .before .before .cell in
+    let if1 = c .before .before .before .before .before .before .before .if1 in
+    (apply-falls (args .i) (cell .result) (pre .0) (if1 .left), tt)
 
 -- src/lib.rt:255:22
 let-step-enum-known-b : (t : ℕ) → let-step-lts.Need-enum-known-b (
@@ -671,7 +719,18 @@ let-step-returns-2 : (t : ℕ) → let-step-lts.Need-returns-2 (
   further-reads.Asked,
   further-reads.Learnt,
 ) (let-step-at t) let-step.Post
-let-step-returns-2 t c = λ z. step-done (c .before .before .before .before .before .before .before .before .before .before .before .before .before .before .before .before .before .before .before .before .before .before .before .before .before .before .before .args .t .now) (c .before .before .before .before .before .before .before .before .before .before .before .before .before .before .before .before .before .before .before .before .before .before .before .before .before .before .before .args .base) (c .before .before .before .before .before .before .before .before .before .before .before .before .before .before .before .before .before .before .before .before .before .before .before .before .before .before .before .args .index .now) (c .before .before .before .before .before .before .before .before .before .before .before .before .before .before .before .before .before .before .before .before .before .before .before .before .before .before .before .args .back) (c .before .before .before .before .before .before .before .before .before .before .before .before .before .before .before .before .before .before .before .before .before .before .before .before .before .before .before .args .row) (c .before .before .before .before .before .before .before .before .before .before .before .before .before .before .before .before .before .before .before .before .before .before .before .before .before .before .before .args .i) (c .before .before .before .before .before .before .before .before .before .before .before .before .before .before .before .before .before .before .before .before .before .cell .result) (c .before .before .before .before .before .before .before .before .before .before .before .before .before .before .before .before .before .before .before .before .before .cell .ensures .0) (c .before .before .before .before .before .before .before .before .before .before .before .before .before .before .before .before .before .before .before .line .ensures) (c .before .before .before .before .before .before .before .before .before .before .before .before .before .before .before .before .argument .ensures z) (c .before .before .before .before .before .before .before .before .before .before .before .before .before .before .before .before .argument .kept .1 .1 .1 .1 .1 .0) (c .before .before .before .before .before .before .before .before .before .before .before .before .apply .ensures z) (c .before .before .before .before .before .before .before .before .before .before .before .before .apply .kept .1 .1 .1 .1 .1 .1 .0) (c .before .before .before .before .before .before .before .before .b .given .1) (c .before .before .before .before .before .before .line2 .ensures) (λ v a y. c .before .before .before .match-again .ensures z v a y .1) (c .further .ensures)
+let-step-returns-2 t c =
+    let far = c .before .before .before .before .before .before .before .before .before .before .before .before .before .before .before .before .before .before .before .before in
+    let args = far .before .before .before .before .before .before .before .args in
+    let cell = far .before .cell in
+    let line = c .before .before .before .before .before .before .before .before .before .before .before .before .before .before .before .before .before .before .before .line in
+    let argument = c .before .before .before .before .before .before .before .before .before .before .before .before .before .before .before .before .argument in
+    let apply = c .before .before .before .before .before .before .before .before .before .before .before .before .apply in
+    let b = c .before .before .before .before .before .before .before .before .b in
+    let line2 = c .before .before .before .before .before .before .line2 in
+    let match-again = c .before .before .before .match-again in
+    λ z. step-done (args .t .now) (args .base) (args .index .now) (args .back) (args .row) (args .i) (cell .result) (cell .ensures .0) (line .ensures) (argument .ensures z)
+    (argument .kept .1 .1 .1 .1 .1 .0) (apply .ensures z) (apply .kept .1 .1 .1 .1 .1 .1 .0) (b .given .1) (line2 .ensures) (λ v a y. match-again .ensures z v a y .1) (c .further .ensures)
 
 -- src/lib.rt:217:1
 let-step-same-length-3 : (t : ℕ) → let-step-lts.Need-same-length-3 (
@@ -722,10 +781,18 @@ let-step-returns-3 : (t : ℕ) → let-step-lts.Need-returns-3 (
   further-reads.Asked,
   further-reads.Learnt,
 ) (let-step-at t) let-step.Post
-let-step-returns-3 t c = λ z. step-spent (c .before .before .before .before .before .before .before .before .before .before .before .before .before .before .before .before .before .before .before .args .t .now) (c .before .before .before .before .before .before .before .before .before .before .before .before .before .before .before .before .before .before .before .args .base) (c .before .before .before .before .before .before .before .before .before .before .before .before .before .before .before .before .before .before .before .args .index .now) (c .before .before .before .before .before .before .before .before .before .before .before .before .before .before .before .before .before .before .before .args .back) (c .before .before .before .before .before .before .before .before .before .before .before .before .before .before .before .before .before .before .before .args .row) (c .before .before .before .before .before .before .before .before .before .before .before .before .before .before .before .before .before .before .before .args .i) (c .before .before .before .before .before .before .before .before .before .before .before .before .before .cell .result) (c .before .before .before .before .before .before .before .before .before .before .before .before .before .cell .ensures .0) (c .before .before .before .before .before .before .before .before .before .before .before .line .ensures) (c .before .before .before .before .before .before .before .before .argument .ensures z) (c .before .before .before .before .before .before .before .before .argument .kept .1 .1 .1 .1 .1 .0) (c .before .before .before .before .apply .ensures z) (c .enum-told .given .1)
+let-step-returns-3 t c =
+    let args = c .before .before .before .before .before .before .before .before .before .before .before .before .before .before .before .before .before .before .before .args in
+    let cell = c .before .before .before .before .before .before .before .before .before .before .before .before .before .cell in
+    let line = c .before .before .before .before .before .before .before .before .before .before .before .line in
+    let argument = c .before .before .before .before .before .before .before .before .argument in
+    let apply = c .before .before .before .before .apply in
+    λ z. step-spent (args .t .now) (args .base) (args .index .now) (args .back) (args .row) (args .i) (cell .result) (cell .ensures .0) (line .ensures) (argument .ensures z)
+    (argument .kept .1 .1 .1 .1 .1 .0) (apply .ensures z) (c .enum-told .given .1)
 
 abbrev run-lets-Inv-loop : run-lets-lts.InvT-loop
-run-lets-Inv-loop t base index code back i from to work₀ end vars₀ budget n top₀ left₀ k₀ work vars top left k = (Coded t base code → Letting t base index back i from n end budget work₀ vars₀ k top left work vars) × (length work ≡ length work₀) × (length vars ≡ length vars₀)
+run-lets-Inv-loop t base index code back i from to work₀ end vars₀ budget n top₀ left₀ k₀ work vars top left k =
+    (Coded t base code → Letting t base index back i from n end budget work₀ vars₀ k top left work vars) × (length work ≡ length work₀) × (length vars ≡ length vars₀)
 
 abbrev run-lets-μ-loop : run-lets-lts.MeasureT-loop
 run-lets-μ-loop t base index code back i from to work₀ end vars₀ budget n top₀ left₀ k₀ work vars top left k = n - k
@@ -761,7 +828,11 @@ run-lets-let-row-requires : (t : ℕ) → run-lets-lts.Need-let-row-requires (
   let-step-below t,
   let-step.Post,
 ) (run-lets-at t) run-lets.Post run-lets-Inv-loop run-lets-μ-loop
-run-lets-let-row-requires t c κs = (c .before .before .before .before .before .before .before .before .pre .1 .0, span-small (c .before .before .span .result) (c .before .before .before .before .before .before .before .before .args .from) (c .before .before .before .before .before .before .before .before .args .to) (c .before .before .span .ensures) (c .before .before .before .before .before .before .before .before .pre .1 .1), c .loop-test .taken)
+run-lets-let-row-requires t c κs =
+    let pre = c .before .before .before .before .before .before .before .before .pre in
+    let args = c .before .before .before .before .before .before .before .before .args in
+    let span = c .before .before .span in
+    (pre .1 .0, span-small (span .result) (args .from) (args .to) (span .ensures) (pre .1 .1), c .loop-test .taken)
 
 -- src/lib.rt:290:15
 run-lets-let-step-requires : (t : ℕ) → run-lets-lts.Need-let-step-requires (
@@ -772,7 +843,10 @@ run-lets-let-step-requires : (t : ℕ) → run-lets-lts.Need-let-step-requires (
   let-step-below t,
   let-step.Post,
 ) (run-lets-at t) run-lets.Post run-lets-Inv-loop run-lets-μ-loop
-run-lets-let-step-requires t c κs = (step-falls (c .before .before .before .before .before .before .before .before .before .before .before .args .i) (c .before .before .before .before .before .before .before .before .before .before .before .pre .0), tt)
+run-lets-let-step-requires t c κs =
+    let pre = c .before .before .before .before .before .before .before .before .before .before .before .pre in
+    let args = c .before .before .before .before .before .before .before .before .before .before .before .args in
+    (step-falls (args .i) (pre .0), tt)
 
 -- src/lib.rt:303:27
 run-lets-enum-known-e : (t : ℕ) → run-lets-lts.Need-enum-known-e (
@@ -805,7 +879,9 @@ run-lets-loop-less : (t : ℕ) → run-lets-lts.Need-loop-less (
   let-step-below t,
   let-step.Post,
 ) (run-lets-at t) run-lets.Post run-lets-Inv-loop run-lets-μ-loop
-run-lets-loop-less t c = let j = c .before .before .before .before .before .before .before .before .before .before .before .loop-test .taken in omega (arith, j)
+run-lets-loop-less t c =
+    let loop-test = c .before .before .before .before .before .before .before .before .before .before .before .loop-test in
+    let j = loop-test .taken in omega (arith, j)
 
 -- src/lib.rt:289:5
 run-lets-loop-again : (t : ℕ) → run-lets-lts.Need-loop-again (
@@ -816,7 +892,16 @@ run-lets-loop-again : (t : ℕ) → run-lets-lts.Need-loop-again (
   let-step-below t,
   let-step.Post,
 ) (run-lets-at t) run-lets.Post run-lets-Inv-loop run-lets-μ-loop
-run-lets-loop-again t c = ((λ z. letting-next (c .before .e .given .1) (c .before .before .before .before .before .before .before .before .before .before .before .before .loop .inv .0 z) (c .before .before .before .before .before .before .before .before .before .before .before .loop-test .taken) (c .before .before .before .before .before .before .before .before .before .before .let-row .ensures) (c .before .before .before .before .before .before .before .let-step .kept .1 .1 .1 .1 .1 .1 .1 .0) (c .before .before .before .before .before .before .before .let-step .ensures z)), c .before .before .before .before .before .before .before .let-step .kept .1 .1 .1 .1 .1 .1 .1 .0 ∙ c .before .before .before .before .before .before .before .before .before .before .before .before .loop .inv .1, c .before .before .before .before .before .before .before .let-step .kept .1 .1 .1 .1 .1 .1 .1 .1 .1 .0 ∙ c .before .before .before .before .before .before .before .before .before .before .before .before .loop .inv .2)
+run-lets-loop-again t c =
+    let loop′ = c .before .before .before .before .before .before .before .before .before .before .before .before .loop in
+    let loop-test = c .before .before .before .before .before .before .before .before .before .before .before .loop-test in
+    let let-row = c .before .before .before .before .before .before .before .before .before .before .let-row in
+    let let-step = c .before .before .before .before .before .before .before .let-step in
+    let e = c .before .e in (
+      (λ z. letting-next (e .given .1) (loop′ .inv .0 z) (loop-test .taken) (let-row .ensures) (let-step .kept .1 .1 .1 .1 .1 .1 .1 .0) (let-step .ensures z)),
+      let-step .kept .1 .1 .1 .1 .1 .1 .1 .0 ∙ loop′ .inv .1,
+      let-step .kept .1 .1 .1 .1 .1 .1 .1 .1 .1 .0 ∙ loop′ .inv .2,
+    )
 
 -- src/lib.rt:309:17
 run-lets-enum-told : (t : ℕ) → run-lets-lts.Need-enum-told (
@@ -838,7 +923,10 @@ run-lets-same-length : (t : ℕ) → run-lets-lts.Need-same-length (
   let-step-below t,
   let-step.Post,
 ) (run-lets-at t) run-lets.Post run-lets-Inv-loop run-lets-μ-loop
-run-lets-same-length t c = c .before .before .before .before .before .before .let-step .kept .1 .1 .1 .1 .1 .1 .1 .0 ∙ c .before .before .before .before .before .before .before .before .before .before .before .loop .inv .1
+run-lets-same-length t c =
+    let loop′ = c .before .before .before .before .before .before .before .before .before .before .before .loop in
+    let let-step = c .before .before .before .before .before .before .let-step in
+    let-step .kept .1 .1 .1 .1 .1 .1 .1 .0 ∙ loop′ .inv .1
 
 -- src/lib.rt:309:17
 run-lets-same-length-2 : (t : ℕ) → run-lets-lts.Need-same-length-2 (
@@ -849,7 +937,10 @@ run-lets-same-length-2 : (t : ℕ) → run-lets-lts.Need-same-length-2 (
   let-step-below t,
   let-step.Post,
 ) (run-lets-at t) run-lets.Post run-lets-Inv-loop run-lets-μ-loop
-run-lets-same-length-2 t c = c .before .before .before .before .before .before .let-step .kept .1 .1 .1 .1 .1 .1 .1 .1 .1 .0 ∙ c .before .before .before .before .before .before .before .before .before .before .before .loop .inv .2
+run-lets-same-length-2 t c =
+    let loop′ = c .before .before .before .before .before .before .before .before .before .before .before .loop in
+    let let-step = c .before .before .before .before .before .before .let-step in
+    let-step .kept .1 .1 .1 .1 .1 .1 .1 .1 .1 .0 ∙ loop′ .inv .2
 
 -- src/lib.rt:309:17
 run-lets-returns : (t : ℕ) → run-lets-lts.Need-returns (
@@ -860,7 +951,15 @@ run-lets-returns : (t : ℕ) → run-lets-lts.Need-returns (
   let-step-below t,
   let-step.Post,
 ) (run-lets-at t) run-lets.Post run-lets-Inv-loop run-lets-μ-loop
-run-lets-returns t c = λ z os s ls r t w laid is. lets-spent (c .enum-told .given .1) (c .before .before .before .before .before .before .before .before .before .before .before .loop .inv .0 z) (c .before .before .before .before .before .before .before .before .before .before .loop-test .taken) (c .before .before .before .before .before .before .before .before .before .let-row .ensures) (c .before .before .before .before .before .before .let-step .ensures z) os s ls r t w laid (is ∙ ap (sidedLets (c .before .before .before .before .before .before .before .before .before .before .before .before .before .before .before .before .before .before .args .back) (c .before .before .before .before .before .before .before .before .before .before .before .before .before .before .before .before .before .before .args .t .now) (c .before .before .before .before .before .before .before .before .before .before .before .before .before .before .before .before .before .before .args .base) (c .before .before .before .before .before .before .before .before .before .before .before .before .before .before .before .before .before .before .args .from)) (sym (c .before .before .before .before .before .before .before .before .before .before .before .before .span .ensures)))
+run-lets-returns t c =
+    let args = c .before .before .before .before .before .before .before .before .before .before .before .before .before .before .before .before .before .before .args in
+    let span = c .before .before .before .before .before .before .before .before .before .before .before .before .span in
+    let loop′ = c .before .before .before .before .before .before .before .before .before .before .before .loop in
+    let loop-test = c .before .before .before .before .before .before .before .before .before .before .loop-test in
+    let let-row = c .before .before .before .before .before .before .before .before .before .let-row in
+    let let-step = c .before .before .before .before .before .before .let-step in
+    λ z os s ls r t w laid is. lets-spent (c .enum-told .given .1) (loop′ .inv .0 z) (loop-test .taken) (let-row .ensures) (let-step .ensures z) os s ls r t w laid
+    (is ∙ ap (sidedLets (args .back) (args .t .now) (args .base) (args .from)) (sym (span .ensures)))
 
 -- src/lib.rt:265:1
 run-lets-same-length-3 : (t : ℕ) → run-lets-lts.Need-same-length-3 (
@@ -893,7 +992,11 @@ run-lets-returns-2 : (t : ℕ) → run-lets-lts.Need-returns-2 (
   let-step-below t,
   let-step.Post,
 ) (run-lets-at t) run-lets.Post run-lets-Inv-loop run-lets-μ-loop
-run-lets-returns-2 t c = λ z os s ls r t w laid is. lets-end (c .before .loop .inv .0 z) (c .loop-test .left) os s ls r t w laid (is ∙ ap (sidedLets (c .before .before .before .before .before .before .before .before .args .back) (c .before .before .before .before .before .before .before .before .args .t .now) (c .before .before .before .before .before .before .before .before .args .base) (c .before .before .before .before .before .before .before .before .args .from)) (sym (c .before .before .span .ensures)))
+run-lets-returns-2 t c =
+    let args = c .before .before .before .before .before .before .before .before .args in
+    let span = c .before .before .span in
+    let loop′ = c .before .loop in
+    λ z os s ls r t w laid is. lets-end (loop′ .inv .0 z) (c .loop-test .left) os s ls r t w laid (is ∙ ap (sidedLets (args .back) (args .t .now) (args .base) (args .from)) (sym (span .ensures)))
 
 pub +apply+let-step+run-lets-spec : {M : Type 1} → statement M
 +apply+let-step+run-lets-spec = close μ-apply μ-let-step μ-run-lets (λ t. apply-lts.spec (

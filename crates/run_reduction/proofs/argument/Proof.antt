@@ -25,7 +25,12 @@ range-to-requires c κs = search needs
 
 -- src/lib.rt:192:9
 returns : tie.Need-returns
-returns c = λ z. argue-var (patternOf (c .before .before .before .before .before .before .before .before .args .t .now) (c .before .before .before .before .before .before .before .before .args .base) (c .before .before .before .before .before .before .before .before .args .j)) (c .before .before .before .variable .result) _ (c .before .before .before .variable .ensures .0 _ _ z (c .before .before .if1 .taken)) (c .before .range-from .ensures) (c .range-to .ensures) refl
+returns c =
+    let args = c .before .before .before .before .before .before .before .before .args in
+    let variable = c .before .before .before .variable in
+    let if1 = c .before .before .if1 in
+    let range-from = c .before .range-from in
+    λ z. argue-var (patternOf (args .t .now) (args .base) (args .j)) (variable .result) _ (variable .ensures .0 _ _ z (if1 .taken)) (range-from .ensures) (c .range-to .ensures) refl
 
 -- src/lib.rt:198:9
 build-line-requires : tie.Need-build-line-requires
@@ -37,7 +42,10 @@ same-length c = search needs
 
 -- src/lib.rt:174:1
 returns-2 : tie.Need-returns-2
-returns-2 c = λ z. argue-built (patternOf (c .before .before .before .before .before .before .before .before .before .before .args .t .now) (c .before .before .before .before .before .before .before .before .before .before .args .base) (c .before .before .before .before .before .before .before .before .before .before .args .j)) _ refl refl refl (c .before .before .build-line .ensures z)
+returns-2 c =
+    let args = c .before .before .before .before .before .before .before .before .before .before .args in
+    let build-line = c .before .before .build-line in
+    λ z. argue-built (patternOf (args .t .now) (args .base) (args .j)) _ refl refl refl (build-line .ensures z)
 
 pub argument-spec : {M : Type 1} → statement M
 argument-spec =

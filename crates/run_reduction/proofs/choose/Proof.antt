@@ -16,7 +16,8 @@ use Rattle.run_direction.proofs.side.Reads as side-reads
 use Rattle.table_trees.proofs.cell.Reads as cell-reads
 
 abbrev Inv-loop : tie.InvT-loop
-Inv-loop t base index code back from stop work at end vars₀ field m₀ vars m = (Coded t base code → Choosing (sideAt t base index back) work at end from stop vars₀ vars m) × (length vars ≡ length vars₀)
+Inv-loop t base index code back from stop work at end vars₀ field m₀ vars m = (Coded t base code → Choosing (sideAt t base index back) work at end from stop vars₀ vars m) ×
+    (length vars ≡ length vars₀)
 
 abbrev μ-loop : tie.MeasureT-loop
 μ-loop t base index code back from stop work at end vars₀ field m₀ vars m = stop - m
@@ -43,11 +44,22 @@ match-line-requires c κs = search needs
 
 -- src/lib.rt:93:13
 same-length : tie.Need-same-length Inv-loop μ-loop
-same-length c = c .before .before .before .match-line .kept .1 .1 .1 .1 .1 .1 .1 .0 ∙ c .before .before .before .before .before .before .before .before .loop .inv .1
+same-length c =
+    let loop′ = c .before .before .before .before .before .before .before .before .loop in
+    let match-line = c .before .before .before .match-line in
+    match-line .kept .1 .1 .1 .1 .1 .1 .1 .0 ∙ loop′ .inv .1
 
 -- src/lib.rt:93:13
 returns : tie.Need-returns Inv-loop μ-loop
-returns c = λ w. choosing-found _ (c .before .before .before .before .before .before .before .before .loop .inv .0 w) (side-found (c .before .before .before .before .before .before .before .before .before .before .before .before .before .before .before .args .t .now) (c .before .before .before .before .before .before .before .before .before .before .before .before .before .before .before .args .base) (c .before .before .before .before .before .before .before .before .before .before .before .before .before .before .before .args .index .now) (c .before .before .before .before .before .before .before .before .before .before .before .before .before .before .before .args .back) (c .before .before .before .before .before .before .before .before .loop .m) (c .before .before .before .before .before .cell .ensures .0) (c .before .before .before .before .before .before .place .ensures .0) (c .before .before .before .before .before .before .before .before .before .side .ensures)) (λ v a z. let g = c .before .before .before .match-line .ensures w v a z in (sym (c .if1 .taken) ∙ g .0, g .1))
+returns c =
+    let args = c .before .before .before .before .before .before .before .before .before .before .before .before .before .before .before .args in
+    let side = c .before .before .before .before .before .before .before .before .before .side in
+    let loop′ = c .before .before .before .before .before .before .before .before .loop in
+    let place = c .before .before .before .before .before .before .place in
+    let cell = c .before .before .before .before .before .cell in
+    let match-line = c .before .before .before .match-line in
+    λ w. choosing-found _ (loop′ .inv .0 w) (side-found (args .t .now) (args .base) (args .index .now) (args .back) (loop′ .m) (cell .ensures .0) (place .ensures .0) (side .ensures))
+    (λ v a z. let g = match-line .ensures w v a z in (sym (c .if1 .taken) ∙ g .0, g .1))
 
 -- src/lib.rt:95:9
 add-m : tie.Need-add-m Inv-loop μ-loop
@@ -59,7 +71,17 @@ loop-less c = let h = c .before .before .before .before .before .before .before 
 
 -- src/lib.rt:90:5
 loop-again : tie.Need-loop-again Inv-loop μ-loop
-loop-again c = ((λ w. choosing-next _ (c .before .before .before .before .before .before .before .before .loop .inv .0 w) (side-found (c .before .before .before .before .before .before .before .before .before .before .before .before .before .before .before .args .t .now) (c .before .before .before .before .before .before .before .before .before .before .before .before .before .before .before .args .base) (c .before .before .before .before .before .before .before .before .before .before .before .before .before .before .before .args .index .now) (c .before .before .before .before .before .before .before .before .before .before .before .before .before .before .before .args .back) (c .before .before .before .before .before .before .before .before .loop .m) (c .before .before .before .before .before .cell .ensures .0) (c .before .before .before .before .before .before .place .ensures .0) (c .before .before .before .before .before .before .before .before .before .side .ensures)) (c .before .before .before .match-line .kept .1 .1 .1 .1 .1 .1 .1 .0) (λ v a z. let g = c .before .before .before .match-line .ensures w v a z in (sym (c .if1 .left) ∙ g .0, g .1))), c .before .before .before .match-line .kept .1 .1 .1 .1 .1 .1 .1 .0 ∙ c .before .before .before .before .before .before .before .before .loop .inv .1)
+loop-again c =
+    let args = c .before .before .before .before .before .before .before .before .before .before .before .before .before .before .before .args in
+    let side = c .before .before .before .before .before .before .before .before .before .side in
+    let loop′ = c .before .before .before .before .before .before .before .before .loop in
+    let place = c .before .before .before .before .before .before .place in
+    let cell = c .before .before .before .before .before .cell in
+    let match-line = c .before .before .before .match-line in (
+      (λ w. choosing-next _ (loop′ .inv .0 w) (side-found (args .t .now) (args .base) (args .index .now) (args .back) (loop′ .m) (cell .ensures .0) (place .ensures .0) (side .ensures))
+          (match-line .kept .1 .1 .1 .1 .1 .1 .1 .0) (λ v a z. let g = match-line .ensures w v a z in (sym (c .if1 .left) ∙ g .0, g .1))),
+      match-line .kept .1 .1 .1 .1 .1 .1 .1 .0 ∙ loop′ .inv .1,
+    )
 
 -- src/lib.rt:70:1
 same-length-2 : tie.Need-same-length-2 Inv-loop μ-loop

@@ -25,7 +25,13 @@ range-to-requires c κs = search needs
 
 -- src/lib.rt:158:13
 returns : tie.Need-returns
-returns c = λ z. give-place (patternOf (c .before .before .before .before .before .before .before .before .before .args .t .now) (c .before .before .before .before .before .before .before .before .before .args .base) (c .before .before .before .before .before .before .before .before .before .args .j)) (c .before .before .before .before .variable .result) (c .before .before .before .before .variable .ensures .0 _ _ z (c .before .before .before .if1 .taken)) (c .before .before .range-from .ensures) (c .before .range-to .ensures) (c .if2 .taken)
+returns c =
+    let args = c .before .before .before .before .before .before .before .before .before .args in
+    let variable = c .before .before .before .before .variable in
+    let if1 = c .before .before .before .if1 in
+    let range-from = c .before .before .range-from in
+    let range-to = c .before .range-to in
+    λ z. give-place (patternOf (args .t .now) (args .base) (args .j)) (variable .result) (variable .ensures .0 _ _ z (if1 .taken)) (range-from .ensures) (range-to .ensures) (c .if2 .taken)
 
 -- src/lib.rt:161:17
 copy-range-requires : tie.Need-copy-range-requires
@@ -37,7 +43,16 @@ same-length c = search needs
 
 -- src/lib.rt:162:13
 returns-2 : tie.Need-returns-2
-returns-2 c = λ z. give-copied (patternOf (c .before .before .before .before .before .before .before .before .before .before .before .before .before .before .args .t .now) (c .before .before .before .before .before .before .before .before .before .before .before .before .before .before .args .base) (c .before .before .before .before .before .before .before .before .before .before .before .before .before .before .args .j)) (c .before .before .before .before .before .before .before .before .before .variable .result) (c .before .before .before .before .before .before .before .before .before .variable .ensures .0 _ _ z (c .before .before .before .before .before .before .before .before .if1 .taken)) (c .before .before .before .before .before .before .before .range-from .ensures) (c .before .before .before .before .before .before .range-to .ensures) (c .before .before .before .before .if3 .taken) (c .before .before .copy-range .ensures .1)
+returns-2 c =
+    let args = c .before .before .before .before .before .before .before .before .before .before .before .before .before .before .args in
+    let variable = c .before .before .before .before .before .before .before .before .before .variable in
+    let if1 = c .before .before .before .before .before .before .before .before .if1 in
+    let range-from = c .before .before .before .before .before .before .before .range-from in
+    let range-to = c .before .before .before .before .before .before .range-to in
+    let if3 = c .before .before .before .before .if3 in
+    let copy-range = c .before .before .copy-range in
+    λ z. give-copied (patternOf (args .t .now) (args .base) (args .j)) (variable .result) (variable .ensures .0 _ _ z (if1 .taken)) (range-from .ensures) (range-to .ensures) (if3 .taken)
+    (copy-range .ensures .1)
 
 -- src/lib.rt:165:9
 build-again-requires : tie.Need-build-again-requires
@@ -49,7 +64,10 @@ same-length-2 c = search needs
 
 -- src/lib.rt:167:9
 returns-3 : tie.Need-returns-3
-returns-3 c = λ z. give-built (patternOf (c .before .before .before .before .before .before .before .before .before .before .before .args .t .now) (c .before .before .before .before .before .before .before .before .before .before .before .args .base) (c .before .before .before .before .before .before .before .before .before .before .before .args .j)) (c .if4 .taken) (c .before .before .before .build-again .ensures z)
+returns-3 c =
+    let args = c .before .before .before .before .before .before .before .before .before .before .before .args in
+    let build-again = c .before .before .before .build-again in
+    λ z. give-built (patternOf (args .t .now) (args .base) (args .j)) (c .if4 .taken) (build-again .ensures z)
 
 -- src/lib.rt:169:9
 copy-range-requires-2 : tie.Need-copy-range-requires-2
@@ -61,7 +79,11 @@ same-length-3 c = search needs
 
 -- src/lib.rt:137:1
 returns-4 : tie.Need-returns-4
-returns-4 c = λ z. give-moved (patternOf (c .before .before .before .before .before .before .before .before .before .before .before .before .before .before .before .args .t .now) (c .before .before .before .before .before .before .before .before .before .before .before .before .before .before .before .args .base) (c .before .before .before .before .before .before .before .before .before .before .before .before .before .before .before .args .j)) (c .before .before .before .before .before .before .before .build-again .ensures z) (c .before .before .copy-range2 .ensures .1)
+returns-4 c =
+    let args = c .before .before .before .before .before .before .before .before .before .before .before .before .before .before .before .args in
+    let build-again = c .before .before .before .before .before .before .before .build-again in
+    let copy-range2 = c .before .before .copy-range2 in
+    λ z. give-moved (patternOf (args .t .now) (args .base) (args .j)) (build-again .ensures z) (copy-range2 .ensures .1)
 
 pub give-spec : {M : Type 1} → statement M
 give-spec =

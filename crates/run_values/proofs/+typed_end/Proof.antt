@@ -31,32 +31,123 @@ pub +typed-end-spec : {M : Type 1} → statement M
 +typed-end-spec = close μ-typed-end λ t. typed-end-lts.spec (ks-typed-end t)
     (typed-end-at t)
     typed-end.Post
-    (λ c. typed-none (c .before .before .before .args .t .now) (c .before .before .before .args .i) (c .before .before .before .args .s .now) (c .before .before .before .args .at) (c .if1 .taken))
+    (λ c.
+    let args = c .before .before .before .args in
+    typed-none (args .t .now) (args .i) (args .s .now) (args .at) (c .if1 .taken))
     (λ c. search needs)
     (λ c κs. search needs)
     (λ c κs. search needs)
     (λ c κs. search needs)
     (λ c. search needs)
-    (λ c κs. (type-call (c .before .before .before .before .before .before .before .before .before .args .t .now) (c .before .before .before .before .before .before .before .before .before .args .i) (c .before .cell2 .result) (c .before .before .before .before .before .before .before .before .before .pre .0) (c .before .before .before .before .cell .ensures .0) (no-unit (c .before .before .before .if2 .taken)) (c .smaller .ensures), tt))
-    (λ c. typed-left (c .before .before .before .before .before .before .before .before .before .before .args .t .now) (c .before .before .before .before .before .before .before .before .before .before .args .i) (c .before .before .before .before .before .before .before .before .before .before .args .s .now) (c .before .before .before .before .before .before .before .before .before .before .args .at) (c .before .before .before .before .before .before .before .if1 .left) (c .before .before .before .before .before .cell .ensures .0) refl (part-of (c .before .before .before .before .before .before .before .before .before .before .args .i) (c .before .before .cell2 .ensures .0) (c .before .smaller .ensures)) refl (c .typed-end .result) (c .before .before .before .before .if2 .taken) (c .before .before .before .if3 .taken) (c .typed-end .ensures))
+    (λ c κs.
+    let pre = c .before .before .before .before .before .before .before .before .before .pre in
+    let args = c .before .before .before .before .before .before .before .before .before .args in
+    let cell = c .before .before .before .before .cell in
+    let if2 = c .before .before .before .if2 in
+    let cell2 = c .before .cell2 in
+    (type-call (args .t .now) (args .i) (cell2 .result) (pre .0) (cell .ensures .0) (no-unit (if2 .taken)) (c .smaller .ensures), tt))
+    (λ c.
+    let args = c .before .before .before .before .before .before .before .before .before .before .args in
+    let if1 = c .before .before .before .before .before .before .before .if1 in
+    let cell = c .before .before .before .before .before .cell in
+    let if2 = c .before .before .before .before .if2 in
+    let if3 = c .before .before .before .if3 in
+    let cell2 = c .before .before .cell2 in
+    let smaller = c .before .smaller in
+    typed-left (args .t .now) (args .i) (args .s .now) (args .at) (if1 .left) (cell .ensures .0) refl (part-of (args .i) (cell2 .ensures .0) (smaller .ensures)) refl
+    (c .typed-end .result) (if2 .taken) (if3 .taken) (c .typed-end .ensures))
     (λ c κs. search needs)
     (λ c κs. search needs)
     (λ c. search needs)
-    (λ c κs. (type-call (c .before .before .before .before .before .before .before .before .before .before .args .t .now) (c .before .before .before .before .before .before .before .before .before .before .args .i) (c .before .cell3 .result) (c .before .before .before .before .before .before .before .before .before .before .pre .0) (c .before .before .before .before .before .cell .ensures .0) (no-unit (c .before .before .before .before .if2 .taken)) (c .smaller2 .ensures), tt))
-    (λ c. typed-right (c .before .before .before .before .before .before .before .before .before .before .before .args .t .now) (c .before .before .before .before .before .before .before .before .before .before .before .args .i) (c .before .before .before .before .before .before .before .before .before .before .before .args .s .now) (c .before .before .before .before .before .before .before .before .before .before .before .args .at) (c .before .before .before .before .before .before .before .before .if1 .left) (c .before .before .before .before .before .before .cell .ensures .0) refl refl (part-of (c .before .before .before .before .before .before .before .before .before .before .before .args .i) (c .before .before .cell3 .ensures .0) (c .before .smaller2 .ensures)) (c .typed-end2 .result) (c .before .before .before .before .before .if2 .taken) (c .before .before .before .before .if3 .left) (c .before .before .before .if4 .taken) (c .typed-end2 .ensures))
-    (λ c. typed-not-sum (c .before .before .before .before .before .before .before .before .args .t .now) (c .before .before .before .before .before .before .before .before .args .i) (c .before .before .before .before .before .before .before .before .args .s .now) (c .before .before .before .before .before .before .before .before .args .at) (c .before .before .before .before .before .if1 .left) (c .before .before .before .cell .ensures .0) refl refl refl (c .before .before .if2 .taken) (c .before .if3 .left) (c .if4 .left))
+    (λ c κs.
+    let pre = c .before .before .before .before .before .before .before .before .before .before .pre in
+    let args = c .before .before .before .before .before .before .before .before .before .before .args in
+    let cell = c .before .before .before .before .before .cell in
+    let if2 = c .before .before .before .before .if2 in
+    let cell3 = c .before .cell3 in
+    (type-call (args .t .now) (args .i) (cell3 .result) (pre .0) (cell .ensures .0) (no-unit (if2 .taken)) (c .smaller2 .ensures), tt))
+    (λ c.
+    let args = c .before .before .before .before .before .before .before .before .before .before .before .args in
+    let if1 = c .before .before .before .before .before .before .before .before .if1 in
+    let cell = c .before .before .before .before .before .before .cell in
+    let if2 = c .before .before .before .before .before .if2 in
+    let if3 = c .before .before .before .before .if3 in
+    let if4 = c .before .before .before .if4 in
+    let cell3 = c .before .before .cell3 in
+    let smaller2 = c .before .smaller2 in
+    typed-right (args .t .now) (args .i) (args .s .now) (args .at) (if1 .left) (cell .ensures .0) refl refl (part-of (args .i) (cell3 .ensures .0) (smaller2 .ensures))
+    (c .typed-end2 .result) (if2 .taken) (if3 .left) (if4 .taken) (c .typed-end2 .ensures))
+    (λ c.
+    let args = c .before .before .before .before .before .before .before .before .args in
+    let if1 = c .before .before .before .before .before .if1 in
+    let cell = c .before .before .before .cell in
+    let if2 = c .before .before .if2 in
+    let if3 = c .before .if3 in
+    typed-not-sum (args .t .now) (args .i) (args .s .now) (args .at) (if1 .left) (cell .ensures .0) refl refl refl (if2 .taken) (if3 .left) (c .if4 .left))
     (λ c κs. search needs)
     (λ c κs. search needs)
     (λ c. search needs)
-    (λ c κs. (type-call (c .before .before .before .before .before .before .before .before .before .before .args .t .now) (c .before .before .before .before .before .before .before .before .before .before .args .i) (c .before .cell4 .result) (c .before .before .before .before .before .before .before .before .before .before .pre .0) (c .before .before .before .before .before .cell .ensures .0) (no-unit (c .before .before .before .if5 .taken)) (c .smaller3 .ensures), tt))
+    (λ c κs.
+    let pre = c .before .before .before .before .before .before .before .before .before .before .pre in
+    let args = c .before .before .before .before .before .before .before .before .before .before .args in
+    let cell = c .before .before .before .before .before .cell in
+    let if5 = c .before .before .before .if5 in
+    let cell4 = c .before .cell4 in
+    (type-call (args .t .now) (args .i) (cell4 .result) (pre .0) (cell .ensures .0) (no-unit (if5 .taken)) (c .smaller3 .ensures), tt))
     (λ c. search needs)
     (λ c κs. search needs)
     (λ c κs. search needs)
-    (λ c κs. (type-call (c .before .before .before .before .before .before .before .before .before .before .before .before .before .before .before .before .args .t .now) (c .before .before .before .before .before .before .before .before .before .before .before .before .before .before .before .before .args .i) (c .before .cell5 .result) (c .before .before .before .before .before .before .before .before .before .before .before .before .before .before .before .before .pre .0) (c .before .before .before .before .before .before .before .before .before .before .before .cell .ensures .0) (no-unit (c .before .before .before .before .before .before .before .before .before .if5 .taken)) (c .smaller4 .ensures), tt))
+    (λ c κs.
+    let pre = c .before .before .before .before .before .before .before .before .before .before .before .before .before .before .before .before .pre in
+    let args = c .before .before .before .before .before .before .before .before .before .before .before .before .before .before .before .before .args in
+    let cell = c .before .before .before .before .before .before .before .before .before .before .before .cell in
+    let if5 = c .before .before .before .before .before .before .before .before .before .if5 in
+    let cell5 = c .before .cell5 in
+    (type-call (args .t .now) (args .i) (cell5 .result) (pre .0) (cell .ensures .0) (no-unit (if5 .taken)) (c .smaller4 .ensures), tt))
     (λ c. search needs)
-    (λ c. typed-pair (c .before .before .before .before .before .before .before .before .before .before .before .before .before .before .before .before .before .args .t .now) (c .before .before .before .before .before .before .before .before .before .before .before .before .before .before .before .before .before .args .i) (c .before .before .before .before .before .before .before .before .before .before .before .before .before .before .before .before .before .args .s .now) (c .before .before .before .before .before .before .before .before .before .before .before .before .before .before .before .before .before .args .at) (c .before .before .before .before .before .before .before .before .before .before .before .before .before .before .if1 .left) (c .before .before .before .before .before .before .before .before .before .before .before .before .cell .ensures .0) refl (part-of (c .before .before .before .before .before .before .before .before .before .before .before .before .before .before .before .before .before .args .i) (c .before .before .before .before .before .before .before .before .cell4 .ensures .0) (c .before .before .before .before .before .before .before .smaller3 .ensures)) (part-of (c .before .before .before .before .before .before .before .before .before .before .before .before .before .before .before .before .before .args .i) (c .before .before .cell5 .ensures .0) (c .before .smaller4 .ensures)) (c .before .before .before .before .before .before .before .before .before .before .if5 .taken) (c .typed-end4 .result) (c .before .before .before .before .before .before .before .before .before .if6 .taken) (c .before .before .before .before .m .given .1) (c .before .before .before .before .before .before .typed-end3 .ensures) (c .typed-end4 .ensures))
-    (λ c. typed-not-first (c .before .before .before .before .before .before .before .before .before .before .before .before .before .args .t .now) (c .before .before .before .before .before .before .before .before .before .before .before .before .before .args .i) (c .before .before .before .before .before .before .before .before .before .before .before .before .before .args .s .now) (c .before .before .before .before .before .before .before .before .before .before .before .before .before .args .at) (c .before .before .before .before .before .before .before .before .before .before .if1 .left) (c .before .before .before .before .before .before .before .before .cell .ensures .0) refl (part-of (c .before .before .before .before .before .before .before .before .before .before .before .before .before .args .i) (c .before .before .before .before .cell4 .ensures .0) (c .before .before .before .smaller3 .ensures)) refl (c .before .before .before .before .before .before .if5 .taken) (c .before .before .before .before .before .if6 .taken) (c .enum-told .given .1) (c .before .before .typed-end3 .ensures))
-    (λ c. typed-not-pair (c .before .before .before .before .before .before .before .before .args .t .now) (c .before .before .before .before .before .before .before .before .args .i) (c .before .before .before .before .before .before .before .before .args .s .now) (c .before .before .before .before .before .before .before .before .args .at) (c .before .before .before .before .before .if1 .left) (c .before .before .before .cell .ensures .0) refl refl refl (c .before .if5 .taken) (c .if6 .left))
+    (λ c.
+    let args = c .before .before .before .before .before .before .before .before .before .before .before .before .before .before .before .before .before .args in
+    let if1 = c .before .before .before .before .before .before .before .before .before .before .before .before .before .before .if1 in
+    let cell = c .before .before .before .before .before .before .before .before .before .before .before .before .cell in
+    let if5 = c .before .before .before .before .before .before .before .before .before .before .if5 in
+    let if6 = c .before .before .before .before .before .before .before .before .before .if6 in
+    let cell4 = c .before .before .before .before .before .before .before .before .cell4 in
+    let smaller3 = c .before .before .before .before .before .before .before .smaller3 in
+    let typed-end3 = c .before .before .before .before .before .before .typed-end3 in
+    let m = c .before .before .before .before .m in
+    let cell5 = c .before .before .cell5 in
+    let smaller4 = c .before .smaller4 in
+    typed-pair (args .t .now) (args .i) (args .s .now) (args .at) (if1 .left) (cell .ensures .0) refl (part-of (args .i) (cell4 .ensures .0) (smaller3 .ensures))
+    (part-of (args .i) (cell5 .ensures .0) (smaller4 .ensures)) (if5 .taken) (c .typed-end4 .result) (if6 .taken) (m .given .1) (typed-end3 .ensures) (c .typed-end4 .ensures))
+    (λ c.
+    let args = c .before .before .before .before .before .before .before .before .before .before .before .before .before .args in
+    let if1 = c .before .before .before .before .before .before .before .before .before .before .if1 in
+    let cell = c .before .before .before .before .before .before .before .before .cell in
+    let if5 = c .before .before .before .before .before .before .if5 in
+    let if6 = c .before .before .before .before .before .if6 in
+    let cell4 = c .before .before .before .before .cell4 in
+    let smaller3 = c .before .before .before .smaller3 in
+    let typed-end3 = c .before .before .typed-end3 in
+    typed-not-first (args .t .now) (args .i) (args .s .now) (args .at) (if1 .left) (cell .ensures .0) refl (part-of (args .i) (cell4 .ensures .0) (smaller3 .ensures)) refl (if5 .taken)
+    (if6 .taken) (c .enum-told .given .1) (typed-end3 .ensures))
+    (λ c.
+    let args = c .before .before .before .before .before .before .before .before .args in
+    let if1 = c .before .before .before .before .before .if1 in
+    let cell = c .before .before .before .cell in
+    let if5 = c .before .if5 in
+    typed-not-pair (args .t .now) (args .i) (args .s .now) (args .at) (if1 .left) (cell .ensures .0) refl refl refl (if5 .taken) (c .if6 .left))
     (λ c. search needs)
-    (λ c. typed-unit (c .before .before .before .before .before .before .before .before .args .t .now) (c .before .before .before .before .before .before .before .before .args .i) (c .before .before .before .before .before .before .before .before .args .s .now) (c .before .before .before .before .before .before .before .before .args .at) (c .before .before .before .before .before .if1 .left) (c .before .before .before .cell .ensures .0) refl (c .before .before .if2 .left) (c .before .if5 .left) (c .if7 .taken))
-    (λ c. typed-not-unit (c .before .before .before .before .before .before .before .before .args .t .now) (c .before .before .before .before .before .before .before .before .args .i) (c .before .before .before .before .before .before .before .before .args .s .now) (c .before .before .before .before .before .before .before .before .args .at) (c .before .before .before .before .before .if1 .left) (c .before .before .before .cell .ensures .0) refl (c .before .before .if2 .left) (c .before .if5 .left) (c .if7 .left))
+    (λ c.
+    let args = c .before .before .before .before .before .before .before .before .args in
+    let if1 = c .before .before .before .before .before .if1 in
+    let cell = c .before .before .before .cell in
+    let if2 = c .before .before .if2 in
+    let if5 = c .before .if5 in
+    typed-unit (args .t .now) (args .i) (args .s .now) (args .at) (if1 .left) (cell .ensures .0) refl (if2 .left) (if5 .left) (c .if7 .taken))
+    (λ c.
+    let args = c .before .before .before .before .before .before .before .before .args in
+    let if1 = c .before .before .before .before .before .if1 in
+    let cell = c .before .before .before .cell in
+    let if2 = c .before .before .if2 in
+    let if5 = c .before .if5 in
+    typed-not-unit (args .t .now) (args .i) (args .s .now) (args .at) (if1 .left) (cell .ensures .0) refl (if2 .left) (if5 .left) (c .if7 .left))

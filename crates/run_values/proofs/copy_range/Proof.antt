@@ -23,10 +23,18 @@ add-work : tie.Need-add-work Inv-loop μ-loop
 add-work c = let h = copy-reads (c .before .loop .inv) (c .loop-test .taken) (c .before .before .span .ensures) in search needs
 
 slice-read-work : tie.Need-slice-read-work Inv-loop μ-loop
-slice-read-work c = let h = copy-reads (c .before .before .loop .inv) (c .before .loop-test .taken) (c .before .before .before .span .ensures) in search needs
+slice-read-work c =
+    let span = c .before .before .before .span in
+    let loop′ = c .before .before .loop in
+    let loop-test = c .before .loop-test in
+    let h = copy-reads (loop′ .inv) (loop-test .taken) (span .ensures) in search needs
 
 add-work-2 : tie.Need-add-work-2 Inv-loop μ-loop
-add-work-2 c = let h = copy-writes (c .before .before .loop .inv) (c .before .loop-test .taken) (c .before .before .before .span .ensures) in search needs
+add-work-2 c =
+    let span = c .before .before .before .span in
+    let loop′ = c .before .before .loop in
+    let loop-test = c .before .loop-test in
+    let h = copy-writes (loop′ .inv) (loop-test .taken) (span .ensures) in search needs
 
 slice-write-work : tie.Need-slice-write-work Inv-loop μ-loop
 slice-write-work c =
@@ -50,7 +58,10 @@ same-length : tie.Need-same-length Inv-loop μ-loop
 same-length c = c .before .loop .inv .kept
 
 returns : tie.Need-returns Inv-loop μ-loop
-returns c = (copy-behind (c .before .loop .inv) (c .loop-test .left) (c .before .before .span .ensures), copy-before (c .before .loop .inv) (c .loop-test .left) (c .before .before .span .ensures))
+returns c =
+    let span = c .before .before .span in
+    let loop′ = c .before .loop in
+    (copy-behind (loop′ .inv) (c .loop-test .left) (span .ensures), copy-before (loop′ .inv) (c .loop-test .left) (span .ensures))
 
 pub copy-range-spec : {M : Type 1} → statement M
 copy-range-spec =

@@ -1,58 +1,78 @@
--- `settings::setting_checked` meets its contract: a T line that is absent or too big, a number too high, and letters. Assumes nothing.
-use mathlib.Core.Path.{refl, ap}
-use Rattle.format.specs.Code.{refusalView}
-use Rattle.settings.proofs.Answering.{setting-fault, setting-high, setting-given}
+use mathlib.Core.Path.{refl}
+use Rattle.settings.proofs.Answering.{setting-refused, setting-given}
 use borrow.Author.Needs.{needs}
 use Rattle.settings.proofs.setting_checked.Statement.{statement}
 use Rattle.settings.proofs.setting_checked.Tie as tie
+use Rattle.settings.proofs.setting_checked.Reads as reads
+use Rattle.settings.proofs.setting_checked.Lts as lts
+use Rattle.format.proofs.is_refused.Reads as is-refused-reads
+use Rattle.number_values.proofs.find_counts.Reads as find-counts-reads
+use Rattle.number_values.proofs.unrank_at.Reads as unrank-at-reads
+use Rattle.settings.proofs.not_lettered.Reads as not-lettered-reads
+use Rattle.settings.proofs.setting_fault.Reads as setting-fault-reads
 
-type-fault-requires : tie.Need-type-fault-requires
-type-fault-requires c κs = search needs
+-- src/lib.rt:127:5
+find-counts-requires : tie.Need-find-counts-requires
+find-counts-requires c κs = search needs
 
+-- src/lib.rt:128:9
+setting-fault-requires : tie.Need-setting-fault-requires
+setting-fault-requires c κs = search needs
+
+-- src/lib.rt:129:8
 is-refused-requires : tie.Need-is-refused-requires
 is-refused-requires c κs = search needs
 
+-- src/lib.rt:130:9
 not-lettered-requires : tie.Need-not-lettered-requires
 not-lettered-requires c κs = search needs
 
-returns : tie.Need-returns
-returns c =
-    let a = c .before .before .before .before .before .before .args in
-    setting-fault (a .t .now) (a .types) (a .i) (c .before .before .before .type-fault .result) (c .before .before .before .type-fault .ensures) (c .before .before .is-refused .ensures) (c .before .if1 .taken) (a .n) (a .result .now) (c .not-lettered .result) (c .not-lettered .ensures .0) (c .not-lettered .ensures .1)
-
-count-values-requires : tie.Need-count-values-requires
-count-values-requires c κs = search needs
-
-not-lettered-requires-2 : tie.Need-not-lettered-requires-2
-not-lettered-requires-2 c κs = search needs
-
-returns-2 : tie.Need-returns-2
-returns-2 c =
-    let a = c .before .before .before .before .before .before .before .before .args in
-    setting-high (a .t .now) (a .types) (a .i) (c .before .before .before .before .before .type-fault .result) (c .before .before .before .before .before .type-fault .ensures) (c .before .before .before .before .is-refused .ensures) (c .before .before .before .if1 .left) (a .n) (c .before .before .count-values .ensures) (a .result .now) (c .before .if2 .taken) (c .not-lettered2 .result) (ap refusalView (c .not-lettered2 .ensures .0)) (c .not-lettered2 .ensures .1)
-
-unrank-at-requires : tie.Need-unrank-at-requires
-unrank-at-requires c κs = search needs
-
+-- src/lib.rt:130:9
 same-length : tie.Need-same-length
 same-length c = search needs
 
-returns-3 : tie.Need-returns-3
-returns-3 c =
-    let a = c .before .before .before .before .before .before .before .before .before .before .before .args in
-    setting-given (a .t .now) (a .types) (a .i) (c .before .before .before .before .before .before .before .before .type-fault .result) (c .before .before .before .before .before .before .before .before .type-fault .ensures) (c .before .before .before .before .before .before .before .is-refused .ensures) (c .before .before .before .before .before .before .if1 .left) (a .n) (c .before .before .before .before .before .count-values .ensures) (a .result .now) (c .before .before .before .before .if2 .left) (c .before .before .unrank-at .ensures) _ refl refl
+-- src/lib.rt:130:9
+returns : tie.Need-returns
+returns c =
+    let args = c .before .before .before .before .before .before .before .before .before .before .before .before .args in
+    let setting-fault = c .before .before .before .setting-fault in
+    let is-refused = c .before .before .is-refused in
+    let if1 = c .before .if1 in
+    setting-refused ((setting-fault .ensures)) ((is-refused .ensures)) ((args .result .now)) ((if1 .taken)) ((c .not-lettered .result)) ((c .not-lettered .ensures .0)) ((c .not-lettered .ensures .1))
+
+-- src/lib.rt:132:9
+unrank-at-requires : tie.Need-unrank-at-requires
+unrank-at-requires c κs = search needs
+
+-- src/lib.rt:113:1
+same-length-2 : tie.Need-same-length-2
+same-length-2 c = search needs
+
+-- src/lib.rt:113:1
+same-length-3 : tie.Need-same-length-3
+same-length-3 c = search needs
+
+-- src/lib.rt:113:1
+returns-2 : tie.Need-returns-2
+returns-2 c =
+    let args = c .before .before .before .before .before .before .before .before .before .before .before .before .before .before .before .before .args in
+    let setting-fault = c .before .before .before .before .before .before .before .setting-fault in
+    let is-refused = c .before .before .before .before .before .before .is-refused in
+    let if1 = c .before .before .before .before .before .if1 in
+    let unrank-at = c .before .before .unrank-at in
+    setting-given ((setting-fault .ensures)) ((is-refused .ensures)) ((args .result .now)) ((if1 .left)) ((unrank-at .ensures)) _ refl refl
 
 pub setting-checked-spec : {M : Type 1} → statement M
 setting-checked-spec =
     tie.close
     (tie.spec
-    type-fault-requires
+    find-counts-requires
+    setting-fault-requires
     is-refused-requires
     not-lettered-requires
-    returns
-    count-values-requires
-    not-lettered-requires-2
-    returns-2
-    unrank-at-requires
     same-length
-    returns-3)
+    returns
+    unrank-at-requires
+    same-length-2
+    same-length-3
+    returns-2)

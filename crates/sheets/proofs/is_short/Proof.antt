@@ -10,10 +10,18 @@ returns-2 : tie.Need-returns-2
 returns-2 c = let a = c .before .before .args in short-work (a .table .now) (a .work .now) (a .numbers .now) (a .letters .now) (a .n) (c .before .if1 .left) (c .if2 .taken)
 
 returns-3 : tie.Need-returns-3
-returns-3 c = let a = c .before .before .before .args in short-numbers (a .table .now) (a .work .now) (a .numbers .now) (a .letters .now) (a .n) (c .before .before .if1 .left) (c .before .if2 .left) (c .if3 .taken)
+returns-3 c =
+    let args = c .before .before .before .args in
+    let if1 = c .before .before .if1 in
+    let if2 = c .before .if2 in
+    let a = args in short-numbers (a .table .now) (a .work .now) (a .numbers .now) (a .letters .now) (a .n) (if1 .left) (if2 .left) (c .if3 .taken)
 
 returns-4 : tie.Need-returns-4
-returns-4 c = let a = c .before .before .before .args in short-letters (a .table .now) (a .work .now) (a .numbers .now) (a .letters .now) (a .n) (c .before .before .if1 .left) (c .before .if2 .left) (c .if3 .left)
+returns-4 c =
+    let args = c .before .before .before .args in
+    let if1 = c .before .before .if1 in
+    let if2 = c .before .if2 in
+    let a = args in short-letters (a .table .now) (a .work .now) (a .numbers .now) (a .letters .now) (a .n) (if1 .left) (if2 .left) (c .if3 .left)
 
 pub is-short-spec : {M : Type 1} → statement M
 is-short-spec =

@@ -29,10 +29,11 @@ same-length-4 c = search needs
 
 returns : tie.Need-returns
 returns c =
+    let if1 = c .before .if1 in
     let f = c .before .before in
     let k = f .before .before .before .before .before in
     let a = k .before .before .before .before .before .before .before .args in
-    sheet-short (a .file .now) (a .table .now) (a .work .now) (a .queries .now) (a .numbers .now) (a .letters .now) (c .refused .result) (k .count-lines .ensures) (f .is-short .ensures) (c .before .if1 .taken)
+    sheet-short (a .file .now) (a .table .now) (a .work .now) (a .queries .now) (a .numbers .now) (a .letters .now) (c .refused .result) (k .count-lines .ensures) (f .is-short .ensures) (if1 .taken)
     (ap refusalView (c .refused .ensures .0)) (c .refused .ensures .1) (c .refused .ensures .2)
 
 refused-requires-2 : tie.Need-refused-requires-2
@@ -52,11 +53,13 @@ same-length-8 c = search needs
 
 returns-2 : tie.Need-returns-2
 returns-2 c =
+    let if1 = c .before .before .if1 in
+    let if2 = c .before .if2 in
     let f = c .before .before .before in
     let k = f .before .before .before .before .before in
     let a = k .before .before .before .before .before .before .before .args in
-    sheet-many (a .file .now) (a .table .now) (a .work .now) (a .queries .now) (a .numbers .now) (a .letters .now) (c .refused2 .result) (k .count-lines .ensures) (f .is-short .ensures) (c .before .before .if1 .left)
-    (c .before .if2 .taken) (ap refusalView (c .refused2 .ensures .0)) (c .refused2 .ensures .1) (c .refused2 .ensures .2)
+    sheet-many (a .file .now) (a .table .now) (a .work .now) (a .queries .now) (a .numbers .now) (a .letters .now) (c .refused2 .result) (k .count-lines .ensures) (f .is-short .ensures) (if1 .left)
+    (if2 .taken) (ap refusalView (c .refused2 .ensures .0)) (c .refused2 .ensures .1) (c .refused2 .ensures .2)
 
 check-file-requires : tie.Need-check-file-requires
 check-file-requires c κs = search needs
@@ -78,13 +81,15 @@ same-length-12 c = search needs
 
 returns-3 : tie.Need-returns-3
 returns-3 c =
+    let is-refused = c .before .is-refused in
     let x = c .before .before .before .before .before .before .before in
     let i = x .before .before .before in
     let f = i .before .before in
     let k = f .before .before .before .before .before in
     let a = k .before .before .before .before .before .before .before .args in
-    sheet-refused (a .file .now) (a .table .now) (a .work .now) (a .queries .now) (a .numbers .now) (a .letters .now) _ _ _ (k .count-lines .ensures) (f .is-short .ensures) (i .before .if1 .left) (i .if2 .left)
-    (x .check-file .ensures .0) (c .before .is-refused .ensures) (c .if3 .taken) refl
+    sheet-refused (a .file .now) (a .table .now) (a .work .now) (a .queries .now) (a .numbers .now) (a .letters .now) _ _ _ (k .count-lines .ensures) (f .is-short .ensures)
+    (i .before .if1 .left) (i .if2 .left)
+    (x .check-file .ensures .0) (is-refused .ensures) (c .if3 .taken) refl
 
 answer-all-requires : tie.Need-answer-all-requires
 answer-all-requires c κs =
@@ -93,8 +98,11 @@ answer-all-requires c κs =
     let f = i .before .before in
     let k = f .before .before .before .before .before in
     let a = k .before .before .before .before .before .before .before .args in
-    let r = answers-room (a .table .now) (a .work .now) (a .queries .now) (a .numbers .now) (a .letters .now) (k .count-lines .ensures) (f .is-short .ensures) (i .before .if1 .left) in
-    (call-room (a .table .now) (a .work .now) (a .numbers .now) (a .letters .now) (x .check-file .last .1 .1 .0) (k .count-lines .result) (f .is-short .ensures) (i .before .if1 .left) (x .check-file .kept .1 .1 .0), r)
+    let r = answers-room (a .table .now) (a .work .now) (a .queries .now) (a .numbers .now) (a .letters .now) (k .count-lines .ensures) (f .is-short .ensures) (i .before .if1 .left) in (
+      call-room (a .table .now) (a .work .now) (a .numbers .now) (a .letters .now) (x .check-file .last .1 .1 .0) (k .count-lines .result) (f .is-short .ensures) (i .before .if1 .left)
+          (x .check-file .kept .1 .1 .0),
+      r,
+    )
 
 clear-bytes-requires : tie.Need-clear-bytes-requires
 clear-bytes-requires c κs = search needs
@@ -113,6 +121,7 @@ same-length-16 c = search needs
 
 returns-4 : tie.Need-returns-4
 returns-4 c =
+    let clear-bytes = c .before .before .clear-bytes in
     let l = c .before .before .before .before .before .before .before .before .before .before in
     let g = l .before .before .before .before .before in
     let x = g .before .before .before .before .before .before .before in
@@ -120,10 +129,11 @@ returns-4 c =
     let f = i .before .before in
     let k = f .before .before .before .before .before in
     let a = k .before .before .before .before .before .before .before .args in
-    sheet-accepted (a .file .now) (a .table .now) (a .work .now) (a .queries .now) (a .numbers .now) (a .letters .now) _ _ (l .answer-all .last .1 .1 .1 .0) _ _ _ (x .check-file .result) _ (k .count-lines .ensures)
+    sheet-accepted (a .file .now) (a .table .now) (a .work .now) (a .queries .now) (a .numbers .now) (a .letters .now) _ _ (l .answer-all .last .1 .1 .1 .0) _ _ _ (x .check-file .result) _
+    (k .count-lines .ensures)
     (f .is-short .ensures) (i .before .if1 .left) (i .if2 .left) (x .check-file .kept .1 .1 .0) (x .check-file .ensures .0) (x .check-file .ensures .1)
     (g .before .is-refused .ensures) (g .if3 .left) (l .answer-all .kept .1 .1 .1 .0) (l .answer-all .ensures .0) (l .answer-all .ensures .1)
-    (c .before .before .clear-bytes .ensures) refl refl
+    (clear-bytes .ensures) refl refl
 
 pub sheet-spec : {M : Type 1} → statement M
 sheet-spec =

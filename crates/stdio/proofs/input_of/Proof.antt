@@ -23,18 +23,25 @@ count-requires c κs = search needs
 
 returns : tie.Need-returns
 returns c =
+    let fits = c .before .before .before .fits in
+    let if1 = c .before .if1 in
     let a = c .before .before .before .args in
-    with-within _ (a .got) (a .signal) _ (some-bytes (a .got) (a .signal) _ (read-back (ltZ (pos 0)) (c .before .before .before .fits .got) (c .before .if1 .taken)) (c .count .ensures .1 ∙ ap (λ z. clamped z (length (a .area .now))) (toZ-ofZ (c .before .before .before .fits .got))))
+    with-within _ (a .got) (a .signal) _
+    (some-bytes (a .got) (a .signal) _ (read-back (ltZ (pos 0)) (fits .got) (if1 .taken)) (c .count .ensures .1 ∙ ap (λ z. clamped z (length (a .area .now))) (toZ-ofZ (fits .got))))
 
 returns-2 : tie.Need-returns-2
 returns-2 c =
+    let fits = c .before .before .before .fits in
+    let if1 = c .before .if1 in
     let a = c .before .before .before .args in
-    with-within _ (a .got) (a .signal) _ (let f = c .before .before .before .fits .got in the-end (a .got) (a .signal) _ (read-back (ltZ (pos 0)) f (c .before .if1 .left)) (read-back (leZ (pos 0)) f (c .if2 .taken)))
+    with-within _ (a .got) (a .signal) _ (let f = fits .got in the-end (a .got) (a .signal) _ (read-back (ltZ (pos 0)) f (if1 .left)) (read-back (leZ (pos 0)) f (c .if2 .taken)))
 
 returns-3 : tie.Need-returns-3
 returns-3 c =
+    let fits = c .before .before .before .before .fits in
+    let if2 = c .before .if2 in
     let a = c .before .before .before .before .args in
-    with-within _ (a .got) (a .signal) _ (sym (ap (λ i. cond i inputs.Again inputs.Failed) (c .if3 .taken)) ∙ below (a .got) (a .signal) _ (read-back (leZ (pos 0)) (c .before .before .before .before .fits .got) (c .before .if2 .left)))
+    with-within _ (a .got) (a .signal) _ (sym (ap (λ i. cond i inputs.Again inputs.Failed) (c .if3 .taken)) ∙ below (a .got) (a .signal) _ (read-back (leZ (pos 0)) (fits .got) (if2 .left)))
 
 slice-aggregate-fail : tie.Need-slice-aggregate-fail
 slice-aggregate-fail c = search needs
@@ -44,8 +51,11 @@ fail-requires c κs = search needs
 
 returns-4 : tie.Need-returns-4
 returns-4 c =
+    let fits = c .before .before .before .before .before .before .fits in
+    let if2 = c .before .before .before .if2 in
+    let if3 = c .before .before .if3 in
     let a = c .before .before .before .before .before .before .args in
-    with-within _ (a .got) (a .signal) _ (sym (ap (λ i. cond i inputs.Again inputs.Failed) (c .before .before .if3 .left)) ∙ below (a .got) (a .signal) _ (read-back (leZ (pos 0)) (c .before .before .before .before .before .before .fits .got) (c .before .before .before .if2 .left)))
+    with-within _ (a .got) (a .signal) _ (sym (ap (λ i. cond i inputs.Again inputs.Failed) (if3 .left)) ∙ below (a .got) (a .signal) _ (read-back (leZ (pos 0)) (fits .got) (if2 .left)))
 
 pub input-of-spec : {M : Type 1} → statement M
 input-of-spec =

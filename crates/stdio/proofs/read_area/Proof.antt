@@ -28,7 +28,10 @@ enum-known-s-2 : tie.Need-enum-known-s-2 Inv-loop μ-loop
 enum-known-s-2 c = search needs
 
 same-length : tie.Need-same-length Inv-loop μ-loop
-same-length c = c .before .before .before .before .before .read-more .kept .0 ∙ c .before .before .before .before .before .before .before .before .loop .inv .0
+same-length c =
+    let loop′ = c .before .before .before .before .before .before .before .before .loop in
+    let read-more = c .before .before .before .before .before .read-more in
+    read-more .kept .0 ∙ loop′ .inv .0
 
 returns : tie.Need-returns Inv-loop μ-loop
 returns c =

@@ -38,12 +38,13 @@ same-length c = search needs
 
 returns-2 : tie.Need-returns-2
 returns-2 c =
+    let if1 = c .before .before .before .before .before .if1 in
     let q = c .before .before .before .before .before .before .before in
     let a = q .args .area .now in
     let d = q .args .done in
     let t : length (take (length a - d) (drop d a)) ≡ length a - d = length-take (length a - d) (drop d a) ∙ omega (arith, length-drop d a) in
     let s = c .before .before .before .read-some in
-    (read-stays d _ (length a) (s .result) (s .ensures) (omega (arith, s .kept .0, t, q .pre)) (c .step-of .ensures), λ h. let l = c .before .before .before .before .before .if1 .left in absurd (not-suc-le-zero {n = 0} (omega (arith, h, l))))
+    (read-stays d _ (length a) (s .result) (s .ensures) (omega (arith, s .kept .0, t, q .pre)) (c .step-of .ensures), λ h. let l = if1 .left in absurd (not-suc-le-zero {n = 0} (omega (arith, h, l))))
 
 pub read-more-spec : {M : Type 1} → statement M
 read-more-spec =

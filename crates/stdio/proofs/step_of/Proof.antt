@@ -10,7 +10,11 @@ enum-known-i : tie.Need-enum-known-i
 enum-known-i c = search needs
 
 add-t5 : tie.Need-add-t5
-add-t5 c = record { fits = room-of (c .before .before .before .args .done) (c .before .before .before .args .i) (c .before .i .given .1) (c .before .before .before .pre) }
+add-t5 c =
+    let pre = c .before .before .before .pre in
+    let args = c .before .before .before .args in
+    let i = c .before .i in
+    record { fits = room-of (args .done) (args .i) (i .given .1) (pre) }
 
 enum-told : tie.Need-enum-told
 enum-told c = search needs

@@ -31,32 +31,72 @@ pattern-tags-below t =
     pattern-tags.Pre
 
 abbrev ks-pattern-tags : ℕ → pattern-tags-lts.Claims
-ks-pattern-tags t = (pattern-cell-reads.Asked, pattern-cell-reads.Learnt, smaller-reads.Asked, smaller-reads.Learnt, pattern-tags-below t, pattern-tags.Post, together-reads.Asked, together-reads.Learnt)
+ks-pattern-tags t = (
+  pattern-cell-reads.Asked,
+  pattern-cell-reads.Learnt,
+  smaller-reads.Asked,
+  smaller-reads.Learnt,
+  pattern-tags-below t,
+  pattern-tags.Post,
+  together-reads.Asked,
+  together-reads.Learnt,
+)
 
 pattern-tags-pattern-tags-requires : (t : ℕ) → pattern-tags-lts.Need-pattern-tags-requires (ks-pattern-tags t) (pattern-tags-at t) pattern-tags.Post
 pattern-tags-pattern-tags-requires t c κs =
+    let pattern-cell = c .before .before .before .before .before .pattern-cell in
+    let match′ = c .before .before .before .before .match in
+    let pattern-cell2 = c .before .before .before .pattern-cell2 in
+    let smaller = c .before .before .smaller in
     let s = c .before .before .before .before .before .before .before in
-    (pattern-call (s .args .t .now) (s .args .base) (s .args .j) (c .before .before .before .pattern-cell2 .result) (s .pre .0) (c .before .before .before .before .before .pattern-cell .ensures .0) (pair-no-unit (c .before .before .before .before .match .keys1)) (c .before .before .smaller .ensures), tt)
+    (pattern-call (s .args .t .now) (s .args .base) (s .args .j) (pattern-cell2 .result) (s .pre .0) (pattern-cell .ensures .0) (pair-no-unit (match′ .keys1)) (smaller .ensures), tt)
 
 pattern-tags-pattern-tags-requires-2 : (t : ℕ) → pattern-tags-lts.Need-pattern-tags-requires-2 (ks-pattern-tags t) (pattern-tags-at t) pattern-tags.Post
 pattern-tags-pattern-tags-requires-2 t c κs =
+    let pattern-cell = c .before .before .before .before .before .before .pattern-cell in
+    let match′ = c .before .before .before .before .before .match in
+    let pattern-cell3 = c .before .before .pattern-cell3 in
+    let smaller2 = c .before .smaller2 in
     let s = c .before .before .before .before .before .before .before .before in
-    (pattern-call (s .args .t .now) (s .args .base) (s .args .j) (c .before .before .pattern-cell3 .result) (s .pre .0) (c .before .before .before .before .before .before .pattern-cell .ensures .0) (pair-no-unit (c .before .before .before .before .before .match .keys1)) (c .before .smaller2 .ensures), tt)
+    (pattern-call (s .args .t .now) (s .args .base) (s .args .j) (pattern-cell3 .result) (s .pre .0) (pattern-cell .ensures .0) (pair-no-unit (match′ .keys1)) (smaller2 .ensures), tt)
 
 pattern-tags-pattern-tags-requires-3 : (t : ℕ) → pattern-tags-lts.Need-pattern-tags-requires-3 (ks-pattern-tags t) (pattern-tags-at t) pattern-tags.Post
 pattern-tags-pattern-tags-requires-3 t c κs =
-    let s = c .before .before .before .before .before .before .before in
-    (pattern-call (s .args .t .now) (s .args .base) (s .args .j) (c .before .pattern-cell4 .result) (s .pre .0) (c .before .before .before .before .before .pattern-cell .ensures .0) (injects-no-unit (injects _ (c .before .before .before .if1 .left) (c .before .before .if2 .taken))) (c .smaller3 .ensures), tt)
+    let pattern-cell = c .before .before .before .before .before .pattern-cell in
+    let if1 = c .before .before .before .if1 in
+    let if2 = c .before .before .if2 in
+    let pattern-cell4 = c .before .pattern-cell4 in
+    let s = c .before .before .before .before .before .before .before in (
+      pattern-call (s .args .t .now) (s .args .base) (s .args .j) (pattern-cell4 .result) (s .pre .0) (pattern-cell .ensures .0) (injects-no-unit (injects _ (if1 .left) (if2 .taken)))
+          (c .smaller3 .ensures),
+      tt,
+    )
 
 pattern-tags-returns : (t : ℕ) → pattern-tags-lts.Need-returns (ks-pattern-tags t) (pattern-tags-at t) pattern-tags.Post
 pattern-tags-returns t c =
+    let pattern-cell = c .before .before .before .before .before .before .before .before .pattern-cell in
+    let match′ = c .before .before .before .before .before .before .before .match in
+    let pattern-cell2 = c .before .before .before .before .before .before .pattern-cell2 in
+    let smaller = c .before .before .before .before .before .smaller in
+    let pattern-cell3 = c .before .before .before .before .pattern-cell3 in
+    let smaller2 = c .before .before .before .smaller2 in
+    let pattern-tags = c .before .before .pattern-tags in
+    let pattern-tags2 = c .before .pattern-tags2 in
     let s = c .before .before .before .before .before .before .before .before .before .before in
-    pattern-tags-pair (s .args .t .now) (s .args .base) (s .args .j) (c .before .before .before .before .before .before .before .before .pattern-cell .ensures .0) (c .before .before .before .before .before .before .before .match .keys1) (c .before .before .before .before .before .before .pattern-cell2 .ensures .0) (c .before .before .before .before .before .smaller .ensures) (c .before .before .before .before .pattern-cell3 .ensures .0) (c .before .before .before .smaller2 .ensures) (c .before .before .pattern-tags .ensures) (c .before .pattern-tags2 .ensures) (c .together .ensures)
+    pattern-tags-pair (s .args .t .now) (s .args .base) (s .args .j) (pattern-cell .ensures .0) (match′ .keys1) (pattern-cell2 .ensures .0) (smaller .ensures) (pattern-cell3 .ensures .0)
+    (smaller2 .ensures) (pattern-tags .ensures) (pattern-tags2 .ensures) (c .together .ensures)
 
 pattern-tags-returns-2 : (t : ℕ) → pattern-tags-lts.Need-returns-2 (ks-pattern-tags t) (pattern-tags-at t) pattern-tags.Post
 pattern-tags-returns-2 t c =
+    let pattern-cell = c .before .before .before .before .before .before .before .pattern-cell in
+    let if1 = c .before .before .before .before .before .if1 in
+    let if2 = c .before .before .before .before .if2 in
+    let pattern-cell4 = c .before .before .before .pattern-cell4 in
+    let smaller3 = c .before .before .smaller3 in
+    let pattern-tags3 = c .before .pattern-tags3 in
     let s = c .before .before .before .before .before .before .before .before .before in
-    pattern-tags-inj (s .args .t .now) (s .args .base) (s .args .j) (c .before .before .before .before .before .before .before .pattern-cell .ensures .0) (injects _ (c .before .before .before .before .before .if1 .left) (c .before .before .before .before .if2 .taken)) (c .before .before .before .pattern-cell4 .ensures .0) (c .before .before .smaller3 .ensures) (c .before .pattern-tags3 .ensures) (c .together2 .ensures)
+    pattern-tags-inj (s .args .t .now) (s .args .base) (s .args .j) (pattern-cell .ensures .0) (injects _ (if1 .left) (if2 .taken)) (pattern-cell4 .ensures .0) (smaller3 .ensures)
+    (pattern-tags3 .ensures) (c .together2 .ensures)
 
 pattern-tags-returns-3 : (t : ℕ) → pattern-tags-lts.Need-returns-3 (ks-pattern-tags t) (pattern-tags-at t) pattern-tags.Post
 pattern-tags-returns-3 t c =
@@ -65,8 +105,10 @@ pattern-tags-returns-3 t c =
 
 pattern-tags-returns-4 : (t : ℕ) → pattern-tags-lts.Need-returns-4 (ks-pattern-tags t) (pattern-tags-at t) pattern-tags.Post
 pattern-tags-returns-4 t c =
+    let pattern-cell = c .before .before .before .pattern-cell in
+    let match′ = c .before .before .match in
     let s = c .before .before .before .before .before in
-    pattern-tags-leaf (s .args .t .now) (s .args .base) (s .args .j) (c .before .before .before .pattern-cell .ensures .0) (leaf-beyond _ (c .if2 .left) (c .before .before .match .rest .1))
+    pattern-tags-leaf (s .args .t .now) (s .args .base) (s .args .j) (pattern-cell .ensures .0) (leaf-beyond _ (c .if2 .left) (match′ .rest .1))
 
 pub +pattern-tags-spec : {M : Type 1} → statement M
 +pattern-tags-spec = close μ-pattern-tags λ t. pattern-tags-lts.spec (ks-pattern-tags t)

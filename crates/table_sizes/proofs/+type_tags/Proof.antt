@@ -31,18 +31,38 @@ ks-type-tags t = (cell-reads.Asked, cell-reads.Learnt, smaller-reads.Asked, smal
 
 type-tags-type-tags-requires : (t : ℕ) → type-tags-lts.Need-type-tags-requires (ks-type-tags t) (type-tags-at t) type-tags.Post
 type-tags-type-tags-requires t c κs =
+    let cell = c .before .before .before .before .before .before .cell in
+    let if1 = c .before .before .before .before .before .if1 in
+    let if2 = c .before .before .before .before .if2 in
+    let cell2 = c .before .before .before .cell2 in
+    let smaller = c .before .before .smaller in
     let s = c .before .before .before .before .before .before .before .before in
-    (type-call (s .args .t .now) (s .args .i) (c .before .before .before .cell2 .result) (s .pre .0) (c .before .before .before .before .before .before .cell .ensures .0) (parted-no-unit (parted _ (c .before .before .before .before .before .if1 .left) (c .before .before .before .before .if2 .taken))) (c .before .before .smaller .ensures), tt)
+    (type-call (s .args .t .now) (s .args .i) (cell2 .result) (s .pre .0) (cell .ensures .0) (parted-no-unit (parted _ (if1 .left) (if2 .taken))) (smaller .ensures), tt)
 
 type-tags-type-tags-requires-2 : (t : ℕ) → type-tags-lts.Need-type-tags-requires-2 (ks-type-tags t) (type-tags-at t) type-tags.Post
 type-tags-type-tags-requires-2 t c κs =
+    let cell = c .before .before .before .before .before .before .before .cell in
+    let if1 = c .before .before .before .before .before .before .if1 in
+    let if2 = c .before .before .before .before .before .if2 in
+    let cell3 = c .before .before .cell3 in
+    let smaller2 = c .before .smaller2 in
     let s = c .before .before .before .before .before .before .before .before .before in
-    (type-call (s .args .t .now) (s .args .i) (c .before .before .cell3 .result) (s .pre .0) (c .before .before .before .before .before .before .before .cell .ensures .0) (parted-no-unit (parted _ (c .before .before .before .before .before .before .if1 .left) (c .before .before .before .before .before .if2 .taken))) (c .before .smaller2 .ensures), tt)
+    (type-call (s .args .t .now) (s .args .i) (cell3 .result) (s .pre .0) (cell .ensures .0) (parted-no-unit (parted _ (if1 .left) (if2 .taken))) (smaller2 .ensures), tt)
 
 type-tags-returns : (t : ℕ) → type-tags-lts.Need-returns (ks-type-tags t) (type-tags-at t) type-tags.Post
 type-tags-returns t c =
+    let cell = c .before .before .before .before .before .before .before .before .before .cell in
+    let if1 = c .before .before .before .before .before .before .before .before .if1 in
+    let if2 = c .before .before .before .before .before .before .before .if2 in
+    let cell2 = c .before .before .before .before .before .before .cell2 in
+    let smaller = c .before .before .before .before .before .smaller in
+    let cell3 = c .before .before .before .before .cell3 in
+    let smaller2 = c .before .before .before .smaller2 in
+    let type-tags = c .before .before .type-tags in
+    let type-tags2 = c .before .type-tags2 in
     let s = c .before .before .before .before .before .before .before .before .before .before .before in
-    type-tags-node (s .args .t .now) (s .args .i) (c .before .before .before .before .before .before .before .before .before .cell .ensures .0) (parted _ (c .before .before .before .before .before .before .before .before .if1 .left) (c .before .before .before .before .before .before .before .if2 .taken)) (c .before .before .before .before .before .before .cell2 .ensures .0) (c .before .before .before .before .before .smaller .ensures) (c .before .before .before .before .cell3 .ensures .0) (c .before .before .before .smaller2 .ensures) (c .before .before .type-tags .ensures) (c .before .type-tags2 .ensures) (c .joined .ensures)
+    type-tags-node (s .args .t .now) (s .args .i) (cell .ensures .0) (parted _ (if1 .left) (if2 .taken)) (cell2 .ensures .0) (smaller .ensures) (cell3 .ensures .0) (smaller2 .ensures)
+    (type-tags .ensures) (type-tags2 .ensures) (c .joined .ensures)
 
 type-tags-returns-2 : (t : ℕ) → type-tags-lts.Need-returns-2 (ks-type-tags t) (type-tags-at t) type-tags.Post
 type-tags-returns-2 t c =

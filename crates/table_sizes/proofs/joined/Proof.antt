@@ -12,7 +12,11 @@ together-requires c κs = search needs
 
 -- src/lib.rt:87:13
 returns : tie.Need-returns
-returns c = joined-second (c .before .before .before .args .kind) (c .before .before .before .args .m) (c .before .before .before .args .n) (c .before .before .if1 .taken) (c .before .if2 .taken) (c .together .ensures)
+returns c =
+    let args = c .before .before .before .args in
+    let if1 = c .before .before .if1 in
+    let if2 = c .before .if2 in
+    joined-second (args .kind) (args .m) (args .n) (if1 .taken) (if2 .taken) (c .together .ensures)
 
 -- src/lib.rt:89:9
 together-requires-2 : tie.Need-together-requires-2
@@ -20,7 +24,11 @@ together-requires-2 c κs = search needs
 
 -- src/lib.rt:89:9
 returns-2 : tie.Need-returns-2
-returns-2 c = joined-first (c .before .before .before .args .kind) (c .before .before .before .args .m) (c .before .before .before .args .n) (c .before .before .if1 .taken) (c .before .if2 .left) (c .together2 .ensures)
+returns-2 c =
+    let args = c .before .before .before .args in
+    let if1 = c .before .before .if1 in
+    let if2 = c .before .if2 in
+    joined-first (args .kind) (args .m) (args .n) (if1 .taken) (if2 .left) (c .together2 .ensures)
 
 -- src/lib.rt:91:5
 together-requires-3 : tie.Need-together-requires-3
@@ -28,7 +36,10 @@ together-requires-3 c κs = search needs
 
 -- src/lib.rt:82:1
 returns-3 : tie.Need-returns-3
-returns-3 c = joined-both (c .before .before .args .kind) (c .before .before .args .m) (c .before .before .args .n) (c .before .if1 .left) (c .together3 .ensures)
+returns-3 c =
+    let args = c .before .before .args in
+    let if1 = c .before .if1 in
+    joined-both (args .kind) (args .m) (args .n) (if1 .left) (c .together3 .ensures)
 
 pub joined-spec : {M : Type 1} → statement M
 joined-spec =

@@ -36,13 +36,17 @@ same-length-3 : tie.Need-same-length-3
 same-length-3 c = search needs
 
 returns : tie.Need-returns
-returns c = let k = c .before .before .before .before .before .before in
-    let s = c .before .before .before .before .before .before .before .before .before .before .before .before .before .before .before .before .before .before .before in
+returns c =
+    let prepare = c .before .before .before .before .before .before .before .before .before .before .before .before .prepare in
+    let k = c .before .before .before .before .before .before in
+    let s = c .before .before .before .before .before .before .before .before .before .before .before .before .before .before .before .before .before .before .before .before in
     let q = s .args in
-    let n = front-length (q .room) (q .work .now) (s .pre) in
+    let n = front-length (q .room) (q .work .now) (s .pre .1) in
     λ s₁ a ps r enough most.
-    part-played (a .file) (q .budget) (q .c .isos) (q .script .now) (q .lines .now) (q .settings .now) ps r (q .room) (q .work .now) (k .play-lines .last .1 .1 .1 .1 .1 .1 .0) (s .pre) (k .play-lines .kept .1 .1 .1 .1 .1 .1 .0) enough
-    (k .play-lines .ensures (a .file) (record { prepared = c .before .before .before .before .before .before .before .before .before .before .before .before .prepare .ensures s₁ a (omega arith); patterns = q .c .patterns; lines = q .c .lines; table = a .table }) ps r (omega (arith, n, enough)) (omega (arith, n, most)))
+    part-played (a .file) (q .budget) (q .c .isos) (q .script .now) (q .lines .now) (q .settings .now) ps r (q .room) (q .work .now) (k .play-lines .last .1 .1 .1 .1 .1 .1 .1 .0) (s .pre .1)
+    (k .play-lines .kept .1 .1 .1 .1 .1 .1 .1 .0) enough
+    (k .play-lines .ensures (a .file) (record { prepared = prepare .ensures s₁ a (omega arith); patterns = q .c .patterns; lines = q .c .lines; table = a .table }) ps r
+    (omega (arith, n, enough)) (omega (arith, n, most)))
 
 pub play-all-spec : {M : Type 1} → statement M
 play-all-spec =

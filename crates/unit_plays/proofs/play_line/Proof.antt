@@ -25,10 +25,19 @@ same-length-3 : tie.Need-same-length-3
 same-length-3 c = search needs
 
 returns : tie.Need-returns
-returns c = line-played (c .before .before .before .before .before .before .before .before .before .before .before .before .before .before .before .before .before .before .before .before .args .line .now) (c .before .before .before .before .before .before .before .before .before .before .before .before .before .planned-of .ensures) (c .before .before .before .before .before .before .before .before .before .before .before .p .given .1) (c .before .before .before .before .before .before .play-visit .ensures)
+returns c =
+    let far = c .before .before .before .before .before .before .before .before .before .before .before .before .before .before .before .before .before .before .before .before in
+    let args = far .before .args in
+    let planned-of = c .before .before .before .before .before .before .before .before .before .before .before .before .before .planned-of in
+    let p = c .before .before .before .before .before .before .before .before .before .before .before .p in
+    let play-visit = c .before .before .before .before .before .before .play-visit in
+    line-played (args .line .now) (planned-of .ensures) (p .given .1) (play-visit .ensures)
 
 returns-2 : tie.Need-returns-2
-returns-2 c = line-bad (c .before .before .before .before .before .before .before .before .before .args .line .now) (c .before .before .planned-of .ensures) (c .enum-told .given .1)
+returns-2 c =
+    let args = c .before .before .before .before .before .before .before .before .before .before .args in
+    let planned-of = c .before .before .planned-of in
+    line-bad (args .line .now) (planned-of .ensures) (c .enum-told .given .1)
 
 pub play-line-spec : {M : Type 1} → statement M
 play-line-spec =

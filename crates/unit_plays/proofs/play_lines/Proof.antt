@@ -7,10 +7,10 @@ use Rattle.unit_plays.proofs.play_lines.Statement.{statement}
 use Rattle.unit_plays.proofs.play_lines.Tie as tie
 
 abbrev Inv-loop : tie.InvT-loop
-Inv-loop t types index isos script budget work₀ lines₀ settings₀ at₀ k₀ work lines settings at k = Through t types index isos script budget work₀ lines₀ settings₀ work lines settings at k
+Inv-loop t counts types index isos script budget work₀ lines₀ settings₀ at₀ k₀ work lines settings at k = Through t types index isos script budget work₀ lines₀ settings₀ work lines settings at k
 
 abbrev μ-loop : tie.MeasureT-loop
-μ-loop t types index isos script budget work₀ lines₀ settings₀ at₀ k₀ work lines settings at k = length script - at
+μ-loop t counts types index isos script budget work₀ lines₀ settings₀ at₀ k₀ work lines settings at k = length script - at
 
 loop-holds : tie.Need-loop-holds Inv-loop μ-loop
 loop-holds c = through-start _ _ _ _ _ _ _ _ _
@@ -31,13 +31,25 @@ play-line-requires : tie.Need-play-line-requires Inv-loop μ-loop
 play-line-requires c κs = search needs
 
 add-k : tie.Need-add-k Inv-loop μ-loop
-add-k c = omega (arith, c .before .before .before .before .before .before .before .before .before .before .before .before .before .loop .inv .counted, c .before .before .before .before .before .before .before .before .before .before .before .before .loop-test .taken)
+add-k c =
+    let loop′ = c .before .before .before .before .before .before .before .before .before .before .before .before .before .loop in
+    let loop-test = c .before .before .before .before .before .before .before .before .before .before .before .before .loop-test in
+    omega (arith, loop′ .inv .counted, loop-test .taken)
 
 loop-less : tie.Need-loop-less Inv-loop μ-loop
-loop-less c = omega (arith, c .before .before .before .before .before .before .before .before .before .before .before .line-end .ensures .further (c .before .before .before .before .before .before .before .before .before .before .before .before .loop-test .taken))
+loop-less c =
+    let loop-test = c .before .before .before .before .before .before .before .before .before .before .before .before .loop-test in
+    let line-end = c .before .before .before .before .before .before .before .before .before .before .before .line-end in
+    omega (arith, line-end .ensures .further (loop-test .taken))
 
 loop-again : tie.Need-loop-again Inv-loop μ-loop
-loop-again c = through-next (c .before .before .before .before .before .before .before .before .before .before .before .before .before .loop .inv) (c .before .before .before .before .before .before .before .before .before .before .before .before .loop-test .taken) (c .before .before .before .before .before .before .before .before .before .before .before .line-end .ensures) (c .before .before .before .before .before .before .play-line .ensures) (c .before .before .before .before .before .before .play-line .kept .1 .1 .1 .1 .1 .1 .1 .0) (c .before .before .before .before .before .before .play-line .kept .1 .1 .1 .1 .1 .1 .1 .1 .0) (c .before .before .before .before .before .before .play-line .kept .1 .1 .1 .1 .1 .1 .1 .1 .1 .0)
+loop-again c =
+    let loop′ = c .before .before .before .before .before .before .before .before .before .before .before .before .before .loop in
+    let loop-test = c .before .before .before .before .before .before .before .before .before .before .before .before .loop-test in
+    let line-end = c .before .before .before .before .before .before .before .before .before .before .before .line-end in
+    let play-line = c .before .before .before .before .before .before .play-line in
+    through-next (loop′ .inv) (loop-test .taken) (line-end .ensures) (play-line .ensures) (play-line .kept .1 .1 .1 .1 .1 .1 .1 .1 .0) (play-line .kept .1 .1 .1 .1 .1 .1 .1 .1 .1 .0)
+    (play-line .kept .1 .1 .1 .1 .1 .1 .1 .1 .1 .1 .0)
 
 same-length : tie.Need-same-length Inv-loop μ-loop
 same-length c = c .before .loop .inv .works

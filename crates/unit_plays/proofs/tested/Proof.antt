@@ -13,16 +13,34 @@ is-refused-requires : tie.Need-is-refused-requires
 is-refused-requires c κs = search needs
 
 returns : tie.Need-returns
-returns c = let q = c .before .before .before .before .before .before .before .args in λ s a e. first-fault (c .before .before .units-fault .ensures _ _ _ (a .table) e) (c .before .is-refused .ensures) (scriptFault (length (q .lines .now)) (q .c .isos) (q .script .now)) (c .if1 .taken)
+returns c =
+    let args = c .before .before .before .before .before .before .before .before .args in
+    let units-fault = c .before .before .units-fault in
+    let is-refused = c .before .is-refused in
+    let q = args in λ s a e. first-fault (units-fault .ensures _ _ _ (a .table) e) (is-refused .ensures) (scriptFault (length (q .lines .now)) (q .c .isos) (q .script .now)) (c .if1 .taken)
 
 is-script-requires : tie.Need-is-script-requires
 is-script-requires c κs = search needs
 
 returns-2 : tie.Need-returns-2
-returns-2 c = let q = c .before .before .before .before .before .before .before .before .before .args in λ s a e. second-fault (c .before .before .before .before .units-fault .ensures _ _ _ (a .table) e) (c .before .before .before .is-refused .ensures) (scriptFault (length (q .lines .now)) (q .c .isos) (q .script .now)) (c .before .before .if1 .left) (bad-script (length (q .lines .now)) (q .c .isos) (q .script .now) (c .before .is-script .ensures) (not-true _ (c .if2 .taken)))
+returns-2 c =
+    let args = c .before .before .before .before .before .before .before .before .before .before .args in
+    let units-fault = c .before .before .before .before .units-fault in
+    let is-refused = c .before .before .before .is-refused in
+    let if1 = c .before .before .if1 in
+    let is-script = c .before .is-script in
+    let q = args in λ s a e. second-fault (units-fault .ensures _ _ _ (a .table) e) (is-refused .ensures) (scriptFault (length (q .lines .now)) (q .c .isos) (q .script .now)) (if1 .left)
+    (bad-script (length (q .lines .now)) (q .c .isos) (q .script .now) (is-script .ensures) (not-true _ (c .if2 .taken)))
 
 returns-3 : tie.Need-returns-3
-returns-3 c = let q = c .before .before .before .before .before .before .before .before .before .args in λ s a e. second-fault (c .before .before .before .before .units-fault .ensures _ _ _ (a .table) e) (c .before .before .before .is-refused .ensures) (scriptFault (length (q .lines .now)) (q .c .isos) (q .script .now)) (c .before .before .if1 .left) (good-script (length (q .lines .now)) (q .c .isos) (q .script .now) (c .before .is-script .ensures) (not-false _ (c .if2 .left)))
+returns-3 c =
+    let args = c .before .before .before .before .before .before .before .before .before .before .args in
+    let units-fault = c .before .before .before .before .units-fault in
+    let is-refused = c .before .before .before .is-refused in
+    let if1 = c .before .before .if1 in
+    let is-script = c .before .is-script in
+    let q = args in λ s a e. second-fault (units-fault .ensures _ _ _ (a .table) e) (is-refused .ensures) (scriptFault (length (q .lines .now)) (q .c .isos) (q .script .now)) (if1 .left)
+    (good-script (length (q .lines .now)) (q .c .isos) (q .script .now) (is-script .ensures) (not-false _ (c .if2 .left)))
 
 pub tested-spec : {M : Type 1} → statement M
 tested-spec =

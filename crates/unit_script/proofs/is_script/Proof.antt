@@ -32,13 +32,28 @@ is-planned-requires : tie.Need-is-planned-requires Inv-loop μ-loop
 is-planned-requires c κs = search needs
 
 returns : tie.Need-returns Inv-loop μ-loop
-returns c = let a = c .before .before .before .before .before .before .before .args in through-bad (a .units) (a .isos) (a .script .now) (c .before .before .before .before .before .loop .inv) (c .before .before .before .before .loop-test .taken) (c .before .before .before .line-end .ensures) (c .before .is-planned .ensures) (not-true _ (c .if1 .taken))
+returns c =
+    let args = c .before .before .before .before .before .before .before .args in
+    let loop′ = c .before .before .before .before .before .loop in
+    let loop-test = c .before .before .before .before .loop-test in
+    let line-end = c .before .before .before .line-end in
+    let is-planned = c .before .is-planned in
+    let a = args in through-bad (a .units) (a .isos) (a .script .now) (loop′ .inv) (loop-test .taken) (line-end .ensures) (is-planned .ensures) (not-true _ (c .if1 .taken))
 
 loop-less : tie.Need-loop-less Inv-loop μ-loop
-loop-less c = omega (arith, c .before .before .before .line-end .ensures .further (c .before .before .before .before .loop-test .taken), c .before .before .before .line-end .ensures .within (c .before .before .before .before .loop-test .taken))
+loop-less c =
+    let loop-test = c .before .before .before .before .loop-test in
+    let line-end = c .before .before .before .line-end in
+    omega (arith, line-end .ensures .further (loop-test .taken), line-end .ensures .within (loop-test .taken))
 
 loop-again : tie.Need-loop-again Inv-loop μ-loop
-loop-again c = let a = c .before .before .before .before .before .before .before .args in through-next (a .units) (a .isos) (a .script .now) (c .before .before .before .before .before .loop .inv) (c .before .before .before .before .loop-test .taken) (c .before .before .before .line-end .ensures) (c .before .is-planned .ensures) (not-false _ (c .if1 .left))
+loop-again c =
+    let args = c .before .before .before .before .before .before .before .args in
+    let loop′ = c .before .before .before .before .before .loop in
+    let loop-test = c .before .before .before .before .loop-test in
+    let line-end = c .before .before .before .line-end in
+    let is-planned = c .before .is-planned in
+    let a = args in through-next (a .units) (a .isos) (a .script .now) (loop′ .inv) (loop-test .taken) (line-end .ensures) (is-planned .ensures) (not-false _ (c .if1 .left))
 
 returns-2 : tie.Need-returns-2 Inv-loop μ-loop
 returns-2 c = let a = c .before .before .before .args in through-end (a .units) (a .isos) (a .script .now) (c .before .loop .inv) (c .loop-test .left)

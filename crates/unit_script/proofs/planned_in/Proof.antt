@@ -17,10 +17,17 @@ enum-told : tie.Need-enum-told
 enum-told c = search needs
 
 returns : tie.Need-returns
-returns c = let s = c .before .before .before .before .before .before .args .s .now in letter-there s (past s _ _ (c .before .before .c .given .1) (c .before .before .before .before .skip .ensures)) (c .after-letter .ensures)
+returns c =
+    let args = c .before .before .before .before .before .before .args in
+    let skip = c .before .before .before .before .skip in
+    let c′ = c .before .before .c in
+    let s = args .s .now in letter-there s (past s _ _ (c′ .given .1) (skip .ensures)) (c .after-letter .ensures)
 
 returns-2 : tie.Need-returns-2
-returns-2 c = let s = c .before .before .before .before .args .s .now in other-letter s (other s _ (c .enum-told .given .1) (c .before .before .skip .ensures))
+returns-2 c =
+    let args = c .before .before .before .before .args in
+    let skip = c .before .before .skip in
+    let s = args .s .now in other-letter s (other s _ (c .enum-told .given .1) (skip .ensures))
 
 pub planned-in-spec : {M : Type 1} → statement M
 planned-in-spec =

@@ -7,10 +7,10 @@ use Rattle.unit_settings.proofs.units_fault.Statement.{statement}
 use Rattle.unit_settings.proofs.units_fault.Tie as tie
 
 abbrev Inv-loop : tie.InvT-loop
-Inv-loop t types lines settings k₀ k = Through t types lines settings k
+Inv-loop t counts types lines settings k₀ k = Through t types lines settings k
 
 abbrev μ-loop : tie.MeasureT-loop
-μ-loop t types lines settings k₀ k = length lines - k
+μ-loop t counts types lines settings k₀ k = length lines - k
 
 loop-holds : tie.Need-loop-holds Inv-loop μ-loop
 loop-holds c = through-start _ _ _ _
@@ -21,14 +21,21 @@ number-at-requires c κs = search needs
 number-at-requires-2 : tie.Need-number-at-requires-2 Inv-loop μ-loop
 number-at-requires-2 c κs = search needs
 
-unit-fault-requires : tie.Need-unit-fault-requires Inv-loop μ-loop
-unit-fault-requires c κs = search needs
+setting-fault-requires : tie.Need-setting-fault-requires Inv-loop μ-loop
+setting-fault-requires c κs = search needs
 
 is-refused-requires : tie.Need-is-refused-requires Inv-loop μ-loop
 is-refused-requires c κs = search needs
 
 returns : tie.Need-returns Inv-loop μ-loop
-returns c = through-fault (c .before .before .before .before .before .before .loop .inv) (c .before .before .before .before .before .loop-test .taken) (c .before .before .unit-fault .ensures) (c .before .before .before .before .number-at .ensures) (c .before .before .before .number-at2 .ensures) (c .before .is-refused .ensures) (c .if1 .taken)
+returns c =
+    let loop′ = c .before .before .before .before .before .before .loop in
+    let loop-test = c .before .before .before .before .before .loop-test in
+    let number-at = c .before .before .before .before .number-at in
+    let number-at2 = c .before .before .before .number-at2 in
+    let setting-fault = c .before .before .setting-fault in
+    let is-refused = c .before .is-refused in
+    through-fault (loop′ .inv) (loop-test .taken) (setting-fault .ensures .refusal) (number-at .ensures) (number-at2 .ensures) (is-refused .ensures) (c .if1 .taken)
 
 add-k : tie.Need-add-k Inv-loop μ-loop
 add-k c = omega (arith, c .before .before .before .before .before .before .loop .inv .within)
@@ -37,7 +44,14 @@ loop-less : tie.Need-loop-less Inv-loop μ-loop
 loop-less c = omega (arith, c .before .before .before .before .before .loop-test .taken)
 
 loop-again : tie.Need-loop-again Inv-loop μ-loop
-loop-again c = through-next (c .before .before .before .before .before .before .loop .inv) (c .before .before .before .before .before .loop-test .taken) (c .before .before .unit-fault .ensures) (c .before .before .before .before .number-at .ensures) (c .before .before .before .number-at2 .ensures) (c .before .is-refused .ensures) (c .if1 .left)
+loop-again c =
+    let loop′ = c .before .before .before .before .before .before .loop in
+    let loop-test = c .before .before .before .before .before .loop-test in
+    let number-at = c .before .before .before .before .number-at in
+    let number-at2 = c .before .before .before .number-at2 in
+    let setting-fault = c .before .before .setting-fault in
+    let is-refused = c .before .is-refused in
+    through-next (loop′ .inv) (loop-test .taken) (setting-fault .ensures .refusal) (number-at .ensures) (number-at2 .ensures) (is-refused .ensures) (c .if1 .left)
 
 returns-2 : tie.Need-returns-2 Inv-loop μ-loop
 returns-2 c = through-end (c .before .loop .inv) (c .loop-test .left)
@@ -51,7 +65,7 @@ units-fault-spec =
     loop-holds
     number-at-requires
     number-at-requires-2
-    unit-fault-requires
+    setting-fault-requires
     is-refused-requires
     returns
     add-k

@@ -1,4 +1,6 @@
--- `unit_tally::count_visits` meets its contract: a walk of its MIR, by hand, with a loop. Before the loop the record is lent to `begin`; in each turn the work area is lent to `take_mark` and the record to `add_visit`, each for a lifetime of the call, and come back. All that the proof knows of the three is that they meet their contracts.
+-- `unit_tally::count_visits` meets its contract: a walk of its MIR, by hand, with a loop. Before the loop the record is lent to `begin`; in each turn the work
+-- area is lent to `take_mark` and the record to `add_visit`, each for a lifetime of the call, and come back. All that the proof knows of the three is that they
+-- meet their contracts.
 --     State        where a turn begins: the place, the record and the work area so far, with what holds of them. It is the loop's variant, ordered by what is left
 --     At           the loop's invariant: the whole context
 --     more, ends   a turn that counts one visit, and the turn that leaves the loop, with the rest of the body
@@ -26,8 +28,10 @@ use prog.Wp.{Heap, Out, Env, afterSeq, afterBlock, afterTurn, Calls, Loops, Wp, 
 use ghost.Atoms.{Atoms, sem}
 use contract.Monad.{Fun, fact}
 use contract.Running.{givenOf, tables, tablesOf}
-use types.Kit.{Given, Item, ‵, raw, _⊛_, ⋆, some, later, runs, anyQ, atRet, Sq, _$_, _∵_, !, qed, by, move, keep, drop as drops, use1, use2, use3, split, join, pick, rewrite, fsplit, fjoin, feqL, feqI, suffices, frame, await, done}
-use types.Run.{look, store, init, forget, stop, hop, fld, from, load, lit, addr, unit-lit, bin, and-then, no-more, of-opd, assigns, assigns-last, first, blocks, stays, leaves-loop, land, returns, enter, alloc1, alloc0, params1, pass1, pass0, free1, free0, exec, Below, again, loops}
+use types.Kit.{Given, Item, ‵, raw, _⊛_, ⋆, some, later, runs, anyQ, atRet, Sq, _$_, _∵_, !, qed, by, move, keep, drop as drops, use1, use2, use3, split, join}
+use types.Kit.{pick, rewrite, fsplit, fjoin, feqL, feqI, suffices, frame, await, done}
+use types.Run.{look, store, init, forget, stop, hop, fld, from, load, lit, addr, unit-lit, bin, and-then, no-more, of-opd, assigns, assigns-last, first, blocks}
+use types.Run.{stays, leaves-loop, land, returns, enter, alloc1, alloc0, params1, pass1, pass0, free1, free0, exec, Below, again, loops}
 use types.Part.{agg, whole, sub, look-in}
 use types.Tokens.{lft-new, lft-end}
 use sound.WpLaws.{FmC, fmOf, WpFn-mono}
@@ -162,7 +166,8 @@ module _ {M : Type 1} (𝓤 : URA M) (H : Heap 𝓤) (A : Atoms 𝓤) (W : Given
       → ent 𝓤 (⋆ 𝓤 H A (‵ (Units κ₀ γᵤ ys) ∷ ‵ (flft κ₀ q₀) ∷ ‵ (Rec κ₁ γ h) ∷ ‵ (flft κ₁ q₁) ∷ [])) (Post vunit)
   exits h ys e l =
       qed W (‵ (Units κ₀ γᵤ ys) ∷ ‵ (flft κ₀ q₀) ∷ ‵ (Rec κ₁ γ h) ∷ ‵ (flft κ₁ q₁) ∷ []) ∵
-      suffices ! _ (ends-at 𝓤 H A f.ended stayed (f.clauses 𝓤 H A at-mem run) W (((κ₀, (κ₁, tt)), (q₀, (q₁, tt)), tt, x, at), tt) vunit tt (ys, (tt, (tt, (h, tt)))) (l, (tt, (tt, (tt, tt))))) $ says ! e $
+      suffices ! _ (ends-at 𝓤 H A f.ended stayed (f.clauses 𝓤 H A at-mem run) W (((κ₀, (κ₁, tt)), (q₀, (q₁, tt)), tt, x, at), tt) vunit tt (ys, (tt, (tt, (h, tt))))
+      (l, (tt, (tt, (tt, tt))))) $ says ! e $
       rewrite ! 0 (λ (m : ℕ). ‵ (MutSlice (named 0) κ₀ u8 .own (u γᵤ ys) (sliceVal (bᵤ, oᵤ) m ∷ []))) l refl $
       nothing ! $
       move ! (4 ∷ 0 ∷ []) $
@@ -187,14 +192,16 @@ module _ {M : Type 1} (𝓤 : URA M) (H : Heap 𝓤) (A : Atoms 𝓤) (W : Given
   abbrev to-zero : ℕ → GName → Tally → Zero 𝓤 H A at-mem run .Ghost
   to-zero ν δ h = (((ν ∷ [], tt), (fullShare, tt), tt, (t δ h, (pl, tt)), (vptr b o ∷ [], (vbool pl ∷ [], tt))), tt)
 
-  goes-zero : (ν : ℕ) (δ : GName) (h : Tally) → ent 𝓤 (⋆ 𝓤 H A (‵ (flft (ν ∷ []) fullShare) ∷ ‵ (Rec (ν ∷ []) δ h) ∷ ‵ (Boolean .own pl (vbool pl ∷ [])) ∷ [])) (Zero 𝓤 H A at-mem run .pre (to-zero ν δ h))
+  goes-zero : (ν : ℕ) (δ : GName) (h : Tally) → ent 𝓤 (⋆ 𝓤 H A (‵ (flft (ν ∷ []) fullShare) ∷ ‵ (Rec (ν ∷ []) δ h) ∷ ‵ (Boolean .own pl (vbool pl ∷ [])) ∷ []))
+      (Zero 𝓤 H A at-mem run .pre (to-zero ν δ h))
   goes-zero ν δ h = qed W (‵ (flft (ν ∷ []) fullShare) ∷ ‵ (Rec (ν ∷ []) δ h) ∷ ‵ (Boolean .own pl (vbool pl ∷ [])) ∷ []) ∵
       nothing ! $ move ! (1 ∷ 0 ∷ []) $ join ! $ nothing ! $ move ! (3 ∷ 0 ∷ []) $ fjoin ! $ move ! (2 ∷ 0 ∷ []) $ fjoin ! $ move ! (1 ∷ 0 ∷ []) $ join ! $ frame ! $ done !
 
   abbrev to-plus : ℕ → GName → Tally → Visit → Val → Plus 𝓤 H A at-mem run .Ghost
   to-plus ν δ h v w = (((ν ∷ [], tt), (fullShare, tt), tt, (t δ h, (v, tt)), (vptr b o ∷ [], (w ∷ [], tt))), tt)
 
-  goes-plus : (ν : ℕ) (δ : GName) (h : Tally) (v : Visit) (w : Val) → ent 𝓤 (⋆ 𝓤 H A (‵ (flft (ν ∷ []) fullShare) ∷ ‵ (Rec (ν ∷ []) δ h) ∷ ‵ (Vis.the-row .own v (w ∷ [])) ∷ [])) (Plus 𝓤 H A at-mem run .pre (to-plus ν δ h v w))
+  goes-plus : (ν : ℕ) (δ : GName) (h : Tally) (v : Visit) (w : Val) → ent 𝓤 (⋆ 𝓤 H A (‵ (flft (ν ∷ []) fullShare) ∷ ‵ (Rec (ν ∷ []) δ h) ∷ ‵ (Vis.the-row .own v (w ∷ [])) ∷ []))
+      (Plus 𝓤 H A at-mem run .pre (to-plus ν δ h v w))
   goes-plus ν δ h v w = qed W (‵ (flft (ν ∷ []) fullShare) ∷ ‵ (Rec (ν ∷ []) δ h) ∷ ‵ (Vis.the-row .own v (w ∷ [])) ∷ []) ∵
       nothing ! $ move ! (1 ∷ 0 ∷ []) $ join ! $ nothing ! $ move ! (3 ∷ 0 ∷ []) $ fjoin ! $ move ! (2 ∷ 0 ∷ []) $ fjoin ! $ move ! (1 ∷ 0 ∷ []) $ join ! $ frame ! $ done !
 
@@ -203,10 +210,12 @@ module _ {M : Type 1} (𝓤 : URA M) (H : Heap 𝓤) (A : Atoms 𝓤) (W : Given
 
   goes-seen : (ν : ℕ) (δ : GName) (ys : List ℕ) (i : ℕ) → i < 2 ^ 64 → ent 𝓤 (⋆ 𝓤 H A (‵ (flft (ν ∷ []) fullShare) ∷ ‵ (Units (ν ∷ []) δ ys) ∷ [])) (Seen 𝓤 H A at-mem run .pre (to-seen ν δ ys i))
   goes-seen ν δ ys i fits = qed W (‵ (flft (ν ∷ []) fullShare) ∷ ‵ (Units (ν ∷ []) δ ys) ∷ []) ∵
-      nothing ! $ move ! (1 ∷ 0 ∷ []) $ join ! $ nothing ! $ owned ! usize (Is usize) (uint-makes 𝓤 H A W w64) i _ (refl, fits) $ fjoin ! $ move ! (2 ∷ 0 ∷ []) $ fjoin ! $ move ! (1 ∷ 0 ∷ []) $ join ! $ frame ! $ done !
+      nothing ! $ move ! (1 ∷ 0 ∷ []) $ join ! $ nothing ! $ owned ! usize (Is usize) (uint-makes 𝓤 H A W w64) i _ (refl, fits) $ fjoin ! $ move ! (2 ∷ 0 ∷ []) $ fjoin ! $ move !
+      (1 ∷ 0 ∷ []) $ join ! $ frame ! $ done !
 
   module _ (𝓣 : Tables 𝓤 H) (room₀ : Room u8 (length ys₀)) (n-fits : n < 2 ^ 64)
-      (known-zero : Triple 𝓤 (𝓣 .C #unit_tally·begin) (Zero 𝓤 H A at-mem run)) (known-seen : Triple 𝓤 (𝓣 .C #unit_tally·take-mark) (Seen 𝓤 H A at-mem run)) (known-plus : Triple 𝓤 (𝓣 .C #unit_tally·add-visit) (Plus 𝓤 H A at-mem run)) where
+      (known-zero : Triple 𝓤 (𝓣 .C #unit_tally·begin) (Zero 𝓤 H A at-mem run)) (known-seen : Triple 𝓤 (𝓣 .C #unit_tally·take-mark) (Seen 𝓤 H A at-mem run))
+      (known-plus : Triple 𝓤 (𝓣 .C #unit_tally·add-visit) (Plus 𝓤 H A at-mem run)) where
     abbrev C : Calls 𝓤 H
     C = 𝓣 .C
 
@@ -218,12 +227,17 @@ module _ {M : Type 1} (𝓤 : URA M) (H : Heap 𝓤) (A : Atoms 𝓤) (W : Given
 
     module _ (l₀ l₁ l₂ l₃ l₄ l₅ l₆ l₇ l₈ l₉ l₁₀ l₁₁ l₁₂ l₁₃ : ℕ) where
       abbrev En : Env 𝓤 H
-      En = (ty 0, l₀) ∷ (ty 1, l₁) ∷ (ty 2, l₂) ∷ (ty 3, l₃) ∷ (ty 4, l₄) ∷ (ty 5, l₅) ∷ (ty 6, l₆) ∷ (ty 7, l₇) ∷ (ty 8, l₈) ∷ (ty 9, l₉) ∷ (ty 10, l₁₀) ∷ (ty 11, l₁₁) ∷ (ty 12, l₁₂) ∷ (ty 13, l₁₃) ∷ []
+      En = (ty 0, l₀) ∷ (ty 1, l₁) ∷ (ty 2, l₂) ∷ (ty 3, l₃) ∷ (ty 4, l₄) ∷ (ty 5, l₅) ∷ (ty 6, l₆) ∷ (ty 7, l₇) ∷ (ty 8, l₈) ∷ (ty 9, l₉) ∷ (ty 10, l₁₀) ∷ (ty 11, l₁₁) ∷ (ty 12, l₁₂) ∷
+          (ty 13, l₁₃) ∷ []
 
       -- [the work area; its token; the record; its token; _13; …; _0; …]
       abbrev At : State → List (Item 𝓤)
       At σ = ‵ (Units κ₀ γᵤ (σ .ys)) ∷ ‵ (flft κ₀ q₀) ∷ ‵ (Rec κ₁ γ (σ .h)) ∷ ‵ (flft κ₁ q₁)
-          ∷ ‵ (froom (ty 13) l₁₃ 0) ∷ ‵ (fdies (ty 13) l₁₃) ∷ ‵ (froom (ty 12) l₁₂ 0) ∷ ‵ (fdies (ty 12) l₁₂) ∷ ‵ (froom (ty 11) l₁₁ 0) ∷ ‵ (fdies (ty 11) l₁₁) ∷ ‵ (froom (ty 10) l₁₀ 0) ∷ ‵ (fdies (ty 10) l₁₀) ∷ ‵ (froom (ty 9) l₉ 0) ∷ ‵ (fdies (ty 9) l₉) ∷ ‵ (froom (ty 8) l₈ 0) ∷ ‵ (fdies (ty 8) l₈) ∷ ‵ (froom (ty 7) l₇ 0) ∷ ‵ (fdies (ty 7) l₇) ∷ ‵ (froom (ty 6) l₆ 0) ∷ ‵ (fdies (ty 6) l₆) ∷ ‵ (fat fullShare (ty 5) l₅ 0 (vint w64 (σ .i))) ∷ ‵ (fdies (ty 5) l₅) ∷ ‵ (fat fullShare (ty 4) l₄ 0 (vptr b o)) ∷ ‵ (fdies (ty 4) l₄) ∷ ‵ (fat fullShare (ty 3) l₃ 0 (vbool pl)) ∷ ‵ (fdies (ty 3) l₃) ∷ ‵ (fat fullShare (ty 2) l₂ 0 (vint w64 n)) ∷ ‵ (fdies (ty 2) l₂) ∷ ‵ (fat fullShare (ty 1) l₁ 0 (vᵤ (σ .ys))) ∷ ‵ (fdies (ty 1) l₁) ∷ ‵ (froom (ty 0) l₀ 0) ∷ ‵ (fdies (ty 0) l₀) ∷ []
+          ∷ ‵ (froom (ty 13) l₁₃ 0) ∷ ‵ (fdies (ty 13) l₁₃) ∷ ‵ (froom (ty 12) l₁₂ 0) ∷ ‵ (fdies (ty 12) l₁₂) ∷ ‵ (froom (ty 11) l₁₁ 0) ∷ ‵ (fdies (ty 11) l₁₁) ∷ ‵ (froom (ty 10) l₁₀ 0) ∷ ‵
+          (fdies (ty 10) l₁₀) ∷ ‵ (froom (ty 9) l₉ 0) ∷ ‵ (fdies (ty 9) l₉) ∷ ‵ (froom (ty 8) l₈ 0) ∷ ‵ (fdies (ty 8) l₈) ∷ ‵ (froom (ty 7) l₇ 0) ∷ ‵ (fdies (ty 7) l₇) ∷ ‵
+          (froom (ty 6) l₆ 0) ∷ ‵ (fdies (ty 6) l₆) ∷ ‵ (fat fullShare (ty 5) l₅ 0 (vint w64 (σ .i))) ∷ ‵ (fdies (ty 5) l₅) ∷ ‵ (fat fullShare (ty 4) l₄ 0 (vptr b o)) ∷ ‵
+          (fdies (ty 4) l₄) ∷ ‵ (fat fullShare (ty 3) l₃ 0 (vbool pl)) ∷ ‵ (fdies (ty 3) l₃) ∷ ‵ (fat fullShare (ty 2) l₂ 0 (vint w64 n)) ∷ ‵ (fdies (ty 2) l₂) ∷ ‵
+          (fat fullShare (ty 1) l₁ 0 (vᵤ (σ .ys))) ∷ ‵ (fdies (ty 1) l₁) ∷ ‵ (froom (ty 0) l₀ 0) ∷ ‵ (fdies (ty 0) l₀) ∷ []
 
       -- a turn's postcondition: it ends nearer to the end, or the loop is left and the rest of the body runs
       abbrev Turned : State → Out → SProp 𝓤
@@ -272,7 +286,11 @@ module _ {M : Type 1} (𝓤 : URA M) (H : Heap 𝓤) (A : Atoms 𝓤) (W : Given
           move ! (4 ∷ 5 ∷ []) $
           free1 ! $
           free0 ! $
-          by ! (exits (σ .h) (σ .ys) (ap (λ (m : ℕ). emptied m (σ .i) (σ .ys)) (sym (over-left n (σ .i) over)) ∙ σ .so-far .1, ap (λ (m : ℕ). tallied m (σ .i) (σ .ys) (σ .h)) (sym (over-left n (σ .i) over)) ∙ σ .so-far .0) (σ .long))
+          by ! (exits (σ .h) (σ .ys) (
+            ap (λ (m : ℕ). emptied m (σ .i) (σ .ys)) (sym (over-left n (σ .i) over)) ∙ σ .so-far .1,
+            ap (λ (m : ℕ). tallied m (σ .i) (σ .ys) (σ .h)) (sym (over-left n (σ .i) over)) ∙
+                σ .so-far .0,
+          ) (σ .long))
 
       more : (σ : State) → σ .i < n → Sq W (At σ) (runs C Λ En body.turn-1 (anyQ (Turned σ)))
       unfolding afterTurn
@@ -281,17 +299,22 @@ module _ {M : Type 1} (𝓤 : URA M) (H : Heap 𝓤) (A : Atoms 𝓤) (W : Given
           rewrite ! 12 (λ (y : Bool). ‵ (fat fullShare (ty 9) l₉ 0 (vbool y))) (lt-ltb (σ .i) n less) refl $
           stays ! (load ! (from ! (stop !)) (look ! 12 refl)) $
           assigns ! (addr ! (from ! (fld ! refl (hop ! (look-in ! 28 (sub ! 0 refl (whole !))) (stop !))))) (from ! (stop !)) (init ! 10 refl (tt, tt)) $
-          assigns ! (agg ! (and-then ! (load ! (from ! (stop !)) (look ! 10 refl)) (and-then ! (load ! (from ! (fld ! refl (stop !))) (look-in ! 28 (sub ! 1 refl (whole !)))) (no-more !)))) (from ! (stop !)) (init ! 8 refl (tt, (tt, (record { fits = room .0 }, tt)))) $
+          assigns ! (agg ! (and-then ! (load ! (from ! (stop !)) (look ! 10 refl)) (and-then ! (load ! (from ! (fld ! refl (stop !))) (look-in ! 28 (sub ! 1 refl (whole !)))) (no-more !))))
+          (from ! (stop !)) (init ! 8 refl (tt, (tt, (record { fits = room .0 }, tt)))) $
           lft-new ! tt (λ ν.
           move ! (1 ∷ 2 ∷ []) $
-          use2 W (later (some (λ (δ : GName). ‵ (Units (ν ∷ []) δ (σ .ys)) ⊛ ‵ (slice.LentAgain u8 κ₀ (ν ∷ []) q₀ γᵤ bᵤ oᵤ δ (σ .ys))))) (slice.lends-again u8 κ₀ (ν ∷ []) q₀ γᵤ bᵤ oᵤ 𝓤 H A W (named 0) (named 0) (σ .ys)) $ await ! tt $ pick ! (λ δ. split ! $
+          use2 W (later (some (λ (δ : GName). ‵ (Units (ν ∷ []) δ (σ .ys)) ⊛ ‵ (slice.LentAgain u8 κ₀ (ν ∷ []) q₀ γᵤ bᵤ oᵤ δ (σ .ys)))))
+          (slice.lends-again u8 κ₀ (ν ∷ []) q₀ γᵤ bᵤ oᵤ 𝓤 H A W (named 0) (named 0) (σ .ys)) $ await ! tt $ pick ! (λ δ. split ! $
           move ! (2 ∷ 0 ∷ []) $
           use2 W (raw (Seen 𝓤 H A at-mem run .pre (to-seen ν δ (σ .ys) (σ .i)))) (goes-seen ν δ (σ .ys) (σ .i) i-fits) $
           -- [PRE; LA; Rec; lR; _13; _12; _11; _10; _9; _8; _7; _6; _5; _4; _3; _2; _1; _0]
-          calls-at ! fm (Seen 𝓤 H A at-mem run) known-seen (to-seen ν δ (σ .ys) (σ .i)) (and-then ! (load ! (from ! (stop !)) (look ! 8 refl)) (and-then ! (load ! (from ! (stop !)) (look ! 20 refl)) (no-more !))) (λ w.
-          use1 W (later (some (λ (r : Visit). ((‵ (flft (ν ∷ []) fullShare) ⊛ ‵ ftrue) ⊛ ‵ (Vis.the-row .own r (w ∷ []))) ⊛ raw (ensured 𝓤 H A seen.ended (seen.clauses 𝓤 H A at-mem run) (ν ∷ [], tt) (u δ (σ .ys), (σ .i, tt)) tt r)))) (id⊢ 𝓤 _) $ await ! tt $ pick ! (λ r. split ! $
+          calls-at ! fm (Seen 𝓤 H A at-mem run) known-seen (to-seen ν δ (σ .ys) (σ .i))
+          (and-then ! (load ! (from ! (stop !)) (look ! 8 refl)) (and-then ! (load ! (from ! (stop !)) (look ! 20 refl)) (no-more !))) (λ w.
+          use1 W (later (some (λ (r : Visit). ((‵ (flft (ν ∷ []) fullShare) ⊛ ‵ ftrue) ⊛ ‵ (Vis.the-row .own r (w ∷ []))) ⊛ raw
+          (ensured 𝓤 H A seen.ended (seen.clauses 𝓤 H A at-mem run) (ν ∷ [], tt) (u δ (σ .ys), (σ .i, tt)) tt r)))) (id⊢ 𝓤 _) $ await ! tt $ pick ! (λ r. split ! $
           move ! (1 ∷ []) $
-          use1 W (some (λ (zs : List ℕ × (Unit {0} × Unit {0})). ‵ (lasts seen.ended (ν ∷ [], tt) (u δ (σ .ys), (σ .i, tt)) zs) ⊛ raw (fact 𝓤 ((r ≡ visitOf (getD (σ .ys) (placeOf (σ .i)) 0)) × (zs .0 ≡ set (σ .ys) (placeOf (σ .i)) 0))))) (id⊢ 𝓤 _) $ pick ! (λ zs. split ! $
+          use1 W (some (λ (zs : List ℕ × (Unit {0} × Unit {0})). ‵ (lasts seen.ended (ν ∷ [], tt) (u δ (σ .ys), (σ .i, tt)) zs) ⊛ raw
+          (fact 𝓤 ((r ≡ visitOf (getD (σ .ys) (placeOf (σ .i)) 0)) × (zs .0 ≡ set (σ .ys) (placeOf (σ .i)) 0))))) (id⊢ 𝓤 _) $ pick ! (λ zs. split ! $
           move ! (1 ∷ []) $
           heard ! ((r ≡ visitOf (getD (σ .ys) (placeOf (σ .i)) 0)) × (zs .0 ≡ set (σ .ys) (placeOf (σ .i)) 0)) (λ e.
           fsplit ! $ fsplit ! $
@@ -305,19 +328,25 @@ module _ {M : Type 1} (𝓤 : URA M) (H : Heap 𝓤) (A : Atoms 𝓤) (W : Given
           move ! (1 ∷ []) $
           split ! $ lft-end ! tt $
           move ! (0 ∷ 5 ∷ 3 ∷ []) $
-          use3 W (later (‵ (MutSlice (named 0) κ₀ u8 .own (u γᵤ (zs .0)) (vᵤ (σ .ys) ∷ [])) ⊛ ‵ (flft κ₀ q₀))) (slice.comes-back u8 κ₀ (ν ∷ []) q₀ γᵤ bᵤ oᵤ 𝓤 H A W (named 0) (named 0) (σ .ys) δ (zs .0) room ee) $ await ! tt $ split ! $
-          rewrite ! 0 (λ (m : ℕ). ‵ (MutSlice (named 0) κ₀ u8 .own (u γᵤ (zs .0)) (sliceVal (bᵤ, oᵤ) m ∷ []))) (sym ee) refl $ rewrite ! 31 (λ (m : ℕ). ‵ (fat fullShare (ty 1) l₁ 0 (sliceVal (bᵤ, oᵤ) m))) (sym ee) refl $
+          use3 W (later (‵ (MutSlice (named 0) κ₀ u8 .own (u γᵤ (zs .0)) (vᵤ (σ .ys) ∷ [])) ⊛ ‵ (flft κ₀ q₀)))
+          (slice.comes-back u8 κ₀ (ν ∷ []) q₀ γᵤ bᵤ oᵤ 𝓤 H A W (named 0) (named 0) (σ .ys) δ (zs .0) room ee) $ await ! tt $ split ! $
+          rewrite ! 0 (λ (m : ℕ). ‵ (MutSlice (named 0) κ₀ u8 .own (u γᵤ (zs .0)) (sliceVal (bᵤ, oᵤ) m ∷ []))) (sym ee) refl $ rewrite ! 31
+          (λ (m : ℕ). ‵ (fat fullShare (ty 1) l₁ 0 (sliceVal (bᵤ, oᵤ) m))) (sym ee) refl $
           -- [U; lU; TOK2; OV; REST; Rec; lR; _13; _12; _11; _10; _9; _8; _7; _6; _5; _4; _3; _2; _1; _0]
           assigns ! (addr ! (from ! (hop ! (look ! 25 refl) (stop !)))) (from ! (stop !)) (init ! 7 refl (tt, tt)) $
           lft-new ! tt (λ ν′.
           move ! (6 ∷ 7 ∷ []) $
-          use2 W (later (some (λ (δ′ : GName). ‵ (Rec (ν′ ∷ []) δ′ (σ .h)) ⊛ ‵ (LentAgain T.the-row κ₁ (ν′ ∷ []) q₁ γ b o δ′ (σ .h))))) (lends-again 𝓤 H A W T.the-row (named 0) κ₁ (ν′ ∷ []) q₁ γ b o (named 0) (σ .h)) $ await ! tt $ pick ! (λ δ′. split ! $
+          use2 W (later (some (λ (δ′ : GName). ‵ (Rec (ν′ ∷ []) δ′ (σ .h)) ⊛ ‵ (LentAgain T.the-row κ₁ (ν′ ∷ []) q₁ γ b o δ′ (σ .h)))))
+          (lends-again 𝓤 H A W T.the-row (named 0) κ₁ (ν′ ∷ []) q₁ γ b o (named 0) (σ .h)) $ await ! tt $ pick ! (λ δ′. split ! $
           move ! (2 ∷ 0 ∷ 6 ∷ []) $
           use3 W (raw (Plus 𝓤 H A at-mem run .pre (to-plus ν′ δ′ (σ .h) r w))) (goes-plus ν′ δ′ (σ .h) r w) $
-          calls-at ! fm (Plus 𝓤 H A at-mem run) known-plus (to-plus ν′ δ′ (σ .h) r w) (and-then ! (load ! (from ! (stop !)) (look ! 6 refl)) (and-then ! (load ! (from ! (stop !)) (look ! 20 refl)) (no-more !))) (λ w′.
-          use1 W (later (some (λ (r′ : Unit {0}). ((‵ (flft (ν′ ∷ []) fullShare) ⊛ ‵ ftrue) ⊛ ‵ (Nothing .own r′ (w′ ∷ []))) ⊛ raw (ensured 𝓤 H A plus.ended (plus.clauses 𝓤 H A at-mem run) (ν′ ∷ [], tt) (t δ′ (σ .h), (r, tt)) tt r′)))) (id⊢ 𝓤 _) $ await ! tt $ pick ! (λ r′. split ! $
+          calls-at ! fm (Plus 𝓤 H A at-mem run) known-plus (to-plus ν′ δ′ (σ .h) r w)
+          (and-then ! (load ! (from ! (stop !)) (look ! 6 refl)) (and-then ! (load ! (from ! (stop !)) (look ! 20 refl)) (no-more !))) (λ w′.
+          use1 W (later (some (λ (r′ : Unit {0}). ((‵ (flft (ν′ ∷ []) fullShare) ⊛ ‵ ftrue) ⊛ ‵ (Nothing .own r′ (w′ ∷ []))) ⊛ raw
+          (ensured 𝓤 H A plus.ended (plus.clauses 𝓤 H A at-mem run) (ν′ ∷ [], tt) (t δ′ (σ .h), (r, tt)) tt r′)))) (id⊢ 𝓤 _) $ await ! tt $ pick ! (λ r′. split ! $
           move ! (1 ∷ []) $
-          use1 W (some (λ (hs : Tally × (Unit {0} × Unit {0})). ‵ (lasts plus.ended (ν′ ∷ [], tt) (t δ′ (σ .h), (r, tt)) hs) ⊛ raw (fact 𝓤 (hs .0 ≡ addedOf (σ .h) r)))) (id⊢ 𝓤 _) $ pick ! (λ hs. split ! $
+          use1 W (some (λ (hs : Tally × (Unit {0} × Unit {0})). ‵ (lasts plus.ended (ν′ ∷ [], tt) (t δ′ (σ .h), (r, tt)) hs) ⊛ raw (fact 𝓤 (hs .0 ≡ addedOf (σ .h) r)))) (id⊢ 𝓤 _) $ pick !
+          (λ hs. split ! $
           move ! (1 ∷ []) $
           heard ! (hs .0 ≡ addedOf (σ .h) r) (λ e′.
           fsplit ! $
@@ -338,7 +367,16 @@ module _ {M : Type 1} (𝓤 : URA M) (H : Heap 𝓤) (A : Atoms 𝓤) (W : Given
           forget ! 16 refl $
           forget ! 22 refl $
           keep ! (4 ∷ 5 ∷ 0 ∷ 1 ∷ 8 ∷ 9 ∷ 10 ∷ 11 ∷ 12 ∷ 13 ∷ 14 ∷ 15 ∷ 16 ∷ 17 ∷ 18 ∷ 19 ∷ 20 ∷ 21 ∷ 22 ∷ 23 ∷ 24 ∷ 25 ∷ 26 ∷ 27 ∷ 28 ∷ 29 ∷ 30 ∷ 31 ∷ 32 ∷ 33 ∷ 34 ∷ 35 ∷ []) $
-          again ! Nearer At σ (record { i = σ .i + 1; h = hs .0; ys = zs .0; within = omega (arith, less); long = ee ∙ σ .long; so-far = (step n (σ .i) (σ .ys) (zs .0) (σ .h) (hs .0) r less e e′ .0 ∙ σ .so-far .0, step n (σ .i) (σ .ys) (zs .0) (σ .h) (hs .0) r less e e′ .1 ∙ σ .so-far .1) }) (add-one-dec n (σ .i) less))))))))))))))))
+          again ! Nearer At σ (record {
+            i = σ .i + 1;
+            h = hs .0;
+            ys = zs .0;
+            within = omega (arith, less);
+            long = ee ∙ σ .long;
+            so-far =
+                (step n (σ .i) (σ .ys) (zs .0) (σ .h) (hs .0) r less e e′ .0 ∙ σ .so-far .0, step n (σ .i) (σ .ys) (zs .0) (σ .h) (hs .0) r less e e′ .1 ∙ σ .so-far .1);
+          })
+          (add-one-dec n (σ .i) less))))))))))))))))
         where
           room : Room u8 (length (σ .ys))
           room = subst (Room u8) (sym (σ .long)) room₀
@@ -387,17 +425,22 @@ module _ {M : Type 1} (𝓤 : URA M) (H : Heap 𝓤) (A : Atoms 𝓤) (W : Given
         alloc1 ! (λ l₁₂.
         alloc1 ! (λ l₁₃.
         alloc0 ! $ params1 ! $
-        pass1 ! (init ! 24 refl (tt, (tt, (record { fits = room₀ .0 }, tt)))) $ pass1 ! (init ! 22 refl (tt, record { fits = n-fits })) $ pass1 ! (init ! 20 refl (tt, tt)) $ pass1 ! (init ! 18 refl (tt, tt)) $ pass0 ! $
+        pass1 ! (init ! 24 refl (tt, (tt, (record { fits = room₀ .0 }, tt)))) $ pass1 ! (init ! 22 refl (tt, record { fits = n-fits })) $ pass1 ! (init ! 20 refl (tt, tt)) $ pass1 !
+        (init ! 18 refl (tt, tt)) $ pass0 ! $
         assigns ! (addr ! (from ! (hop ! (look ! 18 refl) (stop !)))) (from ! (stop !)) (init ! 10 refl (tt, tt)) $
         lft-new ! tt (λ ν′.
         move ! (31 ∷ 32 ∷ []) $
-        use2 W (later (some (λ (δ′ : GName). ‵ (Rec (ν′ ∷ []) δ′ (h₀)) ⊛ ‵ (LentAgain T.the-row κ₁ (ν′ ∷ []) q₁ γ b o δ′ (h₀))))) (lends-again 𝓤 H A W T.the-row (named 0) κ₁ (ν′ ∷ []) q₁ γ b o (named 0) (h₀)) $ await ! tt $ pick ! (λ δ′. split ! $
+        use2 W (later (some (λ (δ′ : GName). ‵ (Rec (ν′ ∷ []) δ′ (h₀)) ⊛ ‵ (LentAgain T.the-row κ₁ (ν′ ∷ []) q₁ γ b o δ′ (h₀)))))
+        (lends-again 𝓤 H A W T.the-row (named 0) κ₁ (ν′ ∷ []) q₁ γ b o (named 0) (h₀)) $ await ! tt $ pick ! (λ δ′. split ! $
         move ! (2 ∷ 0 ∷ 33 ∷ []) $
         use3 W (raw (Zero 𝓤 H A at-mem run .pre (to-zero ν′ δ′ (h₀)))) (goes-zero ν′ δ′ (h₀)) $
-        calls-at ! fm (Zero 𝓤 H A at-mem run) known-zero (to-zero ν′ δ′ (h₀)) (and-then ! (load ! (from ! (stop !)) (look ! 12 refl)) (and-then ! (load ! (from ! (stop !)) (look ! 22 refl)) (no-more !))) (λ w′.
-        use1 W (later (some (λ (r′ : Unit {0}). ((‵ (flft (ν′ ∷ []) fullShare) ⊛ ‵ ftrue) ⊛ ‵ (Nothing .own r′ (w′ ∷ []))) ⊛ raw (ensured 𝓤 H A cleared.ended (cleared.clauses 𝓤 H A at-mem run) (ν′ ∷ [], tt) (t δ′ (h₀), (pl, tt)) tt r′)))) (id⊢ 𝓤 _) $ await ! tt $ pick ! (λ r′. split ! $
+        calls-at ! fm (Zero 𝓤 H A at-mem run) known-zero (to-zero ν′ δ′ (h₀))
+        (and-then ! (load ! (from ! (stop !)) (look ! 12 refl)) (and-then ! (load ! (from ! (stop !)) (look ! 22 refl)) (no-more !))) (λ w′.
+        use1 W (later (some (λ (r′ : Unit {0}). ((‵ (flft (ν′ ∷ []) fullShare) ⊛ ‵ ftrue) ⊛ ‵ (Nothing .own r′ (w′ ∷ []))) ⊛ raw
+        (ensured 𝓤 H A cleared.ended (cleared.clauses 𝓤 H A at-mem run) (ν′ ∷ [], tt) (t δ′ (h₀), (pl, tt)) tt r′)))) (id⊢ 𝓤 _) $ await ! tt $ pick ! (λ r′. split ! $
         move ! (1 ∷ []) $
-        use1 W (some (λ (hs : Tally × (Unit {0} × Unit {0})). ‵ (lasts cleared.ended (ν′ ∷ [], tt) (t δ′ (h₀), (pl, tt)) hs) ⊛ raw (fact 𝓤 (hs .0 ≡ begunOf h₀ pl)))) (id⊢ 𝓤 _) $ pick ! (λ hs. split ! $
+        use1 W (some (λ (hs : Tally × (Unit {0} × Unit {0})). ‵ (lasts cleared.ended (ν′ ∷ [], tt) (t δ′ (h₀), (pl, tt)) hs) ⊛ raw (fact 𝓤 (hs .0 ≡ begunOf h₀ pl)))) (id⊢ 𝓤 _) $ pick !
+        (λ hs. split ! $
         move ! (1 ∷ []) $
         heard ! (hs .0 ≡ begunOf h₀ pl) (λ e′.
         fsplit ! $
@@ -412,10 +455,20 @@ module _ {M : Type 1} (𝓤 : URA M) (H : Heap 𝓤) (A : Atoms 𝓤) (W : Given
         -- [Rec; lR; T3; T2; _13; _12; _11; _10; _9; _8; _7; _6; _5; _4; _3; _2; _1; _0; U; lU; OWN; ON; TOK]
         assigns ! (of-opd ! (lit ! tt)) (from ! (stop !)) (init ! 20 refl (tt, record { fits = lit< tt })) $ forget ! 14 refl $ forget ! 16 refl $
         keep ! (32 ∷ 33 ∷ 0 ∷ 1 ∷ 4 ∷ 5 ∷ 6 ∷ 7 ∷ 8 ∷ 9 ∷ 10 ∷ 11 ∷ 12 ∷ 13 ∷ 14 ∷ 15 ∷ 16 ∷ 17 ∷ 18 ∷ 19 ∷ 20 ∷ 21 ∷ 22 ∷ 23 ∷ 24 ∷ 25 ∷ 26 ∷ 27 ∷ 28 ∷ 29 ∷ 30 ∷ 31 ∷ []) $
-        first ! $ blocks ! $ loops ! 𝓣 Nearer Nearer-wf (At l₀ l₁ l₂ l₃ l₄ l₅ l₆ l₇ l₈ l₉ l₁₀ l₁₁ l₁₂ l₁₃) (turns l₀ l₁ l₂ l₃ l₄ l₅ l₆ l₇ l₈ l₉ l₁₀ l₁₁ l₁₂ l₁₃) (record { i = 0; h = hs .0; ys = ys₀; within = omega arith; long = refl; so-far = (ap (λ (k : Tally). tallied (n - 0) 0 ys₀ k) e′ ∙ ap (λ (m : ℕ). tallied m 0 ys₀ (begunOf h₀ pl)) (sub-zero n), ap (λ (m : ℕ). emptied m 0 ys₀) (sub-zero n)) }))))))))))))))))))))))
+        first ! $ blocks ! $ loops ! 𝓣 Nearer Nearer-wf (At l₀ l₁ l₂ l₃ l₄ l₅ l₆ l₇ l₈ l₉ l₁₀ l₁₁ l₁₂ l₁₃) (turns l₀ l₁ l₂ l₃ l₄ l₅ l₆ l₇ l₈ l₉ l₁₀ l₁₁ l₁₂ l₁₃)
+        (record {
+          i = 0;
+          h = hs .0;
+          ys = ys₀;
+          within = omega arith;
+          long = refl;
+          so-far =
+              (ap (λ (k : Tally). tallied (n - 0) 0 ys₀ k) e′ ∙ ap (λ (m : ℕ). tallied m 0 ys₀ (begunOf h₀ pl)) (sub-zero n), ap (λ (m : ℕ). emptied m 0 ys₀) (sub-zero n));
+        }))))))))))))))))))))))
 
 module _ {M : Type 1} (𝓤 : URA M) (H : Heap 𝓤) (A : Atoms 𝓤) (W : Given 𝓤 H A) (at-mem : Memory → SProp 𝓤) (run : Routine → Fun 𝓤) (𝓣 : Tables 𝓤 H)
-    (known-zero : Triple 𝓤 (𝓣 .C #unit_tally·begin) (Zero 𝓤 H A at-mem run)) (known-seen : Triple 𝓤 (𝓣 .C #unit_tally·take-mark) (Seen 𝓤 H A at-mem run)) (known-plus : Triple 𝓤 (𝓣 .C #unit_tally·add-visit) (Plus 𝓤 H A at-mem run)) where
+    (known-zero : Triple 𝓤 (𝓣 .C #unit_tally·begin) (Zero 𝓤 H A at-mem run)) (known-seen : Triple 𝓤 (𝓣 .C #unit_tally·take-mark) (Seen 𝓤 H A at-mem run))
+    (known-plus : Triple 𝓤 (𝓣 .C #unit_tally·add-visit) (Plus 𝓤 H A at-mem run)) where
   walks : Walks 𝓤 H A f.ended stayed (WpFn 𝓤 H (𝓣 .C) (𝓣 .Λ) code.function) (f.clauses 𝓤 H A at-mem run)
   walks = walked 𝓤 H A f.ended stayed (f.clauses 𝓤 H A at-mem run) (WpFn 𝓤 H (𝓣 .C) (𝓣 .Λ) code.function) (λ κs. (slice-vals, (uint-vals w64, (bool-vals, (ptr-vals, tt)))))
       (λ κs. (mut-slice-tells (named 0) (κs .0) u8, (uint-tells w64, (bool-tells, (mut-tells (named 1) (κs .1 .0) T.the-row, tt)))))
@@ -423,7 +476,10 @@ module _ {M : Type 1} (𝓤 : URA M) (H : Heap 𝓤) (A : Atoms 𝓤) (W : Given
       (a .1 .0) (a .1 .1 .0) (a .1 .1 .1 .0 .ptr .0) (a .1 .1 .1 .0 .ptr .1) (a .1 .1 .1 .0 .name) (a .1 .1 .1 .0 .now) 𝓣 (are .0 .0 .1) (are .1 .0 .1) known-zero known-seen known-plus))
 
   goes : AllGo 𝓤 H A W 2 (f.signature .params) (f.ended .kept) stayed
-  goes = (goes-slice 𝓤 H A W 2 0 tt (plain (λ _. u8)), (goes-dropped 𝓤 H A W 2 (plain (λ _. usize)) yes (λ κs x f. refl), (goes-dropped 𝓤 H A W 2 (plain (λ _. bool)) yes (λ κs x f. refl), (goes-ref 𝓤 H A W 2 1 tt (plain (λ _. T.the-row)), tt))))
+  goes = (
+    goes-slice 𝓤 H A W 2 0 tt (plain (λ _. u8)),
+    (goes-dropped 𝓤 H A W 2 (plain (λ _. usize)) yes (λ κs x f. refl), (goes-dropped 𝓤 H A W 2 (plain (λ _. bool)) yes (λ κs x f. refl), (goes-ref 𝓤 H A W 2 1 tt (plain (λ _. T.the-row)), tt))),
+  )
 
   meets : Meets 𝓤 H A f.signature (WpFn 𝓤 H (𝓣 .C) (𝓣 .Λ) code.function) (f.spec 𝓤 H A at-mem run)
   meets = walk-meets 𝓤 H A f.ended stayed W goes (f.clauses 𝓤 H A at-mem run) (WpFn 𝓤 H (𝓣 .C) (𝓣 .Λ) code.function) (WpFn-mono 𝓤 H (W .laws) 𝓣 code.function) walks

@@ -34,10 +34,11 @@ same-length c = search needs
 -- src/lib.rt:125:1
 returns : tie.Need-returns
 returns c =
+    let put-byte = c .before .before .before .put-byte in
     let b = c .before .before .before .before .before in
     let p = b .before .before in
     let w = p .before .before .args .work .now in
-    (c .visit-of .ensures ∙ ap visitOf (b .byte-at .ensures ∙ ap (λ k. getD w k 0) (p .mark-place .ensures)), c .before .before .before .put-byte .ensures .0 ∙ ap (λ k. set w k 0) (p .mark-place .ensures))
+    (c .visit-of .ensures ∙ ap visitOf (b .byte-at .ensures ∙ ap (λ k. getD w k 0) (p .mark-place .ensures)), put-byte .ensures .0 ∙ ap (λ k. set w k 0) (p .mark-place .ensures))
 
 pub take-mark-spec : {M : Type 1} → statement M
 take-mark-spec =

@@ -50,9 +50,20 @@ same-length-3 : tie.Need-same-length-3
 same-length-3 c = search needs
 
 returns : tie.Need-returns
-returns c = let q = c .before .before .before .before .before .before .before .before .before .before .before .before .before .before .before .before .before .before .before .before .before .before .before .before .before .before .before .before .args in λ rs a h low long short small.
-    let u = c .before .before .before .before .before .before .before .before .before .before .before .before .before .before .before .before .before .visit .ensures rs a (held h (c .before .before .before .before .before .before .before .before .before .before .before .before .before .before .before .before .before .before .before .before .before .number-at .ensures) (c .before .before .before .before .before .before .before .before .before .before .before .before .before .before .before .before .before .before .before .number-at2 .ensures)) low long short in
-    played rs (q .budget) (plannedView (q .p)) (q .k) (q .work .now) (q .lines .now) (q .settings .now) _ (done _ _) small (c .before .before .before .before .before .before .before .before .before .before .before .before .before .before .before .before .before .before .before .before .before .number-at .ensures) (c .before .before .before .before .before .before .before .before .before .before .before .before .before .before .before .before .before .before .before .number-at2 .ensures) (sym (ap visitedView (c .before .before .before .before .before .before .before .before .before .before .before .before .before .to .given .1)) ∙ u .0) (u .1) (c .before .before .put-mark .ensures) refl (c .before .before .before .before .before .before .before .before .before .before .store-number .ensures) (c .before .before .before .before .before .before .store-number2 .ensures)
+returns c =
+    let far = c .before .before .before .before .before .before .before .before .before .before .before .before .before .before .before .before .before .before .before .before in
+    let args = far .before .before .before .before .before .before .before .before .before .args in
+    let number-at = far .before .number-at in
+    let number-at2 = c .before .before .before .before .before .before .before .before .before .before .before .before .before .before .before .before .before .before .before .number-at2 in
+    let visit = c .before .before .before .before .before .before .before .before .before .before .before .before .before .before .before .before .before .visit in
+    let to = c .before .before .before .before .before .before .before .before .before .before .before .before .before .to in
+    let store-number = c .before .before .before .before .before .before .before .before .before .before .store-number in
+    let store-number2 = c .before .before .before .before .before .before .store-number2 in
+    let put-mark = c .before .before .put-mark in
+    let q = args in λ rs a h low long short small.
+    let u = visit .ensures rs a (held h (number-at .ensures) (number-at2 .ensures)) low long short in
+    played rs (q .budget) (plannedView (q .p)) (q .k) (q .work .now) (q .lines .now) (q .settings .now) _ (done _ _) small (number-at .ensures) (number-at2 .ensures)
+    (sym (ap visitedView (to .given .1)) ∙ u .0) (u .1) (put-mark .ensures) refl (store-number .ensures) (store-number2 .ensures)
 
 same-length-4 : tie.Need-same-length-4
 same-length-4 c = search needs
@@ -64,9 +75,18 @@ same-length-6 : tie.Need-same-length-6
 same-length-6 c = search needs
 
 returns-2 : tie.Need-returns-2
-returns-2 c = let q = c .before .before .before .before .before .before .before .before .before .before .before .before .before .before .before .before .before .before .before .args in λ rs a h low long short small.
-    let u = c .before .before .before .before .before .before .before .before .visit .ensures rs a (held h (c .before .before .before .before .before .before .before .before .before .before .before .before .number-at .ensures) (c .before .before .before .before .before .before .before .before .before .before .number-at2 .ensures)) low long short in
-    played rs (q .budget) (plannedView (q .p)) (q .k) (q .work .now) (q .lines .now) (q .settings .now) _ skipped small (c .before .before .before .before .before .before .before .before .before .before .before .before .number-at .ensures) (c .before .before .before .before .before .before .before .before .before .before .number-at2 .ensures) (sym (ap visitedView (c .before .before .before .before .enum-told .given .1)) ∙ u .0) (u .1) (c .before .before .put-mark2 .ensures) refl refl refl
+returns-2 c =
+    let far = c .before .before .before .before .before .before .before .before .before .before .before .before .before .before .before .before .before .before .before .before in
+    let args = far .args in
+    let number-at = c .before .before .before .before .before .before .before .before .before .before .before .before .number-at in
+    let number-at2 = c .before .before .before .before .before .before .before .before .before .before .number-at2 in
+    let visit = c .before .before .before .before .before .before .before .before .visit in
+    let enum-told = c .before .before .before .before .enum-told in
+    let put-mark2 = c .before .before .put-mark2 in
+    let q = args in λ rs a h low long short small.
+    let u = visit .ensures rs a (held h (number-at .ensures) (number-at2 .ensures)) low long short in
+    played rs (q .budget) (plannedView (q .p)) (q .k) (q .work .now) (q .lines .now) (q .settings .now) _ skipped small (number-at .ensures) (number-at2 .ensures)
+    (sym (ap visitedView (enum-told .given .1)) ∙ u .0) (u .1) (put-mark2 .ensures) refl refl refl
 
 same-length-7 : tie.Need-same-length-7
 same-length-7 c = search needs
@@ -78,9 +98,18 @@ same-length-9 : tie.Need-same-length-9
 same-length-9 c = search needs
 
 returns-3 : tie.Need-returns-3
-returns-3 c = let q = c .before .before .before .before .before .before .before .before .before .before .before .before .before .before .before .before .before .before .before .args in λ rs a h low long short small.
-    let u = c .before .before .before .before .before .before .before .before .visit .ensures rs a (held h (c .before .before .before .before .before .before .before .before .before .before .before .before .number-at .ensures) (c .before .before .before .before .before .before .before .before .before .before .number-at2 .ensures)) low long short in
-    played rs (q .budget) (plannedView (q .p)) (q .k) (q .work .now) (q .lines .now) (q .settings .now) _ spent small (c .before .before .before .before .before .before .before .before .before .before .before .before .number-at .ensures) (c .before .before .before .before .before .before .before .before .before .before .number-at2 .ensures) (sym (ap visitedView (c .before .before .before .before .enum-told2 .given .1)) ∙ u .0) (u .1) (c .before .before .put-mark3 .ensures) refl refl refl
+returns-3 c =
+    let far = c .before .before .before .before .before .before .before .before .before .before .before .before .before .before .before .before .before .before .before .before in
+    let args = far .args in
+    let number-at = c .before .before .before .before .before .before .before .before .before .before .before .before .number-at in
+    let number-at2 = c .before .before .before .before .before .before .before .before .before .before .number-at2 in
+    let visit = c .before .before .before .before .before .before .before .before .visit in
+    let enum-told2 = c .before .before .before .before .enum-told2 in
+    let put-mark3 = c .before .before .put-mark3 in
+    let q = args in λ rs a h low long short small.
+    let u = visit .ensures rs a (held h (number-at .ensures) (number-at2 .ensures)) low long short in
+    played rs (q .budget) (plannedView (q .p)) (q .k) (q .work .now) (q .lines .now) (q .settings .now) _ spent small (number-at .ensures) (number-at2 .ensures)
+    (sym (ap visitedView (enum-told2 .given .1)) ∙ u .0) (u .1) (put-mark3 .ensures) refl refl refl
 
 pub play-visit-spec : {M : Type 1} → statement M
 play-visit-spec =

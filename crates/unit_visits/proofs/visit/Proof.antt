@@ -21,8 +21,15 @@ same-type-requires : tie.Need-same-type-requires
 same-type-requires c κs = search needs
 
 returns : tie.Need-returns
-returns c = let q = c .before .before .before .before .before .before .before .before .before .args in λ rs a h low long short.
-    (visit-skipped a (q .p) low h (c .before .same-type .ensures) (c .before .before .cell .ensures .0) (c .before .before .before .side .ensures) (c .before .before .before .before .place2 .ensures .0) (c .before .before .before .before .before .place .ensures .0) (q .budget) (not-true _ (c .if1 .taken)), record { behind = refl })
+returns c =
+    let args = c .before .before .before .before .before .before .before .before .before .before .args in
+    let place = c .before .before .before .before .before .place in
+    let place2 = c .before .before .before .before .place2 in
+    let side = c .before .before .before .side in
+    let cell = c .before .before .cell in
+    let same-type = c .before .same-type in
+    let q = args in λ rs a h low long short.
+    (visit-skipped a (q .p) low h (same-type .ensures) (cell .ensures .0) (side .ensures) (place2 .ensures .0) (place .ensures .0) (q .budget) (not-true _ (c .if1 .taken)), record { behind = refl })
 
 side-requires-2 : tie.Need-side-requires-2
 side-requires-2 c κs = search needs
@@ -37,12 +44,23 @@ same-length : tie.Need-same-length
 same-length c = search needs
 
 returns-2 : tie.Need-returns-2
-returns-2 c = let q = c .before .before .before .before .before .before .before .before .before .before .before .before .before .before .before .args in λ rs a h low long short.
-    let y = not-false _ (c .before .before .before .before .before .before .if1 .left) in
-    let ej = to-end a (q .p) low (c .before .before .before .before .cell2 .ensures .0) (c .before .before .before .before .before .side2 .ensures) (c .before .before .before .before .before .before .before .before .before .before .place2 .ensures .0) (c .before .before .before .before .before .before .before .before .before .before .before .place .ensures .0) in
-    let same = same-types a (q .p) low h (c .before .before .before .before .before .before .before .same-type .ensures) (c .before .before .before .before .before .before .before .before .cell .ensures .0) (c .before .before .before .before .before .before .before .before .before .side .ensures) (c .before .before .before .before .before .before .before .before .before .before .place2 .ensures .0) (c .before .before .before .before .before .before .before .before .before .before .before .place .ensures .0) y in
-    let s = c .before .before .send .ensures rs a h (iso-of a (q .p) low .0) (iso-of a (q .p) low .1) same ej (c .before .before .before .before .cell2 .ensures .1) long short in
-    (visit-sent a (q .p) low h (c .before .before .before .before .before .before .before .same-type .ensures) (c .before .before .before .before .before .before .before .before .cell .ensures .0) (c .before .before .before .before .before .before .before .before .before .side .ensures) (c .before .before .before .before .before .before .before .before .before .before .place2 .ensures .0) (c .before .before .before .before .before .before .before .before .before .before .before .place .ensures .0) (q .budget) y ej (s .0), s .1)
+returns-2 c =
+    let args = c .before .before .before .before .before .before .before .before .before .before .before .before .before .before .before .before .args in
+    let place = c .before .before .before .before .before .before .before .before .before .before .before .place in
+    let place2 = c .before .before .before .before .before .before .before .before .before .before .place2 in
+    let side = c .before .before .before .before .before .before .before .before .before .side in
+    let cell = c .before .before .before .before .before .before .before .before .cell in
+    let same-type = c .before .before .before .before .before .before .before .same-type in
+    let if1 = c .before .before .before .before .before .before .if1 in
+    let side2 = c .before .before .before .before .before .side2 in
+    let cell2 = c .before .before .before .before .cell2 in
+    let send = c .before .before .send in
+    let q = args in λ rs a h low long short.
+    let y = not-false _ (if1 .left) in
+    let ej = to-end a (q .p) low (cell2 .ensures .0) (side2 .ensures) (place2 .ensures .0) (place .ensures .0) in
+    let same = same-types a (q .p) low h (same-type .ensures) (cell .ensures .0) (side .ensures) (place2 .ensures .0) (place .ensures .0) y in
+    let s = send .ensures (q .isos) rs a low h (iso-of a (q .p) low .0) (iso-of a (q .p) low .1) same ej (cell2 .ensures .1) long short in
+    (visit-sent a (q .p) low h (same-type .ensures) (cell .ensures .0) (side .ensures) (place2 .ensures .0) (place .ensures .0) (q .budget) y ej (s .0), s .1)
 
 pub visit-spec : {M : Type 1} → statement M
 visit-spec =

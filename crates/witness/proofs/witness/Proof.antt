@@ -54,10 +54,12 @@ same-length-3 c = search needs
 
 returns-3 : tie.Need-returns-3
 returns-3 c =
+    let clear-bytes = c .before .before .before .before .before .before .before .before .before .clear-bytes in
+    let searched = c .before .before .before .before .searched in
     let i = c .before .before .before .before .before .before .before .before .before .before .before in
     let e = i .before .before in
     let k = early-passes _ _ _ _ _ (e .early .ensures) (i .before .is-refused .ensures) (i .if2 .left) in
-    c .before .before .before .before .searched .ensures .says _ _ (k .1) (k .2) (c .before .before .before .before .before .before .before .before .before .clear-bytes .ensures)
+    searched .ensures .says _ _ (k .1) (k .2) (clear-bytes .ensures)
 
 pub witness-spec : {M : Type 1} → statement M
 witness-spec =

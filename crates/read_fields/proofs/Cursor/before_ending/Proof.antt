@@ -29,7 +29,8 @@ sub-t9 : tie.Need-sub-t9
 sub-t9 c = search needs
 
 returns-4 : tie.Need-returns-4
-returns-4 c = let m = c .before .before in return-and-feed (m .before .before .before .before .args .s .now) (m .before .before .before .if1 .left) (m .if3 .left) (m .before .if2 .left) (c .if4 .taken)
+returns-4 c = let m = c .before .before in return-and-feed (m .before .before .before .before .args .s .now) (m .before .before .before .if1 .left) (m .if3 .left) (m .before .if2 .left)
+    (c .if4 .taken)
 
 sub-t4 : tie.Need-sub-t4
 sub-t4 c = search needs

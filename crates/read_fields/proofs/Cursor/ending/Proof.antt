@@ -17,7 +17,11 @@ skip-requires : tie.Need-skip-requires
 skip-requires c κs = search needs
 
 returns-2 : tie.Need-returns-2
-returns-2 c = ending-both _ _ (c .before .before .before .before .if1 .taken) (c .before .before .if2 .left) (c .before .if3 .taken) (c .skip .ensures)
+returns-2 c =
+    let if1 = c .before .before .before .before .if1 in
+    let if2 = c .before .before .if2 in
+    let if3 = c .before .if3 in
+    ending-both _ _ (if1 .taken) (if2 .left) (if3 .taken) (c .skip .ensures)
 
 returns-3 : tie.Need-returns-3
 returns-3 c = ending-other _ _ (c .before .before .before .if1 .taken) (c .before .if2 .left) (c .if3 .left)

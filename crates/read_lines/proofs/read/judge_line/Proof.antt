@@ -18,20 +18,24 @@ is-refused-requires c κs = search needs
 
 returns : tie.Need-returns
 returns c =
+    let is-refused = c .before .is-refused in
     let judged = c .before .before in
     let read = judged .before .before .before .before in
     let a = read .before .before .before .before .args in
-    form-refused (a .t .now) (a .g .now) (a .c) (a .s .now) (a .at) (read .row-at .result) (read .row-at .ensures) _ _ (judged .before .before .r .given .1) (judged .judge .result) (judged .judge .ensures) (c .before .is-refused .ensures) (c .if1 .taken)
+    form-refused (a .t .now) (a .g .now) (a .c) (a .s .now) (a .at) (read .row-at .result) (read .row-at .ensures) _ _ (judged .before .before .r .given .1) (judged .judge .result)
+    (judged .judge .ensures) (is-refused .ensures) (c .if1 .taken)
 
 enum-told : tie.Need-enum-told
 enum-told c = search needs
 
 returns-2 : tie.Need-returns-2
 returns-2 c =
+    let is-refused = c .before .is-refused in
     let judged = c .before .before in
     let read = judged .before .before .before .before in
     let a = read .before .before .before .before .args in
-    form-passed (a .t .now) (a .g .now) (a .c) (a .s .now) (a .at) (read .row-at .result) (read .row-at .ensures) _ _ (judged .before .before .r .given .1) (judged .judge .result) (judged .judge .ensures) (c .before .is-refused .ensures) (c .if1 .left)
+    form-passed (a .t .now) (a .g .now) (a .c) (a .s .now) (a .at) (read .row-at .result) (read .row-at .ensures) _ _ (judged .before .before .r .given .1) (judged .judge .result)
+    (judged .judge .ensures) (is-refused .ensures) (c .if1 .left)
 
 returns-3 : tie.Need-returns-3
 returns-3 c =

@@ -51,10 +51,13 @@ mul-t-3 c = search needs
 
 slice-write-t-3 : tie.Need-slice-write-t-3
 slice-write-t-3 c =
+    let widen = c .before .before .widen in
+    let narrow = c .before .narrow in
     let s = c .before .before .before .before .before in
     let t = s .args .t .now in
     let n = s .args .n in
-    below-set ℕ (set t (n * rowWidth) (c .before .before .widen .result)) (n * rowWidth + 2) (n * rowWidth + 1) (c .before .narrow .result) (below-set ℕ t (n * rowWidth + 2) (n * rowWidth) (c .before .before .widen .result) (in-row t n 2 (s .pre .0) (s .pre .1) (lit< tt)))
+    below-set ℕ (set t (n * rowWidth) (widen .result)) (n * rowWidth + 2) (n * rowWidth + 1) (narrow .result)
+    (below-set ℕ t (n * rowWidth + 2) (n * rowWidth) (widen .result) (in-row t n 2 (s .pre .0) (s .pre .1) (lit< tt)))
 
 narrow-requires-3 : tie.Need-narrow-requires-3
 narrow-requires-3 c κs = search needs
@@ -67,10 +70,15 @@ mul-t-4 c = search needs
 
 slice-write-t-4 : tie.Need-slice-write-t-4
 slice-write-t-4 c =
+    let widen = c .before .before .before .widen in
+    let narrow = c .before .before .narrow in
+    let narrow2 = c .before .narrow2 in
     let s = c .before .before .before .before .before .before in
     let t = s .args .t .now in
     let n = s .args .n in
-    below-set ℕ (set (set t (n * rowWidth) (c .before .before .before .widen .result)) (n * rowWidth + 1) (c .before .before .narrow .result)) (n * rowWidth + 3) (n * rowWidth + 2) (c .before .narrow2 .result) (below-set ℕ (set t (n * rowWidth) (c .before .before .before .widen .result)) (n * rowWidth + 3) (n * rowWidth + 1) (c .before .before .narrow .result) (below-set ℕ t (n * rowWidth + 3) (n * rowWidth) (c .before .before .before .widen .result) (in-row t n 3 (s .pre .0) (s .pre .1) (lit< tt))))
+    below-set ℕ (set (set t (n * rowWidth) (widen .result)) (n * rowWidth + 1) (narrow .result)) (n * rowWidth + 3) (n * rowWidth + 2) (narrow2 .result)
+    (below-set ℕ (set t (n * rowWidth) (widen .result)) (n * rowWidth + 3) (n * rowWidth + 1) (narrow .result)
+    (below-set ℕ t (n * rowWidth + 3) (n * rowWidth) (widen .result) (in-row t n 3 (s .pre .0) (s .pre .1) (lit< tt))))
 
 narrow-requires-4 : tie.Need-narrow-requires-4
 narrow-requires-4 c κs = search needs
@@ -83,16 +91,30 @@ mul-t-5 c = search needs
 
 slice-write-t-5 : tie.Need-slice-write-t-5
 slice-write-t-5 c =
+    let widen = c .before .before .before .before .widen in
+    let narrow = c .before .before .before .narrow in
+    let narrow2 = c .before .before .narrow2 in
+    let narrow3 = c .before .narrow3 in
     let s = c .before .before .before .before .before .before .before in
     let t = s .args .t .now in
     let n = s .args .n in
-    below-set ℕ (set (set (set t (n * rowWidth) (c .before .before .before .before .widen .result)) (n * rowWidth + 1) (c .before .before .before .narrow .result)) (n * rowWidth + 2) (c .before .before .narrow2 .result)) (n * rowWidth + 4) (n * rowWidth + 3) (c .before .narrow3 .result) (below-set ℕ (set (set t (n * rowWidth) (c .before .before .before .before .widen .result)) (n * rowWidth + 1) (c .before .before .before .narrow .result)) (n * rowWidth + 4) (n * rowWidth + 2) (c .before .before .narrow2 .result) (below-set ℕ (set t (n * rowWidth) (c .before .before .before .before .widen .result)) (n * rowWidth + 4) (n * rowWidth + 1) (c .before .before .before .narrow .result) (below-set ℕ t (n * rowWidth + 4) (n * rowWidth) (c .before .before .before .before .widen .result) (in-row t n 4 (s .pre .0) (s .pre .1) (lit< tt)))))
+    below-set ℕ (set (set (set t (n * rowWidth) (widen .result)) (n * rowWidth + 1) (narrow .result)) (n * rowWidth + 2) (narrow2 .result)) (n * rowWidth + 4) (n * rowWidth + 3)
+    (narrow3 .result) (below-set ℕ (set (set t (n * rowWidth) (widen .result)) (n * rowWidth + 1) (narrow .result)) (n * rowWidth + 4) (n * rowWidth + 2) (narrow2 .result)
+    (below-set ℕ (set t (n * rowWidth) (widen .result)) (n * rowWidth + 4) (n * rowWidth + 1) (narrow .result)
+    (below-set ℕ t (n * rowWidth + 4) (n * rowWidth) (widen .result) (in-row t n 4 (s .pre .0) (s .pre .1) (lit< tt)))))
 
 same-length : tie.Need-same-length
 same-length c = search needs
 
 returns : tie.Need-returns
-returns c = let a = c .before .before .before .before .before .before .before .args in stored (a .t .now) (a .n * rowWidth) refl (c .before .before .before .before .widen .ensures ∙ c .before .before .before .before .before .letter-of .ensures) refl (c .before .before .before .narrow .ensures) refl (c .before .before .narrow2 .ensures) refl (c .before .narrow3 .ensures) refl (c .narrow4 .ensures)
+returns c =
+    let args = c .before .before .before .before .before .before .before .args in
+    let letter-of = c .before .before .before .before .before .letter-of in
+    let widen = c .before .before .before .before .widen in
+    let narrow = c .before .before .before .narrow in
+    let narrow2 = c .before .before .narrow2 in
+    let narrow3 = c .before .narrow3 in
+    let a = args in stored (a .t .now) (a .n * rowWidth) refl (widen .ensures ∙ letter-of .ensures) refl (narrow .ensures) refl (narrow2 .ensures) refl (narrow3 .ensures) refl (c .narrow4 .ensures)
 
 pub put-row-spec : {M : Type 1} → statement M
 put-row-spec =

@@ -73,7 +73,8 @@ loop-again c =
     let j = r .before .before in
     let l = j .before .before .before in
     let s = l .before .before .before .before .before .before in (
-      so-far-more (l .before .loop .inv .0) (l .loop-test .taken) (j .judge-line .result) (j .judge-line .ensures) _ _ (r .r .given .1) (s .pre .0) (size .row-size .ensures) (put .put-row .ensures) (keep .keep-tags .ensures) (c .seen-after .ensures),
+      so-far-more (l .before .loop .inv .0) (l .loop-test .taken) (j .judge-line .result) (j .judge-line .ensures) _ _ (r .r .given .1) (s .pre .0) (size .row-size .ensures)
+          (put .put-row .ensures) (keep .keep-tags .ensures) (c .seen-after .ensures),
       keep .keep-tags .ensures .long ∙ l .before .loop .inv .1,
     )
 

@@ -37,7 +37,12 @@ loop-less c = let h = c .before .before .before .before .before .loop-test .take
 
 -- src/run.rt:54:5
 loop-again : tie.Need-loop-again Inv-loop μ-loop
-loop-again c = copied-next (c .before .before .before .before .before .before .loop .inv) (c .before .before .before .before .before .loop-test .taken) (c .before .before .put-byte .ensures .0) (c .before .before .before .byte-at .ensures)
+loop-again c =
+    let loop′ = c .before .before .before .before .before .before .loop in
+    let loop-test = c .before .before .before .before .before .loop-test in
+    let byte-at = c .before .before .before .byte-at in
+    let put-byte = c .before .before .put-byte in
+    copied-next (loop′ .inv) (loop-test .taken) (put-byte .ensures .0) (byte-at .ensures)
 
 -- src/run.rt:50:1
 same-length : tie.Need-same-length Inv-loop μ-loop

@@ -60,7 +60,14 @@ same-length c = search needs
 
 -- src/run.rt:75:1
 returns-4 : tie.Need-returns-4
-returns-4 c = λ s a h. let k = same-len-mid 4162 (length (c .before .before .before .before .before .before .before .before .before .before .before .before .before .args .index .now) - 4162) (c .before .before .before .before .before .before .before .before .before .before .before .before .before .args .index .now) (c .before .before .before .before .before .before .code-patterns .last .1 .1 .1 .0) (c .before .before .before .before .before .before .code-patterns .kept .1 .1 .1 .0) in prepared a (c .before .before .index-isos .ensures .0 (a .file) _ _ (a .table) refl (a .isos) (omega (arith, k, h))) (coded-behind (c .before .before .before .before .before .before .before .before .before .before .before .before .before .args .table .now) (c .before .before .before .before .before .before .before .before .before .before .before .before .before .args .c .types) (c .before .before .before .before .before .before .before .before .before .before .before .before .before .args .index .now) (c .before .before .before .before .before .before .code-patterns .last .1 .1 .1 .0) (c .before .before .index-isos .last .1 .1 .1 .1 .0) (c .before .before .before .before .before .before .code-patterns .ensures) h (c .before .before .index-isos .ensures .1 (isos-within a)))
+returns-4 c =
+    let args = c .before .before .before .before .before .before .before .before .before .before .before .before .before .args in
+    let code-patterns = c .before .before .before .before .before .before .code-patterns in
+    let index-isos = c .before .before .index-isos in
+    λ s a h. let k = same-len-mid 4162 (length (args .index .now) - 4162) (args .index .now) (code-patterns .last .1 .1 .1 .0) (code-patterns .kept .1 .1 .1 .0) in prepared a
+    (index-isos .ensures .0 (a .file) _ _ (a .table) refl (a .isos) (omega (arith, k, h)))
+    (coded-behind (args .table .now) (args .c .types) (args .index .now) (code-patterns .last .1 .1 .1 .0) (index-isos .last .1 .1 .1 .1 .0) (code-patterns .ensures) h
+    (index-isos .ensures .1 (isos-within a)))
 
 pub prepare-spec : {M : Type 1} → statement M
 prepare-spec =

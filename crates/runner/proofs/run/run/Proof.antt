@@ -11,8 +11,10 @@ refused-requires c κs = search needs
 
 returns : tie.Need-returns
 returns c =
+    let if1 = c .before .if1 in
     let a = c .before .before .before .before .before .before .before .args in
-    short-result (a .file .now) (a .table .now) (a .work .now) (a .i) (a .back) (a .budget) (a .value .now) (a .result .now) (c .refused .result) (c .before .if1 .taken) (ap refusalView (c .refused .ensures .0)) (c .refused .ensures .1) (c .refused .ensures .2)
+    short-result (a .file .now) (a .table .now) (a .work .now) (a .i) (a .back) (a .budget) (a .value .now) (a .result .now) (c .refused .result) (if1 .taken)
+    (ap refusalView (c .refused .ensures .0)) (c .refused .ensures .1) (c .refused .ensures .2)
 
 check-file-requires : tie.Need-check-file-requires
 check-file-requires c κs = search needs
@@ -31,16 +33,21 @@ same-length-2 c = search needs
 
 returns-2 : tie.Need-returns-2
 returns-2 c =
+    let is-refused = c .before .before .is-refused in
+    let if2 = c .before .if2 in
     let x = c .before .before .before .before .before .before .before .before in
     let f = x .before .before .before in
     let a = f .before .before .before .before .before .before .args in
-    run-refused (a .file .now) (a .table .now) (a .work .now) (a .i) (a .back) (a .budget) (a .value .now) (a .result .now) _ _ _ (c .refused2 .result) _ (f .if1 .left) (x .check-file .ensures .0) (c .before .before .is-refused .ensures) (c .before .if2 .taken)
+    run-refused (a .file .now) (a .table .now) (a .work .now) (a .i) (a .back) (a .budget) (a .value .now) (a .result .now) _ _ _ (c .refused2 .result) _ (f .if1 .left)
+    (x .check-file .ensures .0) (is-refused .ensures) (if2 .taken)
     (c .refused2 .ensures .0) (c .refused2 .ensures .1) (c .refused2 .ensures .2)
 
 run-accepted-requires : tie.Need-run-accepted-requires
 run-accepted-requires c κs =
+    let is-refused = c .before .before .before .before .is-refused in
+    let if2 = c .before .before .before .if2 in
     let x = c .before .before .before .before .before .before .before .before .before .before in
-    work-room _ _ _ _ _ (x .check-file .result) _ (x .check-file .kept .1 .1 .0) (x .check-file .ensures .0) (x .check-file .ensures .1) (c .before .before .before .before .is-refused .ensures) (c .before .before .before .if2 .left)
+    work-room _ _ _ _ _ (x .check-file .result) _ (x .check-file .kept .1 .1 .0) (x .check-file .ensures .0) (x .check-file .ensures .1) (is-refused .ensures) (if2 .left)
 
 clear-bytes-requires : tie.Need-clear-bytes-requires
 clear-bytes-requires c κs = search needs
@@ -56,12 +63,15 @@ same-length-5 c = search needs
 
 returns-3 : tie.Need-returns-3
 returns-3 c =
+    let clear-bytes = c .before .before .clear-bytes in
     let r = c .before .before .before .before .before .before .before .before in
     let x = r .before .before .before .before .before .before .before .before .before .before .before in
     let f = x .before .before .before in
     let a = f .before .before .before .before .before .before .args in
-    run-accepted (a .file .now) (a .table .now) (a .work .now) (a .i) (a .back) (a .budget) (a .value .now) (a .result .now) _ _ (r .run-accepted .last .1 .1 .1 .1 .1 .1 .0) _ _ (x .check-file .result) _ _ (f .if1 .left) (x .check-file .kept .1 .1 .0) (x .check-file .ensures .0) (x .check-file .ensures .1)
-    (r .before .before .before .before .before .is-refused .ensures) (r .before .before .before .before .if2 .left) (r .run-accepted .kept .1 .1 .1 .1 .1 .1 .0) (r .run-accepted .ensures .0) (r .run-accepted .ensures .1) (c .before .before .clear-bytes .ensures)
+    run-accepted (a .file .now) (a .table .now) (a .work .now) (a .i) (a .back) (a .budget) (a .value .now) (a .result .now) _ _ (r .run-accepted .last .1 .1 .1 .1 .1 .1 .0) _ _
+    (x .check-file .result) _ _ (f .if1 .left) (x .check-file .kept .1 .1 .0) (x .check-file .ensures .0) (x .check-file .ensures .1)
+    (r .before .before .before .before .before .is-refused .ensures) (r .before .before .before .before .if2 .left) (r .run-accepted .kept .1 .1 .1 .1 .1 .1 .0) (r .run-accepted .ensures .0)
+    (r .run-accepted .ensures .1) (clear-bytes .ensures)
 
 pub run-spec : {M : Type 1} → statement M
 run-spec =

@@ -27,7 +27,14 @@ refused-requires c κs = search needs
 
 -- src/run.rt:131:9
 returns : tie.Need-returns
-returns c = λ rs p long most room. (no-iso (c .before .before .before .before .before .before .before .args .t .now) (c .before .before .before .before .before .before .before .args .base) (c .before .before .before .before .before .before .before .args .index .now) (c .before .before .before .before .before .before .before .args .isos) (c .before .before .before .before .before .before .before .args .i) (c .before .before .before .before .before .before .before .args .back) (c .before .before .before .before .before .before .before .args .budget) (c .before .before .before .before .before .before .before .args .value .now) (c .before .before .before .before .before .before .before .args .result .now) (c .refused .result) (c .before .if1 .taken) (ap refusalView (c .refused .ensures .0)) (c .refused .ensures .1) (c .refused .ensures .2) rs p, refl)
+returns c =
+    let args = c .before .before .before .before .before .before .before .args in
+    let if1 = c .before .if1 in
+    λ rs p long most room. (
+      no-iso (args .t .now) (args .base) (args .index .now) (args .isos) (args .i) (args .back) (args .budget) (args .value .now) (args .result .now) (c .refused .result) (if1 .taken)
+          (ap refusalView (c .refused .ensures .0)) (c .refused .ensures .1) (c .refused .ensures .2) rs p,
+      refl,
+    )
 
 -- src/run.rt:133:28
 place-requires : tie.Need-place-requires
@@ -55,7 +62,21 @@ refused-requires-2 c κs = search needs
 
 -- src/run.rt:135:9
 returns-2 : tie.Need-returns-2
-returns-2 c = λ rs p long most room. (no-value (c .before .before .before .before .before .before .before .before .before .before .before .before .before .args .t .now) (c .before .before .before .before .before .before .before .before .before .before .before .before .before .args .base) (c .before .before .before .before .before .before .before .before .before .before .before .before .before .args .index .now) (c .before .before .before .before .before .before .before .before .before .before .before .before .before .args .isos) (c .before .before .before .before .before .before .before .before .before .before .before .before .before .args .i) (c .before .before .before .before .before .before .before .before .before .before .before .before .before .args .back) (c .before .before .before .before .before .before .before .before .before .before .before .before .before .args .budget) (c .before .before .before .before .before .before .before .before .before .before .before .before .before .args .value .now) (c .before .before .before .before .before .before .before .before .before .before .before .before .before .args .result .now) (c .refused2 .result) (c .before .before .before .cell .result) (c .before .before .before .before .before .place2 .result) (c .before .before .before .before .before .before .place .result) (c .before .before .before .before .side .result) (c .before .before .is-value .result) (c .before .before .before .before .before .before .before .if1 .left) (c .before .before .before .cell .ensures .0) (c .before .before .before .before .before .place2 .ensures .0) (c .before .before .before .before .before .before .place .ensures .0) (c .before .before .before .before .side .ensures) (c .before .before .is-value .ensures) (not-true _ (c .before .if2 .taken)) (ap refusalView (c .refused2 .ensures .0)) (c .refused2 .ensures .1) (c .refused2 .ensures .2) rs p, refl)
+returns-2 c =
+    let args = c .before .before .before .before .before .before .before .before .before .before .before .before .before .args in
+    let if1 = c .before .before .before .before .before .before .before .if1 in
+    let place = c .before .before .before .before .before .before .place in
+    let place2 = c .before .before .before .before .before .place2 in
+    let side = c .before .before .before .before .side in
+    let cell = c .before .before .before .cell in
+    let is-value = c .before .before .is-value in
+    let if2 = c .before .if2 in
+    λ rs p long most room. (
+      no-value (args .t .now) (args .base) (args .index .now) (args .isos) (args .i) (args .back) (args .budget) (args .value .now) (args .result .now) (c .refused2 .result)
+          (cell .result) (place2 .result) (place .result) (side .result) (is-value .result) (if1 .left) (cell .ensures .0) (place2 .ensures .0) (place .ensures .0) (side .ensures)
+          (is-value .ensures) (not-true _ (if2 .taken)) (ap refusalView (c .refused2 .ensures .0)) (c .refused2 .ensures .1) (c .refused2 .ensures .2) rs p,
+      refl,
+    )
 
 -- src/run.rt:137:5
 copy-front-requires : tie.Need-copy-front-requires
@@ -107,7 +128,32 @@ same-length-2 c = search needs
 
 -- src/run.rt:112:1
 returns-3 : tie.Need-returns-3
-returns-3 c = λ rs p long most room. let says = c .before .before .before .before .before .before .before .before .before .before .before .before .before .apply .ensures (subst (Coded (c .before .before .before .before .before .before .before .before .before .before .before .before .before .before .before .before .before .before .before .before .before .before .before .before .before .before .before .before .before .before .before .before .args .t .now) (c .before .before .before .before .before .before .before .before .before .before .before .before .before .before .before .before .before .before .before .before .before .before .before .before .before .before .before .before .before .before .before .before .args .base)) (sym (c .before .before .before .before .before .before .before .before .before .before .before .before .before .before .before .code-part .ensures)) (p .coded)) in (run-done (c .before .before .before .before .before .before .before .before .before .before .before .before .before .before .before .before .before .before .before .before .before .before .before .before .before .before .before .before .before .before .before .before .args .t .now) (c .before .before .before .before .before .before .before .before .before .before .before .before .before .before .before .before .before .before .before .before .before .before .before .before .before .before .before .before .before .before .before .before .args .base) (c .before .before .before .before .before .before .before .before .before .before .before .before .before .before .before .before .before .before .before .before .before .before .before .before .before .before .before .before .before .before .before .before .args .index .now) (c .before .before .before .before .before .before .before .before .before .before .before .before .before .before .before .before .before .before .before .before .before .before .before .before .before .before .before .before .before .before .before .before .args .isos) (c .before .before .before .before .before .before .before .before .before .before .before .before .before .before .before .before .before .before .before .before .before .before .before .before .before .before .before .before .before .before .before .before .args .i) (c .before .before .before .before .before .before .before .before .before .before .before .before .before .before .before .before .before .before .before .before .before .before .before .before .before .before .before .before .before .before .before .before .args .back) (c .before .before .before .before .before .before .before .before .before .before .before .before .before .before .before .before .before .before .before .before .before .before .before .before .before .before .before .before .before .before .before .before .args .budget) (c .before .before .before .before .before .before .before .before .before .before .before .before .before .before .before .before .before .before .before .before .before .before .before .before .before .before .before .before .before .before .before .before .args .value .now) (c .before .before .before .before .before .before .before .before .before .before .before .before .before .before .before .before .before .before .before .before .before .before .before .before .before .before .before .before .before .before .before .before .args .work .now) _ _ _ _ (c .before .before .before .before .before .before .before .before .before .before .before .before .before .before .before .before .before .before .before .before .before .before .before .before .before .before .before .before .before .before .before .before .args .result .now) _ _ _ _ _ (c .before .before .before .before .before .before .before .before .before .before .before .before .before .before .before .before .before .before .before .before .before .before .cell .result) (c .before .before .before .before .before .before .before .before .before .before .before .before .before .before .before .before .before .before .before .before .before .before .before .before .place2 .result) (c .before .before .before .before .before .before .before .before .before .before .before .before .before .before .before .before .before .before .before .before .before .before .before .before .before .place .result) (c .before .before .before .before .before .before .before .before .before .before .before .before .before .before .before .before .before .before .before .before .before .before .before .side .result) (c .before .before .before .before .before .before .before .before .before .before .before .before .before .before .before .before .before .before .before .before .before .is-value .result) (c .before .before .before .before .before .before .before .before .before .before .before .before .before .before .before .before .before .before .before .before .before .before .before .before .before .before .if1 .left) (c .before .before .before .before .before .before .before .before .before .before .before .before .before .before .before .before .before .before .before .before .before .before .cell .ensures .0) (c .before .before .before .before .before .before .before .before .before .before .before .before .before .before .before .before .before .before .before .before .before .before .before .before .place2 .ensures .0) (c .before .before .before .before .before .before .before .before .before .before .before .before .before .before .before .before .before .before .before .before .before .before .before .before .before .place .ensures .0) (c .before .before .before .before .before .before .before .before .before .before .before .before .before .before .before .before .before .before .before .before .before .before .before .side .ensures) (c .before .before .before .before .before .before .before .before .before .before .before .before .before .before .before .before .before .before .before .before .before .is-value .ensures) (not-false _ (c .before .before .before .before .before .before .before .before .before .before .before .before .before .before .before .before .before .before .before .before .if2 .left)) (c .before .before .before .before .before .before .before .before .before .before .before .before .before .before .before .before .before .before .copy-front .kept .1 .1 .0) (c .before .before .before .before .before .before .before .before .before .before .before .before .before .before .before .before .before .before .copy-front .ensures) says (c .before .before .before .before .before .before .before .before .before .b .given .1) (c .before .before .before .before .before .before .front .ensures) (c .before .before .before .before .before .tail .ensures) (c .before .before .before .copy-front2 .ensures) refl (c .used .ensures) refl rs p long most room, run-spares (c .before .before .before .before .before .before .before .before .before .before .before .before .before .before .before .before .before .before .before .before .before .before .before .before .before .before .before .before .before .before .before .before .args .t .now) (c .before .before .before .before .before .before .before .before .before .before .before .before .before .before .before .before .before .before .before .before .before .before .before .before .before .before .before .before .before .before .before .before .args .base) (c .before .before .before .before .before .before .before .before .before .before .before .before .before .before .before .before .before .before .before .before .before .before .before .before .before .before .before .before .before .before .before .before .args .index .now) (c .before .before .before .before .before .before .before .before .before .before .before .before .before .before .before .before .before .before .before .before .before .before .before .before .before .before .before .before .before .before .before .before .args .isos) (c .before .before .before .before .before .before .before .before .before .before .before .before .before .before .before .before .before .before .before .before .before .before .before .before .before .before .before .before .before .before .before .before .args .i) (c .before .before .before .before .before .before .before .before .before .before .before .before .before .before .before .before .before .before .before .before .before .before .before .before .before .before .before .before .before .before .before .before .args .back) (c .before .before .before .before .before .before .before .before .before .before .before .before .before .before .before .before .before .before .before .before .before .before .before .before .before .before .before .before .before .before .before .before .args .budget) (c .before .before .before .before .before .before .before .before .before .before .before .before .before .before .before .before .before .before .before .before .before .before .before .before .before .before .before .before .before .before .before .before .args .value .now) (c .before .before .before .before .before .before .before .before .before .before .before .before .before .before .before .before .before .before .before .before .before .before .before .before .before .before .before .before .before .before .before .before .args .work .now) _ _ (c .before .before .before .before .before .before .before .before .before .before .before .before .before .before .before .before .before .before .before .before .before .before .cell .result) (c .before .before .before .before .before .before .before .before .before .before .before .before .before .before .before .before .before .before .before .before .before .before .before .before .place2 .result) (c .before .before .before .before .before .before .before .before .before .before .before .before .before .before .before .before .before .before .before .before .before .before .before .before .before .place .result) (c .before .before .before .before .before .before .before .before .before .before .before .before .before .before .before .before .before .before .before .before .before .before .before .side .result) (c .before .before .before .before .before .before .before .before .before .before .before .before .before .before .before .before .before .before .before .before .before .is-value .result) (c .before .before .before .before .before .before .before .before .before .before .before .before .before .before .before .before .before .before .before .before .before .before .before .before .before .before .if1 .left) (c .before .before .before .before .before .before .before .before .before .before .before .before .before .before .before .before .before .before .before .before .before .before .cell .ensures .0) (c .before .before .before .before .before .before .before .before .before .before .before .before .before .before .before .before .before .before .before .before .before .before .before .before .place2 .ensures .0) (c .before .before .before .before .before .before .before .before .before .before .before .before .before .before .before .before .before .before .before .before .before .before .before .before .before .place .ensures .0) (c .before .before .before .before .before .before .before .before .before .before .before .before .before .before .before .before .before .before .before .before .before .before .before .side .ensures) (c .before .before .before .before .before .before .before .before .before .before .before .before .before .before .before .before .before .before .before .before .before .is-value .ensures) (not-false _ (c .before .before .before .before .before .before .before .before .before .before .before .before .before .before .before .before .before .before .before .before .if2 .left)) (c .before .before .before .before .before .before .before .before .before .before .before .before .before .before .before .before .before .before .copy-front .kept .1 .1 .0) (c .before .before .before .before .before .before .before .before .before .before .before .before .before .before .before .before .before .before .copy-front .ensures) says rs p long most)
+returns-3 c =
+    let far = c .before .before .before .before .before .before .before .before .before .before .before .before .before .before .before .before .before .before .before .before in
+    let args = far .before .before .before .before .before .before .before .before .before .before .before .before .args in
+    let if1 = far .before .before .before .before .before .before .if1 in
+    let place = far .before .before .before .before .before .place in
+    let place2 = far .before .before .before .before .place2 in
+    let side = far .before .before .before .side in
+    let cell = far .before .before .cell in
+    let is-value = far .before .is-value in
+    let if2 = far .if2 in
+    let copy-front = c .before .before .before .before .before .before .before .before .before .before .before .before .before .before .before .before .before .before .copy-front in
+    let code-part = c .before .before .before .before .before .before .before .before .before .before .before .before .before .before .before .code-part in
+    let apply = c .before .before .before .before .before .before .before .before .before .before .before .before .before .apply in
+    let b = c .before .before .before .before .before .before .before .before .before .b in
+    let front = c .before .before .before .before .before .before .front in
+    let tail = c .before .before .before .before .before .tail in
+    let copy-front2 = c .before .before .before .copy-front2 in
+    λ rs p long most room. let says = apply .ensures (subst (Coded (args .t .now) (args .base)) (sym (code-part .ensures)) (p .coded)) in (
+      run-done (args .t .now) (args .base) (args .index .now) (args .isos) (args .i) (args .back) (args .budget) (args .value .now) (args .work .now) _ _ _ _ (args .result .now) _ _ _ _ _
+          (cell .result) (place2 .result) (place .result) (side .result) (is-value .result) (if1 .left) (cell .ensures .0) (place2 .ensures .0) (place .ensures .0) (side .ensures)
+          (is-value .ensures) (not-false _ (if2 .left)) (copy-front .kept .1 .1 .0) (copy-front .ensures) says (b .given .1) (front .ensures) (tail .ensures) (copy-front2 .ensures) refl
+          (c .used .ensures) refl rs p long most room,
+      run-spares (args .t .now) (args .base) (args .index .now) (args .isos) (args .i) (args .back) (args .budget) (args .value .now)
+          (args .work .now) _ _ (cell .result) (place2 .result) (place .result) (side .result) (is-value .result) (if1 .left) (cell .ensures .0) (place2 .ensures .0) (place .ensures .0)
+          (side .ensures) (is-value .ensures) (not-false _ (if2 .left)) (copy-front .kept .1 .1 .0) (copy-front .ensures) says rs p long most,
+    )
 
 -- src/run.rt:112:1
 same-length-3 : tie.Need-same-length-3
@@ -115,7 +161,29 @@ same-length-3 c = search needs
 
 -- src/run.rt:112:1
 returns-4 : tie.Need-returns-4
-returns-4 c = λ rs p long most room. let says = c .before .before .before .before .before .apply .ensures (subst (Coded (c .before .before .before .before .before .before .before .before .before .before .before .before .before .before .before .before .before .before .before .before .before .before .before .before .args .t .now) (c .before .before .before .before .before .before .before .before .before .before .before .before .before .before .before .before .before .before .before .before .before .before .before .before .args .base)) (sym (c .before .before .before .before .before .before .before .code-part .ensures)) (p .coded)) in (run-spent (c .before .before .before .before .before .before .before .before .before .before .before .before .before .before .before .before .before .before .before .before .before .before .before .before .args .t .now) (c .before .before .before .before .before .before .before .before .before .before .before .before .before .before .before .before .before .before .before .before .before .before .before .before .args .base) (c .before .before .before .before .before .before .before .before .before .before .before .before .before .before .before .before .before .before .before .before .before .before .before .before .args .index .now) (c .before .before .before .before .before .before .before .before .before .before .before .before .before .before .before .before .before .before .before .before .before .before .before .before .args .isos) (c .before .before .before .before .before .before .before .before .before .before .before .before .before .before .before .before .before .before .before .before .before .before .before .before .args .i) (c .before .before .before .before .before .before .before .before .before .before .before .before .before .before .before .before .before .before .before .before .before .before .before .before .args .back) (c .before .before .before .before .before .before .before .before .before .before .before .before .before .before .before .before .before .before .before .before .before .before .before .before .args .budget) (c .before .before .before .before .before .before .before .before .before .before .before .before .before .before .before .before .before .before .before .before .before .before .before .before .args .value .now) (c .before .before .before .before .before .before .before .before .before .before .before .before .before .before .before .before .before .before .before .before .before .before .before .before .args .work .now) _ _ (c .before .before .before .before .before .before .before .before .before .before .before .before .before .before .before .before .before .before .before .before .before .before .before .before .args .result .now) (c .refused3 .result) (c .before .before .before .before .before .before .before .before .before .before .before .before .before .before .cell .result) (c .before .before .before .before .before .before .before .before .before .before .before .before .before .before .before .before .place2 .result) (c .before .before .before .before .before .before .before .before .before .before .before .before .before .before .before .before .before .place .result) (c .before .before .before .before .before .before .before .before .before .before .before .before .before .before .before .side .result) (c .before .before .before .before .before .before .before .before .before .before .before .before .before .is-value .result) (c .before .before .before .before .before .before .before .before .before .before .before .before .before .before .before .before .before .before .if1 .left) (c .before .before .before .before .before .before .before .before .before .before .before .before .before .before .cell .ensures .0) (c .before .before .before .before .before .before .before .before .before .before .before .before .before .before .before .before .place2 .ensures .0) (c .before .before .before .before .before .before .before .before .before .before .before .before .before .before .before .before .before .place .ensures .0) (c .before .before .before .before .before .before .before .before .before .before .before .before .before .before .before .side .ensures) (c .before .before .before .before .before .before .before .before .before .before .before .before .before .is-value .ensures) (not-false _ (c .before .before .before .before .before .before .before .before .before .before .before .before .if2 .left)) (c .before .before .before .before .before .before .before .before .before .before .copy-front .kept .1 .1 .0) (c .before .before .before .before .before .before .before .before .before .before .copy-front .ensures) says (c .before .enum-told .given .1) (ap refusalView (c .refused3 .ensures .0)) (c .refused3 .ensures .1) (c .refused3 .ensures .2) rs p long most room, run-spares (c .before .before .before .before .before .before .before .before .before .before .before .before .before .before .before .before .before .before .before .before .before .before .before .before .args .t .now) (c .before .before .before .before .before .before .before .before .before .before .before .before .before .before .before .before .before .before .before .before .before .before .before .before .args .base) (c .before .before .before .before .before .before .before .before .before .before .before .before .before .before .before .before .before .before .before .before .before .before .before .before .args .index .now) (c .before .before .before .before .before .before .before .before .before .before .before .before .before .before .before .before .before .before .before .before .before .before .before .before .args .isos) (c .before .before .before .before .before .before .before .before .before .before .before .before .before .before .before .before .before .before .before .before .before .before .before .before .args .i) (c .before .before .before .before .before .before .before .before .before .before .before .before .before .before .before .before .before .before .before .before .before .before .before .before .args .back) (c .before .before .before .before .before .before .before .before .before .before .before .before .before .before .before .before .before .before .before .before .before .before .before .before .args .budget) (c .before .before .before .before .before .before .before .before .before .before .before .before .before .before .before .before .before .before .before .before .before .before .before .before .args .value .now) (c .before .before .before .before .before .before .before .before .before .before .before .before .before .before .before .before .before .before .before .before .before .before .before .before .args .work .now) _ _ (c .before .before .before .before .before .before .before .before .before .before .before .before .before .before .cell .result) (c .before .before .before .before .before .before .before .before .before .before .before .before .before .before .before .before .place2 .result) (c .before .before .before .before .before .before .before .before .before .before .before .before .before .before .before .before .before .place .result) (c .before .before .before .before .before .before .before .before .before .before .before .before .before .before .before .side .result) (c .before .before .before .before .before .before .before .before .before .before .before .before .before .is-value .result) (c .before .before .before .before .before .before .before .before .before .before .before .before .before .before .before .before .before .before .if1 .left) (c .before .before .before .before .before .before .before .before .before .before .before .before .before .before .cell .ensures .0) (c .before .before .before .before .before .before .before .before .before .before .before .before .before .before .before .before .place2 .ensures .0) (c .before .before .before .before .before .before .before .before .before .before .before .before .before .before .before .before .before .place .ensures .0) (c .before .before .before .before .before .before .before .before .before .before .before .before .before .before .before .side .ensures) (c .before .before .before .before .before .before .before .before .before .before .before .before .before .is-value .ensures) (not-false _ (c .before .before .before .before .before .before .before .before .before .before .before .before .if2 .left)) (c .before .before .before .before .before .before .before .before .before .before .copy-front .kept .1 .1 .0) (c .before .before .before .before .before .before .before .before .before .before .copy-front .ensures) says rs p long most)
+returns-4 c =
+    let far = c .before .before .before .before .before .before .before .before .before .before .before .before .before .before .before .before .before .before .before .before in
+    let args = far .before .before .before .before .args in
+    let if1 = c .before .before .before .before .before .before .before .before .before .before .before .before .before .before .before .before .before .before .if1 in
+    let place = c .before .before .before .before .before .before .before .before .before .before .before .before .before .before .before .before .before .place in
+    let place2 = c .before .before .before .before .before .before .before .before .before .before .before .before .before .before .before .before .place2 in
+    let side = c .before .before .before .before .before .before .before .before .before .before .before .before .before .before .before .side in
+    let cell = c .before .before .before .before .before .before .before .before .before .before .before .before .before .before .cell in
+    let is-value = c .before .before .before .before .before .before .before .before .before .before .before .before .before .is-value in
+    let if2 = c .before .before .before .before .before .before .before .before .before .before .before .before .if2 in
+    let copy-front = c .before .before .before .before .before .before .before .before .before .before .copy-front in
+    let code-part = c .before .before .before .before .before .before .before .code-part in
+    let apply = c .before .before .before .before .before .apply in
+    let enum-told = c .before .enum-told in
+    λ rs p long most room. let says = apply .ensures (subst (Coded (args .t .now) (args .base)) (sym (code-part .ensures)) (p .coded)) in (
+      run-spent (args .t .now) (args .base) (args .index .now) (args .isos) (args .i) (args .back) (args .budget) (args .value .now) (args .work .now) _ _ (args .result .now)
+          (c .refused3 .result) (cell .result) (place2 .result) (place .result) (side .result) (is-value .result) (if1 .left) (cell .ensures .0) (place2 .ensures .0) (place .ensures .0)
+          (side .ensures) (is-value .ensures) (not-false _ (if2 .left)) (copy-front .kept .1 .1 .0) (copy-front .ensures) says (enum-told .given .1) (ap refusalView (c .refused3 .ensures .0))
+          (c .refused3 .ensures .1) (c .refused3 .ensures .2) rs p long most room,
+      run-spares (args .t .now) (args .base) (args .index .now) (args .isos) (args .i) (args .back) (args .budget)
+          (args .value .now) (args .work .now) _ _ (cell .result) (place2 .result) (place .result) (side .result) (is-value .result) (if1 .left) (cell .ensures .0) (place2 .ensures .0)
+          (place .ensures .0) (side .ensures) (is-value .ensures) (not-false _ (if2 .left)) (copy-front .kept .1 .1 .0) (copy-front .ensures) says rs p long most,
+    )
 
 pub run-checked-spec : {M : Type 1} → statement M
 run-checked-spec =
