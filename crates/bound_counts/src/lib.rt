@@ -3,26 +3,31 @@
 // stands for all above 4,294,967,295.
 
 use codes::LET_ISO;
+use limits::MAX_COUNT;
 use run_direction::place;
 use table_trees::cell;
 ghost use mathlib.Core.Path.{_≡_};
 ghost use mathlib.Core.List.{map};
 ghost use Prim.Native.Nat.{_+_, _-_, _≤_, _<_, min, max};
 ghost use lib.ListN.{getD, set};
+ghost use Rattle.limits.specs.Limits.{wordBound};
 ghost use Rattle.calculus.specs.Tools.{total};
 ghost use Rattle.law_costs.specs.Costs.{leastOf, greatestOf, letCost, clauseCost};
 ghost use Rattle.table_walks.specs.InTable.{letsIn};
 ghost use Rattle.run_index.specs.Index.{clausesAt, clauseAt};
 ghost use Rattle.bound_counts.specs.Held.{cap, ReckonedFrom, AllReckoned};
 
+// Stands for all numbers above those that are told.
+const CAP: u64 = MAX_COUNT + 1;
+
 // A number, or 4,294,967,296 for all above.
 fn capped(n: u64) -> u64
     ensures { λ r. ⌜ r ≡ min n cap ⌝ }
 {
-    if n < 4294967296 {
+    if n < CAP {
         return n;
     }
-    4294967296
+    CAP
 }
 
 // The sum of two numbers that are held so.
@@ -89,7 +94,7 @@ fn let_sum(t: &[u16], known: &[u64], row: usize, end: usize) -> u64
 
 // What the clause at place m of the index needs.
 fn clause_cost(t: &[u16], known: &[u64], index: &[u16], m: usize) -> u64
-    requires { ⌜ m < 65536 ⌝ }
+    requires { ⌜ m < wordBound ⌝ }
     ensures { λ r. ⌜
         ReckonedFrom (now (known .entry))
         (λ base ks. clauseCost ks (clauseAt (now (t .entry)) base (now (index .entry)) m)) r
@@ -102,7 +107,7 @@ fn clause_cost(t: &[u16], known: &[u64], index: &[u16], m: usize) -> u64
 
 // The least over the clauses from place m of the index up to another.
 fn least_cost(t: &[u16], known: &[u64], index: &[u16], m: usize, end: usize) -> u64
-    requires { ⌜ end ≤ 65536 ⌝ }
+    requires { ⌜ end ≤ wordBound ⌝ }
     ensures { λ r. ⌜
         ReckonedFrom (now (known .entry))
         (λ base ks. leastOf (map (clauseCost ks) (clausesAt (now (t .entry)) base (now (index .entry)) m (end - m)))) r
@@ -122,7 +127,7 @@ fn least_cost(t: &[u16], known: &[u64], index: &[u16], m: usize, end: usize) -> 
 
 // The greatest over the same.
 fn greatest_cost(t: &[u16], known: &[u64], index: &[u16], m: usize, end: usize) -> u64
-    requires { ⌜ end ≤ 65536 ⌝ }
+    requires { ⌜ end ≤ wordBound ⌝ }
     ensures { λ r. ⌜
         ReckonedFrom (now (known .entry))
         (λ base ks. greatestOf (map (clauseCost ks) (clausesAt (now (t .entry)) base (now (index .entry)) m (end - m)))) r

@@ -7,14 +7,14 @@ use mathlib.Core.Option.{none, some}
 use mathlib.Core.List.{List, [], _∷_}
 use lib.Dec.{ltb}
 use lib.ListN.{length, getD, getElem?, replicate}
-use Rattle.limits.specs.Limits.{maxIsos}
+use Rattle.limits.specs.Limits.{maxIsos, maxCount}
 use Rattle.calculus.specs.Tools.{isSome}
 use Rattle.calculus.specs.Refusals.{noIso}
 use Rattle.format.specs.Lines.{Row}
 use Rattle.format.specs.Unfold.{isosOf}
 use Rattle.model.specs.Services.{Outcome, gives, fails, refusalNumber}
 use Rattle.law_costs.specs.Costs.{leastOf, greatestOf, costsFrom, leastCosts, greatestCosts}
-use Rattle.law_costs.specs.Bounds.{maxCount, boundsFrom, onIso, boundsRows, boundsServed, boundsService}
+use Rattle.law_costs.specs.Bounds.{boundsFrom, onIso, boundsRows, boundsServed, boundsService}
 use Rattle.format.specs.Code.{refusalView, numberOf, numbered}
 use Rattle.format.specs.declared.Answer as A
 use Rattle.format.specs.declared.Refusal as F

@@ -7,15 +7,18 @@ use checker::check_file;
 use format::Refusal;
 use format::is_refused;
 use limits::INDEX_LENGTH;
+use limits::MAX_COUNT;
 use limits::MAX_ISOS;
+use limits::MAX_NUMBER;
 use runner::run::prepare;
 ghost use mathlib.Core.Path.{_≡_};
 ghost use mathlib.Core.Bool.{false};
 ghost use mathlib.Core.List.{List};
 ghost use Prim.Native.Nat.{ℕ, min};
 ghost use lib.Dec.{ltb};
+ghost use Rattle.limits.specs.Limits.{maxCount};
 ghost use Rattle.format.specs.Lines.{Row as RowOf};
-ghost use Rattle.law_costs.specs.Bounds.{maxCount, boundsRows};
+ghost use Rattle.law_costs.specs.Bounds.{boundsRows};
 ghost use Rattle.runner.specs.RunSays.{Prepared};
 ghost use Rattle.checker.specs.CheckSays.{Accepted};
 ghost use Rattle.bounds.specs.BoundsSays.{ToldOf, BoundsSays};
@@ -45,16 +48,16 @@ fn refused(f: Refusal) -> Bounded
 fn stopped(n: u64) -> u32
     ensures { λ r. ⌜ r ≡ min n maxCount ⌝ }
 {
-    if n < 4294967295 {
+    if n < MAX_COUNT {
         return n as u32;
     }
-    4294967295
+    MAX_NUMBER
 }
 
 fn is_over(n: u64) -> bool
     ensures { λ r. ⌜ r ≡ ltb maxCount n ⌝ }
 {
-    4294967295 < n
+    MAX_COUNT < n
 }
 
 // The bounds of iso i of a table that holds a checked file, whose isos the index finds.

@@ -15,6 +15,7 @@ ghost use mathlib.Core.Path.{_≡_};
 ghost use Prim.Native.Nat.{_≤_, min};
 ghost use mathlib.Core.List.{map};
 ghost use lib.ListN.{length, drop};
+ghost use Rattle.limits.specs.Fields.{clauseLeft, clauseRight};
 ghost use Rattle.limits.specs.Limits.{tableLength, maxClauses, maxLines, manyTags};
 ghost use Rattle.calculus.specs.Trees.{tags};
 ghost use Rattle.check_facts.specs.Facts.{Facts};
@@ -171,8 +172,8 @@ pub fn weigh(t: &[u16], f: &[u8], base: usize, k: usize, rows: &[u16]) -> u64
 pub fn side_fault(t: &[u16], f: &[u8], base: usize, rows: &[u16], n: usize) -> Refusal
     requires { ⌜ (tableLength ≤ length (now t)) × (length (now rows) ≤ maxClauses) × Facts (now t) base (now f) × (length (now f) ≤ maxLines) ⌝ }
     ensures { λ r. ⌜
-        refusalView r ≡ sidesFault (patternsAt (now (t .entry)) base 1 (now (rows .entry)))
-        (patternsAt (now (t .entry)) base 2 (now (rows .entry)))
+        refusalView r ≡ sidesFault (patternsAt (now (t .entry)) base clauseLeft (now (rows .entry)))
+        (patternsAt (now (t .entry)) base clauseRight (now (rows .entry)))
         ⌝ }
 {
     if orthogonal(t, f, base, 1, rows, n) {

@@ -34,6 +34,7 @@ ghost use mathlib.Core.Option.{none as nothing};
 ghost use mathlib.Core.List.{List};
 ghost use Prim.Native.Nat.{ℕ, _+_, _≤_, _<_};
 ghost use lib.ListN.{set};
+ghost use Rattle.limits.specs.Fields.{kindField, firstField, secondField};
 ghost use Rattle.limits.specs.Limits.{maxLines};
 ghost use Rattle.calculus.specs.Refusals.{Kind as KindOf};
 ghost use Rattle.calculus.specs.Clauses.{at};
@@ -80,7 +81,7 @@ fn mark_patterns(t: &[u16], base: usize, n: usize, i: usize, j: usize, marks: &m
 fn name_types(t: &[u16], n: usize, marks: &mut [u8])
     ensures { λ r. ⌜
         now (marks .exit)
-        ≡ markAll (typeReach (typeKind (cellOf (now (t .entry)) n 1)) (cellOf (now (t .entry)) n 2) (cellOf (now (t .entry)) n 3)) (now (marks .entry))
+        ≡ markAll (typeReach (typeKind (cellOf (now (t .entry)) n kindField)) (cellOf (now (t .entry)) n firstField) (cellOf (now (t .entry)) n secondField)) (now (marks .entry))
         ⌝ }
 {
     let kind = cell(t, n, KIND);
@@ -98,7 +99,7 @@ fn name_patterns(t: &[u16], base: usize, n: usize, marks: &mut [u8])
     requires { ⌜ base ≤ maxLines ⌝ }
     ensures { λ r. ⌜
         now (marks .exit)
-        ≡ markAll (patternReach base (patternKind (cellOf (now (t .entry)) n 1)) (cellOf (now (t .entry)) n 2) (cellOf (now (t .entry)) n 3)) (now (marks .entry))
+        ≡ markAll (patternReach base (patternKind (cellOf (now (t .entry)) n kindField)) (cellOf (now (t .entry)) n firstField) (cellOf (now (t .entry)) n secondField)) (now (marks .entry))
         ⌝ }
 {
     let kind = cell(t, n, KIND);

@@ -13,6 +13,7 @@ ghost use mathlib.Core.Bool.{true, false};
 ghost use mathlib.Core.Logic.{_⊎_};
 ghost use Prim.Native.Nat.{_+_, _%_, _^_, _<_, _≤_};
 ghost use lib.ListN.{length};
+ghost use Rattle.limits.specs.Fields.{kindField};
 ghost use Rattle.limits.specs.Limits.{tableLength, maxLines, rowWidth};
 ghost use Rattle.table_trees.specs.Unfolding.{cellOf, patternOf};
 ghost use Rattle.check_overlap.specs.Comparison.{compare as compared};
@@ -60,7 +61,7 @@ fn meet(k: usize, j: usize) -> usize
 // How P lines p and q meet.
 fn meeting(t: &[u16], base: usize, p: usize, q: usize) -> usize
     requires { ⌜ Within (now t) base p q ⌝ }
-    ensures { λ r. ⌜ Meets (cellOf (now (t .entry)) (base + p) 1) (cellOf (now (t .entry)) (base + q) 1) r ⌝ }
+    ensures { λ r. ⌜ Meets (cellOf (now (t .entry)) (base + p) kindField) (cellOf (now (t .entry)) (base + q) kindField) r ⌝ }
 {
     meet(number(t, base + p, 1), number(t, base + q, 1))
 }
@@ -98,7 +99,7 @@ fn compare_first(t: &[u16], base: usize, p: usize, q: usize, m: usize, n: usize)
 
 // The count, with P lines i and j that meet so and have parts.
 fn compare_below(t: &[u16], base: usize, i: usize, j: usize, k: usize, count: usize) -> usize
-    requires { ⌜ Within (now t) base i j × (count % 2 ≡ 0) × Meets (cellOf (now t) (base + i) 1) (cellOf (now t) (base + j) 1) k ⌝ }
+    requires { ⌜ Within (now t) base i j × (count % 2 ≡ 0) × Meets (cellOf (now t) (base + i) kindField) (cellOf (now t) (base + j) kindField) k ⌝ }
     ensures { λ r. ⌜ r ≡ counted count (compared (patternOf (now (t .entry)) base i) (patternOf (now (t .entry)) base j)) ⌝ }
 {
     let mut p = i;

@@ -5,6 +5,7 @@ use mathlib.Core.Bool.{Bool, true, false, cond, _||_}
 use mathlib.Core.List.{List}
 use lib.Dec.{eqb, ltb}
 use lib.ListN.{length, getD}
+use Rattle.limits.specs.Limits.{maxClauses}
 
 -- digit j of a number, written in base 2
 abbrev pub bit : ℕ → ℕ → Bool
@@ -22,7 +23,7 @@ abbrev pub area : ℕ
 area = 2 * half
 
 abbrev pub members : ℕ
-members = 128
+members = maxClauses
 
 -- the word of set c that has clause k, and whether it does
 abbrev pub wordOf : ℕ → ℕ → ℕ

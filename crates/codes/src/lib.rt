@@ -9,6 +9,8 @@ pub const COMMA: u8 = 44;
 
 pub const DIGIT_ZERO: u8 = 48;
 
+pub const DIGIT_NINE: u8 = 57;
+
 pub const LETTER_Q: u8 = 81;
 
 pub const LETTER_S: u8 = 83;

@@ -9,7 +9,7 @@ use mathlib.Core.List.{List, []}
 use lib.ListN.{length, take, drop}
 use lib.Seq.{take-append-seam, length-take-le}
 use borrow.Author.Tests.{le-ltb}
-use Rattle.limits.specs.Limits.{tableLength, workLength}
+use Rattle.limits.specs.Limits.{tableLength, workLength, numeralBound}
 use Rattle.calculus.specs.Refusals.{Refusal, number}
 use Rattle.model.specs.Services.{Verdict, accepted, refused, verdict, unless, answerOf, check, RunAnswer}
 use Rattle.model.specs.Desk.{queryLine, fileLine}
@@ -62,26 +62,26 @@ stops-at (refused g n) f e = refl
 
 -- a verdict by its number, which the code computes
 pub checked-writes : {out out′ : List ℕ} {at n end : ℕ} (c : C.Checked) → n ≡ numberOf (c .answer .refusal)
-    → (c .answer .place < 10000000000 → Prints out out′ at end (fileLine (record { number = n; line = c .answer .place })))
-    → c .answer .place < 10000000000 → Prints out out′ at end (fileLine (record { number = numberOf (c .answer .refusal); line = c .answer .place }))
+    → (c .answer .place < numeralBound → Prints out out′ at end (fileLine (record { number = n; line = c .answer .place })))
+    → c .answer .place < numeralBound → Prints out out′ at end (fileLine (record { number = numberOf (c .answer .refusal); line = c .answer .place }))
 checked-writes {out} {out′} {at} {end = end} c e writes h =
     subst (Prints out out′ at end) (ap (λ k. fileLine (record { number = k; line = c .answer .place })) e) (writes h)
 
 -- a file checked and answered, as far as the answer fits
 pub judged-prints : (s t w : List ℕ) {t′ w′ out out′ : List ℕ} {at end : ℕ} (c : C.Checked) → CheckSays s t w t′ w′ (c .answer)
-    → (c .answer .place < 10000000000 → Prints out out′ at end (fileLine (record { number = numberOf (c .answer .refusal); line = c .answer .place })))
+    → (c .answer .place < numeralBound → Prints out out′ at end (fileLine (record { number = numberOf (c .answer .refusal); line = c .answer .place })))
     → tableLength ≤ length t → workLength ≤ length w → Prints out out′ at end (fileLine (answerOf (verdict s)))
 judged-prints s t w c says prints ht hw =
     let a = checked-answer s t w ht hw in
     let number : numberOf (c .answer .refusal) ≡ answerOf (verdict s) .number = says .number ∙ ap (λ x. x .number) a in
     let line : c .answer .place ≡ answerOf (verdict s) .line = says .line ∙ ap (λ x. x .line) a in
-    let below : c .answer .place < 10000000000 = subst (λ k. k < 10000000000) (sym line) (verdict-line s) in
+    let below : c .answer .place < numeralBound = subst (λ k. k < numeralBound) (sym line) (verdict-line s) in
     prints-as (ap₂ (λ k l. fileLine (record { number = k; line = l })) number line) (prints below)
 
 -- and whole, where it has room
 pub judged-file : (s t w : List ℕ) {t′ w′ out out′ : List ℕ} {at end : ℕ} (c : C.Checked)
     → CheckSays s t w t′ w′ (c .answer) → (refusalView (c .answer .refusal) ≡ none → Accepted s t′ c)
-    → (c .answer .place < 10000000000 → Prints out out′ at end (fileLine (record { number = numberOf (c .answer .refusal); line = c .answer .place })))
+    → (c .answer .place < numeralBound → Prints out out′ at end (fileLine (record { number = numberOf (c .answer .refusal); line = c .answer .place })))
     → tableLength ≤ length t → workLength ≤ length w → at + answerRoom ≤ length out
     → JudgedAs s t′ out out′ at end c
 judged-file s t w c says accepts prints ht hw room =

@@ -8,7 +8,7 @@ use mathlib.Core.Option.{Option, none, some}
 use mathlib.Core.List.{List, [], _∷_, _++_, List·Memᴰ, List·Memᴰ·head, List·Memᴰ·tail}
 use lib.Dec.{ltb}
 use lib.ListN.{length, length-append}
-use Rattle.limits.specs.Limits.{maxBytes, maxLines, digitZero, comma, lineFeed}
+use Rattle.limits.specs.Limits.{maxBytes, maxLines, digitZero, comma, lineFeed, numeralBound}
 use Rattle.calculus.specs.Tools.{orElse, firstOf, stages}
 use Rattle.calculus.specs.Trees.{Ty, Pat, Clause, Iso}
 use Rattle.calculus.specs.Refusals.{Kind, typeLine, patternLine, isoLine, clauseLine, letLine, Refusal, idle}
@@ -172,12 +172,12 @@ verdict-below bs = go (bool-cases (over bs))
         (reading-below 4097 (length (lines bs)) (readFrom start 1 (lines bs)) (read-placed start 1 (lines bs)) (omega (arith, few-lines bs t)))
 
 -- so the answer's line is small
-answer-below : (v : Verdict) → VerdictBelow 4097 v → answerOf v .line < 10000000000
+answer-below : (v : Verdict) → VerdictBelow 4097 v → answerOf v .line < numeralBound
 answer-below (accepted rs) h = omega arith
 answer-below (refused f n) h = omega (arith, h)
 
 -- the line of a file's answer prints
-pub verdict-line : (bs : List ℕ) → answerOf (verdict bs) .line < 10000000000
+pub verdict-line : (bs : List ℕ) → answerOf (verdict bs) .line < numeralBound
 verdict-line bs = answer-below (verdict bs) (verdict-below bs)
 
 -- ---- lengths

@@ -1,12 +1,12 @@
 -- What the desk's functions assume of state and areas, and what they leave there, against the machine of `query_lines/specs/Stream`.
-use Prim.Native.Nat.{ℕ, _+_, _≤_, _<_}
+use Prim.Native.Nat.{ℕ, suc, _+_, _≤_, _<_}
 use mathlib.Core.Path.{_≡_}
 use mathlib.Core.Logic.{_⊎_}
 use mathlib.Core.Option.{none, some}
 use mathlib.Core.List.{List, [], _∷_, _++_}
 use lib.ListN.{length, take}
 use lib.Seq.{sets}
-use Rattle.limits.specs.Limits.{tableLength, workLength, resultLength, runRoom}
+use Rattle.limits.specs.Limits.{tableLength, workLength, resultLength, runRoom, maxBytes, queryLength}
 use Rattle.calculus.specs.Refusals.{Refusal}
 use Rattle.format.specs.Lines.{Row}
 use Rattle.model.specs.Services.{accepted, verdict, answerOf, answerOfRun}
@@ -26,10 +26,10 @@ use Rattle.desk.specs.declared.Fed as F
 
 -- the bytes of a file that are kept, and those of a query's line: one more than may be, so that too many are told from as many
 abbrev pub fileRoom : ℕ
-fileRoom = 65537
+fileRoom = suc maxBytes
 
 abbrev pub lineRoom : ℕ
-lineRoom = 201
+lineRoom = suc queryLength
 
 -- the bytes that no answer's line exceeds
 abbrev pub answerRoom : ℕ

@@ -10,6 +10,7 @@ use codes::LINE_FEED;
 use format::is_refused;
 use format::number_of;
 use limits::MAX_BYTES;
+use limits::QUERY_LENGTH;
 use limits::RESULT_LENGTH;
 use limits::WORK_LENGTH;
 use query_answers::answer_line;
@@ -23,7 +24,7 @@ ghost use mathlib.Core.List.{List, [], _∷_, _++_};
 ghost use Prim.Native.Nat.{ℕ, _+_, _≤_, _<_};
 ghost use lib.Dec.{eqb, ltb, leb};
 ghost use lib.ListN.{length};
-ghost use Rattle.limits.specs.Limits.{letterQ};
+ghost use Rattle.limits.specs.Limits.{letterQ, numeralBound};
 ghost use Rattle.format.specs.Lines.{Row as RowOf};
 ghost use Rattle.model.specs.Desk.{fileLine};
 ghost use Rattle.format.specs.Code.{refusalView, numberOf};
@@ -32,6 +33,14 @@ ghost use Rattle.area_cells.specs.Areas.{Prints};
 ghost use Rattle.query_lines.specs.Stream.{State, collecting, asking, settled as isSettled};
 ghost use Rattle.desk.specs.declared.Phase.the-variants.{Queries};
 ghost use Rattle.desk.specs.DeskSays.{answerRoom, Holds, DeskAt, Took, SettleSays, BeginSays, FileByteSays, ByteSays, AnswerWithSays, ranLine, AnswerSays, FeedSays, FinishSays};
+
+// The bytes of a file that are kept, and those of a query's line: one more than may be.
+pub const FILE_ROOM: usize = MAX_BYTES + 1;
+
+pub const LINE_ROOM: usize = QUERY_LENGTH + 1;
+
+// The bytes that no answer's line exceeds.
+const ANSWER_ROOM: usize = 160;
 
 // What the next byte belongs to: the file, a query, or nothing, where the file is refused.
 pub enum Phase {
@@ -101,11 +110,11 @@ pub fn opened() -> Desk
 fn goes_on(taken: usize, bytes: usize, at: usize, n: usize) -> bool
     ensures { λ r. ⌜ r ≡ (ltb taken bytes && leb (at + answerRoom) n) ⌝ }
 {
-    if n < 160 {
+    if n < ANSWER_ROOM {
         return false;
     }
     if taken < bytes {
-        return at <= n - 160;
+        return at <= n - ANSWER_ROOM;
     }
     false
 }
@@ -145,7 +154,7 @@ fn is_down(c: Checked) -> bool
 // Prints the answer to a checked file.
 fn put_checked(out: &mut [u8], at: usize, c: Checked) -> usize
     ensures { λ r. ⌜
-        (c .answer .place < 10000000000 → Prints (now (out .entry)) (now (out .exit)) at r
+        (c .answer .place < numeralBound → Prints (now (out .entry)) (now (out .exit)) at r
         (fileLine (record { number = numberOf (c .answer .refusal); line = c .answer .place })))
         ⌝ }
 {
@@ -203,7 +212,7 @@ fn begin(
 fn file_byte(held: usize, b: u8, file: &mut [u8], at: usize) -> Next
     ensures { λ r. ⌜ FileByteSays held b (now (file .entry)) (now (file .exit)) at r ⌝ }
 {
-    let more = hold(file, held, b, 65537);
+    let more = hold(file, held, b, FILE_ROOM);
     Next {
         desk: state(Phase::File, b == LINE_FEED, more),
         end: at,
@@ -289,7 +298,7 @@ fn query_byte(
         file (now (line .exit)) (now (table .entry)) (now (index .entry)) (now (out .exit)) at r)
         ⌝ }
 {
-    let held = hold(line, d.held, b, 201);
+    let held = hold(line, d.held, b, LINE_ROOM);
     if b == LINE_FEED {
         let end = answer(d, front(line, held), table, index, work, out, at);
         return Next {

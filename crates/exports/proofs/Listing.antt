@@ -9,7 +9,7 @@ use mathlib.Core.List.{List, _++_}
 use lib.Dec.{ltb}
 use lib.ListN.{length, getElem?, take, drop}
 use lib.Seq.{sets-eq}
-use Rattle.limits.specs.Limits.{maxPairs, exportLength}
+use Rattle.limits.specs.Limits.{maxPairs, exportLength, numeralBound}
 use Rattle.calculus.specs.Trees.{Iso}
 use Rattle.calculus.specs.Refusals.{Refusal, noIso, spent, tooMany}
 use Rattle.format.specs.Lines.{Row}
@@ -102,7 +102,7 @@ module _ {t : List ℕ} {base : ℕ} {index : List ℕ} {isos : ℕ} {rs : List 
 
         -- the lines
         pub list-given : b ≡ true → n ≤ length l → exportLength ≤ length x → {x′ : List ℕ} {end : ℕ}
-            → (n ≤ length l → n < 10000000000 → Writes x x′ 0 end (pairLines 0 (take n l)))
+            → (n ≤ length l → n < numeralBound → Writes x x′ 0 end (pairLines 0 (take n l)))
             → refusalView (r .refusal) ≡ none → r .length ≡ end → ListedAs (exportRows rs i budget) x x′ r
         list-given y wide room {x′} {end} w g k =
             let ts : List ℕ = take n l in

@@ -8,7 +8,7 @@ use mathlib.Core.List.{List, [], _∷_, _++_, append-assoc, append-nil}
 use lib.Dec.{ltb}
 use lib.ListN.{length, getD, set, take}
 use lib.Seq.{take-suc, length-take-le}
-use Rattle.limits.specs.Limits.{lineFeed}
+use Rattle.limits.specs.Limits.{lineFeed, numeralBound}
 use Rattle.format.specs.Lines.{decimal, printField}
 use Rattle.law_pairlists.specs.PairLists.{pairLine, pairLines}
 use Rattle.law_pairlists.proofs.List.{pairLine-shape}
@@ -42,13 +42,13 @@ lines-next tos k h =
 pub record Printed (l₀ tos : List ℕ) (n : ℕ) (l : List ℕ) (at k : ℕ) : Type 0 where
   pub within : k ≤ n
   pub wide : length l ≡ length l₀
-  pub so : n ≤ length tos → n < 10000000000 → Writes l₀ l 0 at (pairLines 0 (take k tos))
+  pub so : n ≤ length tos → n < numeralBound → Writes l₀ l 0 at (pairLines 0 (take k tos))
 
 pub printed-start : (l tos : List ℕ) (n : ℕ) → Printed l tos n l 0 0
 printed-start l tos n = record { within = omega arith; wide = refl; so = λ a b. writes-none l 0 }
 
 pub printed-next : {l₀ tos : List ℕ} {n : ℕ} {l l′ : List ℕ} {at at′ k : ℕ} {u w : ℕ} → Printed l₀ tos n l at k → k < n → u ≡ getD tos k 0 → w ≡ u → w < 65536
-    → (k < 10000000000 → w < 10000000000 → Writes l l′ at at′ (pairLine k w)) → length l′ ≡ length l → Printed l₀ tos n l′ at′ (k + 1)
+    → (k < numeralBound → w < numeralBound → Writes l l′ at at′ (pairLine k w)) → length l′ ≡ length l → Printed l₀ tos n l′ at′ (k + 1)
 printed-next {l₀} {tos} {n} {l} {l′} {at} {at′} {k} x h e f s w kept =
     let one : suc k ≡ k + 1 = omega arith in
     record {
@@ -59,7 +59,7 @@ printed-next {l₀} {tos} {n} {l} {l′} {at} {at′} {k} x h e f s w kept =
           (writes-both (x .so a b) (w (omega arith) (omega arith)));
     }
 
-pub printed-end : {l₀ tos : List ℕ} {n : ℕ} {l : List ℕ} {at k : ℕ} → Printed l₀ tos n l at k → n ≤ k → n ≤ length tos → n < 10000000000
+pub printed-end : {l₀ tos : List ℕ} {n : ℕ} {l : List ℕ} {at k : ℕ} → Printed l₀ tos n l at k → n ≤ k → n ≤ length tos → n < numeralBound
     → Writes l₀ l 0 at (pairLines 0 (take n tos))
 printed-end {tos = tos} {n = n} {k = k} x h a b =
     let w = x .within in let same : k ≡ n = omega (arith, w) in writes-as (ap (λ j. pairLines 0 (take j tos)) same) (x .so a b)

@@ -6,6 +6,7 @@ use area_words::wide;
 use area_words::word_at;
 use checker::Checked;
 use checker::check_file;
+use codes::ISO_FROM;
 use codes::LINE_FEED;
 use format::Answer;
 use format::Refusal;
@@ -26,6 +27,7 @@ use runner::run::prepare;
 ghost use mathlib.Core.Path.{_≡_};
 ghost use Prim.Native.Nat.{_≤_, _<_};
 ghost use lib.ListN.{length, take, drop};
+ghost use Rattle.limits.specs.Limits.{numeralBound};
 ghost use Rattle.law_pairlists.specs.PairLists.{pairLine, pairLines};
 ghost use Rattle.area_cells.specs.Areas.{Writes};
 ghost use Rattle.runner.specs.RunSays.{OnChecked, OnAccepted};
@@ -54,7 +56,7 @@ fn not_listed(f: Refusal) -> Listed
 
 // The line of a pair.
 fn put_pair(out: &mut [u8], at: usize, k: usize, to: usize) -> usize
-    ensures { λ r. ⌜ (k < 10000000000 → to < 10000000000 → Writes (now (out .entry)) (now (out .exit)) at r (pairLine k to)) ⌝ }
+    ensures { λ r. ⌜ (k < numeralBound → to < numeralBound → Writes (now (out .entry)) (now (out .exit)) at r (pairLine k to)) ⌝ }
 {
     let x = put_number(out, at, k);
     let y = put_field(out, x, to);
@@ -64,7 +66,7 @@ fn put_pair(out: &mut [u8], at: usize, k: usize, to: usize) -> usize
 // The lines of the first n pairs, of which the tos are given.
 fn put_pairs(out: &mut [u8], tos: &[u16], n: usize) -> usize
     ensures { λ r. ⌜
-        (n ≤ length (now (tos .entry)) → n < 10000000000
+        (n ≤ length (now (tos .entry)) → n < numeralBound
         → Writes (now (out .entry)) (now (out .exit)) 0 r (pairLines 0 (take n (now (tos .entry)))))
         ⌝ }
 {
@@ -100,7 +102,7 @@ fn export_checked(
         return not_listed(Refusal::NoIso);
     }
     find_counts(t, counts);
-    let n = count_values(t, counts, iso_cell(t, index, i, 1));
+    let n = count_values(t, counts, iso_cell(t, index, i, ISO_FROM));
     if MAX_PAIRS < n {
         return not_listed(Refusal::TooMany);
     }

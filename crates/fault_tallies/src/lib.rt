@@ -19,6 +19,7 @@ use table_trees::pattern_cell;
 ghost use mathlib.Core.Path.{_≡_};
 ghost use Prim.Native.Nat.{ℕ, _+_};
 ghost use lib.ListN.{length};
+ghost use Rattle.limits.specs.Fields.{firstField, secondField};
 ghost use Rattle.limits.specs.Limits.{lengths};
 ghost use Rattle.calculus.specs.Trees.{left, right};
 ghost use Rattle.table_trees.specs.Unfolding.{cellOf, smallerOf, typeOf, patternOf};
@@ -81,7 +82,7 @@ struct Parts {
 }
 
 fn halves(t: &[u16], i: usize) -> Parts
-    ensures { λ r. ⌜ Halved (smallerOf (cellOf (now (t .entry)) i 2) i) (smallerOf (cellOf (now (t .entry)) i 3) i) (r .few) (r .many) ⌝ }
+    ensures { λ r. ⌜ Halved (smallerOf (cellOf (now (t .entry)) i firstField) i) (smallerOf (cellOf (now (t .entry)) i secondField) i) (r .few) (r .many) ⌝ }
 {
     let a = type_part(t, i, FIRST);
     let b = type_part(t, i, SECOND);

@@ -5,6 +5,7 @@ use mathlib.Core.Bool.{true}
 use mathlib.Core.Option.{some}
 use mathlib.Core.List.{List, map}
 use lib.ListN.{length, drop, set}
+use Rattle.limits.specs.Fields.{isoFrom, isoTo, clauseLeft, clauseRight}
 use Rattle.calculus.specs.Trees.{Ty, Pat}
 use Rattle.calculus.specs.Refusals.{Refusal, number}
 use Rattle.format.specs.Lines.{Row}
@@ -25,8 +26,8 @@ use Rattle.limits.specs.Limits.{maxClauses, fieldBound}
 pub record Collected (t : List ℕ) (base : ℕ) (rs : List Row) (n : ℕ) (c : C.Clauses) : Type 0 where
   pub places : length (c .rows) ≡ maxClauses
   pub within : c .first ≤ maxClauses
-  pub lefts : map (λ k. k .lhs) (tailAt rs n .clauses) ≡ patternsAt t base 1 (drop (c .first) (c .rows))
-  pub rights : map (λ k. k .rhs) (tailAt rs n .clauses) ≡ patternsAt t base 2 (drop (c .first) (c .rows))
+  pub lefts : map (λ k. k .lhs) (tailAt rs n .clauses) ≡ patternsAt t base clauseLeft (drop (c .first) (c .rows))
+  pub rights : map (λ k. k .rhs) (tailAt rs n .clauses) ≡ patternsAt t base clauseRight (drop (c .first) (c .rows))
 
 -- an iso from a to b with the left patterns ls and the right patterns rs, refused with this number
 pub record SideShown (n : ℕ) (a b : Ty) (ls rs : List Pat) (out₀ out : List ℕ) (r : ℕ) : Type 0 where
@@ -63,4 +64,4 @@ RowsCollected t from lines r =
 -- refusal n of the iso with its I line in row `head` and its C lines in these rows
 abbrev pub IsoShown : List ℕ → ℕ → ℕ → ℕ → List ℕ → List ℕ → List ℕ → ℕ → Type 0
 IsoShown t base n head rows out out′ r =
-    SideShown n (typeOf t (cellOf t head 1)) (typeOf t (cellOf t head 2)) (patternsAt t base 1 rows) (patternsAt t base 2 rows) out out′ r
+    SideShown n (typeOf t (cellOf t head isoFrom)) (typeOf t (cellOf t head isoTo)) (patternsAt t base clauseLeft rows) (patternsAt t base clauseRight rows) out out′ r

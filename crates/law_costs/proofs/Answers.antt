@@ -7,6 +7,7 @@ use mathlib.Core.Bool.{Bool, true, false}
 use mathlib.Core.Option.{Option, none, some}
 use mathlib.Core.List.{List, map}
 use lib.ListN.{getD, getElem?}
+use Rattle.limits.specs.Limits.{maxCount}
 use Rattle.calculus.specs.Trees.{Val, Iso, invert}
 use Rattle.calculus.specs.Refusals.{Refusal, spent, noIso}
 use Rattle.format.specs.Lines.{Row}
@@ -20,7 +21,7 @@ use Rattle.model.proofs.Files.{turned-accepted}
 use Rattle.model.proofs.Outcomes.{given-accepted}
 use Rattle.model.proofs.Runs.{Good, good, good-toward, accepted-good, reduces-iff, run-iff}
 use Rattle.law_costs.specs.Costs.{leastCosts, greatestCosts}
-use Rattle.law_costs.specs.Bounds.{maxCount, stopped, over, noBounds, told, boundsFrom, onIso, boundsOf, bounds}
+use Rattle.law_costs.specs.Bounds.{stopped, over, noBounds, told, boundsFrom, onIso, boundsOf, bounds}
 use Rattle.law_costs.proofs.Between.{Earlier, counts-between}
 use Rattle.law_costs.proofs.Inverted.{least-invert, greatest-invert, least-toward, greatest-toward, present}
 

@@ -8,7 +8,7 @@ use mathlib.Core.Option.{none, some}
 use mathlib.Core.List.{List}
 use lib.Dec.{ltb}
 use lib.ListN.{length, getElem?}
-use Rattle.limits.specs.Limits.{resultLength}
+use Rattle.limits.specs.Limits.{resultLength, maxCount}
 use Rattle.calculus.specs.Trees.{Iso}
 use Rattle.calculus.specs.Refusals.{number, noIso, spent}
 use Rattle.format.specs.Lines.{Row}
@@ -17,7 +17,7 @@ use Rattle.model.specs.Services.{Verdict, accepted, refused, verdict, turned, s
 use Rattle.model.specs.Answers.{RunIs, absent, strange, passed, done}
 use Rattle.model.proofs.Files.{number-positive}
 use Rattle.model.proofs.Runs.{run-iff}
-use Rattle.law_costs.specs.Bounds.{maxCount, Bounds, noBounds, told, boundsFrom, onIso, boundsRows, boundsOf, bounds, boundsService}
+use Rattle.law_costs.specs.Bounds.{Bounds, noBounds, told, boundsFrom, onIso, boundsRows, boundsOf, bounds, boundsService}
 use Rattle.law_costs.proofs.Answers.{count-inside, never-spent, least-flagged, bounds-turned}
 use Rattle.law_costs.proofs.Reached.{NoLets, bounds-one, runs-one}
 

@@ -5,16 +5,13 @@ use mathlib.Core.Option.{Option, none, some}
 use mathlib.Core.List.{List}
 use lib.Dec.{ltb}
 use lib.ListN.{getD, getElem?}
+use Rattle.limits.specs.Limits.{maxCount}
 use Rattle.calculus.specs.Trees.{Iso}
 use Rattle.calculus.specs.Refusals.{Refusal, number, noIso}
 use Rattle.format.specs.Lines.{Row}
 use Rattle.format.specs.Unfold.{isosOf}
 use Rattle.model.specs.Services.{Verdict, verdict, short, Outcome, gives, fails, goOn, refusalOf, Served, serve}
 use Rattle.law_costs.specs.Costs.{leastCosts, greatestCosts}
-
--- the greatest number of 32 bits, and so the greatest budget
-abbrev pub maxCount : ℕ
-maxCount = 4294967295
 
 -- "Both stop at 4,294,967,295"
 abbrev pub stopped : ℕ → ℕ

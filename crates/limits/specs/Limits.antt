@@ -48,6 +48,17 @@ fieldBound = 65536
 abbrev pub budgetBound : ℕ
 budgetBound = 4294967296
 
+-- "numbers of 16 bits", as the table has them, stand below this; "numbers of 32 bits" (request 01) are at most that
+abbrev pub wordBound : ℕ
+wordBound = 65536
+
+abbrev pub maxNumber : ℕ
+maxNumber = 4294967295
+
+-- numbers of at most ten digits, as every number of these papers is, stand below this
+abbrev pub numeralBound : ℕ
+numeralBound = 10000000000
+
 -- the numbers that a line takes in the table (request 10: its size is the fifth), and the lengths of the lent areas
 abbrev pub rowWidth : ℕ
 rowWidth = 5
@@ -81,9 +92,13 @@ queryLength = 200
 abbrev pub maxQueries : ℕ
 maxQueries = 600
 
--- request 02: the most values that are numbered
+-- request 02: "18 "too many values", a count above 4,294,967,295"
 abbrev pub maxValues : ℕ
-maxValues = 4294967295
+maxValues = maxNumber
+
+-- request 05: "Both stop at 4,294,967,295"
+abbrev pub maxCount : ℕ
+maxCount = maxNumber
 
 -- request 07: the most values of a type whose pairs are listed, and the lengths of the areas for a list and for a file
 abbrev pub maxPairs : ℕ

@@ -39,6 +39,13 @@ pub const MAX_FIELD: u32 = 65535;
 // The greatest budget; pair lists read their numbers with the same bound.
 pub const MAX_BUDGET: u32 = 4294967295;
 
+// Numbers of 16 bits stand below this; the greatest of 32 bits, and how many of these there are.
+pub const WORD_BOUND: usize = 65536;
+
+pub const MAX_NUMBER: u32 = 4294967295;
+
+pub const NUMBER_BOUND: usize = 4294967296;
+
 // The numbers that a line takes in the table (request 10: its size is the fifth), and the lengths of the lent areas.
 pub const ROW_WIDTH: usize = 5;
 
@@ -64,6 +71,9 @@ pub const MAX_QUERIES: usize = 600;
 
 // The most values that are numbered.
 pub const MAX_VALUES: usize = BUDGET_BOUND - 1;
+
+// The most that is told of a count of steps.
+pub const MAX_COUNT: u64 = 4294967295;
 
 // The most values of a type whose pairs are listed, and the lengths of the areas for a list and for a file.
 pub const MAX_PAIRS: usize = 4096;

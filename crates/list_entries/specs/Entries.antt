@@ -5,6 +5,7 @@ use mathlib.Core.List.{List, [], _∷_}
 use mathlib.Core.Path.{_≡_}
 use lib.Dec.{eqb}
 use lib.ListN.{set, length}
+use Rattle.limits.specs.Fields.{kindField, firstField, secondField}
 use Rattle.calculus.specs.Refusals.{Kind}
 use Rattle.format.specs.Lines.{Row}
 use Rattle.law_pairlists.specs.PairLists.{find, enter}
@@ -20,14 +21,14 @@ rowOf k x y z = record { kind = k; x = x; y = y; z = z }
 
 -- the row that an area holds, its letter being known; n rows from row `from` on
 abbrev pub entryAt : Kind → List ℕ → ℕ → Row
-entryAt k s row = rowOf k (cellOf s row 1) (cellOf s row 2) (cellOf s row 3)
+entryAt k s row = rowOf k (cellOf s row kindField) (cellOf s row firstField) (cellOf s row secondField)
 
 abbrev pub entriesAt : Kind → List ℕ → ℕ → ℕ → List Row
 entriesAt k s from zero = []
 entriesAt k s from (suc n) = entryAt k s from ∷ entriesAt k s (suc from) n
 
 unfoldable pub sameEntry : List ℕ → ℕ → ℕ → ℕ → ℕ → Bool
-sameEntry s row x y z = eqb x (cellOf s row 1) && (eqb y (cellOf s row 2) && eqb z (cellOf s row 3))
+sameEntry s row x y z = eqb x (cellOf s row kindField) && (eqb y (cellOf s row firstField) && eqb z (cellOf s row secondField))
 
 unfoldable pub storeEntry : List ℕ → ℕ → ℕ → ℕ → ℕ → List ℕ
 storeEntry s row x y z = set (set (set s (row * rowWidth + 1) (x % fieldBound)) (row * rowWidth + 2) (y % fieldBound)) (row * rowWidth + 3) (z % fieldBound)

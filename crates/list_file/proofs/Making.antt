@@ -10,7 +10,7 @@ use mathlib.Core.List.{List, [], _∷_, _++_}
 use lib.Dec.{leb}
 use lib.ListN.{length, take, drop}
 use lib.Seq.{sets-eq, length-take-le}
-use Rattle.limits.specs.Limits.{maxNodes, maxTags, manyTags, maxValues, maxClauses, rowWidth}
+use Rattle.limits.specs.Limits.{maxNodes, maxTags, manyTags, maxValues, maxClauses, rowWidth, numeralBound}
 use Rattle.calculus.specs.Trees.{Ty, Val, typeNodes, mostTags}
 use Rattle.calculus.specs.Refusals.{typeLine, patternLine, clauseLine, ceiling}
 use Rattle.format.specs.Lines.{Row, printRows}
@@ -115,7 +115,7 @@ module _ (a b : Ty) (tos : List ℕ) (k : ℕ) (o : List ℕ) (most : k ≤ maxC
 
     -- within it
     pub file-made : {s s₁ s₂ : List ℕ} {m d n e : ℕ} → maxEntries * rowWidth ≤ length s → TypeDone a s s₁ 0 m d → TypeDone b s₁ s₂ d n e → end ≤ 1024 → {o′ : List ℕ} {len : ℕ}
-        → (m < 10000000000 → n < 10000000000 → Writes o o′ 0 len (printRows (entriesAt typeLine s₂ 0 e ++ (entriesAt patternLine p′ 0 end ++ (isoRow m n ∷ entriesAt clauseLine q′ 0 k)))))
+        → (m < numeralBound → n < numeralBound → Writes o o′ 0 len (printRows (entriesAt typeLine s₂ 0 e ++ (entriesAt patternLine p′ 0 end ++ (isoRow m n ∷ entriesAt clauseLine q′ 0 k)))))
         → (r : F.Filed) → refusalView (r .refusal) ≡ none → r .length ≡ len → RowsMade a b tos k o o′ r
     file-made {s} {s₁} {s₂} {m} {d} {n} {e} area f g h {o′} {len} w r j l =
         record {

@@ -5,6 +5,7 @@ use native.Mathlib.Omega.{arith}
 use mathlib.Core.Path.{_≡_, refl, sym, ap, _∙_}
 use mathlib.Core.List.{List, [], _∷_, _++_, append-assoc}
 use lib.ListN.{length}
+use Rattle.limits.specs.Limits.{numeralBound}
 use Rattle.calculus.specs.Refusals.{Kind}
 use Rattle.format.specs.Lines.{Row, print, printRows}
 use Rattle.format.proofs.Printing.{printRows-nil, printRows-cons, print-append, print-one}
@@ -17,7 +18,7 @@ use Rattle.list_entries.proofs.Tracking.{entries-snoc}
 -- one row, its numbers being those of the area
 pub entry-printed : (k : Kind) (s : List ℕ) (row : ℕ) {x y z : ℕ} {l l′ : List ℕ} {at end : ℕ} → (x ≡ cellOf s row 1) × (x < 65536) → (y ≡ cellOf s row 2) × (y < 65536) →
     (z ≡ cellOf s row 3) × (z < 65536)
-    → (x < 10000000000 → y < 10000000000 → z < 10000000000 → Writes l l′ at end (print (rowOf k x y z))) → Writes l l′ at end (print (entryAt k s row))
+    → (x < numeralBound → y < numeralBound → z < numeralBound → Writes l l′ at end (print (rowOf k x y z))) → Writes l l′ at end (print (entryAt k s row))
 entry-printed k s row p q r w =
     let a = p .1 in
     let b = q .1 in

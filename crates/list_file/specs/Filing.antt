@@ -4,7 +4,7 @@ use mathlib.Core.Path.{_≡_}
 use mathlib.Core.Bool.{true}
 use mathlib.Core.List.{List, _∷_, _++_}
 use lib.ListN.{length, take}
-use Rattle.limits.specs.Limits.{maxNodes, maxTags, importLength}
+use Rattle.limits.specs.Limits.{maxNodes, maxTags, importLength, numeralBound}
 use Rattle.calculus.specs.Refusals.{typeLine, patternLine, clauseLine}
 use Rattle.calculus.specs.Trees.{Ty, typeNodes, mostTags}
 use Rattle.model.specs.Services.{written, Outcome, refusalOf, bytesFrom}
@@ -30,7 +30,7 @@ rowsMade ts ps cs m =
 
 -- … printed from the area's beginning up to place r, where the I row's numbers have at most 10 digits
 abbrev pub FilePut : List ℕ → List ℕ → List ℕ → M.Made → List ℕ → List ℕ → ℕ → Type 0
-FilePut ts ps cs m o o′ r = m .from < 10000000000 → m .to < 10000000000 → Writes o o′ 0 r (printRows (rowsMade ts ps cs m))
+FilePut ts ps cs m o o′ r = m .from < numeralBound → m .to < numeralBound → Writes o o′ 0 r (printRows (rowsMade ts ps cs m))
 
 -- the file of the n pairs whose tos stand in an area
 pub record FileMade (a b : Ty) (tos : List ℕ) (n : ℕ) (o o′ : List ℕ) (r : F.Filed) : Type 0 where

@@ -11,13 +11,14 @@ use codes::LETTER_UNIT;
 use codes::PRODUCT;
 use codes::SECOND;
 use codes::SUM;
+use limits::MAX_TYPES;
 use limits::MAX_VALUES;
 use table_trees::cell;
 use table_trees::smaller;
 ghost use mathlib.Core.Path.{_≡_};
 ghost use Prim.Native.Nat.{suc, _+_, _*_, _≤_, _<_, min};
 ghost use lib.ListN.{length};
-ghost use Rattle.limits.specs.Limits.{maxValues};
+ghost use Rattle.limits.specs.Limits.{maxValues, maxTypes};
 ghost use Rattle.table_trees.specs.Unfolding.{typeOf};
 ghost use Rattle.number_values.specs.Numbers.{SumCapped, ProductCapped, Counts, Counted, Ranks, Unranks};
 
@@ -31,11 +32,11 @@ pub struct Ranked {
 const MANY: usize = MAX_VALUES + 1;
 
 // The counts of as many T lines are kept at most.
-pub const COUNTS: usize = 256;
+pub const COUNTS: usize = MAX_TYPES;
 
 // How many counts are kept, where those of n T lines are asked for.
 pub fn known(n: usize) -> usize
-    ensures { λ r. ⌜ r ≤ 256 ⌝ }
+    ensures { λ r. ⌜ r ≤ maxTypes ⌝ }
 {
     if n < COUNTS {
         return n;

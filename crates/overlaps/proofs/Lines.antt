@@ -7,7 +7,7 @@ use mathlib.Core.Bool.{Bool, false}
 use mathlib.Core.Option.{Option, none, some}
 use mathlib.Core.List.{List}
 use lib.ListN.{getElem?}
-use Rattle.limits.specs.Limits.{maxNodes}
+use Rattle.limits.specs.Limits.{maxNodes, budgetBound}
 use Rattle.calculus.specs.Trees.{Pat, punit, nodes}
 use Rattle.calculus.specs.Refusals.{noIso}
 use Rattle.format.specs.Lines.{Row}
@@ -24,11 +24,11 @@ use Rattle.overlaps.specs.OverlapSays.{OverlapAs}
 use Rattle.overlaps.specs.declared.Overlapped as O
 
 -- a number of few bits
-within : (m : ℕ) → m ≤ maxNodes → m % 2 ^ 63 % 4294967296 ≡ m
+within : (m : ℕ) → m ≤ maxNodes → m % 2 ^ 63 % budgetBound ≡ m
 within m h =
     let low : m < 2 ^ 63 = omega arith in
-    let lower : m < 4294967296 = omega arith in
-    ap (λ k. k % 4294967296) (mod-eq-of-lt low) ∙ mod-eq-of-lt lower
+    let lower : m < budgetBound = omega arith in
+    ap (λ k. k % budgetBound) (mod-eq-of-lt low) ∙ mod-eq-of-lt lower
 
 module _ (t : List ℕ) (types patterns i j : ℕ) (r : O.Overlapped) where
   module _ (lines : ℕ) (rs : List Row) (f : FileIn t types patterns lines rs) where
@@ -65,7 +65,7 @@ module _ (t : List ℕ) (types patterns i j : ℕ) (r : O.Overlapped) where
   -- both are there
   pub both-there : i < patterns → j < patterns → {clash : Bool} {pairs : ℕ}
       → (clash ≡ compare (patternOf t types i) (patternOf t types j) .clash) × (pairs ≡ compare (patternOf t types i) (patternOf t types j) .pairs % 2 ^ 63)
-      → refusalView (r .answer .refusal) ≡ none → r .answer .place ≡ 0 → r .clash ≡ clash → r .pairs ≡ pairs % 4294967296
+      → refusalView (r .answer .refusal) ≡ none → r .answer .place ≡ 0 → r .clash ≡ clash → r .pairs ≡ pairs % budgetBound
       → (lines : ℕ) (rs : List Row) → FileIn t types patterns lines rs → OverlapAs (overlapOn (accepted rs) i j) r
   both-there h l told e n c p lines rs f =
       let o : overlapOn (accepted rs) i j ≡ gives (compare (patternOf t types i) (patternOf t types j)) =
@@ -76,5 +76,5 @@ module _ (t : List ℕ) (types patterns i j : ℕ) (r : O.Overlapped) where
         refusal = e ∙ sym (ap refusalOf o);
         line = n;
         clash = c ∙ told .0 ∙ sym (ap clashOf o);
-        pairs = p ∙ ap (λ k. k % 4294967296) (told .1) ∙ within (compare (patternOf t types i) (patternOf t types j) .pairs) few ∙ sym (ap pairsOf o);
+        pairs = p ∙ ap (λ k. k % budgetBound) (told .1) ∙ within (compare (patternOf t types i) (patternOf t types j) .pairs) few ∙ sym (ap pairsOf o);
       }

@@ -1,6 +1,7 @@
 // The overlap of two P lines: whether they clash, and how many node pairs were compared, on a checked
 // table and as a service.
 
+use area_cells::narrow_number;
 use check_overlap::compare;
 use checker::check_file;
 use format::Answer;
@@ -60,7 +61,7 @@ pub fn overlap_checked(t: &[u16], types: usize, patterns: usize, i: usize, j: us
             refusal: Refusal::Nothing,
         },
         clash: c.clash,
-        pairs: (c.pairs % 4294967296) as u32,
+        pairs: narrow_number(c.pairs),
     }
 }
 

@@ -8,7 +8,7 @@ use lib.Dec.{ltb}
 use lib.ListN.{length, set, take}
 use Rattle.area_cells.specs.Areas.{Prints}
 use Rattle.area_cells.proofs.Writing.{prints-one, prints-both, prints-as}
-use Rattle.limits.specs.Limits.{comma, digitZero, lineFeed}
+use Rattle.limits.specs.Limits.{comma, digitZero, lineFeed, numeralBound}
 use Rattle.calculus.specs.Refusals.{Kind, typeLine, patternLine, isoLine, clauseLine, letLine}
 use Rattle.format.specs.Lines.{Row, letter, fieldCount, decimal, printField, print}
 use Rattle.format.proofs.Numerals.{decimal-small, decimal-snoc}
@@ -17,7 +17,7 @@ use Rattle.format.proofs.Printing.{printFields, print-shape}
 -- ---- numbers
 
 -- the last digit behind the digits of the quotient
-decimal-large : (n : ℕ) → 10 ≤ n → n < 10000000000 → decimal n ≡ decimal (n / 10) ++ ((digitZero + n % 10) ∷ [])
+decimal-large : (n : ℕ) → 10 ≤ n → n < numeralBound → decimal n ≡ decimal (n / 10) ++ ((digitZero + n % 10) ∷ [])
 decimal-large n h f =
     let whole : n / 10 * 10 + n % 10 ≡ n = omega arith in
     sym (ap decimal whole) ∙ decimal-snoc (n / 10) (n % 10) (omega arith) (omega arith) (omega arith)
@@ -30,8 +30,8 @@ number-small {d = d} n h e s p =
     prints-as (ap (λ b. b ∷ []) byte ∙ sym (decimal-small n h)) (prints-one s p)
 
 -- the digits of the quotient, and the last digit
-pub number-large : {l l₁ l₂ : List ℕ} {at next end d : ℕ} (n : ℕ) → 10 ≤ n → n < 10000000000
-    → (n / 10 < 10000000000 → Prints l l₁ at next (decimal (n / 10))) → d ≡ digitZero + n % 10
+pub number-large : {l l₁ l₂ : List ℕ} {at next end d : ℕ} (n : ℕ) → 10 ≤ n → n < numeralBound
+    → (n / 10 < numeralBound → Prints l l₁ at next (decimal (n / 10))) → d ≡ digitZero + n % 10
     → l₂ ≡ set l₁ next d → end ≡ cond (ltb next (length l₁)) (suc next) next → Prints l l₂ at end (decimal n)
 number-large n h f w e s p =
     prints-as (ap (λ b. decimal (n / 10) ++ (b ∷ [])) e ∙ sym (decimal-large n h f)) (prints-both (w (omega arith)) (prints-one s p))

@@ -2,26 +2,28 @@
 
 use area_cells::put_byte;
 use codes::COMMA;
+use codes::DIGIT_ZERO;
 use codes::LINE_FEED;
 use format::Row;
 use read_forms::fields_of;
 use read_forms::letter_of;
 ghost use mathlib.Core.Path.{_≡_};
 ghost use Prim.Native.Nat.{_+_, _%_, _<_};
+ghost use Rattle.limits.specs.Limits.{numeralBound, digitZero};
 ghost use Rattle.format.specs.Lines.{decimal, printField, print};
 ghost use Rattle.format.specs.Code.{rowView};
 ghost use Rattle.area_cells.specs.Areas.{Prints};
 
 // The code of a number's last digit.
 fn digit(n: usize) -> u8
-    ensures { λ r. ⌜ r ≡ 48 + n % 10 ⌝ }
+    ensures { λ r. ⌜ r ≡ digitZero + n % 10 ⌝ }
 {
-    (48 + n % 10) as u8
+    (DIGIT_ZERO as usize + n % 10) as u8
 }
 
 // The digits of a number.
 pub fn put_number(out: &mut [u8], at: usize, n: usize) -> usize
-    ensures { λ r. ⌜ (n < 10000000000 → Prints (now (out .entry)) (now (out .exit)) at r (decimal n)) ⌝ }
+    ensures { λ r. ⌜ (n < numeralBound → Prints (now (out .entry)) (now (out .exit)) at r (decimal n)) ⌝ }
 {
     if n < 10 {
         return put_byte(out, at, digit(n));
@@ -32,7 +34,7 @@ pub fn put_number(out: &mut [u8], at: usize, n: usize) -> usize
 
 // A comma and a number.
 pub fn put_field(out: &mut [u8], at: usize, n: usize) -> usize
-    ensures { λ r. ⌜ (n < 10000000000 → Prints (now (out .entry)) (now (out .exit)) at r (printField n)) ⌝ }
+    ensures { λ r. ⌜ (n < numeralBound → Prints (now (out .entry)) (now (out .exit)) at r (printField n)) ⌝ }
 {
     let next = put_byte(out, at, COMMA);
     put_number(out, next, n)
@@ -41,7 +43,7 @@ pub fn put_field(out: &mut [u8], at: usize, n: usize) -> usize
 // A row as a line of the file.
 pub fn put_row(out: &mut [u8], at: usize, r: Row) -> usize
     ensures { λ n. ⌜
-        (r .x < 10000000000 → r .y < 10000000000 → r .z < 10000000000
+        (r .x < numeralBound → r .y < numeralBound → r .z < numeralBound
         → Prints (now (out .entry)) (now (out .exit)) at n (print (rowView r)))
         ⌝ }
 {

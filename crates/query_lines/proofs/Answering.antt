@@ -9,7 +9,7 @@ use mathlib.Core.List.{List, [], _∷_, _++_, append-assoc}
 use lib.Dec.{ltb}
 use lib.ListN.{length, getD, take, set}
 use lib.Seq.{take-suc, take-all}
-use Rattle.limits.specs.Limits.{lineFeed, comma}
+use Rattle.limits.specs.Limits.{lineFeed, comma, numeralBound}
 use Rattle.format.specs.Lines.{decimal, printField}
 use Rattle.model.specs.Desk.{queryLine, fileLine}
 use Rattle.area_cells.specs.Areas.{Prints}
@@ -48,7 +48,7 @@ pub file-line :
     {l l₁ l₂ l₃ : List ℕ} {at a b end n : ℕ} (number line : ℕ)
     → n ≡ number
     → n < 256
-    → (n < 10000000000 → Prints l l₁ at a (decimal n))
+    → (n < numeralBound → Prints l l₁ at a (decimal n))
     → Prints l₁ l₂ a b (printField line)
     → l₃ ≡ set l₂ b lineFeed
     → end ≡ cond (ltb b (length l₂)) (suc b) b
@@ -65,8 +65,8 @@ pub query-line :
     → n < 256
     → k ≡ count
     → k < 4294967296
-    → (n < 10000000000 → Prints l l₁ at a (decimal n))
-    → (k < 10000000000 → Prints l₁ l₂ a b (printField k))
+    → (n < numeralBound → Prints l l₁ at a (decimal n))
+    → (k < numeralBound → Prints l₁ l₂ a b (printField k))
     → l₃ ≡ set l₂ b comma
     → c ≡ cond (ltb b (length l₂)) (suc b) b
     → Prints l₃ l₄ c d letters

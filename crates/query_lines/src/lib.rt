@@ -1,7 +1,10 @@
 // The desk program's lines: a query's fields, and the lines that answer a file and a query.
 
 use area_cells::byte_at;
+use area_cells::narrow_number;
 use area_cells::put_byte;
+use area_cells::wide_byte;
+use area_cells::wide_number;
 use area_parts::front;
 use codes::COMMA;
 use codes::LETTER_Q;
@@ -16,9 +19,9 @@ use read_fields::Number;
 use read_fields::Skipped;
 ghost use mathlib.Core.Path.{_≡_};
 ghost use mathlib.Core.Option.{none};
-ghost use Prim.Native.Nat.{_%_, _<_};
+ghost use Prim.Native.Nat.{_<_};
 ghost use lib.ListN.{drop};
-ghost use Rattle.limits.specs.Limits.{budgetBound};
+ghost use Rattle.limits.specs.Limits.{budgetBound, numeralBound};
 ghost use Rattle.model.specs.Desk.{queryIn, queryOf, queryLine, fileLine};
 ghost use Rattle.area_cells.specs.Areas.{Prints};
 ghost use Rattle.query_lines.specs.Views.{asQuery, Within, withLetters, behindLetter};
@@ -38,13 +41,6 @@ pub enum Asked {
     Bad,
 }
 
-// The 32 low bits of a number.
-fn narrow(n: usize) -> u32
-    ensures { λ r. ⌜ r ≡ n % budgetBound ⌝ }
-{
-    (n % 4294967296) as u32
-}
-
 // The query of these numbers in a text, where its letters begin at a cursor.
 fn with_letters(iso: usize, direction: usize, budget: usize, c: Cursor, s: &[u8]) -> Asked
     ensures { λ r. ⌜
@@ -56,7 +52,7 @@ fn with_letters(iso: usize, direction: usize, budget: usize, c: Cursor, s: &[u8]
     Asked::Of(Query {
         iso: iso,
         back: direction == 1,
-        budget: narrow(budget),
+        budget: narrow_number(budget),
         from: c.at,
         to: s.len(),
     })
@@ -118,30 +114,14 @@ fn put_bytes(out: &mut [u8], at: usize, s: &[u8]) -> usize
     end
 }
 
-// A number of 8 bits as a number to print.
-fn wide(n: u8) -> usize
-    ensures { λ r. ⌜ r ≡ n ⌝ }
-    ensures { λ r. ⌜ r < 256 ⌝ }
-{
-    n as usize
-}
-
-// A number of 32 bits as a number to print.
-fn widen(n: u32) -> usize
-    ensures { λ r. ⌜ r ≡ n ⌝ }
-    ensures { λ r. ⌜ r < budgetBound ⌝ }
-{
-    n as usize
-}
-
 // The line that answers a file: its number and line.
 pub fn put_verdict(out: &mut [u8], at: usize, number: u8, line: usize) -> usize
     ensures { λ r. ⌜
-        (line < 10000000000 → Prints (now (out .entry)) (now (out .exit)) at r
+        (line < numeralBound → Prints (now (out .entry)) (now (out .exit)) at r
         (fileLine (record { number = number; line = line })))
         ⌝ }
 {
-    let n = wide(number);
+    let n = wide_byte(number);
     let a = put_number(out, at, n);
     let b = put_field(out, a, line);
     put_byte(out, b, LINE_FEED)
@@ -154,8 +134,8 @@ pub fn put_answer(out: &mut [u8], at: usize, number: u8, count: u32, letters: &[
         (queryLine (record { refusal = none; number = number; count = count; letters = now (letters .entry) }))
         ⌝ }
 {
-    let n = wide(number);
-    let k = widen(count);
+    let n = wide_byte(number);
+    let k = wide_number(count);
     let a = put_number(out, at, n);
     let b = put_field(out, a, k);
     let c = put_byte(out, b, COMMA);

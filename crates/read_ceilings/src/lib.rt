@@ -2,7 +2,9 @@
 // byte j of an area.
 
 use area_cells::byte_at;
+use area_cells::narrow_byte;
 use area_cells::put_byte;
+use area_cells::wide_byte;
 use codes::LEFT;
 use codes::PAIR;
 use codes::PRODUCT;
@@ -22,7 +24,7 @@ use read_seen::Seen;
 use table_trees::cell;
 use table_trees::pattern_cell;
 ghost use mathlib.Core.Path.{_≡_};
-ghost use Prim.Native.Nat.{_%_, _<_};
+ghost use Prim.Native.Nat.{_<_};
 ghost use lib.ListN.{getD};
 ghost use Rattle.calculus.specs.Refusals.{typeLine, patternLine};
 ghost use Rattle.format.specs.Code.{kindView};
@@ -53,7 +55,7 @@ fn pattern_nodes(t: &[u16], base: usize, kind: usize, a: usize, b: usize) -> usi
 fn tags_of(g: &[u8], j: usize) -> usize
     ensures { λ r. ⌜ (r ≡ getD (now (g .entry)) j 0) × (r < 256) ⌝ }
 {
-    byte_at(g, j) as usize
+    wide_byte(byte_at(g, j))
 }
 
 // The left and right nodes of a P line that stands next.
@@ -118,13 +120,6 @@ pub fn row_size(c: Seen, t: &[u16], r: Row) -> usize
     }
 }
 
-// The low byte of a number.
-fn low(n: usize) -> u8
-    ensures { λ r. ⌜ r ≡ n % 256 ⌝ }
-{
-    (n % 256) as u8
-}
-
 // Keeps the left and right nodes of a row that passed, where it is a P line.
 pub fn keep_tags(c: Seen, g: &mut [u8], r: Row)
     ensures { λ u. ⌜ TagsKept (kindView (r .kind)) (now (g .entry)) (now (g .exit)) c r ⌝ }
@@ -133,7 +128,7 @@ pub fn keep_tags(c: Seen, g: &mut [u8], r: Row)
     match k {
         Kind::Pattern => {
             let n = next_tags(g, r.x, r.y, r.z);
-            put_byte(g, c.patterns, low(n));
+            put_byte(g, c.patterns, narrow_byte(n));
         }
         Kind::Type => {}
         Kind::Iso => {}

@@ -3,6 +3,8 @@
 use area_cells::byte_at;
 use codes::CARRIAGE_RETURN;
 use codes::COMMA;
+use codes::DIGIT_NINE;
+use codes::DIGIT_ZERO;
 use codes::LINE_FEED;
 ghost use mathlib.Core.Path.{_≡_};
 ghost use Prim.Native.Nat.{_+_, _<_};
@@ -30,7 +32,7 @@ fn digit_at(s: &[u8], at: usize) -> usize
 {
     let b = byte_at(s, at);
     match b {
-        48..=57 => b as usize - 48,
+        DIGIT_ZERO..=DIGIT_NINE => (b - DIGIT_ZERO) as usize,
         _ => 10,
     }
 }

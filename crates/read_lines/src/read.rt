@@ -1,5 +1,7 @@
 // A whole file into the table: refusals 3 to 7.
 
+use area_words::narrow;
+use area_words::word_of;
 use codes::SIZE;
 use format::Refusal;
 use format::Row;
@@ -20,7 +22,7 @@ ghost use mathlib.Core.Path.{_≡_};
 ghost use Prim.Native.Nat.{_*_, _≤_, _<_};
 ghost use lib.ListN.{length};
 ghost use lib.Seq.{sets};
-ghost use Rattle.limits.specs.Limits.{tableLength, maxLines, maxPatterns, rowWidth};
+ghost use Rattle.limits.specs.Limits.{tableLength, maxLines, maxPatterns, fieldBound, rowWidth};
 ghost use Rattle.format.specs.Lines.{lines};
 ghost use Rattle.format.specs.Table.{numbers};
 ghost use Rattle.format.specs.Code.{rowView};
@@ -57,27 +59,14 @@ fn judge_line(s: &[u8], at: usize, c: Seen, t: &[u16], g: &[u8]) -> Judged
     }
 }
 
-fn narrow(n: usize) -> u16
-    requires { ⌜ n < 65536 ⌝ }
-    ensures { λ r. ⌜ r ≡ n ⌝ }
-{
-    n as u16
-}
-
-fn widen(b: u8) -> u16
-    ensures { λ r. ⌜ r ≡ b ⌝ }
-{
-    b as u16
-}
-
 // Row n of the table becomes r, with its size.
 fn put_row(t: &mut [u16], n: usize, r: Row, size: usize)
-    requires { ⌜ (tableLength ≤ length (now t)) × (n < maxLines) × (r .x < 65536) × (r .y < 65536) × (r .z < 65536) × (size < 65536) ⌝ }
+    requires { ⌜ (tableLength ≤ length (now t)) × (n < maxLines) × (r .x < fieldBound) × (r .y < fieldBound) × (r .z < fieldBound) × (size < fieldBound) ⌝ }
     ensures { λ u. ⌜ now (t .exit) ≡ sets (now (t .entry)) (n * rowWidth) (numbers (rowView r) size) ⌝ }
 {
     let b = n * ROW_WIDTH;
     let k = r.kind;
-    t[b] = widen(letter_of(k));
+    t[b] = word_of(letter_of(k));
     t[b + 1] = narrow(r.x);
     t[b + 2] = narrow(r.y);
     t[b + 3] = narrow(r.z);

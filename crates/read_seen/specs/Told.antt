@@ -3,6 +3,8 @@ use Prim.Native.Nat.{ℕ, _+_, _<_}
 use mathlib.Core.Path.{_≡_}
 use mathlib.Core.List.{List}
 use lib.ListN.{length, getD}
+use Rattle.limits.specs.Fields.{sizeField}
+use Rattle.limits.specs.Limits.{fieldBound}
 use Rattle.calculus.specs.Trees.{Ty, tunit, Pat, punit, typeNodes, nodes, tags}
 use Rattle.calculus.specs.Refusals.{Kind, typeLine, patternLine, isoLine, clauseLine, letLine}
 use Rattle.format.specs.Judge.{Seen, stage, typeNode, patternNode}
@@ -22,11 +24,11 @@ seenAfter letLine c = record { stage = 4; types = c .types; patterns = c .patter
 
 -- counts that one more does not carry past a word
 pub record SmallCounts (c : C.Seen) : Type 0 where
-  pub types : c .types < 65536
-  pub patterns : c .patterns < 65536
-  pub isos : c .isos < 65536
-  pub clauses : c .clauses < 65536
-  pub lets : c .lets < 65536
+  pub types : c .types < fieldBound
+  pub patterns : c .patterns < fieldBound
+  pub isos : c .isos < fieldBound
+  pub clauses : c .clauses < fieldBound
+  pub lets : c .lets < fieldBound
 
 -- the counts are those of the rows above
 pub record Counts (c : C.Seen) (s : Seen) : Type 0 where
@@ -59,10 +61,10 @@ pub record Told (t : List ℕ) (c : C.Seen) (s : Seen) : Type 0 where
 
 -- the sizes that the table holds of its T lines, and of its P lines from a row on; the left and right nodes that an area holds of the P lines
 abbrev pub TypeSizes : List ℕ → List Ty → Type 0
-TypeSizes t ts = (i : ℕ) → i < length ts → cellOf t i 4 ≡ typeNodes (getD ts i tunit)
+TypeSizes t ts = (i : ℕ) → i < length ts → cellOf t i sizeField ≡ typeNodes (getD ts i tunit)
 
 abbrev pub PatternSizes : List ℕ → ℕ → List Pat → Type 0
-PatternSizes t base ps = (j : ℕ) → j < length ps → cellOf t (base + j) 4 ≡ nodes (getD ps j punit)
+PatternSizes t base ps = (j : ℕ) → j < length ps → cellOf t (base + j) sizeField ≡ nodes (getD ps j punit)
 
 abbrev pub TagsAt : List ℕ → List Pat → Type 0
 TagsAt g ps = (j : ℕ) → j < length ps → getD g j 0 ≡ tags (getD ps j punit)

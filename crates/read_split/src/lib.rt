@@ -1,5 +1,6 @@
 // How many lines some bytes have.
 
+use area_cells::wide_byte;
 use codes::LINE_FEED;
 ghost use mathlib.Core.Path.{_≡_};
 ghost use Prim.Native.Nat.{_-_, _≤_, _<_};
@@ -45,12 +46,6 @@ fn block_end(i: usize, len: usize) -> usize
     len
 }
 
-fn wide(n: u8) -> usize
-    ensures { λ r. ⌜ r ≡ n ⌝ }
-{
-    n as usize
-}
-
 // How many line feeds there are, block by block.
 fn count_feeds(s: &[u8]) -> usize
     ensures { λ r. ⌜ r ≡ feedsIn (now (s .entry)) ⌝ }
@@ -59,7 +54,7 @@ fn count_feeds(s: &[u8]) -> usize
     let mut i: usize = 0;
     while i < s.len() {
         let end = block_end(i, s.len());
-        n += wide(block_feeds(&s[i..end]));
+        n += wide_byte(block_feeds(&s[i..end]));
         i = end;
     }
     n

@@ -5,6 +5,8 @@
 use area_parts::front;
 use area_parts::tail;
 use desk::Desk;
+use desk::FILE_ROOM;
+use desk::LINE_ROOM;
 use desk::feed;
 use desk::finished;
 use desk::opened;
@@ -166,8 +168,8 @@ fn answer_all(
 }
 
 fn main() {
-    let mut file = [0u8; 65537];
-    let mut line = [0u8; 201];
+    let mut file = [0u8; FILE_ROOM];
+    let mut line = [0u8; LINE_ROOM];
     let mut table = [0u16; TABLE_LENGTH];
     let mut work = [0u8; WORK_LENGTH];
     let mut index = [0u16; AREA_LENGTH];

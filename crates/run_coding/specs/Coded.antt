@@ -7,7 +7,7 @@ use mathlib.Core.List.{List}
 use lib.Dec.{ltb}
 use lib.ListN.{length, getD, set, take}
 use lib.Seq.{sets}
-use Rattle.limits.specs.Limits.{maxPatterns, variables}
+use Rattle.limits.specs.Limits.{maxPatterns, variables, wordBound}
 use Rattle.calculus.specs.Trees.{Pat, pvar, Val}
 use Rattle.calculus.specs.Letters.{letters}
 use Rattle.table_trees.specs.Unfolding.{patternOf}
@@ -39,7 +39,7 @@ pub record NumberPut (code code′ : List ℕ) (at v r : ℕ) : Type 0 where
   pub area : 0 < r → code′ ≡ set code at v
   pub place : 0 < r → r ≡ at + 1
   pub fits : 0 < r → r ≤ length code
-  pub near : 0 < r → r < 65536
+  pub near : 0 < r → r < wordBound
 
 -- a pattern's numbers, or 0 where there is no room
 pub record Flattened (p : Pat) (code code′ : List ℕ) (at r : ℕ) : Type 0 where
@@ -47,7 +47,7 @@ pub record Flattened (p : Pat) (code code′ : List ℕ) (at r : ℕ) : Type 0 w
   pub area : 0 < r → code′ ≡ sets code at (flat p)
   pub place : 0 < r → r ≡ at + length (flat p)
   pub fits : 0 < r → r ≤ length code
-  pub near : 0 < r → r < 65536
+  pub near : 0 < r → r < wordBound
   pub few : 0 < r → Few p
 
 -- what a line's number stands for, by the numbers before a place

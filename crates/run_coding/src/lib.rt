@@ -6,6 +6,7 @@ use area_words::narrow;
 use area_words::store_word;
 use area_words::wide;
 use area_words::word_at;
+use area_words::word_of;
 use codes::FIRST;
 use codes::KIND;
 use codes::LEFT;
@@ -16,6 +17,7 @@ use codes::VARIABLE;
 use limits::INDEX_LENGTH;
 use limits::MAX_PATTERNS;
 use limits::VARIABLES;
+use limits::WORD_BOUND;
 use run_flat::STOP;
 use run_flat::build_flat;
 use run_flat::build_var;
@@ -32,6 +34,8 @@ ghost use Prim.Native.Nat.{ℕ, suc, _+_, _≤_, _<_};
 ghost use lib.Dec.{ltb};
 ghost use lib.ListN.{length, take};
 ghost use mathlib.Core.List.{List};
+ghost use Rattle.run_flat.specs.Flat.{stop};
+ghost use Rattle.limits.specs.Limits.{variables, maxPatterns, wordBound};
 ghost use Rattle.calculus.specs.Trees.{pvar};
 ghost use Rattle.area_cells.specs.Areas.{Writes};
 ghost use Rattle.table_trees.specs.Unfolding.{cellOf, smallerOf, patternOf};
@@ -48,20 +52,14 @@ pub const AREA_LENGTH: usize = INDEX_LENGTH + LISTED + 2400;
 
 pub const SHORT_AREA_LENGTH: usize = INDEX_LENGTH + LISTED + 1200;
 
+// A number of 16 bits names no place above this.
+const LAST_PLACE: usize = WORD_BOUND - 1;
+
 // The letter of a P line's kind; a number that is no kind has a unit's.
 fn letter(kind: usize) -> u16
     ensures { λ r. ⌜ r ≡ letterFor kind ⌝ }
 {
-    if kind == PAIR {
-        return 80;
-    }
-    if kind == LEFT {
-        return 76;
-    }
-    if kind == RIGHT {
-        return 82;
-    }
-    85
+    word_of(run_patterns::letter(kind))
 }
 
 // The P line that number k of P line j names.
@@ -78,7 +76,7 @@ fn put_number(code: &mut [u16], at: usize, v: u16) -> usize
     if code.len() <= at {
         return 0;
     }
-    if 65535 <= at {
+    if LAST_PLACE <= at {
         return 0;
     }
     store_word(code, at, v);
@@ -125,7 +123,7 @@ fn flatten(t: &[u16], base: usize, j: usize, code: &mut [u16], at: usize) -> usi
 // Stores the number behind a pattern's last one, where there is one; gives the place behind it, 0 where
 // there is no room.
 fn put_stop(code: &mut [u16], end: usize) -> usize
-    ensures { λ r. ⌜ NumberPut (now (code .entry)) (now (code .exit)) end 128 r × (0 < r → 0 < end) × (end ≡ 0 → now (code .exit) ≡ now (code .entry)) ⌝ }
+    ensures { λ r. ⌜ NumberPut (now (code .entry)) (now (code .exit)) end stop r × (0 < r → 0 < end) × (end ≡ 0 → now (code .exit) ≡ now (code .entry)) ⌝ }
 {
     if end == 0 {
         return 0;
@@ -135,7 +133,7 @@ fn put_stop(code: &mut [u16], end: usize) -> usize
 
 // The number for a line that is variable n.
 fn variable_number(n: usize) -> u16
-    ensures { λ r. ⌜ r ≡ cond (ltb n 32) (suc n) 0 ⌝ }
+    ensures { λ r. ⌜ r ≡ cond (ltb n variables) (suc n) 0 ⌝ }
 {
     if n < VARIABLES {
         return narrow(n + 1);
@@ -145,7 +143,7 @@ fn variable_number(n: usize) -> u16
 
 // Writes the number for P line j, and its flat pattern from a place on; gives the place behind it.
 fn code_line(t: &[u16], base: usize, j: usize, code: &mut [u16], at: usize) -> usize
-    requires { ⌜ (j < 1024) × (listed ≤ at) × (listed ≤ length (now code)) ⌝ }
+    requires { ⌜ (j < maxPatterns) × (listed ≤ at) × (listed ≤ length (now code)) ⌝ }
     ensures { λ r. ⌜
         LineCoded (patternOf (now (t .entry)) base j) j (now (code .entry)) (now (code .exit)) at r
         ⌝ }
@@ -173,7 +171,7 @@ pub fn code_patterns(t: &[u16], base: usize, patterns: usize, code: &mut [u16])
     if code.len() < LISTED {
         return;
     }
-    if 1024 < patterns {
+    if MAX_PATTERNS < patterns {
         return;
     }
     let mut at: usize = LISTED;
@@ -187,7 +185,7 @@ pub fn code_patterns(t: &[u16], base: usize, patterns: usize, code: &mut [u16])
 
 // The number for P line j.
 fn entry(code: &[u16], j: usize) -> usize
-    ensures { λ r. ⌜ (r ≡ entryOf (now (code .entry)) j) × (r < 65536) ⌝ }
+    ensures { λ r. ⌜ (r ≡ entryOf (now (code .entry)) j) × (r < wordBound) ⌝ }
 {
     if j < wide(word_at(code, 0)) {
         return wide(word_at(code, j + 1));
@@ -197,8 +195,8 @@ fn entry(code: &[u16], j: usize) -> usize
 
 // The variable that P line j is; 32 or more where it is none.
 pub fn variable(code: &[u16], j: usize) -> usize
-    ensures { λ r. ⌜ ((t : List ℕ) (base : ℕ) → Coded t base (now (code .entry)) → r < 32 → patternOf t base j ≡ pvar r) ⌝ }
-    ensures { λ r. ⌜ r < 65536 ⌝ }
+    ensures { λ r. ⌜ ((t : List ℕ) (base : ℕ) → Coded t base (now (code .entry)) → r < variables → patternOf t base j ≡ pvar r) ⌝ }
+    ensures { λ r. ⌜ r < wordBound ⌝ }
 {
     let d = entry(code, j);
     if 0 < d {

@@ -5,11 +5,12 @@ use area_words::word_at;
 ghost use mathlib.Core.Path.{_≡_};
 ghost use mathlib.Core.Bool.{cond};
 ghost use Prim.Native.Nat.{_<_};
+ghost use Rattle.limits.specs.Limits.{wordBound};
 ghost use Rattle.run_index.specs.Index.{placeAt};
 
 // Number m of the index.
 pub fn place(index: &[u16], m: usize) -> usize
-    ensures { λ r. ⌜ (r ≡ placeAt (now (index .entry)) m) × (r < 65536) ⌝ }
+    ensures { λ r. ⌜ (r ≡ placeAt (now (index .entry)) m) × (r < wordBound) ⌝ }
 {
     wide(word_at(index, m))
 }

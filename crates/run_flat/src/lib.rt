@@ -3,17 +3,19 @@
 // `vars[n]` and ends before `vars[32 + n]`.
 
 use area_cells::put_byte;
+use area_words::byte_of;
 use area_words::narrow;
 use area_words::store_word;
 use area_words::wide;
 use area_words::word_at;
+use area_words::word_of;
 use codes::LETTER_PAIR;
 use codes::LETTER_UNIT;
 use limits::VARIABLES;
 use run_values::copy_range;
 ghost use mathlib.Core.Path.{_≡_};
 ghost use mathlib.Core.Bool.{cond};
-ghost use Prim.Native.Nat.{ℕ, _+_, _-_, _%_, _≤_, _<_};
+ghost use Prim.Native.Nat.{ℕ, _+_, _-_, _≤_, _<_};
 ghost use lib.Dec.{eqb};
 ghost use lib.ListN.{length, getD, take};
 ghost use lib.Seq.{sets};
@@ -22,7 +24,10 @@ ghost use Rattle.calculus.specs.Trees.{Pat, Val};
 ghost use Rattle.calculus.specs.Letters.{letters, letterU, letterP};
 ghost use Rattle.area_cells.specs.Areas.{Writes};
 ghost use Rattle.run_values.specs.Texts.{At, alike, putRange, ranges, rangeOf, built, Below};
-ghost use Rattle.run_flat.specs.Flat.{Stands};
+ghost use Rattle.run_flat.specs.Flat.{stop, Stands};
+
+// Numbers below this are variables; letters stand above.
+const LETTERS_FROM: u16 = VARIABLES as u16;
 
 // The number behind a pattern's last one.
 pub const STOP: u16 = 128;
@@ -76,7 +81,7 @@ pub fn put_range(vars: &mut [u16], n: usize, from: usize, to: usize)
 // Where the value at a place ends: `end`, if the pattern ends with number k.
 fn flat_end(code: &[u16], k: usize, s: &[u8], at: usize, end: usize) -> usize
     ensures { λ r. ⌜
-        ((v : Val) → At (now (s .entry)) at v → (getD (now (code .entry)) k 0 ≡ 128 → end ≡ at + length (letters v))
+        ((v : Val) → At (now (s .entry)) at v → (getD (now (code .entry)) k 0 ≡ stop → end ≡ at + length (letters v))
         → r ≡ at + length (letters v))
         ⌝ }
 {
@@ -84,13 +89,6 @@ fn flat_end(code: &[u16], k: usize, s: &[u8], at: usize, end: usize) -> usize
         return end;
     }
     value_end(s, at)
-}
-
-// A letter of 8 bits as a number of 16.
-fn wider(b: u8) -> u16
-    ensures { λ r. ⌜ r ≡ b ⌝ }
-{
-    b as u16
 }
 
 // Matches the pattern that stands flat from place p on with the value from a place up to `end`: whether
@@ -114,7 +112,7 @@ pub fn match_flat(
     while k < code.len() {
         let o = code[k];
         k += 1;
-        if o < 32 {
+        if o < LETTERS_FROM {
             let to = flat_end(code, k, s, at, end);
             put_range(vars, wide(o), at, to);
             at = to;
@@ -126,7 +124,7 @@ pub fn match_flat(
         if s.len() <= at {
             return false;
         }
-        if wider(s[at]) != o {
+        if word_of(s[at]) != o {
             return false;
         }
         at += 1;
@@ -147,13 +145,6 @@ pub fn build_var(n: usize, vars: &[u16], work: &mut [u8], at: usize) -> usize
     copy_range(work, from, wide(word_at(vars, VARIABLES + n)), at)
 }
 
-// A letter of 16 bits as one of 8.
-fn narrower(o: u16) -> u8
-    ensures { λ r. ⌜ r ≡ o % 256 ⌝ }
-{
-    (o % 256) as u8
-}
-
 // Writes the pattern that stands flat from place p on with its variables' values put in; gives where it
 // ends.
 pub fn build_flat(code: &[u16], p: usize, vars: &[u16], work: &mut [u8], from: usize) -> usize
@@ -169,14 +160,14 @@ pub fn build_flat(code: &[u16], p: usize, vars: &[u16], work: &mut [u8], from: u
     while k < code.len() {
         let o = code[k];
         k += 1;
-        if o < 32 {
+        if o < LETTERS_FROM {
             at = build_var(wide(o), vars, work, at);
             continue;
         }
         if o == STOP {
             return at;
         }
-        at = put_byte(work, at, narrower(o));
+        at = put_byte(work, at, byte_of(o));
     }
     at
 }

@@ -3,6 +3,7 @@
 use Prim.Native.Nat.{ℕ, zero, suc, _+_, _*_, _-_}
 use mathlib.Core.List.{List, [], _∷_}
 use lib.ListN.{getD}
+use Rattle.limits.specs.Fields.{isoFrom, isoTo}
 use Rattle.limits.specs.Limits.{maxIsos, maxClauses}
 use Rattle.calculus.specs.Trees.{Clause, Iso}
 use Rattle.table_trees.specs.Unfolding.{cellOf, typeOf}
@@ -32,8 +33,8 @@ abbrev pub isoBetween : List ℕ → ℕ → List ℕ → ℕ → ℕ → Iso
 isoBetween t base index m end =
     record {
       line = suc (placeAt index m);
-      from = typeOf t (cellOf t (placeAt index m) 1);
-      to = typeOf t (cellOf t (placeAt index m) 2);
+      from = typeOf t (cellOf t (placeAt index m) isoFrom);
+      to = typeOf t (cellOf t (placeAt index m) isoTo);
       clauses = clausesAt t base index (suc m) (end - suc m);
     }
 

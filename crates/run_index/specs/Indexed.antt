@@ -3,6 +3,7 @@ use Prim.Native.Nat.{ℕ, suc, _+_, _-_, _≤_, _<_}
 use mathlib.Core.Path.{_≡_}
 use mathlib.Core.List.{List, [], _∷_}
 use lib.ListN.{length, take, drop}
+use Rattle.limits.specs.Fields.{letterField}
 use Rattle.limits.specs.Limits.{maxIsos}
 use Rattle.calculus.specs.Refusals.{Kind, typeLine, patternLine, isoLine, clauseLine, letLine}
 use Rattle.format.specs.Lines.{Row, letter}
@@ -44,7 +45,7 @@ pub record Indexed (t : List ℕ) (base : ℕ) (rs : List Row) (n : ℕ) (index 
 -- row n, a line of this kind, is put in front of the rows below it, whatever file it is of
 abbrev pub KindIndexed : Kind → ℕ → List ℕ → L.Left → List ℕ → L.Left → Type 0
 KindIndexed k n index l index′ r =
-    (t : List ℕ) (rs : List Row) (types patterns lines : ℕ) → FileIn t types patterns lines rs → n < lines → cellOf t n 0 ≡ letter k
+    (t : List ℕ) (rs : List Row) (types patterns lines : ℕ) → FileIn t types patterns lines rs → n < lines → cellOf t n letterField ≡ letter k
     → Indexed t types rs (suc n) index (l .first) (l .isos) → Indexed t types rs n index′ (r .first) (r .isos)
 
 -- row n, behind the T and P lines of a table

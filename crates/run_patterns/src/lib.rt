@@ -105,7 +105,7 @@ fn match_var(s: &[u8], at: usize, end: usize, n: usize, vars: &mut [u16]) -> Upt
 }
 
 // The letter of a P line's kind; a number that is no kind has a unit's.
-fn letter(kind: usize) -> u8
+pub fn letter(kind: usize) -> u8
     ensures { λ r. ⌜ r ≡ letterFor kind ⌝ }
 {
     if kind == PAIR {

@@ -9,7 +9,7 @@ use mathlib.Core.Logic.{_⊎_, inl, inr}
 use mathlib.Core.List.{List, [], _∷_, _++_, append-assoc}
 use lib.ListN.{length, getD, getElem?, take, drop, replicate, length-append, drop-of-length-le, take-append-drop}
 use lib.Seq.{sets, slice, sets-eq, length-take-le, length-slice, drop-at, take-take, drop-drop, drop-append-le}
-use Rattle.limits.specs.Limits.{variables, maxLets, resultLength, workLength, frame}
+use Rattle.limits.specs.Limits.{variables, maxLets, resultLength, workLength, frame, wordBound}
 use Rattle.calculus.specs.Trees.{Pat, pvar, Val, vunit, vinj, vpair, Let, Clause, Iso}
 use Rattle.calculus.specs.Slots.{Slots, empty}
 use Rattle.calculus.specs.Letters.{letters}
@@ -922,8 +922,8 @@ pub apply-falls : (i j : ℕ) {t : ℕ} → 3 * i ≡ t → j < i → 3 * j + 2 
 apply-falls i j {t} e h = omega arith
 
 -- the rows of a clause's L lines
-pub rows-in : {row : ℕ} → row < 65536 → row + 1 < 65537
+pub rows-in : {row : ℕ} → row < wordBound → row + 1 ≤ wordBound
 rows-in h = omega arith
 
-pub span-small : (n from to : ℕ) → n ≡ to - from → to < 65536 → n < 65536
+pub span-small : (n from to : ℕ) → n ≡ to - from → to < wordBound → n < wordBound
 span-small n from to e h = omega (arith, e)

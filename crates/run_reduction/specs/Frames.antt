@@ -5,6 +5,7 @@ use mathlib.Core.Bool.{Bool, true, false, cond}
 use mathlib.Core.Option.{some}
 use mathlib.Core.List.{List, map, reverse}
 use lib.ListN.{length, getElem?, take, drop}
+use Rattle.limits.specs.Fields.{clauseLeft, clauseRight}
 use Rattle.limits.specs.Limits.{variables, resultLength, workLength, frame}
 use Rattle.calculus.specs.Trees.{Pat, Val, Let, Clause, Iso, invertLet, invertClause, invert}
 use Rattle.calculus.specs.Slots.{Slots}
@@ -38,7 +39,7 @@ sidedLets back t base from n = cond back (reverse (map invertLet (letsIn t base 
 
 -- the pattern that is matched first, of the clause at place m of the index
 abbrev pub sideAt : List ℕ → ℕ → List ℕ → Bool → ℕ → Pat
-sideAt t base index back m = patternOf t base (cellOf t (placeAt index m) (cond back 2 1))
+sideAt t base index back m = patternOf t base (cellOf t (placeAt index m) (cond back clauseRight clauseLeft))
 
 -- the isos of a direction stand in the table where the index says
 pub record Laid (t : List ℕ) (base : ℕ) (index : List ℕ) (back : Bool) (os : List Iso) : Type 0 where
@@ -48,7 +49,7 @@ pub record Laid (t : List ℕ) (base : ℕ) (index : List ℕ) (back : Bool) (os
 pub record EnvAt (work : List ℕ) (top : ℕ) (vars : List ℕ) (e : Slots Val) : Type 0 where
   pub agrees : Agrees (take top work) vars e
   pub below : Below vars top
-  pub wide : length vars ≡ 64
+  pub wide : length vars ≡ 2 * variables
   pub slots : length e ≡ variables
 
 -- the clause at place `found` is chosen: its pattern is the last one matched

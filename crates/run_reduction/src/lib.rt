@@ -21,6 +21,7 @@ use table_trees::cell;
 ghost use mathlib.Core.Path.{_≡_};
 ghost use mathlib.Core.Bool.{cond};
 ghost use Prim.Native.Nat.{suc, _+_, _-_, _≤_, _<_};
+ghost use Rattle.limits.specs.Limits.{variables, wordBound};
 ghost use Rattle.table_trees.specs.Unfolding.{cellOf, patternOf};
 ghost use Rattle.run_coding.specs.Coded.{Coded};
 ghost use Rattle.run_index.specs.Index.{placeAt};
@@ -49,7 +50,7 @@ pub struct Place {
 
 // Number m + 1 of the index.
 fn next_place(index: &[u16], m: usize) -> usize
-    ensures { λ r. ⌜ (r ≡ placeAt (now (index .entry)) (m + 1)) × (r < 65536) ⌝ }
+    ensures { λ r. ⌜ (r ≡ placeAt (now (index .entry)) (m + 1)) × (r < wordBound) ⌝ }
 {
     if m < index.len() {
         return place(index, m + 1);
@@ -76,7 +77,7 @@ fn span(from: usize, to: usize) -> usize
 
 // The row of let step k, where n L rows stand from row `from` on: on the way back from the last.
 fn let_row(back: bool, from: usize, n: usize, k: usize) -> usize
-    requires { ⌜ (from < 65537) × (n < 65536) × (k < n) ⌝ }
+    requires { ⌜ (from ≤ wordBound) × (n < wordBound) × (k < n) ⌝ }
     ensures { λ r. ⌜ r ≡ from + cond back (n - suc k) k ⌝ }
 {
     if back {
@@ -105,7 +106,7 @@ fn choose(
         (now (vars .entry)) (now (vars .exit)) r)
         ⌝ }
 {
-    let field = side(back, 1, 2);
+    let field = side(back, CLAUSE_LEFT, CLAUSE_RIGHT);
     let mut m = from;
     while m < stop {
         let j = cell(t, place(index, m), field);
@@ -126,8 +127,8 @@ fn range_from(vars: &[u16], n: usize) -> usize
 
 // Where they end.
 fn range_to(vars: &[u16], n: usize) -> usize
-    requires { ⌜ n < 65536 ⌝ }
-    ensures { λ r. ⌜ r ≡ getD (now (vars .entry)) (32 + n) 0 ⌝ }
+    requires { ⌜ n < wordBound ⌝ }
+    ensures { λ r. ⌜ r ≡ getD (now (vars .entry)) (variables + n) 0 ⌝ }
 {
     wide(word_at(vars, VARIABLES + n))
 }
@@ -276,7 +277,7 @@ fn run_lets(
     vars: &mut [u16],
     budget: u32,
 ) -> Reduced
-    requires { ⌜ (from < 65537) × (to < 65536) ⌝ }
+    requires { ⌜ (from ≤ wordBound) × (to < wordBound) ⌝ }
     ensures { λ r. ⌜
         (Coded (now (t .entry)) base (now (code .entry)) → LetsSay (now (t .entry)) base (now (index .entry)) back i from to (now (work .entry))
         (now (work .exit)) end (now (vars .entry)) (now (vars .exit)) budget r)
@@ -337,7 +338,7 @@ pub fn apply(
     if left == 0 {
         return Given::Spent;
     }
-    let mut v = [0u16; 64];
+    let mut v = [0u16; 2 * VARIABLES];
     let low = place(index, i) + 1;
     let stop = next_place(index, i);
     let m = choose(t, base, index, code, back, low, stop, work, at, end, &mut v);

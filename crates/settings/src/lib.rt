@@ -17,6 +17,7 @@ ghost use mathlib.Core.Path.{_≡_};
 ghost use mathlib.Core.List.{List};
 ghost use Prim.Native.Nat.{ℕ, _≤_};
 ghost use lib.ListN.{length};
+ghost use Rattle.limits.specs.Limits.{resultLength};
 ghost use Rattle.format.specs.Lines.{Row as RowOf};
 ghost use Rattle.model.specs.Services.{accepted};
 ghost use Rattle.law_ranking.specs.Numbering.{numberOn, settingOn};
@@ -120,7 +121,7 @@ fn setting_checked(
 ) -> Lettered
     ensures { λ r. ⌜
         ((patterns lines : ℕ) (rs : List RowOf) → FileIn (now (t .entry)) types patterns lines rs
-        → 127 ≤ length (now (result .entry))
+        → resultLength ≤ length (now (result .entry))
         → LetteredAs (settingOn (accepted rs) i n) (now (result .entry)) (now (result .exit)) r)
         ⌝ }
 {

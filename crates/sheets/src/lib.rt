@@ -1,5 +1,6 @@
 // A whole sheet in one call: a file is checked once, and each line of a list of queries answered.
 
+use area_cells::narrow_number;
 use area_cells::store_number;
 use area_parts::clear_bytes;
 use checker::Checked;
@@ -24,7 +25,7 @@ ghost use mathlib.Core.List.{[], _∷_};
 ghost use Prim.Native.Nat.{_+_, _*_, _%_, _≤_};
 ghost use lib.ListN.{length, drop};
 ghost use lib.Seq.{sets};
-ghost use Rattle.limits.specs.Limits.{resultLength};
+ghost use Rattle.limits.specs.Limits.{resultLength, budgetBound};
 ghost use Rattle.format.specs.Lines.{lines};
 ghost use Rattle.model.specs.Services.{short, accepted, answerOfRun};
 ghost use Rattle.model.specs.Desk.{queryOf, answerTo};
@@ -76,26 +77,19 @@ fn widen(n: u8) -> u32
     n as u32
 }
 
-// The 32 low bits of a number.
-fn narrow(n: usize) -> u32
-    ensures { λ r. ⌜ r ≡ n % 4294967296 ⌝ }
-{
-    (n % 4294967296) as u32
-}
-
 // Stores a run's number, count and length from place `at` on.
 fn put_three(numbers: &mut [u32], at: usize, r: Ran)
     requires { ⌜ at + 3 ≤ length (now numbers) ⌝ }
     ensures { λ z. ⌜
         now (numbers .exit) ≡ sets (now (numbers .entry)) at
-        (numberOf (r .refusal) ∷ (r .count ∷ (r .length % 4294967296 ∷ [])))
+        (numberOf (r .refusal) ∷ (r .count ∷ (r .length % budgetBound ∷ [])))
         ⌝ }
 {
     let f = r.refusal;
     let n = number_of(f);
     store_number(numbers, at, widen(n));
     store_number(numbers, at + 1, r.count);
-    store_number(numbers, at + 2, narrow(r.length));
+    store_number(numbers, at + 2, narrow_number(r.length));
 }
 
 // Answers query k, whose line is given, into its three numbers and its 127 bytes.
@@ -110,7 +104,7 @@ fn answer_one(
     numbers: &mut [u32],
     letters: &mut [u8],
 )
-    requires { ⌜ (k * 3 + 3 ≤ length (now numbers)) × (k * 127 + resultLength ≤ length (now letters)) ⌝ }
+    requires { ⌜ (k * 3 + 3 ≤ length (now numbers)) × (k * resultLength + resultLength ≤ length (now letters)) ⌝ }
     ensures { λ z. ⌜
         OnChecked (now (t .entry)) base (now (index .entry)) isos (now (work .entry))
         (λ rs. OneAnswered (answerOfRun (answerTo (accepted rs) (queryOf (now (line .entry))))) k

@@ -5,6 +5,7 @@ use mathlib.Core.Bool.{cond}
 use mathlib.Core.List.{List}
 use lib.Dec.{ltb}
 use lib.ListN.{getD}
+use Rattle.limits.specs.Fields.{kindField, firstField, secondField}
 use Rattle.limits.specs.Limits.{maxLines, rowWidth}
 use Rattle.calculus.specs.Trees.{Ty, tunit, Pat, punit}
 use Rattle.format.specs.Judge.{typeNode, patternNode}
@@ -20,14 +21,14 @@ smallerOf a i = cond (ltb a i) a maxLines
 abbrev pub typeIn : List ℕ → ℕ → ℕ → Ty
 typeIn t zero i = tunit
 typeIn t (suc d) i =
-    typeNode (cellOf t i 1) (typeIn t d (smallerOf (cellOf t i 2) i)) (typeIn t d (smallerOf (cellOf t i 3) i))
+    typeNode (cellOf t i kindField) (typeIn t d (smallerOf (cellOf t i firstField) i)) (typeIn t d (smallerOf (cellOf t i secondField) i))
 
 -- P line j, where the P lines begin at row `base`
 abbrev pub patternIn : List ℕ → ℕ → ℕ → ℕ → Pat
 patternIn t base zero j = punit
 patternIn t base (suc d) j =
-    patternNode (cellOf t (base + j) 1) (cellOf t (base + j) 2)
-    (patternIn t base d (smallerOf (cellOf t (base + j) 2) j)) (patternIn t base d (smallerOf (cellOf t (base + j) 3) j))
+    patternNode (cellOf t (base + j) kindField) (cellOf t (base + j) firstField)
+    (patternIn t base d (smallerOf (cellOf t (base + j) firstField) j)) (patternIn t base d (smallerOf (cellOf t (base + j) secondField) j))
 
 -- A line's number bounds how deep it unfolds.
 unfoldable pub typeOf : List ℕ → ℕ → Ty

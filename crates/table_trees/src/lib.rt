@@ -7,6 +7,7 @@ use limits::MAX_LINES;
 use limits::ROW_WIDTH;
 ghost use mathlib.Core.Path.{_≡_};
 ghost use Prim.Native.Nat.{_+_, _<_};
+ghost use Rattle.limits.specs.Limits.{wordBound};
 ghost use Rattle.table_trees.specs.Unfolding.{cellOf, smallerOf};
 
 // The rows of the table, and the line that unfolds to a unit for want of a row.
@@ -14,7 +15,7 @@ pub const ROWS: usize = MAX_LINES;
 
 // Number k of a row: 0 the letter, then the fields; 0 where there is no such row.
 pub fn cell(t: &[u16], row: usize, k: usize) -> usize
-    ensures { λ r. ⌜ (r ≡ cellOf (now (t .entry)) row k) × (r < 65536) ⌝ }
+    ensures { λ r. ⌜ (r ≡ cellOf (now (t .entry)) row k) × (r < wordBound) ⌝ }
 {
     if ROWS <= row {
         return 0;
@@ -37,7 +38,7 @@ pub fn smaller(a: usize, i: usize) -> usize
 
 // Number k of the row of P line j.
 pub fn pattern_cell(t: &[u16], base: usize, j: usize, k: usize) -> usize
-    ensures { λ r. ⌜ (r ≡ cellOf (now (t .entry)) (base + j) k) × (r < 65536) ⌝ }
+    ensures { λ r. ⌜ (r ≡ cellOf (now (t .entry)) (base + j) k) × (r < wordBound) ⌝ }
 {
     if ROWS <= base {
         return 0;

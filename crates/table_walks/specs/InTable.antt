@@ -2,6 +2,7 @@
 use Prim.Native.Nat.{ℕ, zero, suc, _-_, _^_}
 use mathlib.Core.Option.{Option}
 use mathlib.Core.List.{List, [], _∷_, map}
+use Rattle.limits.specs.Fields.{letP, letIso, letQ, clauseLeft, clauseRight, isoFrom, isoTo}
 use Rattle.limits.specs.Limits.{maxTags}
 use Rattle.calculus.specs.Tools.{firstFailing}
 use Rattle.calculus.specs.Trees.{Pat, Let, Clause, left, right}
@@ -11,7 +12,7 @@ use Rattle.table_trees.specs.Unfolding.{cellOf, typeOf, patternOf}
 
 -- the L line in row n, and the L lines in `count` rows from n on
 abbrev pub letAt : List ℕ → ℕ → ℕ → Let
-letAt t base n = record { p = patternOf t base (cellOf t n 1); iso = cellOf t n 2; q = patternOf t base (cellOf t n 3) }
+letAt t base n = record { p = patternOf t base (cellOf t n letP); iso = cellOf t n letIso; q = patternOf t base (cellOf t n letQ) }
 
 abbrev pub letsIn : List ℕ → ℕ → ℕ → ℕ → List Let
 letsIn t base n zero = []
@@ -22,14 +23,14 @@ abbrev pub clauseIn : List ℕ → ℕ → ℕ → ℕ → Clause
 clauseIn t base row end =
     record {
       line = suc row;
-      lhs = patternOf t base (cellOf t row 1);
+      lhs = patternOf t base (cellOf t row clauseLeft);
       lets = letsIn t base (suc row) (end - suc row);
-      rhs = patternOf t base (cellOf t row 2);
+      rhs = patternOf t base (cellOf t row clauseRight);
     }
 
 -- the types of the isos whose I lines are in these rows
 abbrev pub sigsIn : List ℕ → List ℕ → Sigs
-sigsIn t starts = map (λ r. (typeOf t (cellOf t r 1), typeOf t (cellOf t r 2))) starts
+sigsIn t starts = map (λ r. (typeOf t (cellOf t r isoFrom), typeOf t (cellOf t r isoTo))) starts
 
 -- field k of the C lines in these rows, as patterns
 abbrev pub patternsAt : List ℕ → ℕ → ℕ → List ℕ → List Pat

@@ -4,6 +4,7 @@ use mathlib.Core.Path.{_≡_}
 use mathlib.Core.Option.{Option, none, some}
 use mathlib.Core.List.{List, [], _∷_, map}
 use lib.ListN.{length, getD, getElem?, take, drop}
+use Rattle.limits.specs.Fields.{letterField, clauseLeft, clauseRight}
 use Rattle.limits.specs.Limits.{maxLines, maxClauses}
 use Rattle.calculus.specs.Tools.{firstOf}
 use Rattle.calculus.specs.Trees.{Ty, tunit, punit, Clause}
@@ -24,7 +25,7 @@ pub record FileIn (t : List ℕ) (types patterns lines : ℕ) (rs : List Row) : 
   pub patternCount : patterns ≡ length (afterAll start rs .patterns)
   pub typeTrees : (i : ℕ) → i < types → typeOf t i ≡ getD (afterAll start rs .types) i tunit
   pub patternTrees : (j : ℕ) → j < patterns → patternOf t types j ≡ getD (afterAll start rs .patterns) j punit
-  pub letters : (k : ℕ) (r : Row) → getElem? rs k ≡ some r → cellOf t k 0 ≡ letter (r .kind)
+  pub letters : (k : ℕ) (r : Row) → getElem? rs k ≡ some r → cellOf t k letterField ≡ letter (r .kind)
   pub xs : (k : ℕ) (r : Row) → getElem? rs k ≡ some r → cellOf t k 1 ≡ r .x
   pub ys : (k : ℕ) (r : Row) → getElem? rs k ≡ some r → cellOf t k 2 ≡ r .y
   pub zs : (k : ℕ) (r : Row) → getElem? rs k ≡ some r → cellOf t k 3 ≡ r .z
@@ -60,8 +61,8 @@ pendingFault sigs (some s) cs = firstOf (λ c. at (c .line) (clauseFault sigs (s
 pub record WalkAt (t : List ℕ) (base : ℕ) (rs : List Row) (n : ℕ) (clauses : List ℕ) (below iso : ℕ) (pending found : Option (Refusal × ℕ)) : Type 0 where
   pub further : n ≤ below
   pub lets : tailAt rs n .lets ≡ letsIn t base n (below - n)
-  pub lefts : map (λ c. c .lhs) (tailAt rs n .clauses) ≡ patternsAt t base 1 clauses
-  pub rights : map (λ c. c .rhs) (tailAt rs n .clauses) ≡ patternsAt t base 2 clauses
+  pub lefts : map (λ c. c .lhs) (tailAt rs n .clauses) ≡ patternsAt t base clauseLeft clauses
+  pub rights : map (λ c. c .rhs) (tailAt rs n .clauses) ≡ patternsAt t base clauseRight clauses
   pub fewer : length clauses ≤ maxClauses
   pub number : iso ≡ length (isoRows 0 (take n rs))
   pub clauseFaults : pending ≡ pendingFault (sigsIn t (isoRows 0 rs)) (ownSig (sigsIn t (isoRows 0 rs)) iso) (tailAt rs n .clauses)

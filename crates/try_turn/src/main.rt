@@ -5,6 +5,7 @@ use area_cells::put_byte;
 use area_parts::front;
 use codes::COMMA;
 use codes::LINE_FEED;
+use limits::MAX_BYTES;
 use limits::TABLE_LENGTH;
 use limits::WORK_LENGTH;
 use print_text::put_number;
@@ -27,7 +28,7 @@ fn print_answer(number: u8, line: usize) -> bool {
 fn print_turned(file: &[u8]) {
     let mut table = [0u16; TABLE_LENGTH];
     let mut work = [0u8; WORK_LENGTH];
-    let mut output = [0u8; 65537];
+    let mut output = [0u8; MAX_BYTES + 1];
     let r = turn(file, &mut table, &mut work, &mut output);
     let a = r.answer;
     let f = a.refusal;
@@ -37,7 +38,7 @@ fn print_turned(file: &[u8]) {
 }
 
 fn main() {
-    let mut input = [0u8; 65537];
+    let mut input = [0u8; MAX_BYTES + 1];
     let f = read_area(&mut input);
     match f {
         Filled::Bytes(n) => print_turned(front(&input, n)),

@@ -5,6 +5,7 @@ use mathlib.Core.Path.{_≡_, refl, sym, ap, ap₂, _∙_, subst}
 use mathlib.Core.Option.{some}
 use mathlib.Core.List.{List}
 use lib.ListN.{getElem?}
+use Rattle.limits.specs.Limits.{numeralBound}
 use Rattle.calculus.specs.Refusals.{Kind, typeLine, patternLine, isoLine, clauseLine, letLine}
 use Rattle.format.specs.Lines.{Row, letter, kindOf, print}
 use Rattle.format.specs.Unfold.{exchange}
@@ -84,7 +85,7 @@ same-row r p q s u = λ i. row (p i) (q i) (s i) (u i)
 
 -- what writing a row says of it
 abbrev Puts : List ℕ → List ℕ → ℕ → ℕ → Row → Type 0
-Puts l l′ at end r = r .x < 10000000000 → r .y < 10000000000 → r .z < 10000000000 → Writes l l′ at end (print r)
+Puts l l′ at end r = r .x < numeralBound → r .y < numeralBound → r .z < numeralBound → Writes l l′ at end (print r)
 
 -- a row read from the table and written exchanged
 pub row-written : {t l l′ : List ℕ} {n at end a b x y z : ℕ} {c : L.Letter} (k : K.Kind) (q : Row)
@@ -95,8 +96,8 @@ row-written {t} {l} {l′} {n} {at} {end} {a} {b} {x} {y} {z} {c} k q cell byte 
     record {
       bytes = λ types patterns lines rs r f there.
           let kind : kindView k ≡ r .kind = kind-read rs n r c f there cell byte read k of in
-          let below : Below 10000000000 (row (kindView k) x y z) = record { x = omega arith; y = omega arith; z = omega arith } in
-          let ex : Below 10000000000 q = subst (Below 10000000000) (sym made) (exchange-below 10000000000 (kindView k) (row (kindView k) x y z) below) in
+          let below : Below numeralBound (row (kindView k) x y z) = record { x = omega arith; y = omega arith; z = omega arith } in
+          let ex : Below numeralBound q = subst (Below numeralBound) (sym made) (exchange-below numeralBound (kindView k) (row (kindView k) x y z) below) in
           let same : row (kindView k) x y z ≡ r =
           same-row r kind (hx .0 ∙ f .xs n r there) (hy .0 ∙ f .ys n r there) (hz .0 ∙ f .zs n r there)
           in

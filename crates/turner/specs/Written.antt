@@ -5,6 +5,7 @@ use mathlib.Core.Option.{some}
 use mathlib.Core.List.{List, map, reverse}
 use lib.ListN.{getElem?}
 use lib.Seq.{slice}
+use Rattle.limits.specs.Fields.{letterField}
 use Rattle.calculus.specs.Refusals.{letLine}
 use Rattle.format.specs.Lines.{Row, letter, print, printRows}
 use Rattle.format.specs.Unfold.{exchange, turnRows}
@@ -30,8 +31,8 @@ pub record LetsWritten (t l l′ : List ℕ) (from to at end : ℕ) : Type 0 whe
 pub record LetsEnd (t : List ℕ) (n lines m : ℕ) : Type 0 where
   pub further : n ≤ m
   pub within : n ≤ lines → m ≤ lines
-  pub lets : (k : ℕ) → n ≤ k → k < m → cellOf t k 0 ≡ letter letLine
-  pub stops : m < lines → cellOf t m 0 ≡ letter letLine → ⊥
+  pub lets : (k : ℕ) → n ≤ k → k < m → cellOf t k letterField ≡ letter letLine
+  pub stops : m < lines → cellOf t m letterField ≡ letter letLine → ⊥
 
 -- the turned file, from place 0 up to place `end`
 pub record FileWritten (t l l′ : List ℕ) (lines end : ℕ) : Type 0 where

@@ -1,8 +1,12 @@
 // Turn: the file's bytes in; the turned file's bytes in the output area, and its length.
 
+use area_cells::narrow_byte;
 use checker::check_file;
+use codes::FIRST;
+use codes::KIND;
 use codes::LET_LINE;
 use codes::ROW_LETTER;
+use codes::SECOND;
 use format::Answer;
 use format::Kind;
 use format::Refusal;
@@ -13,7 +17,6 @@ use read_forms::Letter;
 use read_forms::kind_of;
 use table_trees::cell;
 ghost use mathlib.Core.Path.{_≡_};
-ghost use Prim.Native.Nat.{_%_};
 ghost use Rattle.format.specs.Unfold.{exchange};
 ghost use Rattle.format.specs.Code.{kindView, rowView};
 ghost use Rattle.turner.specs.Written.{RowWritten, LetsWritten, LetsEnd, FileWritten};
@@ -23,13 +26,6 @@ ghost use Rattle.turner.specs.TurnSays.{TurnSays};
 pub struct Turned {
     pub answer: Answer,
     pub length: usize,
-}
-
-// The 8 low bits of a number.
-fn narrow(n: usize) -> u8
-    ensures { λ r. ⌜ r ≡ n % 256 ⌝ }
-{
-    (n % 256) as u8
 }
 
 // A row as the turned file has it.
@@ -74,11 +70,11 @@ fn exchanged(k: Kind, x: usize, y: usize, z: usize) -> Row
 fn put_turned_row(t: &[u16], n: usize, out: &mut [u8], at: usize) -> usize
     ensures { λ r. ⌜ RowWritten (now (t .entry)) (now (out .entry)) (now (out .exit)) n at r ⌝ }
 {
-    match kind_of(narrow(cell(t, n, ROW_LETTER))) {
+    match kind_of(narrow_byte(cell(t, n, ROW_LETTER))) {
         Letter::Of(k) => put_row(
             out,
             at,
-            exchanged(k, cell(t, n, 1), cell(t, n, 2), cell(t, n, 3)),
+            exchanged(k, cell(t, n, KIND), cell(t, n, FIRST), cell(t, n, SECOND)),
         ),
         Letter::Unknown => at,
     }

@@ -1,5 +1,6 @@
 // The units before the first visit: each holds a T line and a setting number, in two lent areas.
 
+use area_cells::wide_number;
 use format::Refusal;
 use format::is_refused;
 use settings::setting_fault;
@@ -13,19 +14,12 @@ ghost use Rattle.law_units.specs.Units.{unitsFault};
 ghost use Rattle.table_walks.specs.Walk.{FileIn};
 ghost use Rattle.number_values.specs.Numbers.{Counted};
 
-// A number of 32 bits as a place.
-fn wide(n: u32) -> usize
-    ensures { λ r. ⌜ r ≡ n ⌝ }
-{
-    n as usize
-}
-
 // Number i of an area, 0 past its end.
 pub fn number_at(numbers: &[u32], i: usize) -> usize
     ensures { λ r. ⌜ r ≡ getD (now (numbers .entry)) i 0 ⌝ }
 {
     if i < numbers.len() {
-        return wide(numbers[i]);
+        return wide_number(numbers[i]);
     }
     0
 }

@@ -3,13 +3,13 @@ use Prim.Native.Nat.{ℕ, zero, suc, _+_, min}
 use mathlib.Core.Bool.{Bool, cond}
 use mathlib.Core.List.{List}
 use lib.ListN.{getD, set}
-use Rattle.limits.specs.Limits.{maxLines, runRoom}
+use Rattle.limits.specs.Limits.{maxLines, runRoom, maxNumber}
 use Rattle.unit_tally.specs.declared.Tally.{Tally}
 use Rattle.unit_tally.specs.declared.Visit.{Visit}
 use Rattle.unit_tally.specs.declared.Visit.the-variants.{Done, Skipped, Spent}
 
 abbrev pub upOf : ℕ → ℕ
-upOf n = min (n + 1) 4294967295
+upOf n = min (n + 1) maxNumber
 
 -- the one count of the visit's kind grows by one, and the others stay
 abbrev pub addedOf : Tally → Visit → Tally

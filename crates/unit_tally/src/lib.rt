@@ -4,6 +4,7 @@
 use area_cells::byte_at;
 use area_cells::put_byte;
 use limits::MAX_LINES;
+use limits::MAX_NUMBER;
 use limits::RUN_ROOM;
 ghost use mathlib.Core.Path.{_≡_};
 ghost use lib.ListN.{getD, set};
@@ -28,7 +29,7 @@ pub enum Visit {
 fn up(n: u32) -> u32
     ensures { λ r. ⌜ r ≡ upOf n ⌝ }
 {
-    if n < 4294967295 { n + 1 } else { n }
+    if n < MAX_NUMBER { n + 1 } else { n }
 }
 
 // The record with one visit more.

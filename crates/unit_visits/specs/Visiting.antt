@@ -4,7 +4,7 @@ use mathlib.Core.Path.{_≡_}
 use mathlib.Core.Option.{some}
 use mathlib.Core.List.{List}
 use lib.ListN.{length, drop, getD, getElem?, set}
-use Rattle.limits.specs.Limits.{runRoom, workLength}
+use Rattle.limits.specs.Limits.{runRoom, workLength, wordBound, maxLines}
 use Rattle.calculus.specs.Trees.{Iso}
 use Rattle.format.specs.Lines.{Row}
 use Rattle.format.specs.Unfold.{isosOf}
@@ -48,7 +48,7 @@ OnUnit t types index isos p i n work Q =
 abbrev pub OnWay : List ℕ → ℕ → List ℕ → P.Planned → ℕ → ℕ → ℕ → List ℕ → (List Row → Type 0) → Type 0
 OnWay t types index p i n j work Q =
     (isos : ℕ) (rs : List Row) → Playable t types index isos rs → p .iso < isos → (h : Holds rs i n) (o : Iso) → getElem? (isosOf (toward (p .back) rs)) (p .iso) ≡ some o
-    → h .type ≡ o .from → j ≡ otherEnd rs (p .back) (some o) → j < 65536 → InRoom (length work) (Q rs)
+    → h .type ≡ o .from → j ≡ otherEnd rs (p .back) (some o) → j < wordBound → InRoom (length work) (Q rs)
 
 -- all of the work area behind the frames of a run is as it was
 pub record Spared (work work′ : List ℕ) : Type 0 where
@@ -70,4 +70,4 @@ pub record Played (rs : List Row) (budget : ℕ) (p : Planned) (k : ℕ) (w is n
 
 abbrev pub OneVisited : List ℕ → ℕ → List ℕ → ℕ → P.Planned → ℕ → ℕ → List ℕ → List ℕ → List ℕ → List ℕ → List ℕ → List ℕ → Type 0
 OneVisited t types index isos p k budget w is ns w′ is′ ns′ =
-    OnUnit t types index isos p (getD is (p .unit) 0) (getD ns (p .unit) 0) w (λ rs. k < 4096 → Played rs budget (plannedView p) k w is ns w′ is′ ns′)
+    OnUnit t types index isos p (getD is (p .unit) 0) (getD ns (p .unit) 0) w (λ rs. k < maxLines → Played rs budget (plannedView p) k w is ns w′ is′ ns′)

@@ -1,5 +1,6 @@
 // A visit to a unit on a checked table: the unit's setting is sent through an iso, there or back.
 
+use area_cells::narrow_number;
 use area_cells::store_number;
 use check_shapes::same_type;
 use codes::ISO_FROM;
@@ -17,7 +18,6 @@ use unit_settings::number_at;
 use unit_tally::Visit;
 use unit_tally::put_mark;
 ghost use mathlib.Core.Path.{_≡_};
-ghost use Prim.Native.Nat.{_%_};
 ghost use Rattle.number_values.specs.Numbers.{Counted};
 ghost use Rattle.unit_visits.specs.Visiting.{OnUnit, OnWay, Sends, Visits, OneVisited};
 
@@ -26,13 +26,6 @@ pub enum Visited {
     Done(u32, u32),
     Skipped,
     Spent,
-}
-
-// The 32 low bits of a number.
-fn narrow(n: usize) -> u32
-    ensures { λ r. ⌜ r ≡ n % 4294967296 ⌝ }
-{
-    (n % 4294967296) as u32
 }
 
 // Sends number n of T line i through an iso that begins at its type; `to` is the T line at the other end. The
@@ -73,7 +66,7 @@ fn send(
     ) {
         Given::Range(b, e, left) => {
             let r = rank_at(t, counts, to, work, b);
-            Visited::Done(narrow(to), narrow(r.number))
+            Visited::Done(narrow_number(to), narrow_number(r.number))
         }
         Given::Spent => Visited::Spent,
     }

@@ -10,11 +10,12 @@ use format::Answer;
 use format::Refusal;
 use format::is_refused;
 use format::number_of;
+use limits::RESULT_LENGTH;
 use limits::WORK_LENGTH;
 ghost use mathlib.Core.Path.{_≡_};
 ghost use Prim.Native.Nat.{_≤_};
 ghost use lib.ListN.{length};
-ghost use Rattle.limits.specs.Limits.{tableLength, maxLines};
+ghost use Rattle.limits.specs.Limits.{tableLength, maxLines, resultLength};
 ghost use Rattle.format.specs.Lines.{lines};
 ghost use Rattle.witness.specs.WitnessSays.{WitnessSays, Searched};
 
@@ -39,7 +40,7 @@ fn refused(f: Refusal) -> Witnessed
 
 // Checks a file of at most 4,096 lines and shows its fault.
 fn searched(file: &[u8], table: &mut [u16], result: &mut [u8]) -> Witnessed
-    requires { ⌜ (tableLength ≤ length (now table)) × (length (lines (now file)) ≤ maxLines) × (127 ≤ length (now result)) ⌝ }
+    requires { ⌜ (tableLength ≤ length (now table)) × (length (lines (now file)) ≤ maxLines) × (resultLength ≤ length (now result)) ⌝ }
     ensures { λ r. ⌜ Searched (now (file .entry)) (now (table .entry)) (now (result .entry)) (now (table .exit)) (now (result .exit)) r ⌝ }
 {
     let c = entered(file, table);
@@ -62,7 +63,7 @@ pub fn witness(file: &[u8], table: &mut [u16], work: &mut [u8], result: &mut [u8
         (now (table .exit)) (now (work .exit)) (now (result .exit)) r
         ⌝ }
 {
-    if result.len() < 127 {
+    if result.len() < RESULT_LENGTH {
         return refused(Refusal::ShortArea);
     }
     let f = early(file, table.len(), work.len());

@@ -29,8 +29,8 @@ returns-2 c =
 compare-requires : tie.Need-compare-requires
 compare-requires c κs = search needs
 
-cast-t12 : tie.Need-cast-t12
-cast-t12 c = search needs
+narrow-number-requires : tie.Need-narrow-number-requires
+narrow-number-requires c κs = search needs
 
 returns-3 : tie.Need-returns-3
 returns-3 c =
@@ -38,7 +38,7 @@ returns-3 c =
     let if2 = c .before .before .if2 in
     let compare = c .before .compare in
     let a = c .before .before .before .before .before .args in
-    both-there (a .t .now) (a .types) (a .patterns) (a .i) (a .j) _ (if1 .left) (if2 .left) (compare .ensures) refl refl refl refl
+    both-there (a .t .now) (a .types) (a .patterns) (a .i) (a .j) _ (if1 .left) (if2 .left) (compare .ensures) refl refl refl (c .narrow-number .ensures)
 
 pub overlap-checked-spec : {M : Type 1} → statement M
 overlap-checked-spec =
@@ -49,5 +49,5 @@ overlap-checked-spec =
     not-compared-requires-2
     returns-2
     compare-requires
-    cast-t12
+    narrow-number-requires
     returns-3)

@@ -4,11 +4,11 @@ use borrow.Author.Needs.{needs}
 use Rattle.query_lines.proofs.put_answer.Statement.{statement}
 use Rattle.query_lines.proofs.put_answer.Tie as tie
 
-wide-requires : tie.Need-wide-requires
-wide-requires c κs = search needs
+wide-byte-requires : tie.Need-wide-byte-requires
+wide-byte-requires c κs = search needs
 
-widen-requires : tie.Need-widen-requires
-widen-requires c κs = search needs
+wide-number-requires : tie.Need-wide-number-requires
+wide-number-requires c κs = search needs
 
 put-number-requires : tie.Need-put-number-requires
 put-number-requires c κs = search needs
@@ -41,10 +41,10 @@ returns c =
     (a .number)
     (a .count)
     (a .letters .now)
-    (k .before .wide .ensures .0)
-    (k .before .wide .ensures .1)
-    (k .widen .ensures .0)
-    (k .widen .ensures .1)
+    (k .before .wide-byte .ensures .0)
+    (k .before .wide-byte .ensures .1)
+    (k .wide-number .ensures .0)
+    (k .wide-number .ensures .1)
     (n .put-number .ensures)
     (f .put-field .ensures)
     (d .put-byte .ensures .0)
@@ -57,8 +57,8 @@ pub put-answer-spec : {M : Type 1} → statement M
 put-answer-spec =
     tie.close
     (tie.spec
-    wide-requires
-    widen-requires
+    wide-byte-requires
+    wide-number-requires
     put-number-requires
     put-field-requires
     put-byte-requires

@@ -4,8 +4,8 @@ use borrow.Author.Needs.{needs}
 use Rattle.query_lines.proofs.put_verdict.Statement.{statement}
 use Rattle.query_lines.proofs.put_verdict.Tie as tie
 
-wide-requires : tie.Need-wide-requires
-wide-requires c κs = search needs
+wide-byte-requires : tie.Need-wide-byte-requires
+wide-byte-requires c κs = search needs
 
 put-number-requires : tie.Need-put-number-requires
 put-number-requires c κs = search needs
@@ -30,8 +30,8 @@ returns c =
     file-line
     (a .number)
     (a .line)
-    (w .wide .ensures .0)
-    (w .wide .ensures .1)
+    (w .wide-byte .ensures .0)
+    (w .wide-byte .ensures .1)
     (n .put-number .ensures)
     (f .put-field .ensures h)
     (e .put-byte .ensures .0)
@@ -41,7 +41,7 @@ pub put-verdict-spec : {M : Type 1} → statement M
 put-verdict-spec =
     tie.close
     (tie.spec
-    wide-requires
+    wide-byte-requires
     put-number-requires
     put-field-requires
     put-byte-requires

@@ -9,8 +9,8 @@ enum-told c = search needs
 next-tags-requires : tie.Need-next-tags-requires
 next-tags-requires c κs = search needs
 
-low-requires : tie.Need-low-requires
-low-requires c κs = search needs
+narrow-byte-requires : tie.Need-narrow-byte-requires
+narrow-byte-requires c κs = search needs
 
 put-byte-requires : tie.Need-put-byte-requires
 put-byte-requires c κs = search needs
@@ -35,9 +35,9 @@ returns c =
     let args = c .before .before .before .before .before .before .before .before .before .before .args in
     let enum-told = c .before .before .before .before .before .before .before .enum-told in
     let next-tags = c .before .before .before .before .before .next-tags in
-    let low = c .before .before .before .low in
+    let narrow-byte = c .before .before .before .narrow-byte in
     let put-byte = c .before .before .put-byte in
-    let a = args in tags-pattern (a .g .now) (a .c) (a .r) (enum-told .given .1) (next-tags .ensures) (low .ensures) (put-byte .ensures .0)
+    let a = args in tags-pattern (a .g .now) (a .c) (a .r) (enum-told .given .1) (next-tags .ensures) (narrow-byte .ensures) (put-byte .ensures .0)
 
 returns-2 : tie.Need-returns-2
 returns-2 c = let a = c .before .before .before .args in tags-type (a .g .now) (a .c) (a .r) (c .enum-told2 .given .1)
@@ -57,7 +57,7 @@ keep-tags-spec =
     (tie.spec
     enum-told
     next-tags-requires
-    low-requires
+    narrow-byte-requires
     put-byte-requires
     enum-told-2
     enum-told-3

@@ -9,9 +9,6 @@ byte-at-requires c κs = search needs
 cast-result : tie.Need-cast-result
 cast-result c = search needs
 
-sub-result : tie.Need-sub-result
-sub-result c = search needs
-
 returns : tie.Need-returns
 returns c = a-digit (c .before .before .byte-at .ensures) (c .before .if1 .left) (c .if2 .taken)
 
@@ -22,4 +19,4 @@ returns-3 : tie.Need-returns-3
 returns-3 c = digit-above (c .before .before .byte-at .ensures) (c .if2 .left)
 
 pub digit-at-spec : {M : Type 1} → statement M
-digit-at-spec = tie.close (tie.spec byte-at-requires cast-result sub-result returns returns-2 returns-3)
+digit-at-spec = tie.close (tie.spec byte-at-requires cast-result returns returns-2 returns-3)

@@ -33,13 +33,13 @@ part-block-feeds-end c = c .block-end .ensures .1
 block-feeds-requires : tie.Need-block-feeds-requires Inv-loop μ-loop
 block-feeds-requires c κs = block-long _ _ _ (c .before .block-end .ensures .2)
 
-wide-requires : tie.Need-wide-requires Inv-loop μ-loop
-wide-requires c κs = search needs
+wide-byte-requires : tie.Need-wide-byte-requires Inv-loop μ-loop
+wide-byte-requires c κs = search needs
 
 add-n : tie.Need-add-n Inv-loop μ-loop
 add-n c =
     let b = c .before .before .before in
-    let k = counted-block (b .before .before .loop .inv) (b .block-end .ensures .0) (b .block-end .ensures .1) (c .wide .ensures ∙ c .before .block-feeds .ensures) .few in
+    let k = counted-block (b .before .before .loop .inv) (b .block-end .ensures .0) (b .block-end .ensures .1) (c .wide-byte .ensures .0 ∙ c .before .block-feeds .ensures) .few in
     let l = b .block-end .ensures .1 in
     omega arith
 
@@ -53,7 +53,7 @@ loop-less c =
 loop-again : tie.Need-loop-again Inv-loop μ-loop
 loop-again c =
     let b = c .before .before .before in
-    counted-block (b .before .before .loop .inv) (b .block-end .ensures .0) (b .block-end .ensures .1) (c .wide .ensures ∙ c .before .block-feeds .ensures)
+    counted-block (b .before .before .loop .inv) (b .block-end .ensures .0) (b .block-end .ensures .1) (c .wide-byte .ensures .0 ∙ c .before .block-feeds .ensures)
 
 returns : tie.Need-returns Inv-loop μ-loop
 returns c = counted-end (c .before .loop .inv) (c .loop-test .left)
@@ -70,7 +70,7 @@ count-feeds-spec =
     part-block-feeds-start
     part-block-feeds-end
     block-feeds-requires
-    wide-requires
+    wide-byte-requires
     add-n
     loop-less
     loop-again

@@ -14,7 +14,7 @@ use Rattle.run_flat.proofs.build_flat.Lts as lts
 use Rattle.area_cells.proofs.put_byte.Reads as put-byte-reads
 use Rattle.area_words.proofs.wide.Reads as wide-reads
 use Rattle.run_flat.proofs.build_var.Reads as build-var-reads
-use Rattle.run_flat.proofs.narrower.Reads as narrower-reads
+use Rattle.area_words.proofs.byte_of.Reads as byte-of-reads
 
 abbrev Inv-loop : tie.InvT-loop
 Inv-loop code p vars work₀ from k₀ at₀ work k at =
@@ -24,35 +24,27 @@ Inv-loop code p vars work₀ from k₀ at₀ work k at =
 abbrev μ-loop : tie.MeasureT-loop
 μ-loop code p vars work₀ from k₀ at₀ work k at = length code - k
 
--- src/lib.rt:169:5
 loop-holds : tie.Need-loop-holds Inv-loop μ-loop
 loop-holds c = (λ q top st b low fits. written-start top _ _ st, refl)
 
--- src/lib.rt:170:17
 mul-o : tie.Need-mul-o Inv-loop μ-loop
 mul-o c = search needs
 
--- src/lib.rt:170:17
 shared-slice-read-o : tie.Need-shared-slice-read-o Inv-loop μ-loop
 shared-slice-read-o c = search needs
 
--- src/lib.rt:171:9
 add-k : tie.Need-add-k Inv-loop μ-loop
 add-k c = search needs
 
--- src/lib.rt:173:28
 wide-requires : tie.Need-wide-requires Inv-loop μ-loop
 wide-requires c κs = search needs
 
--- src/lib.rt:173:13
 build-var-requires : tie.Need-build-var-requires Inv-loop μ-loop
 build-var-requires c κs = search needs
 
--- src/lib.rt:169:5
 loop-less : tie.Need-loop-less Inv-loop μ-loop
 loop-less c = search needs
 
--- src/lib.rt:169:5
 loop-again : tie.Need-loop-again Inv-loop μ-loop
 loop-again c =
     let loop′ = c .before .before .before .before .before .before .before .before .loop in
@@ -61,43 +53,35 @@ loop-again c =
     let build-var = c .before .before .build-var in
     (λ q top st b low fits. written-var (loop′ .inv .0 q top st b low fits) refl (if1 .taken) (wide .ensures .0) low fits (build-var .ensures top b), build-var .kept .1 .1 .0 ∙ loop′ .inv .1)
 
--- src/lib.rt:177:13
 same-length : tie.Need-same-length Inv-loop μ-loop
 same-length c = c .before .before .before .before .loop .inv .1
 
--- src/lib.rt:177:13
 returns : tie.Need-returns Inv-loop μ-loop
 returns c = λ q top st b low fits. written-stop (c .before .before .before .before .loop .inv .0 q top st b low fits) (c .if2 .taken) fits
 
--- src/lib.rt:179:33
-narrower-requires : tie.Need-narrower-requires Inv-loop μ-loop
-narrower-requires c κs = search needs
+byte-of-requires : tie.Need-byte-of-requires Inv-loop μ-loop
+byte-of-requires c κs = search needs
 
--- src/lib.rt:179:9
 put-byte-requires : tie.Need-put-byte-requires Inv-loop μ-loop
 put-byte-requires c κs = search needs
 
--- src/lib.rt:169:5
 loop-less-2 : tie.Need-loop-less-2 Inv-loop μ-loop
 loop-less-2 c = search needs
 
--- src/lib.rt:169:5
 loop-again-2 : tie.Need-loop-again-2 Inv-loop μ-loop
 loop-again-2 c =
     let loop′ = c .before .before .before .before .before .before .before .before .before .loop in
     let if1 = c .before .before .before .before .before .before .if1 in
     let if2 = c .before .before .before .before .before .if2 in
-    let narrower = c .before .before .before .narrower in
+    let byte-of = c .before .before .before .byte-of in
     let put-byte = c .before .before .put-byte in (
-      λ q top st b low fits. written-letter (loop′ .inv .0 q top st b low fits) refl (if1 .left) (if2 .left) (narrower .ensures) (put-byte .ensures .0) (put-byte .ensures .1),
+      λ q top st b low fits. written-letter (loop′ .inv .0 q top st b low fits) refl (if1 .left) (if2 .left) (byte-of .ensures) (put-byte .ensures .0) (put-byte .ensures .1),
       put-byte .kept .0 ∙ loop′ .inv .1,
     )
 
--- src/lib.rt:159:1
 same-length-2 : tie.Need-same-length-2 Inv-loop μ-loop
 same-length-2 c = c .before .loop .inv .1
 
--- src/lib.rt:159:1
 returns-2 : tie.Need-returns-2 Inv-loop μ-loop
 returns-2 c = λ q top st b low fits. let w = written-within (c .before .loop .inv .0 q top st b low fits) in absurd (omega (arith, w, c .loop-test .left))
 
@@ -117,7 +101,7 @@ build-flat-spec =
     loop-again
     same-length
     returns
-    narrower-requires
+    byte-of-requires
     put-byte-requires
     loop-less-2
     loop-again-2

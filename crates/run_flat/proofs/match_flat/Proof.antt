@@ -15,7 +15,7 @@ use Rattle.run_flat.proofs.match_flat.Lts as lts
 use Rattle.area_words.proofs.wide.Reads as wide-reads
 use Rattle.run_flat.proofs.flat_end.Reads as flat-end-reads
 use Rattle.run_flat.proofs.put_range.Reads as put-range-reads
-use Rattle.run_flat.proofs.wider.Reads as wider-reads
+use Rattle.area_words.proofs.word_of.Reads as word-of-reads
 
 abbrev Inv-loop : tie.InvT-loop
 Inv-loop code p s from end vars₀ k₀ at₀ vars k at =
@@ -24,39 +24,30 @@ Inv-loop code p s from end vars₀ k₀ at₀ vars k at =
 abbrev μ-loop : tie.MeasureT-loop
 μ-loop code p s from end vars₀ k₀ at₀ vars k at = length code - k
 
--- src/lib.rt:114:5
 loop-holds : tie.Need-loop-holds Inv-loop μ-loop
 loop-holds c = (λ q v st a e. before-start _ st a e, refl)
 
--- src/lib.rt:115:17
 mul-o : tie.Need-mul-o Inv-loop μ-loop
 mul-o c = search needs
 
--- src/lib.rt:115:17
 shared-slice-read-o : tie.Need-shared-slice-read-o Inv-loop μ-loop
 shared-slice-read-o c = search needs
 
--- src/lib.rt:116:9
 add-k : tie.Need-add-k Inv-loop μ-loop
 add-k c = search needs
 
--- src/lib.rt:118:17
 flat-end-requires : tie.Need-flat-end-requires Inv-loop μ-loop
 flat-end-requires c κs = search needs
 
--- src/lib.rt:119:29
 wide-requires : tie.Need-wide-requires Inv-loop μ-loop
 wide-requires c κs = search needs
 
--- src/lib.rt:119:13
 put-range-requires : tie.Need-put-range-requires Inv-loop μ-loop
 put-range-requires c κs = search needs
 
--- src/lib.rt:114:5
 loop-less : tie.Need-loop-less Inv-loop μ-loop
 loop-less c = search needs
 
--- src/lib.rt:114:5
 loop-again : tie.Need-loop-again Inv-loop μ-loop
 loop-again c =
     let loop′ = c .before .before .before .before .before .before .before .before .before .loop in
@@ -66,68 +57,55 @@ loop-again c =
     let put-range = c .before .before .put-range in
     (λ q v st a e. var-next (loop′ .inv .0 q v st a e) refl (if1 .taken) (wide .ensures .0) (flat-end .ensures) (put-range .ensures), put-range .kept .0 ∙ loop′ .inv .1)
 
--- src/lib.rt:124:13
 same-length : tie.Need-same-length Inv-loop μ-loop
 same-length c = c .before .before .before .before .loop .inv .1
 
--- src/lib.rt:124:13
 returns : tie.Need-returns Inv-loop μ-loop
 returns c = λ q v st a e. at-stop (c .before .before .before .before .loop .inv .0 q v st a e) (c .if2 .taken)
 
--- src/lib.rt:127:13
 same-length-2 : tie.Need-same-length-2 Inv-loop μ-loop
 same-length-2 c = c .before .before .before .before .before .loop .inv .1
 
--- src/lib.rt:127:13
 returns-2 : tie.Need-returns-2 Inv-loop μ-loop
 returns-2 c =
     let loop′ = c .before .before .before .before .before .loop in
     let if2 = c .before .if2 in
     λ q v st a e. let w = letter-within (loop′ .inv .0 q v st a e) refl (if2 .left) in absurd (omega (arith, w, c .if3 .taken))
 
--- src/lib.rt:129:18
-shared-slice-read-wider : tie.Need-shared-slice-read-wider Inv-loop μ-loop
-shared-slice-read-wider c = search needs
+shared-slice-read-word-of : tie.Need-shared-slice-read-word-of Inv-loop μ-loop
+shared-slice-read-word-of c = search needs
 
--- src/lib.rt:129:12
-wider-requires : tie.Need-wider-requires Inv-loop μ-loop
-wider-requires c κs = search needs
+word-of-requires : tie.Need-word-of-requires Inv-loop μ-loop
+word-of-requires c κs = search needs
 
--- src/lib.rt:130:13
 same-length-3 : tie.Need-same-length-3 Inv-loop μ-loop
 same-length-3 c = c .before .before .before .before .before .before .before .before .loop .inv .1
 
--- src/lib.rt:130:13
 returns-3 : tie.Need-returns-3 Inv-loop μ-loop
 returns-3 c =
     let loop′ = c .before .before .before .before .before .before .before .before .loop in
     let if1 = c .before .before .before .before .before .if1 in
     let if2 = c .before .before .before .before .if2 in
-    let wider = c .before .wider in
-    λ q v st a e. letter-differs (loop′ .inv .0 q v st a e) refl (if1 .left) (if2 .left) (λ z. c .if4 .taken (wider .ensures ∙ z))
+    let word-of = c .before .word-of in
+    λ q v st a e. letter-differs (loop′ .inv .0 q v st a e) refl (if1 .left) (if2 .left) (λ z. c .if4 .taken (word-of .ensures ∙ z))
 
--- src/lib.rt:132:9
 add-at : tie.Need-add-at Inv-loop μ-loop
 add-at c = search needs
 
--- src/lib.rt:114:5
 loop-less-2 : tie.Need-loop-less-2 Inv-loop μ-loop
 loop-less-2 c = search needs
 
--- src/lib.rt:114:5
 loop-again-2 : tie.Need-loop-again-2 Inv-loop μ-loop
 loop-again-2 c =
     let loop′ = c .before .before .before .before .before .before .before .before .loop in
     let if1 = c .before .before .before .before .before .if1 in
     let if2 = c .before .before .before .before .if2 in
-    let wider = c .before .wider in
-    (λ q v st a e. letter-next (loop′ .inv .0 q v st a e) refl (if1 .left) (if2 .left) (sym (wider .ensures) ∙ c .if4 .left), loop′ .inv .1)
+    let word-of = c .before .word-of in
+    (λ q v st a e. letter-next (loop′ .inv .0 q v st a e) refl (if1 .left) (if2 .left) (sym (word-of .ensures) ∙ c .if4 .left), loop′ .inv .1)
 
--- src/lib.rt:98:1
 same-length-4 : tie.Need-same-length-4 Inv-loop μ-loop
 same-length-4 c = c .before .loop .inv .1
 
--- src/lib.rt:98:1
 returns-4 : tie.Need-returns-4 Inv-loop μ-loop
 returns-4 c = λ q v st a e. let w = code-within (c .before .loop .inv .0 q v st a e) in absurd (omega (arith, w, c .loop-test .left))
 
@@ -150,8 +128,8 @@ match-flat-spec =
     returns
     same-length-2
     returns-2
-    shared-slice-read-wider
-    wider-requires
+    shared-slice-read-word-of
+    word-of-requires
     same-length-3
     returns-3
     add-at

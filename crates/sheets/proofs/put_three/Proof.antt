@@ -22,8 +22,8 @@ store-number-requires-2 c κs = search needs
 add-store-number-2 : tie.Need-add-store-number-2
 add-store-number-2 c = search needs
 
-narrow-requires : tie.Need-narrow-requires
-narrow-requires c κs = search needs
+narrow-number-requires : tie.Need-narrow-number-requires
+narrow-number-requires c κs = search needs
 
 store-number-requires-3 : tie.Need-store-number-requires-3
 store-number-requires-3 c κs = search needs
@@ -39,7 +39,7 @@ returns c =
     let n = x .before .before .before in
     let a = n .before .before .args in
     three-stored (a .numbers .now) (a .at) (a .r .count) (x .store-number .ensures) (x .before .widen .ensures) (n .number-of .ensures) (y .store-number2 .ensures)
-    (z .store-number3 .ensures) (z .before .narrow .ensures)
+    (z .store-number3 .ensures) (z .before .narrow-number .ensures)
 
 pub put-three-spec : {M : Type 1} → statement M
 put-three-spec =
@@ -51,7 +51,7 @@ put-three-spec =
     add-store-number
     store-number-requires-2
     add-store-number-2
-    narrow-requires
+    narrow-number-requires
     store-number-requires-3
     same-length
     returns)

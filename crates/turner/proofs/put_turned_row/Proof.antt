@@ -9,8 +9,8 @@ use Rattle.turner.proofs.put_turned_row.Tie as tie
 cell-requires : tie.Need-cell-requires
 cell-requires c κs = search needs
 
-narrow-requires : tie.Need-narrow-requires
-narrow-requires c κs = search needs
+narrow-byte-requires : tie.Need-narrow-byte-requires
+narrow-byte-requires c κs = search needs
 
 kind-of-requires : tie.Need-kind-of-requires
 kind-of-requires c κs = search needs
@@ -50,7 +50,7 @@ returns c =
     let l = k .before .before in
     let b = l .before in
     let a = b .before in
-    row-written _ (rowView (e .exchanged .result)) (a .cell .ensures .0) (b .narrow .ensures) (l .kind-of .ensures) (k .k .given .1)
+    row-written _ (rowView (e .exchanged .result)) (a .cell .ensures .0) (b .narrow-byte .ensures) (l .kind-of .ensures) (k .k .given .1)
     (x .cell2 .ensures) (y .cell3 .ensures) (z .cell4 .ensures) (e .exchanged .ensures) (λ x y z. prints-writes (p .put-row .ensures x y z))
 
 returns-2 : tie.Need-returns-2
@@ -58,14 +58,14 @@ returns-2 c =
     let l = c .before .before in
     let b = l .before in
     let a = b .before in
-    row-unwritten (a .cell .ensures .0) (b .narrow .ensures) (l .kind-of .ensures) (c .enum-told .given .1)
+    row-unwritten (a .cell .ensures .0) (b .narrow-byte .ensures) (l .kind-of .ensures) (c .enum-told .given .1)
 
 pub put-turned-row-spec : {M : Type 1} → statement M
 put-turned-row-spec =
     tie.close
     (tie.spec
     cell-requires
-    narrow-requires
+    narrow-byte-requires
     kind-of-requires
     enum-known-k
     cell-requires-2

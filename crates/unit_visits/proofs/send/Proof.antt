@@ -20,11 +20,11 @@ enum-known-b c = search needs
 rank-at-requires : tie.Need-rank-at-requires
 rank-at-requires c κs = search needs
 
-narrow-requires : tie.Need-narrow-requires
-narrow-requires c κs = search needs
+narrow-number-requires : tie.Need-narrow-number-requires
+narrow-number-requires c κs = search needs
 
-narrow-requires-2 : tie.Need-narrow-requires-2
-narrow-requires-2 c κs = search needs
+narrow-number-requires-2 : tie.Need-narrow-number-requires-2
+narrow-number-requires-2 c κs = search needs
 
 enum-told : tie.Need-enum-told
 enum-told c = search needs
@@ -41,12 +41,12 @@ returns c =
     let apply = c .before .before .before .before .before .before .before .before .before .apply in
     let b = c .before .before .before .before .before .b in
     let rank-at = c .before .before .rank-at in
-    let narrow = c .before .narrow in
+    let narrow-number = c .before .narrow-number in
     let q = (args) in λ isos rs a there h o e same ej low long short.
     let u = (apply .ensures) (subst (Coded (q .t .now) (q .types)) (sym ((code-part .ensures))) (a .prepared .coded)) in
     let k = (unrank-at .kept .1 .1 .1 .1 .0) in (
-      send-done a (q .budget) (q .p) there h e same (q .work .now) ((unrank-at .ensures)) k long short u ej ((b .given .1)) ((rank-at .ensures)) low ((narrow .ensures))
-          ((c .narrow2 .ensures)),
+      send-done a (q .budget) (q .p) there h e same (q .work .now) ((unrank-at .ensures)) k long short u ej ((b .given .1)) ((rank-at .ensures)) low ((narrow-number .ensures))
+          ((c .narrow-number2 .ensures)),
       send-spared a (q .budget) (q .p) there h e same (q .work .now) ((unrank-at .ensures)) k long short u,
     )
 
@@ -76,8 +76,8 @@ send-spec =
     apply-requires
     enum-known-b
     rank-at-requires
-    narrow-requires
-    narrow-requires-2
+    narrow-number-requires
+    narrow-number-requires-2
     enum-told
     same-length
     returns
