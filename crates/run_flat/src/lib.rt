@@ -4,15 +4,13 @@
 
 use area_cells::put_byte;
 use area_words::byte_of;
-use area_words::narrow;
-use area_words::store_word;
 use area_words::wide;
 use area_words::word_at;
 use area_words::word_of;
-use codes::LETTER_PAIR;
-use codes::LETTER_UNIT;
 use limits::VARIABLES;
-use run_values::copy_range;
+use run_patterns::build_var;
+use run_patterns::put_range;
+use run_patterns::value_end;
 ghost use mathlib.Core.Path.{_≡_};
 ghost use mathlib.Core.Bool.{cond};
 ghost use Prim.Native.Nat.{ℕ, _+_, _-_, _≤_, _<_};
@@ -31,52 +29,6 @@ const LETTERS_FROM: u16 = VARIABLES as u16;
 
 // The number behind a pattern's last one.
 pub const STOP: u16 = 128;
-
-// How many values come behind the one that is begun, once a letter is read, where `more` came before.
-fn more_after(b: u8, more: usize) -> usize
-    requires { ⌜ more < 18446744073709551615 ⌝ }
-    ensures { λ r. ⌜ r ≡ cond (eqb b letterU) (more - 1) (cond (eqb b letterP) (more + 1) more) ⌝ }
-{
-    if b == LETTER_UNIT {
-        if 0 < more {
-            return more - 1;
-        }
-        return 0;
-    }
-    if b == LETTER_PAIR {
-        return more + 1;
-    }
-    more
-}
-
-// Where the value ends that begins at a place.
-fn value_end(s: &[u8], at: usize) -> usize
-    ensures { λ r. ⌜ ((v : Val) → At (now (s .entry)) at v → r ≡ at + length (letters v)) ⌝ }
-{
-    let mut i = at;
-    let mut more: usize = 0;
-    while i < s.len() {
-        let b = s[i];
-        if b == LETTER_UNIT {
-            if more == 0 {
-                return i + 1;
-            }
-        }
-        more = more_after(b, more);
-        i += 1;
-    }
-    i
-}
-
-// Variable n stands for the letters from a place up to another.
-pub fn put_range(vars: &mut [u16], n: usize, from: usize, to: usize)
-    ensures { λ r. ⌜ now (vars .exit) ≡ putRange (now (vars .entry)) n from to ⌝ }
-{
-    if n < VARIABLES {
-        store_word(vars, n, narrow(from));
-        store_word(vars, VARIABLES + n, narrow(to));
-    }
-}
 
 // Where the value at a place ends: `end`, if the pattern ends with number k.
 fn flat_end(code: &[u16], k: usize, s: &[u8], at: usize, end: usize) -> usize
@@ -130,19 +82,6 @@ pub fn match_flat(
         at += 1;
     }
     true
-}
-
-// Writes the letters that variable n stands for; gives where they end.
-pub fn build_var(n: usize, vars: &[u16], work: &mut [u8], at: usize) -> usize
-    requires { ⌜ n < fieldBound ⌝ }
-    ensures { λ r. ⌜
-        ((top : ℕ) → Below (now (vars .entry)) top → top ≤ at
-        → Writes (now (work .entry)) (now (work .exit)) at r
-        (rangeOf (take top (now (work .entry))) (now (vars .entry)) n))
-        ⌝ }
-{
-    let from = wide(word_at(vars, n));
-    copy_range(work, from, wide(word_at(vars, VARIABLES + n)), at)
 }
 
 // Writes the pattern that stands flat from place p on with its variables' values put in; gives where it

@@ -53,7 +53,7 @@ fn more_after(b: u8, more: usize) -> usize
 }
 
 // Where the value ends that begins at a place.
-fn value_end(s: &[u8], at: usize) -> usize
+pub fn value_end(s: &[u8], at: usize) -> usize
     ensures { λ r. ⌜ ((v : Val) → At (now (s .entry)) at v → r ≡ at + length (letters v)) ⌝ }
 {
     let mut i = at;
@@ -72,7 +72,7 @@ fn value_end(s: &[u8], at: usize) -> usize
 }
 
 // Variable n stands for the letters from a place up to another.
-fn put_range(vars: &mut [u16], n: usize, from: usize, to: usize)
+pub fn put_range(vars: &mut [u16], n: usize, from: usize, to: usize)
     ensures { λ r. ⌜ now (vars .exit) ≡ putRange (now (vars .entry)) n from to ⌝ }
 {
     if n < VARIABLES {
@@ -177,7 +177,7 @@ pub fn match_at(
 }
 
 // Writes the letters that variable n stands for; gives where they end.
-fn build_var(n: usize, vars: &[u16], work: &mut [u8], at: usize) -> usize
+pub fn build_var(n: usize, vars: &[u16], work: &mut [u8], at: usize) -> usize
     requires { ⌜ n < fieldBound ⌝ }
     ensures { λ r. ⌜
         ((top : ℕ) → Below (now (vars .entry)) top → top ≤ at

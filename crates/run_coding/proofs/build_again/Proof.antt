@@ -6,7 +6,7 @@ use Rattle.run_coding.proofs.build_again.Reads as reads
 use Rattle.run_coding.proofs.build_again.Lts as lts
 use Rattle.run_coding.proofs.build_other.Reads as build-other-reads
 use Rattle.run_coding.proofs.variable.Reads as variable-reads
-use Rattle.run_flat.proofs.build_var.Reads as build-var-reads
+use Rattle.run_patterns.proofs.build_var.Reads as build-var-reads
 
 -- src/lib.rt:318:9
 variable-requires : tie.Need-variable-requires

@@ -6,7 +6,7 @@ use Rattle.run_coding.proofs.match_again.Reads as reads
 use Rattle.run_coding.proofs.match_again.Lts as lts
 use Rattle.run_coding.proofs.match_other.Reads as match-other-reads
 use Rattle.run_coding.proofs.variable.Reads as variable-reads
-use Rattle.run_flat.proofs.put_range.Reads as put-range-reads
+use Rattle.run_patterns.proofs.put_range.Reads as put-range-reads
 
 -- src/lib.rt:245:9
 variable-requires : tie.Need-variable-requires

@@ -13,7 +13,7 @@ use Rattle.run_flat.proofs.build_flat.Reads as reads
 use Rattle.run_flat.proofs.build_flat.Lts as lts
 use Rattle.area_cells.proofs.put_byte.Reads as put-byte-reads
 use Rattle.area_words.proofs.wide.Reads as wide-reads
-use Rattle.run_flat.proofs.build_var.Reads as build-var-reads
+use Rattle.run_patterns.proofs.build_var.Reads as build-var-reads
 use Rattle.area_words.proofs.byte_of.Reads as byte-of-reads
 
 abbrev Inv-loop : tie.InvT-loop

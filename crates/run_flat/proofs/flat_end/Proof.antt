@@ -5,7 +5,7 @@ use Rattle.run_flat.proofs.flat_end.Tie as tie
 use Rattle.run_flat.proofs.flat_end.Reads as reads
 use Rattle.run_flat.proofs.flat_end.Lts as lts
 use Rattle.area_words.proofs.word_at.Reads as word-at-reads
-use Rattle.run_flat.proofs.value_end.Reads as value-end-reads
+use Rattle.run_patterns.proofs.value_end.Reads as value-end-reads
 
 -- src/lib.rt:83:8
 word-at-requires : tie.Need-word-at-requires

@@ -14,7 +14,7 @@ use Rattle.run_flat.proofs.match_flat.Reads as reads
 use Rattle.run_flat.proofs.match_flat.Lts as lts
 use Rattle.area_words.proofs.wide.Reads as wide-reads
 use Rattle.run_flat.proofs.flat_end.Reads as flat-end-reads
-use Rattle.run_flat.proofs.put_range.Reads as put-range-reads
+use Rattle.run_patterns.proofs.put_range.Reads as put-range-reads
 use Rattle.area_words.proofs.word_of.Reads as word-of-reads
 
 abbrev Inv-loop : tie.InvT-loop
