@@ -2,15 +2,16 @@
 use Prim.Native.Nat.{ℕ, zero, suc, _+_, _-_, _≤_, _<_, min, max}
 use native.Mathlib.Omega.{arith}
 use mathlib.Core.Path.{_≡_, refl, sym, ap, ap₂, _∙_, subst}
+use mathlib.Core.Bool.{Bool, true, false}
 use mathlib.Core.List.{List, [], _∷_, _++_, map}
 use lib.ListN.{length, length-append, getD, set}
 use Rattle.calculus.specs.Tools.{total}
 use Rattle.calculus.specs.Trees.{Clause}
-use Rattle.law_costs.specs.Costs.{leastOf, greatestOf, letCost, clauseCost, isoCost, costsFrom}
+use Rattle.law_costs.specs.Costs.{letCost, clauseCost, isoCost, costsFrom}
 use Rattle.table_trees.specs.Unfolding.{cellOf}
 use Rattle.table_walks.specs.InTable.{letsIn, clauseIn}
 use Rattle.run_index.specs.Index.{placeAt, clausesAt, isoAt, isosAt}
-use Rattle.bound_counts.specs.Held.{cap, Holds}
+use Rattle.bound_counts.specs.Held.{cap, pickOf, pickTwo, Holds}
 
 -- ---- L rows
 
@@ -93,11 +94,9 @@ pub record Extreme (pick : List ℕ → ℕ) (of : ℕ → ℕ → ℕ) : Type 0
   pub more : (x y : ℕ) (ys : List ℕ) → pick (x ∷ (y ∷ ys)) ≡ of x (pick (y ∷ ys))
   pub held : (a b : ℕ) → of (min a cap) (min b cap) ≡ min (of a b) cap
 
-pub least-extreme : Extreme leastOf min
-least-extreme = record { nothing = refl; one = λ x. refl; more = λ x y ys. refl; held = λ a b. omega arith }
-
-pub greatest-extreme : Extreme greatestOf max
-greatest-extreme = record { nothing = refl; one = λ x. omega arith; more = λ x y ys. refl; held = λ a b. omega arith }
+pub extreme : (most : Bool) → Extreme (pickOf most) (pickTwo most)
+extreme false = record { nothing = refl; one = λ x. refl; more = λ x y ys. refl; held = λ a b. omega arith }
+extreme true = record { nothing = refl; one = λ x. omega arith; more = λ x y ys. refl; held = λ a b. omega arith }
 
 -- the least or the greatest over the clauses from place n on
 pub record Best (pick : List ℕ → ℕ) (t known index : List ℕ) (m end n best : ℕ) : Type 0 where

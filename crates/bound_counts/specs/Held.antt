@@ -1,10 +1,11 @@
 -- Numbers as an area holds them: each up to 4,294,967,296, which stands for all above 4,294,967,295.
-use Prim.Native.Nat.{ℕ, min, _≤_}
+use Prim.Native.Nat.{ℕ, min, max, _≤_}
 use mathlib.Core.Path.{_≡_}
+use mathlib.Core.Bool.{Bool, cond}
 use mathlib.Core.List.{List, []}
 use lib.ListN.{getD, length}
 use Rattle.limits.specs.Limits.{budgetBound}
-use Rattle.law_costs.specs.Costs.{costsFrom}
+use Rattle.law_costs.specs.Costs.{leastOf, greatestOf, costsFrom}
 use Rattle.run_index.specs.Index.{isosAt}
 
 abbrev pub cap : ℕ
@@ -12,6 +13,13 @@ cap = budgetBound
 
 abbrev pub Holds : List ℕ → List ℕ → Type 0
 Holds area ns = (j : ℕ) → getD area j 0 ≡ min (getD ns j 0) cap
+
+-- the least of a list or, where the most is asked for, the greatest; the same of two numbers
+abbrev pub pickOf : Bool → List ℕ → ℕ
+pickOf most = cond most greatestOf leastOf
+
+abbrev pub pickTwo : Bool → ℕ → ℕ → ℕ
+pickTwo most = cond most max min
 
 -- a number is what f makes of the numbers known, wherever the P lines begin
 abbrev pub ReckonedFrom : List ℕ → (ℕ → List ℕ → ℕ) → ℕ → Type 0

@@ -15,7 +15,7 @@ ghost use Rattle.calculus.specs.Tools.{total};
 ghost use Rattle.law_costs.specs.Costs.{leastOf, greatestOf, letCost, clauseCost};
 ghost use Rattle.table_walks.specs.InTable.{letsIn};
 ghost use Rattle.run_index.specs.Index.{clausesAt, clauseAt};
-ghost use Rattle.bound_counts.specs.Held.{cap, ReckonedFrom, AllReckoned};
+ghost use Rattle.bound_counts.specs.Held.{cap, pickOf, pickTwo, ReckonedFrom, AllReckoned};
 
 // Stands for all numbers above those that are told.
 const CAP: u64 = MAX_COUNT + 1;
@@ -105,32 +105,22 @@ fn clause_cost(t: &[u16], known: &[u64], index: &[u16], m: usize) -> u64
     plus(1, let_sum(t, known, row + 1, end))
 }
 
-// The least over the clauses from place m of the index up to another.
-fn least_cost(t: &[u16], known: &[u64], index: &[u16], m: usize, end: usize) -> u64
-    requires { ⌜ end ≤ wordBound ⌝ }
-    ensures { λ r. ⌜
-        ReckonedFrom (now (known .entry))
-        (λ base ks. leastOf (map (clauseCost ks) (clausesAt (now (t .entry)) base (now (index .entry)) m (end - m)))) r
-        ⌝ }
+// The lesser of two numbers or, where the most is asked for, the greater.
+fn better(most: bool, a: u64, b: u64) -> u64
+    ensures { λ r. ⌜ r ≡ pickTwo most a b ⌝ }
 {
-    if end <= m {
-        return 0;
+    if most {
+        return greater(a, b);
     }
-    let mut n = end - 1;
-    let mut best = clause_cost(t, known, index, n);
-    while m < n {
-        n -= 1;
-        best = lesser(clause_cost(t, known, index, n), best);
-    }
-    best
+    lesser(a, b)
 }
 
-// The greatest over the same.
-fn greatest_cost(t: &[u16], known: &[u64], index: &[u16], m: usize, end: usize) -> u64
+// The least or the greatest over the clauses from place m of the index up to another.
+fn best_cost(t: &[u16], known: &[u64], index: &[u16], m: usize, end: usize, most: bool) -> u64
     requires { ⌜ end ≤ wordBound ⌝ }
     ensures { λ r. ⌜
         ReckonedFrom (now (known .entry))
-        (λ base ks. greatestOf (map (clauseCost ks) (clausesAt (now (t .entry)) base (now (index .entry)) m (end - m)))) r
+        (λ base ks. pickOf most (map (clauseCost ks) (clausesAt (now (t .entry)) base (now (index .entry)) m (end - m)))) r
         ⌝ }
 {
     if end <= m {
@@ -140,7 +130,7 @@ fn greatest_cost(t: &[u16], known: &[u64], index: &[u16], m: usize, end: usize) 
     let mut best = clause_cost(t, known, index, n);
     while m < n {
         n -= 1;
-        best = greater(clause_cost(t, known, index, n), best);
+        best = better(most, clause_cost(t, known, index, n), best);
     }
     best
 }
@@ -154,9 +144,9 @@ pub fn reckon(t: &[u16], index: &[u16], isos: usize, least: &mut [u64], greatest
     while i < isos {
         let m = place(index, i);
         let end = place(index, i + 1);
-        let low = least_cost(t, least, index, m + 1, end);
+        let low = best_cost(t, least, index, m + 1, end, false);
         store_number(least, i, low);
-        let high = greatest_cost(t, greatest, index, m + 1, end);
+        let high = best_cost(t, greatest, index, m + 1, end, true);
         store_number(greatest, i, high);
         i += 1;
     }
