@@ -19,7 +19,7 @@ use Rattle.calculus.specs.Paper.{FileOk}
 use Rattle.format.proofs.Printing.{read-rows}
 use Rattle.format.proofs.Sizes.{type-size-at, pattern-size-at, no-size-at}
 use Rattle.model.specs.Answers.{InForm}
-use Rattle.model.specs.Services.{refused, verdict, written, tableAfter, short, unless, Answer, check, turn, turned, runOf, run, RunAnswer, answerOfRun, RunResult, runService}
+use Rattle.model.specs.Services.{refused, verdict, written, tableAfter, short, unless, Answer, check, turn, turned, runOf, run, RunAnswer, answerOfRun, RunResult, runService, Output}
 use Rattle.model.specs.Sheet.{three, sheet}
 use Rattle.model.proofs.Files.{accepted-iff, turned-twice, turned-fits}
 use Rattle.model.proofs.Sheets.{block, Room, as-check, each-query}
@@ -30,7 +30,7 @@ use Rattle.law_costs.specs.Bounds.{boundsService}
 use Rattle.law_costs.proofs.Served.{turned-same, as-check as bounds-areas}
 use Rattle.law_endings.proofs.Feeds.{turned-returnless}
 use Rattle.law_witnesses.proofs.Served.{as-check as as-shown, served-shows, served-silent}
-use Rattle.law_pairlists.specs.PairLists.{Traded, exportService}
+use Rattle.law_pairlists.specs.PairLists.{exportService}
 use Rattle.law_pairlists.proofs.Services.{import-areas, import-checks, import-exports, export-areas}
 use Rattle.law_units.specs.Units.{Units, Holds, Tally, nothingYet, Play, playService}
 use Rattle.law_units.specs.Backward.{Alike}
@@ -113,9 +113,9 @@ import-accepted file t w i j list output e t₂ w₂ areas =
 
 pub export-of-import : ExportOfImport
 export-of-import file t w i j list output r same e budget l t₂ w₂ output₂ areas room =
-    let n = ap (λ (x : Traded). x .answer .number) (sym same) ∙ ap (λ x. x .number) e in
+    let n = ap (λ (x : Output). x .answer .number) (sym same) ∙ ap (λ x. x .number) e in
     let x = import-exports file t w i j list output n budget t₂ w₂ output₂ l (areas .long) (areas .wide) room in
-    subst (λ (y : Traded). (exportService (importedBytes y) t₂ w₂ 0 budget output₂ .answer ≡ yes) ×
+    subst (λ (y : Output). (exportService (importedBytes y) t₂ w₂ 0 budget output₂ .answer ≡ yes) ×
     (importedBytes (exportService (importedBytes y) t₂ w₂ 0 budget output₂) ≡ withoutReturns list)) (sym same)
     (x .0, ap₂ take (x .1) (x .2) ∙ take-append-seam (withoutReturns list) (drop (length (withoutReturns list)) output₂))
 

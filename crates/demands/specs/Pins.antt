@@ -18,14 +18,14 @@ use Rattle.format.specs.Table.{sizeOf, numbers, tableOf}
 use Rattle.format.specs.Unfold.{exchange, turnRows}
 use Rattle.format.specs.Judge.{Seen, start, inOrder, fieldsFit, named, withinCeilings, after}
 use Rattle.calculus.specs.Letters.{letters}
-use Rattle.model.specs.Services.{accepted, refused, over, verdict, filled, tableAfter, workAfter, short, unless, answerOf, serve, turnedRows, turnedBy, turn, runOn, ranBy, RunResult, runService}
+use Rattle.model.specs.Services.{accepted, refused, over, verdict, filled, tableAfter, workAfter, short, unless, answerOf, serve, turnedRows, outputBy, turn, runOn, ranBy, RunResult, runService}
 use Rattle.model.specs.Desk.{queryOf, desk}
 use Rattle.model.specs.Sheet.{sheetVerdict}
 use Rattle.model.specs.Cases.{bytes}
 use Rattle.law_ranking.specs.Numbering.{numberRows, settingRows, numberedBy, numberService, Lettered, letteredBy, settingService}
 use Rattle.law_witnesses.specs.Showing.{setting, shownBy, lettersOf?, showService}
 use Rattle.law_witnesses.specs.Seeking.{leastIn, alone, gapIn, gapWord}
-use Rattle.law_pairlists.specs.PairLists.{exportRows, importRows, tradedBy, exportService, importService}
+use Rattle.law_pairlists.specs.PairLists.{exportRows, importRows, exportService, importService}
 use Rattle.law_endings.specs.Resaved.{feedsAlone, withEnding, resave, fits}
 use Rattle.law_units.specs.Units.{Planned, Units, Tally, plannedOf, playRows, unequal, playVerdict, playBy, playService}
 use Rattle.law_units.specs.Calls.{Lent, settingCall, runCall, numberCall}
@@ -364,7 +364,7 @@ left-areas : (rs : List Row) (a : List ℕ)
 left-areas rs a = (refl, refl, refl, refl)
 
 -- Turn: "Its area must be as long as the file"; Run: "its result area must have 127 bytes"; what each is asked for
-turn-call : (file t w o : List ℕ) → turn file t w o ≡ turnedBy o (serve (short t w || ltb (length o) (length file)) (verdict file) turnedRows t w)
+turn-call : (file t w o : List ℕ) → turn file t w o ≡ outputBy o (serve (short t w || ltb (length o) (length file)) (verdict file) turnedRows t w)
 unfolding turn
 turn-call file t w o = refl
 
@@ -384,12 +384,12 @@ setting-call file t w r i n = refl
 
 -- request 07: "into an area of 40,960 bytes", "into an area of 65,536 bytes"; the from-type's T line first
 export-call : (file t w o : List ℕ) (i budget : ℕ)
-    → exportService file t w i budget o ≡ tradedBy o (serve (short t w || ltb (length o) 40960) (verdict file) (λ rs. exportRows rs i budget) t w)
+    → exportService file t w i budget o ≡ outputBy o (serve (short t w || ltb (length o) 40960) (verdict file) (λ rs. exportRows rs i budget) t w)
 unfolding exportService
 export-call file t w o i budget = refl
 
 import-call : (file t w list o : List ℕ) (i j : ℕ)
-    → importService file t w i j list o ≡ tradedBy o (serve (short t w || ltb (length o) 65536) (verdict file) (λ rs. importRows rs i j list) t w)
+    → importService file t w i j list o ≡ outputBy o (serve (short t w || ltb (length o) 65536) (verdict file) (λ rs. importRows rs i j list) t w)
 unfolding importService
 import-call file t w list o i j = refl
 

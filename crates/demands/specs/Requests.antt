@@ -13,7 +13,7 @@ use Rattle.calculus.specs.Paper.{FileOk}
 use Rattle.format.specs.Lines.{Row, lines, withoutReturns}
 use Rattle.format.specs.Judge.{start, afterAll}
 use Rattle.format.specs.Unfold.{isosOf}
-use Rattle.model.specs.Services.{check, turn, RunResult, runService}
+use Rattle.model.specs.Services.{check, turn, RunResult, runService, Output}
 use Rattle.model.specs.Answers.{InForm}
 use Rattle.model.specs.Desk.{Query, queryOf}
 use Rattle.model.specs.Sheet.{sheet}
@@ -21,7 +21,7 @@ use Rattle.law_costs.specs.Bounds.{boundsService}
 use Rattle.law_ranking.specs.Numbering.{numberService, settingService}
 use Rattle.law_witnesses.specs.Showing.{showService}
 use Rattle.law_witnesses.specs.Served.{sideAnswer, Given}
-use Rattle.law_pairlists.specs.PairLists.{Traded, importService, exportService}
+use Rattle.law_pairlists.specs.PairLists.{importService, exportService}
 use Rattle.law_units.specs.Units.{Units, Holds, Tally, nothingYet, Play, playService}
 use Rattle.law_units.specs.Backward.{Backward, Alike}
 use Rattle.law_units.specs.Apart.{Apart}
@@ -61,7 +61,7 @@ TurnedTwice =
     → turnedBytes (turnedBytes file t w output) t₂ w₂ output₂ ≡ withoutReturns file
 
 -- Request 07, what Import wrote: of its output area the first bytes, as many as the length that it gives; and what Export wrote.
-abbrev pub importedBytes : Traded → List ℕ
+abbrev pub importedBytes : Output → List ℕ
 importedBytes r = take (r .length) (r .output)
 
 -- an import that is not refused is a file that Check accepts
@@ -73,7 +73,7 @@ ImportAccepted =
 -- "Exporting an imported list with a budget of 1 or more gives the list without its carriage returns."
 abbrev pub ExportOfImport : Type 0
 ExportOfImport =
-    (file t w : List ℕ) (i j : ℕ) (list output : List ℕ) → (r : Traded) → r ≡ importService file t w i j list output → r .answer ≡ yes
+    (file t w : List ℕ) (i j : ℕ) (list output : List ℕ) → (r : Output) → r ≡ importService file t w i j list output → r .answer ≡ yes
     → (budget : ℕ) → 1 ≤ budget → (t₂ w₂ output₂ : List ℕ) → Areas t₂ w₂ → 40960 ≤ length output₂
     → (exportService (importedBytes r) t₂ w₂ 0 budget output₂ .answer ≡ yes)
     × (importedBytes (exportService (importedBytes r) t₂ w₂ 0 budget output₂) ≡ withoutReturns list)

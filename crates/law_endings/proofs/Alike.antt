@@ -12,7 +12,7 @@ use Rattle.calculus.specs.Tools.{_>>=_, guard, concat}
 use Rattle.calculus.specs.Refusals.{tooLong}
 use Rattle.format.specs.Lines.{lines, skip}
 use Rattle.format.specs.Judge.{start}
-use Rattle.model.specs.Services.{Verdict, accepted, refused, afterReading, over, verdict, answerOf, refusalBy, checkBy, check, serve, turnedRows, turnedBy}
+use Rattle.model.specs.Services.{Verdict, accepted, refused, afterReading, over, verdict, answerOf, refusalBy, checkBy, check, serve, turnedRows, outputBy}
 use Rattle.model.specs.Services.{turn, runOf, run, answerOfRun, runBy, runService, tableAfter, workAfter, short, unless}
 use Rattle.model.specs.Desk.{Query, queryIn, queryOf, answerTo, queryLine, fileLine, fileLines, queryLines, queryAnswers, desk}
 use Rattle.model.specs.Sheet.{answersTo, numbersAfter, lettersAfter, narrowSheet, sheet}
@@ -48,7 +48,7 @@ module _ (bs cs table work : List ℕ) (same : Resaved bs cs) (short-bs : length
   pub turn-alike : (output : List ℕ) → length bs ≤ length output → length cs ≤ length output → turn bs table work output ≡ turn cs table work output
   unfolding turn
   turn-alike output m n =
-      ap₂ (λ b v. turnedBy output (serve (short table work || b) v turnedRows table work)) (not-ltb m ∙ sym (not-ltb n)) e
+      ap₂ (λ b v. outputBy output (serve (short table work || b) v turnedRows table work)) (not-ltb m ∙ sym (not-ltb n)) e
 
   pub run-alike : (i : ℕ) (back : Bool) (budget : ℕ) (value : List ℕ) → run bs i back budget value ≡ run cs i back budget value
   unfolding run

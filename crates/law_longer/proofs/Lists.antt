@@ -14,9 +14,9 @@ use Rattle.calculus.specs.Refusals.{Kind, typeLine, patternLine, isoLine, claus
 use Rattle.format.specs.Lines.{Row, lines, printRows}
 use Rattle.format.specs.Judge.{Seen, start, withinCeilings, afterKind, after, afterAll, rows, readFrom}
 use Rattle.law_ranking.specs.Numbering.{count, typesOf}
-use Rattle.model.specs.Services.{Verdict, accepted, refused, verdict, gives, fails, goOn, served, short, unless}
+use Rattle.model.specs.Services.{Verdict, accepted, refused, verdict, gives, fails, goOn, served, short, unless, outputBy}
 use Rattle.law_pairlists.specs.PairLists.{tosOf, pairsUp, listOf, enter, Entry, typeRow, patternRow, isoRow, writeType, writeValue, writePairs, settings}
-use Rattle.law_pairlists.specs.PairLists.{fileRows, withinAll, onList, onLines, onTypes, importRows, tradedBy, importService}
+use Rattle.law_pairlists.specs.PairLists.{fileRows, withinAll, onList, onLines, onTypes, importRows, importService}
 use Rattle.calculus.proofs.Basic.{bind-some, some-inj, and-true, true-and, ltb-lt, lt-ltb, not-ltb, each-nil, each-cons, each-append}
 use Rattle.law_pairlists.proofs.Rows.{Finding, there, fresh, finding}
 use Rattle.law_pairlists.proofs.List.{tos-length, settings-length}
@@ -151,7 +151,7 @@ module _ (list : List ℕ) (short-list : length (lines list) ≤ formerClauses) 
   unfolding importService
   same-import-service file rs e h table work i j output =
       ap (λ v. formerImport v table work i j list output) (same-verdict file rs e h)
-      ∙ ap (tradedBy output) (on (unless (short table work || ltb (length output) importLength) (verdict file)))
+      ∙ ap (outputBy output) (on (unless (short table work || ltb (length output) importLength) (verdict file)))
     where
       on : (v : Verdict) → served v (goOn v (λ qs. formerImportRows qs i j list)) table work ≡ served v (goOn v (λ qs. importRows qs i j list)) table work
       on (accepted qs) = ap (λ o. served (accepted qs) o table work) (same-import qs i j)

@@ -15,10 +15,10 @@ use Rattle.format.specs.Unfold.{isosOf}
 use Rattle.format.specs.Idle.{idleFault}
 use Rattle.calculus.specs.Clauses.{fault, isoFault}
 use Rattle.law_ranking.specs.Numbering.{count, typesOf}
-use Rattle.model.specs.Services.{Verdict, refused, afterReading, over, Outcome, gives, fails}
+use Rattle.model.specs.Services.{Verdict, refused, afterReading, over, Outcome, gives, fails, Output}
 use Rattle.law_witnesses.specs.Showing.{setting, shownOf}
-use Rattle.law_pairlists.specs.PairLists.{listOf, settings, fileRows, Traded}
-use Rattle.law_refused.specs.ByVerdict.{tradeWith}
+use Rattle.law_pairlists.specs.PairLists.{listOf, settings, fileRows}
+use Rattle.law_refused.specs.ByVerdict.{outputWith}
 
 abbrev pub formerClauses : ℕ
 formerClauses = 32
@@ -84,5 +84,5 @@ unfolding typesOf listOf fileRows printRows start
 formerImportRows rs i j list = formerOnTypes (getElem? (typesOf rs) i) (getElem? (typesOf rs) j) (lines list)
 
 -- the service, for a file of which the verdict is `file`
-abbrev pub formerImport : Verdict → List ℕ → List ℕ → ℕ → ℕ → List ℕ → List ℕ → Traded
-formerImport file table work i j list output = tradeWith importLength (λ rs. formerImportRows rs i j list) file table work output
+abbrev pub formerImport : Verdict → List ℕ → List ℕ → ℕ → ℕ → List ℕ → List ℕ → Output
+formerImport file table work i j list output = outputWith importLength (λ rs. formerImportRows rs i j list) file table work output

@@ -11,11 +11,11 @@ use Rattle.calculus.specs.Tools.{_>>=_, guard}
 use Rattle.calculus.specs.Trees.{Ty}
 use Rattle.calculus.specs.Refusals.{ceiling, clauseLine, tooMany}
 use Rattle.format.specs.Lines.{Row, lines}
-use Rattle.model.specs.Services.{Verdict, accepted, refused, verdict, unless, short, Outcome, fails, served}
+use Rattle.model.specs.Services.{Verdict, accepted, refused, verdict, unless, short, Outcome, fails, served, outputBy}
 use Rattle.law_ranking.specs.Numbering.{count, typesOf}
 use Rattle.law_endings.specs.Resaved.{SameLine, SameLines, done, next, Resaved}
 use Rattle.law_endings.proofs.Lines.{text-same, count-same}
-use Rattle.law_pairlists.specs.PairLists.{toIn, toOf, tosOf, pairsUp, listOf, onList, onLines, onTypes, importRows, importOn, tradedBy, importService}
+use Rattle.law_pairlists.specs.PairLists.{toIn, toOf, tosOf, pairsUp, listOf, onList, onLines, onTypes, importRows, importOn, importService}
 
 to-alike : (k : ℕ) {l m : List ℕ} → SameLine l m → toOf k l ≡ toOf k m
 to-alike k h = ap (λ x. x >>= λ u. toIn k u) (text-same h)
@@ -48,6 +48,6 @@ pub import-alike : (file t w : List ℕ) (i j : ℕ) (list other o : List ℕ) �
 unfolding importService
 import-alike file t w i j list other o h = go (unless (short t w || ltb (length o) importLength) (verdict file))
   where
-    go : (v : Verdict) → tradedBy o (served v (importOn v i j list) t w) ≡ tradedBy o (served v (importOn v i j other) t w)
-    go (accepted rs) = ap (λ x. tradedBy o (served (accepted rs) x t w)) (rows-alike rs i j list other h)
+    go : (v : Verdict) → outputBy o (served v (importOn v i j list) t w) ≡ outputBy o (served v (importOn v i j other) t w)
+    go (accepted rs) = ap (λ x. outputBy o (served (accepted rs) x t w)) (rows-alike rs i j list other h)
     go (refused f n) = refl

@@ -15,7 +15,7 @@ use Rattle.calculus.specs.Refusals.{Refusal, number, shortArea, noValue, spent}
 use Rattle.format.specs.Lines.{Row, lines, withoutReturns}
 use Rattle.format.specs.Unfold.{isosOf}
 use Rattle.calculus.specs.Letters.{letters}
-use Rattle.model.specs.Services.{Verdict, accepted, refused, verdict, written, tableAfter, workAfter, short, unless, answerOf, check, run, Outcome, gives}
+use Rattle.model.specs.Services.{Verdict, accepted, refused, verdict, written, tableAfter, workAfter, short, unless, answerOf, check, run, Outcome, gives, Output, outputBy}
 use Rattle.model.specs.Services.{fails, refusalNumber, bytesFrom, served, serve}
 use Rattle.calculus.proofs.Basic.{some-inj, lt-ltb, not-ltb}
 use Rattle.model.proofs.Files.{number-positive}
@@ -23,7 +23,7 @@ use Rattle.model.proofs.Sheets.{long-enough}
 use Rattle.law_ranking.specs.Numbering.{count, unrank, typesOf}
 use Rattle.model.proofs.Outcomes.{past-short, given-accepted}
 use Rattle.law_ranking.proofs.Outcomes.{small-type}
-use Rattle.law_pairlists.specs.PairLists.{pairLines, tosOf, settings, toFrom, upwards, onPairs, exportRows, importRows, exportOn, importOn, Traded, tradedBy, exportService, importService}
+use Rattle.law_pairlists.specs.PairLists.{pairLines, tosOf, settings, toFrom, upwards, onPairs, exportRows, importRows, exportOn, importOn, exportService, importService}
 use Rattle.law_pairlists.specs.BadLists.{BadImport}
 use Rattle.law_pairlists.proofs.File.{closedIso}
 use Rattle.law_pairlists.proofs.List.{Taken, tos-length}
@@ -60,7 +60,7 @@ module _ (file t w : List ℕ) (i j : ℕ) (list o : List ℕ) where
       { refusal = some shortArea; answer = record { number = 1; line = 0 }; length = 0; table = t; work = w; output = o }
   unfolding importService
   import-short h =
-      ap (λ b. tradedBy o (serve b (verdict file) (λ rs. importRows rs i j list) t w)) (ap (λ b. short t w || b) (lt-ltb h) ∙ or-true (short t w))
+      ap (λ b. outputBy o (serve b (verdict file) (λ rs. importRows rs i j list) t w)) (ap (λ b. short t w || b) (lt-ltb h) ∙ or-true (short t w))
 
   -- a refusal writes nothing
   pub import-refused : 0 < importService file t w i j list o .answer .number
@@ -87,10 +87,10 @@ module _ (file t w : List ℕ) (i j : ℕ) (list o : List ℕ) where
   pub import-check : importLength ≤ length o → 0 < check file t w .answer .number → importService file t w i j list o .answer ≡ check file t w .answer
   unfolding check importService
   import-check room h =
-      ap (λ b. tradedBy o (serve b (verdict file) (λ rs. importRows rs i j list) t w) .answer) (ap (λ b. short t w || b) (not-ltb room) ∙ or-false (short t w))
+      ap (λ b. outputBy o (serve b (verdict file) (λ rs. importRows rs i j list) t w) .answer) (ap (λ b. short t w || b) (not-ltb room) ∙ or-false (short t w))
       ∙ go (unless (short t w) (verdict file)) h
     where
-      go : (v : Verdict) → 0 < answerOf v .number → tradedBy o (served v (importOn v i j list) t w) .answer ≡ answerOf v
+      go : (v : Verdict) → 0 < answerOf v .number → outputBy o (served v (importOn v i j list) t w) .answer ≡ answerOf v
       go (accepted rs) k = absurd (omega arith)
       go (refused f n) k = refl
 
@@ -101,9 +101,9 @@ module _ (file t w : List ℕ) (i j : ℕ) (list o : List ℕ) where
       ≡ record { refusal = some f; answer = record { number = number f; line = 0 }; length = 0; table = tableAfter (accepted rs) t; work = workAfter (accepted rs) w; output = o }
   unfolding importService
   import-answers rs e long wide room f p =
-      ap (λ b. tradedBy o (serve b (verdict file) (λ rs. importRows rs i j list) t w)) (room-enough t w o importLength long wide room)
-      ∙ ap (λ v. tradedBy o (served v (importOn v i j list) t w)) e
-      ∙ ap (λ x. tradedBy o (served (accepted rs) x t w)) p
+      ap (λ b. outputBy o (serve b (verdict file) (λ rs. importRows rs i j list) t w)) (room-enough t w o importLength long wide room)
+      ∙ ap (λ v. outputBy o (served v (importOn v i j list) t w)) e
+      ∙ ap (λ x. outputBy o (served (accepted rs) x t w)) p
 
   -- 20 exactly where both T lines are there and have few values, and the list, of no more lines than an iso clauses, is bad in the request's words
   pub import-bad-exactly : (rs : List Row) → verdict file ≡ accepted rs → tableLength ≤ length t → workLength ≤ length w → importLength ≤ length o
@@ -111,8 +111,8 @@ module _ (file t w : List ℕ) (i j : ℕ) (list o : List ℕ) where
   unfolding importService
   import-bad-exactly rs e long wide room =
       let s =
-      ap (λ b. tradedBy o (serve b (verdict file) (λ rs. importRows rs i j list) t w) .answer) (room-enough t w o importLength long wide room)
-      ∙ ap (λ v. tradedBy o (served v (importOn v i j list) t w) .answer) e in
+      ap (λ b. outputBy o (serve b (verdict file) (λ rs. importRows rs i j list) t w) .answer) (room-enough t w o importLength long wide room)
+      ∙ ap (λ v. outputBy o (served v (importOn v i j list) t w) .answer) e in
       let h = bad-import-iff rs i j list in
       (λ a. h .0 (ap (λ x. x .number) (sym s ∙ a)), λ b. s ∙ ap (λ n. record { number = n; line = 0 }) (h .1 b))
 
@@ -152,10 +152,10 @@ module _ (file t w : List ℕ) (i j : ℕ) (list o : List ℕ) where
     unfolding exportService
     import-exports budget t₂ w₂ o₂ l long wide room =
         let x = import-export file (import-of .0) (import-of .1) i j list writtenFile (import-given done) budget l in
-        let u : exportService writtenFile t₂ w₂ 0 budget o₂ ≡ tradedBy o₂ (served (accepted (trades .rows)) (gives (withoutReturns list)) t₂ w₂) =
-        ap (λ b. tradedBy o₂ (serve b (verdict writtenFile) (λ rs. exportRows rs 0 budget) t₂ w₂)) (room-enough t₂ w₂ o₂ exportLength long wide room)
-        ∙ ap (λ y. tradedBy o₂ (served (verdict writtenFile) y t₂ w₂)) x ∙ ap (λ v. tradedBy o₂ (served v (gives (withoutReturns list)) t₂ w₂)) (trades .accepts) in
-        (ap (λ (r : Traded). r .answer) u, ap (λ (r : Traded). r .length) u, ap (λ (r : Traded). r .output) u)
+        let u : exportService writtenFile t₂ w₂ 0 budget o₂ ≡ outputBy o₂ (served (accepted (trades .rows)) (gives (withoutReturns list)) t₂ w₂) =
+        ap (λ b. outputBy o₂ (serve b (verdict writtenFile) (λ rs. exportRows rs 0 budget) t₂ w₂)) (room-enough t₂ w₂ o₂ exportLength long wide room)
+        ∙ ap (λ y. outputBy o₂ (served (verdict writtenFile) y t₂ w₂)) x ∙ ap (λ v. outputBy o₂ (served v (gives (withoutReturns list)) t₂ w₂)) (trades .accepts) in
+        (ap (λ (r : Output). r .answer) u, ap (λ (r : Output). r .length) u, ap (λ (r : Output). r .output) u)
 
     -- "no equal line twice": no two lines of a written file are equal
     pub import-once : (m n : ℕ) (line : List ℕ) → getElem? (lines writtenFile) m ≡ some line → getElem? (lines writtenFile) n ≡ some line → m ≡ n
@@ -195,7 +195,7 @@ module _ (file t w : List ℕ) (i budget : ℕ) (o : List ℕ) where
       { refusal = some shortArea; answer = record { number = 1; line = 0 }; length = 0; table = t; work = w; output = o }
   unfolding exportService
   export-short h =
-      ap (λ b. tradedBy o (serve b (verdict file) (λ rs. exportRows rs i budget) t w)) (ap (λ b. short t w || b) (lt-ltb h) ∙ or-true (short t w))
+      ap (λ b. outputBy o (serve b (verdict file) (λ rs. exportRows rs i budget) t w)) (ap (λ b. short t w || b) (lt-ltb h) ∙ or-true (short t w))
 
   pub export-refused : 0 < exportService file t w i budget o .answer .number
       → (exportService file t w i budget o .length ≡ 0) × (exportService file t w i budget o .output ≡ o)
@@ -222,9 +222,9 @@ module _ (file t w : List ℕ) (i budget : ℕ) (o : List ℕ) where
       ≡ record { refusal = some f; answer = record { number = number f; line = 0 }; length = 0; table = tableAfter (accepted rs) t; work = workAfter (accepted rs) w; output = o }
   unfolding exportService
   export-answers rs e long wide room f p =
-      ap (λ b. tradedBy o (serve b (verdict file) (λ rs. exportRows rs i budget) t w)) (room-enough t w o exportLength long wide room)
-      ∙ ap (λ v. tradedBy o (served v (exportOn v i budget) t w)) e
-      ∙ ap (λ x. tradedBy o (served (accepted rs) x t w)) p
+      ap (λ b. outputBy o (serve b (verdict file) (λ rs. exportRows rs i budget) t w)) (room-enough t w o exportLength long wide room)
+      ∙ ap (λ v. outputBy o (served v (exportOn v i budget) t w)) e
+      ∙ ap (λ x. outputBy o (served (accepted rs) x t w)) p
 
   -- export's 17 is that of some lone run, and of no other: of an accepted file with areas of the stated lengths, for an iso that is there and has few values
   pub export-17 : (rs : List Row) → verdict file ≡ accepted rs → (x : Iso) → getElem? (isosOf rs) i ≡ some x → count (x .from) ≤ maxPairs

@@ -15,7 +15,7 @@ use Rattle.format.specs.Judge.{Seen, start, withinCeilings, after}
 use Rattle.format.specs.Unfold.{isosOf}
 use Rattle.calculus.specs.Reduction.{reduce}
 use Rattle.law_ranking.specs.Numbering.{count, rank, unrank, typesOf}
-use Rattle.model.specs.Services.{Verdict, verdict, Answer, written, short, Outcome, gives, fails, goOn, refusalOf, bytesFrom, Served, serve, answerFrom}
+use Rattle.model.specs.Services.{Verdict, verdict, Answer, written, short, Outcome, gives, fails, goOn, refusalOf, bytesFrom, Served, serve, answerFrom, Output, outputBy}
 
 -- ---- the list as bytes
 
@@ -199,40 +199,20 @@ exportOn v i budget = goOn v (λ rs. exportRows rs i budget)
 abbrev pub importOn : Verdict → ℕ → ℕ → List ℕ → Outcome (List ℕ)
 importOn v i j list = goOn v (λ rs. importRows rs i j list)
 
-pub record Traded : Type 0 where
-  pub refusal : Option Refusal
-  pub answer : Answer
-  pub length : ℕ
-  pub table : List ℕ
-  pub work : List ℕ
-  pub output : List ℕ
-
-abbrev pub tradedBy : List ℕ → Served (List ℕ) → Traded
-tradedBy output s =
-    let bs : List ℕ = bytesFrom (s .outcome) in
-    record {
-      refusal = refusalOf (s .outcome);
-      answer = answerFrom s;
-      length = length bs;
-      table = s .table;
-      work = s .work;
-      output = written bs output;
-    }
-
 -- "into an area of 40,960 bytes"
 abbrev pub exportServed : List ℕ → List ℕ → List ℕ → ℕ → ℕ → List ℕ → Served (List ℕ)
 exportServed file table work i budget output =
     serve (short table work || ltb (length output) exportLength) (verdict file) (λ rs. exportRows rs i budget) table work
 
-unfoldable pub exportService : List ℕ → List ℕ → List ℕ → ℕ → ℕ → List ℕ → Traded
+unfoldable pub exportService : List ℕ → List ℕ → List ℕ → ℕ → ℕ → List ℕ → Output
 unfolding verdict exportRows
-exportService file table work i budget output = tradedBy output (exportServed file table work i budget output)
+exportService file table work i budget output = outputBy output (exportServed file table work i budget output)
 
 -- "into an area of 65,536 bytes"
 abbrev pub importServed : List ℕ → List ℕ → List ℕ → ℕ → ℕ → List ℕ → List ℕ → Served (List ℕ)
 importServed file table work i j list output =
     serve (short table work || ltb (length output) importLength) (verdict file) (λ rs. importRows rs i j list) table work
 
-unfoldable pub importService : List ℕ → List ℕ → List ℕ → ℕ → ℕ → List ℕ → List ℕ → Traded
+unfoldable pub importService : List ℕ → List ℕ → List ℕ → ℕ → ℕ → List ℕ → List ℕ → Output
 unfolding verdict importRows
-importService file table work i j list output = tradedBy output (importServed file table work i j list output)
+importService file table work i j list output = outputBy output (importServed file table work i j list output)

@@ -11,19 +11,18 @@ use Rattle.calculus.specs.Refusals.{Refusal, number, shortArea, tooLong}
 use Rattle.calculus.proofs.Basic.{not-leb, not-ltb, eq-eqb}
 use Rattle.format.specs.Lines.{Row, lines}
 use Rattle.model.specs.Services.{Verdict, refused, answerOf, refusalBy, Checked, RunAnswer, tableAfter, workAfter, short, unless, written, checkBy, Outcome}
-use Rattle.model.specs.Services.{fails, Served, serve, turnedRows, turnedBy, turnBy, runOn, ranBy, runBy}
+use Rattle.model.specs.Services.{fails, Served, serve, outputBy, runOn, ranBy, runBy}
 use Rattle.model.specs.Desk.{fileLine, deskBy}
 use Rattle.model.specs.Sheet.{Sheet, answersTo, numbersAfter, lettersAfter, sheetBy}
 use Rattle.model.proofs.Sheets.{long-enough}
 use Rattle.law_ranking.specs.Numbering.{numberRows, settingRows, numberedBy, letteredBy}
 use Rattle.law_costs.specs.Bounds.{boundsRows, boundsBy}
 use Rattle.law_witnesses.specs.Showing.{Shown}
-use Rattle.law_pairlists.specs.PairLists.{tradedBy}
 use Rattle.law_units.specs.Units.{Units, Tally, playRows, playBy, unequal}
 use Rattle.check_overlap.specs.Overlap.{overlapRows, overlappedBy}
-use Rattle.law_refused.specs.ByVerdict.{numberWith, settingWith, overlapWith, boundsWith, tradeWith, showWith, playWith}
-use Rattle.law_refused.specs.Refused.{zeroTable, zeroWork, refusedAt, servedRefused, checkRefused, turnRefused, runRefused, sheetRefused, deskRefused}
-use Rattle.law_refused.specs.Refused.{numberRefused, settingRefused, overlapRefused, boundsRefused, tradeRefused, showRefused, playRefused}
+use Rattle.law_refused.specs.ByVerdict.{numberWith, settingWith, overlapWith, boundsWith, outputWith, showWith, playWith}
+use Rattle.law_refused.specs.Refused.{zeroTable, zeroWork, refusedAt, servedRefused, checkRefused, outputRefused, runRefused, sheetRefused, deskRefused}
+use Rattle.law_refused.specs.Refused.{numberRefused, settingRefused, overlapRefused, boundsRefused, showRefused, playRefused}
 
 -- the desk program lends its own areas
 pub refused-desk : (f : Refusal) (n : ℕ) (bs : List ℕ) → deskBy (refused f n) bs ≡ deskRefused f n
@@ -64,9 +63,6 @@ module _ (f : Refusal) (n : ℕ) (high : 3 ≤ number f) (table work : List ℕ)
     where
       checkOf : Verdict → Checked
       checkOf v = record { answer = answerOf v; table = tableAfter v table; work = workAfter v work }
-
-  pub refused-turn : (m : ℕ) (output : List ℕ) → m ≤ length output → turnBy (refused f n) m table work output ≡ turnRefused f n table work output
-  refused-turn m output l = ap (turnedBy output) (refused-served turnedRows (short table work || ltb (length output) m) (both l))
 
   pub refused-run : (i : ℕ) (back : Bool) (budget : ℕ) (value result : List ℕ) → resultLength ≤ length result
       → runBy (refused f n) table work i back budget value result ≡ runRefused f table work result
@@ -109,10 +105,10 @@ module _ (f : Refusal) (n : ℕ) (high : 3 ≤ number f) (table work : List ℕ)
   pub refused-bounds : (i : ℕ) → boundsWith (refused f n) table work i ≡ boundsRefused f table work
   refused-bounds i = ap boundsBy (refused-served (boundsRows i) (short table work) enough)
 
-  -- export and import, whatever is asked of the rows
-  pub refused-trade : (m : ℕ) (asked : List Row → Outcome (List ℕ)) (output : List ℕ) → m ≤ length output
-      → tradeWith m asked (refused f n) table work output ≡ tradeRefused f n table work output
-  refused-trade m asked output l = ap (tradedBy output) (refused-served asked (short table work || ltb (length output) m) (both l))
+  -- Turn, export and import, whatever is asked of the rows
+  pub refused-output : (m : ℕ) (asked : List Row → Outcome (List ℕ)) (output : List ℕ) → m ≤ length output
+      → outputWith m asked (refused f n) table work output ≡ outputRefused f n table work output
+  refused-output m asked output l = ap (outputBy output) (refused-served asked (short table work || ltb (length output) m) (both l))
 
   pub refused-show : (result : List ℕ) → resultLength ≤ length result → showWith (refused f n) [] table work result ≡ showRefused f n table work result
   refused-show result l =

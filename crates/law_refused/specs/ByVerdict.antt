@@ -7,11 +7,11 @@ use lib.Dec.{ltb}
 use lib.ListN.{length}
 use Rattle.limits.specs.Limits.{resultLength, exportLength, importLength}
 use Rattle.format.specs.Lines.{Row}
-use Rattle.model.specs.Services.{Verdict, answerOf, refusalBy, tableAfter, workAfter, short, unless, written, Outcome, serve}
+use Rattle.model.specs.Services.{Verdict, answerOf, refusalBy, tableAfter, workAfter, short, unless, written, Outcome, serve, Output, outputBy}
 use Rattle.law_ranking.specs.Numbering.{numberRows, settingRows, Numbered, numberedBy, Lettered, letteredBy}
 use Rattle.law_costs.specs.Bounds.{boundsRows, BoundsResult, boundsBy}
 use Rattle.law_witnesses.specs.Showing.{Shown}
-use Rattle.law_pairlists.specs.PairLists.{exportRows, importRows, Traded, tradedBy}
+use Rattle.law_pairlists.specs.PairLists.{exportRows, importRows}
 use Rattle.law_units.specs.Units.{Units, Tally, Play, playBy, playRows, playVerdict, unequal}
 use Rattle.check_overlap.specs.Overlap.{overlapRows, Overlapped, overlappedBy}
 
@@ -32,14 +32,14 @@ abbrev pub boundsWith : Verdict → List ℕ → List ℕ → ℕ → BoundsResu
 boundsWith file table work i = boundsBy (serve (short table work) file (boundsRows i) table work)
 
 -- request 07: what is asked of the rows goes into an area of m bytes
-abbrev pub tradeWith : ℕ → (List Row → Outcome (List ℕ)) → Verdict → List ℕ → List ℕ → List ℕ → Traded
-tradeWith m asked file table work output = tradedBy output (serve (short table work || ltb (length output) m) file asked table work)
+abbrev pub outputWith : ℕ → (List Row → Outcome (List ℕ)) → Verdict → List ℕ → List ℕ → List ℕ → Output
+outputWith m asked file table work output = outputBy output (serve (short table work || ltb (length output) m) file asked table work)
 
-abbrev pub exportWith : Verdict → List ℕ → List ℕ → ℕ → ℕ → List ℕ → Traded
-exportWith file table work i budget output = tradeWith exportLength (λ rs. exportRows rs i budget) file table work output
+abbrev pub exportWith : Verdict → List ℕ → List ℕ → ℕ → ℕ → List ℕ → Output
+exportWith file table work i budget output = outputWith exportLength (λ rs. exportRows rs i budget) file table work output
 
-abbrev pub importWith : Verdict → List ℕ → List ℕ → ℕ → ℕ → List ℕ → List ℕ → Traded
-importWith file table work i j list output = tradeWith importLength (λ rs. importRows rs i j list) file table work output
+abbrev pub importWith : Verdict → List ℕ → List ℕ → ℕ → ℕ → List ℕ → List ℕ → Output
+importWith file table work i j list output = outputWith importLength (λ rs. importRows rs i j list) file table work output
 
 -- request 09, a setting that shows the fault: `shown` are the letters that the file is answered with
 abbrev pub showWith : Verdict → List ℕ → List ℕ → List ℕ → List ℕ → Shown

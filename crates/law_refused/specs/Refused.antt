@@ -6,13 +6,12 @@ use mathlib.Core.Option.{some}
 use mathlib.Core.List.{List, []}
 use Rattle.limits.specs.Limits.{tableLength, workLength}
 use Rattle.calculus.specs.Refusals.{Refusal, number}
-use Rattle.model.specs.Services.{filled, Answer, Checked, fails, Served, Turned, RunResult}
+use Rattle.model.specs.Services.{filled, Answer, Checked, fails, Served, Output, RunResult}
 use Rattle.model.specs.Desk.{fileLine}
 use Rattle.model.specs.Sheet.{Sheet}
 use Rattle.law_ranking.specs.Numbering.{Numbered, Lettered}
 use Rattle.law_costs.specs.Bounds.{noBounds, BoundsResult}
 use Rattle.law_witnesses.specs.Showing.{Shown}
-use Rattle.law_pairlists.specs.PairLists.{Traded}
 use Rattle.law_units.specs.Units.{Units, Tally, Play}
 use Rattle.check_overlap.specs.Overlap.{Overlapped}
 
@@ -34,9 +33,9 @@ servedRefused f n table work = record { outcome = fails f; line = n; table = zer
 abbrev pub checkRefused : Refusal → ℕ → List ℕ → List ℕ → Checked
 checkRefused f n table work = record { answer = refusedAt f n; table = zeroTable table; work = zeroWork work }
 
--- "Any refusal gives count 0, length 0, and leaves the output area untouched"
-abbrev pub turnRefused : Refusal → ℕ → List ℕ → List ℕ → List ℕ → Turned
-turnRefused f n table work output =
+-- Turn, export and import: "Any refusal gives count 0, length 0, and leaves the output area untouched"
+abbrev pub outputRefused : Refusal → ℕ → List ℕ → List ℕ → List ℕ → Output
+outputRefused f n table work output =
     record { refusal = some f; answer = refusedAt f n; length = 0; table = zeroTable table; work = zeroWork work; output = output }
 
 -- Run names no line
@@ -66,11 +65,6 @@ overlapRefused f n table work =
 
 abbrev pub boundsRefused : Refusal → List ℕ → List ℕ → BoundsResult
 boundsRefused f table work = record { refusal = some f; bounds = noBounds f; table = zeroTable table; work = zeroWork work }
-
--- export and import
-abbrev pub tradeRefused : Refusal → ℕ → List ℕ → List ℕ → List ℕ → Traded
-tradeRefused f n table work output =
-    record { refusal = some f; answer = refusedAt f n; length = 0; table = zeroTable table; work = zeroWork work; output = output }
 
 -- no setting to look at
 abbrev pub showRefused : Refusal → ℕ → List ℕ → List ℕ → List ℕ → Shown

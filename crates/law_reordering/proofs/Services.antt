@@ -16,8 +16,8 @@ use Rattle.calculus.specs.Refusals.{Kind, typeLine, patternLine, isoLine, claus
 use Rattle.format.specs.Lines.{Row, ontoFirst, lines, letter, rowOf}
 use Rattle.format.specs.Judge.{start}
 use Rattle.format.specs.Unfold.{isosOf, turnRows}
-use Rattle.model.specs.Services.{Verdict, accepted, refused, verdict, answerOf, Checked, checkBy, check, gives, goOn, refusalBy, served, Turned, turned}
-use Rattle.model.specs.Services.{turnedOf, turnedRows, turnedBy, turnBy, turn, onIso, from, within, argument, valueIn, runRows, toward, runOf, run, RunAnswer}
+use Rattle.model.specs.Services.{Verdict, accepted, refused, verdict, answerOf, Checked, checkBy, check, gives, goOn, refusalBy, served, Output, turned}
+use Rattle.model.specs.Services.{turnedOf, turnedRows, outputBy, turnBy, turn, onIso, from, within, argument, valueIn, runRows, toward, runOf, run, RunAnswer}
 use Rattle.model.specs.Services.{answerOfRun, RunResult, ranBy, runBy, runService, tableAfter, workAfter, short, unless}
 use Rattle.model.specs.Desk.{isQuery, fileLines, queryLines, Query, queryOf, answerTo, queryLine, fileLine, queryAnswers, desk}
 use Rattle.model.specs.Sheet.{answersTo, numbersAfter, lettersAfter, narrowSheet, Sheet, sheetBy, sheet}
@@ -107,8 +107,8 @@ module _ (table work : List ℕ) where
   check-under rs qs true = refl
   check-under rs qs false = refl
 
-  abbrev turnUnder : List ℕ → Verdict → Turned
-  turnUnder output v = turnedBy output (served v (goOn v turnedRows) table work)
+  abbrev turnUnder : List ℕ → Verdict → Output
+  turnUnder output v = outputBy output (served v (goOn v turnedRows) table work)
 
   turn-under : (output : List ℕ) (rs qs : List Row) → length (turnedOf (accepted rs)) ≡ length (turnedOf (accepted qs)) → (b : Bool)
       → turnedBut (turnUnder output (unless b (accepted rs))) ≡ turnedBut (turnUnder output (unless b (accepted qs)))

@@ -11,7 +11,7 @@ use Rattle.calculus.specs.Refusals.{Refusal, number}
 use Rattle.calculus.specs.Clauses.{clauseFault, sigsOf}
 use Rattle.format.specs.Lines.{Row}
 use Rattle.format.specs.Judge.{start, stage, afterAll, rows, readFrom}
-use Rattle.model.specs.Services.{Checked, Turned, RunResult}
+use Rattle.model.specs.Services.{Checked, Output, RunResult}
 use Rattle.model.specs.Sheet.{Sheet}
 use Rattle.law_ranking.specs.Numbering.{Numbered, Lettered}
 use Rattle.law_costs.specs.Bounds.{BoundsResult}
@@ -37,7 +37,7 @@ abbrev pub boundsBut : BoundsResult → BoundsResult
 boundsBut r = record { refusal = r .refusal; bounds = r .bounds; table = []; work = r .work }
 
 -- all but the table and the turned file, of which the law `turned-same` tells
-abbrev pub turnedBut : Turned → Turned
+abbrev pub turnedBut : Output → Output
 turnedBut r = record { refusal = r .refusal; answer = r .answer; length = r .length; table = []; work = r .work; output = [] }
 
 -- what `rules` reads behind a file: nothing, or queries

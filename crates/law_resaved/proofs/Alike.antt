@@ -12,12 +12,12 @@ use Rattle.calculus.specs.Tools.{_>>=_, guard}
 use Rattle.calculus.specs.Refusals.{Refusal, tooLong}
 use Rattle.format.specs.Lines.{Row, lines}
 use Rattle.format.specs.Unfold.{isosOf}
-use Rattle.model.specs.Services.{Verdict, accepted, refused, verdict, short, unless, serve, served, goOn}
+use Rattle.model.specs.Services.{Verdict, accepted, refused, verdict, short, unless, serve, served, goOn, outputBy}
 use Rattle.law_costs.specs.Bounds.{boundsRows, boundsBy, boundsService}
 use Rattle.law_endings.specs.Resaved.{SameLine, SameLines, done, next, Resaved}
 use Rattle.law_endings.proofs.Lines.{text-same, count-same}
 use Rattle.law_endings.proofs.Alike.{verdict-alike}
-use Rattle.law_pairlists.specs.PairLists.{exportRows, importRows, tradedBy, exportService, importService}
+use Rattle.law_pairlists.specs.PairLists.{exportRows, importRows, exportService, importService}
 use Rattle.law_pairlists.proofs.Endings as Lists
 use Rattle.law_units.specs.Units.{plannedIn, plannedOf, names, scriptOf, Units, unitsFault, onScript, onUnits, playRows, unequal, playVerdict, Tally, playBy, playService}
 use Rattle.check_overlap.specs.Overlap.{overlapRows, overlappedBy, overlapService}
@@ -58,14 +58,14 @@ module _ (bs cs table work : List ℕ) (same : Resaved bs cs) (short-bs : length
   pub export-alike : (i budget : ℕ) (output : List ℕ) → exportService bs table work i budget output ≡ exportService cs table work i budget output
   unfolding exportService
   export-alike i budget output =
-      ap (λ v. tradedBy output (serve (short table work || ltb (length output) exportLength) v (λ rs. exportRows rs i budget) table work)) e
+      ap (λ v. outputBy output (serve (short table work || ltb (length output) exportLength) v (λ rs. exportRows rs i budget) table work)) e
 
   -- a file and a list with other endings
   pub import-alike : (i j : ℕ) (list other output : List ℕ) → Resaved list other → importService bs table work i j list output ≡ importService cs table work i j other output
   unfolding importService
   import-alike i j list other output h =
       Lists.import-alike bs table work i j list other output h
-      ∙ ap (λ v. tradedBy output (serve (short table work || ltb (length output) importLength) v (λ rs. importRows rs i j other) table work)) e
+      ∙ ap (λ v. outputBy output (serve (short table work || ltb (length output) importLength) v (λ rs. importRows rs i j other) table work)) e
 
   -- a file and a script with other endings
   pub play-alike : (us : Units) (script other : List ℕ) (budget : ℕ) (t : Tally) → Resaved script other

@@ -147,6 +147,27 @@ serve tooShort file asked table work = let v : Verdict = unless tooShort file in
 abbrev pub answerFrom : {A : Type 0} → Served A → Answer
 answerFrom s = record { number = refusalNumber (s .outcome); line = s .line }
 
+-- a service that writes bytes into an output area
+pub record Output : Type 0 where
+  pub refusal : Option Refusal
+  pub answer : Answer
+  pub length : ℕ
+  pub table : List ℕ
+  pub work : List ℕ
+  pub output : List ℕ
+
+abbrev pub outputBy : List ℕ → Served (List ℕ) → Output
+outputBy output s =
+    let bs : List ℕ = bytesFrom (s .outcome) in
+    record {
+      refusal = refusalOf (s .outcome);
+      answer = answerFrom s;
+      length = length bs;
+      table = s .table;
+      work = s .work;
+      output = written bs output;
+    }
+
 -- Turn: the turned file's bytes, which a refusal leaves unwritten
 abbrev pub turnedRows : List Row → Outcome (List ℕ)
 turnedRows rs = gives (printRows (turnRows rs))
@@ -158,34 +179,14 @@ unfoldable pub turned : List ℕ → List ℕ
 unfolding verdict printRows turnRows
 turned bs = turnedOf (verdict bs)
 
-pub record Turned : Type 0 where
-  pub refusal : Option Refusal
-  pub answer : Answer
-  pub length : ℕ
-  pub table : List ℕ
-  pub work : List ℕ
-  pub output : List ℕ
-
-abbrev pub turnedBy : List ℕ → Served (List ℕ) → Turned
-turnedBy output s =
-    let bs : List ℕ = bytesFrom (s .outcome) in
-    record {
-      refusal = refusalOf (s .outcome);
-      answer = answerFrom s;
-      length = length bs;
-      table = s .table;
-      work = s .work;
-      output = written bs output;
-    }
-
 -- … for a file of n bytes
 abbrev pub turnServed : Verdict → ℕ → List ℕ → List ℕ → List ℕ → Served (List ℕ)
 turnServed file n table work output = serve (short table work || ltb (length output) n) file turnedRows table work
 
-abbrev pub turnBy : Verdict → ℕ → List ℕ → List ℕ → List ℕ → Turned
-turnBy file n table work output = turnedBy output (turnServed file n table work output)
+abbrev pub turnBy : Verdict → ℕ → List ℕ → List ℕ → List ℕ → Output
+turnBy file n table work output = outputBy output (turnServed file n table work output)
 
-unfoldable pub turn : List ℕ → List ℕ → List ℕ → List ℕ → Turned
+unfoldable pub turn : List ℕ → List ℕ → List ℕ → List ℕ → Output
 unfolding turned
 turn bs table work output = turnBy (verdict bs) (length bs) table work output
 
