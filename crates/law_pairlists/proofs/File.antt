@@ -69,56 +69,45 @@ two-parts {rs} {ts} k i j a b s f n p q l =
     (record { kind = refl; fields = f; names = n (length ts) (both-below (index-below ts i p) (index-below ts j q)) })
     (subst SmallType (sym e) l))
 
+-- the rows of a sum or product, whose parts are written first
+abbrev twoRows : ℕ → Ty → Ty → List Row → Entry
+twoRows k a b rs = let f : Entry = writeType a rs in let s : Entry = writeType b (f .rows) in entry (typeRow k (f .number) (s .number)) (s .rows)
+
+two-written : (k : ℕ) (a b : Ty) (rs : List Row) {ts : List Ty} → ((i j : ℕ) → typeFields k i j ≡ true)
+    → ((n i j : ℕ) → (ltb i n && ltb j n) ≡ true → typeNames n k i j ≡ true) → (f : TypeEntered (writeType a rs) ts a)
+    → (Types (writeType a rs .rows) (f .trees) → TypeEntered (writeType b (writeType a rs .rows)) (f .trees) b) → typeNodes (typeNode k a b) ≤ maxNodes
+    → TypeEntered (twoRows k a b rs) ts (typeNode k a b)
+two-written k a b rs fields names f write l =
+    let g = write (f .stored) in
+    let h = two-parts k _ _ a b (g .stored) (fields _ _) (λ n. names n _ _) (still typeTree TypeOk SmallType type-keep type-mono g _ (f .here)) (g .here) l in
+    after-others typeTree TypeOk SmallType type-keep type-mono f (after-others typeTree TypeOk SmallType type-keep type-mono g h)
+
 -- writing a type gives rows whose unfolding at its number is that type, and changes no tree that was there
 pub type-written : (a : Ty) {rs : List Row} {ts : List Ty} → Types rs ts → typeNodes a ≤ maxNodes → TypeEntered (writeType a rs) ts a
 type-written tunit s l =
     entered typeTree TypeOk SmallType type-keep type-mono (typeRow 0 0 0) s (record { kind = refl; fields = refl; names = refl }) l
-type-written (tsum a b) s l =
-    let f = type-written a s (omega arith) in
-    let g = type-written b (f .stored) (omega arith) in
-    let h = two-parts 1 _ _ a b (g .stored) refl (λ n e. e) (still typeTree TypeOk SmallType type-keep type-mono g _ (f .here)) (g .here) l in
-    after-others typeTree TypeOk SmallType type-keep type-mono f (after-others typeTree TypeOk SmallType type-keep type-mono g h)
-type-written (tprod a b) s l =
-    let f = type-written a s (omega arith) in
-    let g = type-written b (f .stored) (omega arith) in
-    let h = two-parts 2 _ _ a b (g .stored) refl (λ n e. e) (still typeTree TypeOk SmallType type-keep type-mono g _ (f .here)) (g .here) l in
-    after-others typeTree TypeOk SmallType type-keep type-mono f (after-others typeTree TypeOk SmallType type-keep type-mono g h)
+type-written (tsum a b) {rs} s l = two-written 1 a b rs (λ i j. refl) (λ n i j e. e) (type-written a s (omega arith)) (λ t. type-written b t (omega arith)) l
+type-written (tprod a b) {rs} s l = two-written 2 a b rs (λ i j. refl) (λ n i j e. e) (type-written a s (omega arith)) (λ t. type-written b t (omega arith)) l
 
 -- no more rows than nodes
+two-room : (k : ℕ) (a b : Ty) (rs : List Row) → length (writeType a rs .rows) ≤ length rs + typeNodes a
+    → length (writeType b (writeType a rs .rows) .rows) ≤ length (writeType a rs .rows) + typeNodes b → length (twoRows k a b rs .rows) ≤ length rs + (1 + typeNodes a + typeNodes b)
+two-room k a b rs h i = let l = enter-length (typeRow k (writeType a rs .number) (writeType b (writeType a rs .rows) .number)) (writeType b (writeType a rs .rows) .rows) in omega arith
+
 pub type-room : (a : Ty) (rs : List Row) → length (writeType a rs .rows) ≤ length rs + typeNodes a
 type-room tunit rs = let h = enter-length (typeRow 0 0 0) rs in omega arith
-type-room (tsum a b) rs =
-    let f : Entry = writeType a rs in
-    let s : Entry = writeType b (f .rows) in
-    let h = type-room a rs in
-    let k = type-room b (f .rows) in
-    let l = enter-length (typeRow 1 (f .number) (s .number)) (s .rows) in
-    omega arith
-type-room (tprod a b) rs =
-    let f : Entry = writeType a rs in
-    let s : Entry = writeType b (f .rows) in
-    let h = type-room a rs in
-    let k = type-room b (f .rows) in
-    let l = enter-length (typeRow 2 (f .number) (s .number)) (s .rows) in
-    omega arith
+type-room (tsum a b) rs = two-room 1 a b rs (type-room a rs) (type-room b (writeType a rs .rows))
+type-room (tprod a b) rs = two-room 2 a b rs (type-room a rs) (type-room b (writeType a rs .rows))
 
 -- and no fewer than before
+two-grows : (k : ℕ) (a b : Ty) (rs : List Row) → length rs ≤ length (writeType a rs .rows) → length (writeType a rs .rows) ≤ length (writeType b (writeType a rs .rows) .rows)
+    → length rs ≤ length (twoRows k a b rs .rows)
+two-grows k a b rs h i = let l = enter-grows (typeRow k (writeType a rs .number) (writeType b (writeType a rs .rows) .number)) (writeType b (writeType a rs .rows) .rows) in omega arith
+
 pub type-grows : (a : Ty) (rs : List Row) → length rs ≤ length (writeType a rs .rows)
 type-grows tunit rs = enter-grows (typeRow 0 0 0) rs
-type-grows (tsum a b) rs =
-    let f : Entry = writeType a rs in
-    let s : Entry = writeType b (f .rows) in
-    let h = type-grows a rs in
-    let k = type-grows b (f .rows) in
-    let l = enter-grows (typeRow 1 (f .number) (s .number)) (s .rows) in
-    omega arith
-type-grows (tprod a b) rs =
-    let f : Entry = writeType a rs in
-    let s : Entry = writeType b (f .rows) in
-    let h = type-grows a rs in
-    let k = type-grows b (f .rows) in
-    let l = enter-grows (typeRow 2 (f .number) (s .number)) (s .rows) in
-    omega arith
+type-grows (tsum a b) rs = two-grows 1 a b rs (type-grows a rs) (type-grows b (writeType a rs .rows))
+type-grows (tprod a b) rs = two-grows 2 a b rs (type-grows a rs) (type-grows b (writeType a rs .rows))
 
 -- ---- P rows
 
