@@ -26,7 +26,7 @@ pub fn s_with_gap() -> Vec<u8> {
 }
 
 /// The types of nothing but bits: unit, one bit, then products up to `bits` bits.
-fn bit_types(draft: &mut Draft, bits: usize) -> usize {
+pub fn bit_types(draft: &mut Draft, bits: usize) -> usize {
     let unit = draft.type_of(0, 0, 0);
     let bit = draft.type_of(SUM, unit, unit);
     (1..bits).fold(bit, |front, _| draft.type_of(PRODUCT, front, bit))
@@ -127,14 +127,15 @@ pub fn nodes(nodes: usize) -> Vec<u8> {
     draft.into_bytes()
 }
 
-/// An iso of `clauses` clauses that have one pattern, a full tree of pairs and units with 127 nodes: every two of
-/// them overlap.
-pub fn overlap(clauses: usize) -> Vec<u8> {
+/// An iso of `clauses` clauses that have one pattern, a full tree of pairs and units with `nodes` nodes: every two
+/// of them overlap.
+pub fn overlap(clauses: usize, nodes: usize) -> Vec<u8> {
     let mut draft = Draft::default();
+    let levels = nodes.ilog2();
     let unit = draft.type_of(0, 0, 0);
-    let ty = (0..6).fold(unit, |a, _| draft.type_of(PRODUCT, a, a));
+    let ty = (0..levels).fold(unit, |a, _| draft.type_of(PRODUCT, a, a));
     let unit = draft.pattern(0, 0, 0);
-    let tree = (0..6).fold(unit, |a, _| draft.pattern(PAIR, a, a));
+    let tree = (0..levels).fold(unit, |a, _| draft.pattern(PAIR, a, a));
     draft.iso(ty, ty);
     for _ in 0..clauses {
         draft.clause(tree, tree);
@@ -200,27 +201,28 @@ pub fn late_gap(bits: usize) -> Vec<u8> {
     draft.into_bytes()
 }
 
-/// An iso on 25 bits and seven more behind them, a type of 127 nodes: each of 127 clauses has a variable before
-/// other bits, and the last bits are left out.
-pub fn gap_behind_variable() -> Vec<u8> {
+/// An iso on some bits and more behind them: each clause has a variable before other bits, and the last bits are
+/// left out. 25 bits before seven are a type of 127 nodes and 127 clauses.
+pub fn gap_behind_variable(before: usize, behind: usize) -> Vec<u8> {
     let mut draft = Draft::default();
-    let front = bit_types(&mut draft, 25);
-    let back = bit_types(&mut draft, 7);
+    let front = bit_types(&mut draft, before);
+    let back = bit_types(&mut draft, behind);
     let ty = draft.type_of(PRODUCT, front, back);
     let variable = draft.pattern(VARIABLE, 0, 0);
-    let leaves = closed_patterns(&mut draft, 7);
+    let leaves = closed_patterns(&mut draft, behind);
     let side = |leaf: &usize| draft.pattern(PAIR, variable, *leaf);
     let sides: Vec<usize> = leaves.iter().map(side).collect();
     without_last(&mut draft, ty, &sides);
     draft.into_bytes()
 }
 
-/// A type of 31 bits and two units, 127 nodes deep to the right, and its number: 2,147,483,648 settings.
-pub fn many_settings() -> (Vec<u8>, u32) {
+/// A type of some bits and two units, deep to the right, and its number: with 31 bits 127 nodes and 2,147,483,648
+/// settings.
+pub fn many_settings(bits: usize) -> (Vec<u8>, u32) {
     let mut draft = Draft::default();
     let unit = draft.type_of(0, 0, 0);
     let bit = draft.type_of(SUM, unit, unit);
-    let bits = (1..31).fold(bit, |rest, _| draft.type_of(PRODUCT, bit, rest));
+    let bits = (1..bits).fold(bit, |rest, _| draft.type_of(PRODUCT, bit, rest));
     let ty = (0..2).fold(bits, |rest, _| draft.type_of(PRODUCT, unit, rest));
     hand_on(&mut draft, ty);
     (draft.into_bytes(), ty as u32)
@@ -233,22 +235,25 @@ fn hand_on(draft: &mut Draft, ty: usize) {
     draft.clause(variable, variable);
 }
 
-/// The number and the letters of the last of these settings.
-pub const LAST: u32 = (1 << 31) - 1;
+/// The most bits of such a type.
+pub const MOST_BITS: usize = 31;
 
-pub fn last_setting() -> Vec<u8> {
-    ("PU".repeat(2) + &"PRU".repeat(30) + "RU").into_bytes()
+/// The letters and the number of the last of these settings.
+pub fn last_setting(bits: usize) -> (Vec<u8>, u32) {
+    let letters = "PU".repeat(2) + &"PRU".repeat(bits - 1) + "RU";
+    (letters.into_bytes(), (1 << bits) - 1)
 }
 
-/// Two P lines that are full trees of pairs and units with 127 nodes, each of lines of its own: the sides of a
+/// Two P lines that are full trees of pairs and units with so many nodes, each of lines of its own: the sides of a
 /// clause.
-pub fn two_trees() -> (Vec<u8>, u32, u32) {
+pub fn two_trees(nodes: usize) -> (Vec<u8>, u32, u32) {
     let mut draft = Draft::default();
+    let levels = nodes.ilog2();
     let unit = draft.type_of(0, 0, 0);
-    let ty = (0..6).fold(unit, |a, _| draft.type_of(PRODUCT, a, a));
+    let ty = (0..levels).fold(unit, |a, _| draft.type_of(PRODUCT, a, a));
     let [left, right] = [(); 2].map(|()| {
         let unit = draft.new_pattern(0, 0, 0);
-        (0..6).fold(unit, |a, _| draft.new_pattern(PAIR, a, a))
+        (0..levels).fold(unit, |a, _| draft.new_pattern(PAIR, a, a))
     });
     draft.iso(ty, ty);
     draft.clause(left, right);
@@ -310,16 +315,14 @@ pub fn swap_value(exchanged: bool) -> Vec<u8> {
     format!("P{}{}", parts[0], parts[1]).into_bytes()
 }
 
-/// The applications of each value of `flips`: one and eight let steps.
-pub const FLIPS: u32 = 9;
+/// The let steps with which each value of `flips` takes nine applications.
+pub const FLIPS: usize = 8;
 
-/// A type of `bits` bits, and an iso that sends the last eight of them, or as many as there are, through one
-/// that exchanges left and right.
-pub fn flips(bits: usize) -> Vec<u8> {
+/// A type of `bits` bits, and an iso that sends the last `steps` of them through one that exchanges left and right.
+pub fn flips(bits: usize, steps: usize) -> Vec<u8> {
     let mut draft = Draft::default();
     let ty = bit_types(&mut draft, bits);
     let [left, right] = [false, true].map(|right| bit_pattern(&mut draft, right));
-    let steps = bits.min(8);
     let variables: Vec<usize> = (0..bits + steps)
         .map(|n| draft.pattern(VARIABLE, n, 0))
         .collect();
@@ -433,8 +436,8 @@ mod tests {
         for count in [7, 127] {
             Call::check(nodes(count)).agree();
         }
-        for bits in [1, 8, 12] {
-            Call::check(flips(bits)).agree();
+        for (bits, steps) in [(1, 1), (8, 8), (12, 8)] {
+            Call::check(flips(bits, steps)).agree();
         }
         for isos in [1, 2, 32] {
             Call::check(swap(isos)).agree();

@@ -3,6 +3,7 @@
 
 use crate::call::{Apart, Implementation, Proved};
 use crate::desk::Desk;
+use crate::growing::{Growing, Of};
 use crate::measure::Both;
 use crate::point::{Point, Series};
 use std::collections::HashMap;
@@ -22,13 +23,19 @@ pub type Counts = HashMap<Point, Both>;
 pub fn count_all(points: &[Point], desk: &Desk) -> Counts {
     points.iter().for_each(|point| hold(*point, desk));
     hold(Point::new(Series::Desk, 0), desk);
+    let counts = shared_out(points, |point| count(*point, desk));
+    points.iter().copied().zip(counts).collect()
+}
+
+/// What a function gives of each of a list, by a thread for each core.
+pub fn shared_out<T: Sync, N: Send>(all: &[T], give: impl Fn(&T) -> N + Sync) -> Vec<N> {
     let next = AtomicUsize::new(0);
-    let counts = Mutex::new(Counts::new());
-    let work = || {
-        while let Some(point) = points.get(next.fetch_add(1, Ordering::Relaxed)) {
-            let both = count(*point, desk);
-            counts.lock().expect("a lock").insert(*point, both);
-        }
+    let given = Mutex::new(Vec::new());
+    let work = || loop {
+        let place = next.fetch_add(1, Ordering::Relaxed);
+        let Some(one) = all.get(place) else { break };
+        let number = give(one);
+        given.lock().expect("a lock").push((place, number));
     };
     let cores = thread::available_parallelism().map_or(1, |cores| cores.get());
     thread::scope(|scope| {
@@ -36,7 +43,9 @@ pub fn count_all(points: &[Point], desk: &Desk) -> Counts {
             scope.spawn(work);
         }
     });
-    counts.into_inner().expect("a lock")
+    let mut given = given.into_inner().expect("a lock");
+    given.sort_by_key(|(place, _)| *place);
+    given.into_iter().map(|(_, number)| number).collect()
 }
 
 /// Holds both implementations to the expected answer; it also writes the files that the desk programs read.
@@ -59,14 +68,33 @@ fn count(point: Point, desk: &Desk) -> Both {
 
 /// Instructions a call, by two numbers of calls.
 fn of_calls(point: Point, by: Implementation, few: u32, many: u32) -> f64 {
+    let size = point.size.to_string();
+    let made = ["--once", point.series.name(), &size, by.name()];
+    between(&made, few, many)
+}
+
+/// Instructions a call of this program with these arguments, by two numbers of calls behind them.
+fn between(arguments: &[&str], few: u32, many: u32) -> f64 {
     let program = env::current_exe().expect("the program knows its path");
     let total = |calls: u32| {
         let mut run = callgrind();
-        run.arg(&program).args(["--once", point.series.name()]);
-        run.args([&point.size.to_string(), by.name(), &calls.to_string()]);
+        run.arg(&program).args(arguments).arg(calls.to_string());
         collected(run)
     };
     (total(many) - total(few)) / f64::from(many - few)
+}
+
+/// The proved library's instructions for a row of a measure at a size: a call's, or those of a part of it.
+pub fn of_growing(measure: &str, row: &Growing, size: usize) -> f64 {
+    let size = size.to_string();
+    let total = |parts: usize| {
+        let parts = parts.to_string();
+        between(&["--grown", measure, row.service, &size, &parts], 1, 2)
+    };
+    match row.of {
+        Of::Call => total(0),
+        Of::Part(_, [few, many]) => (total(many) - total(few)) / (many - few) as f64,
+    }
 }
 
 /// Instructions for so many queries.

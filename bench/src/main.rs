@@ -4,6 +4,10 @@ mod answer;
 mod call;
 mod desk;
 mod draft;
+mod fit;
+mod growing;
+mod grown;
+mod growth;
 mod inputs;
 mod instructions;
 mod list;
@@ -17,8 +21,9 @@ mod single;
 mod table;
 mod worst;
 
-use call::{Areas, Implementation};
+use call::{Areas, Call, Implementation, Proved};
 use desk::Desk;
+use growth::Choice;
 use instructions::Counts;
 use list::Growth;
 use measure::{Both, Plan};
@@ -30,7 +35,9 @@ use std::process::ExitCode;
 use std::time::Duration;
 
 const USAGE: &str = "bench [--quick|--times|--instructions] RULES APART-RULES FOLDER PICTURE
-bench --once SERIES SIZE proved|apart CALLS";
+bench --growth [MEASURE [SERVICE]]
+bench --once SERIES SIZE proved|apart CALLS
+bench --grown MEASURE SERVICE SIZE PARTS CALLS";
 
 /// What is measured. The rounds of a quick run are short, and its largest sizes smaller.
 #[derive(Clone, Copy, PartialEq, Eq)]
@@ -62,6 +69,13 @@ fn main() -> ExitCode {
     let arguments: Vec<&str> = arguments.iter().map(String::as_str).collect();
     let done = match arguments[..] {
         ["--once", series, size, by, calls] => once(series, size, by, calls),
+        ["--grown", measure, service, size, parts, calls] => {
+            grown_once([measure, service], [size, parts, calls])
+        }
+        ["--growth", ref chosen @ ..] => match grown(chosen) {
+            Some(false) => return ExitCode::FAILURE,
+            shown => shown.map(|_| ()),
+        },
         [rules, apart, folder, picture] => measured("", desk(rules, apart, folder), picture),
         [mode, rules, apart, folder, picture] => {
             measured(mode, desk(rules, apart, folder), picture)
@@ -89,12 +103,32 @@ fn desk(rules: &str, apart_rules: &str, folder: &str) -> Desk {
 fn once(series: &str, size: &str, by: &str, calls: &str) -> Option<()> {
     let point = Point::new(Series::named(series)?, size.parse().ok()?);
     let by = Implementation::named(by)?;
-    let call = point.call();
-    let mut areas = Areas::new();
-    for _ in 0..calls.parse::<u32>().ok()? {
-        black_box(&call).make(by, black_box(&mut areas));
-    }
+    make(&point.call(), by, calls.parse().ok()?);
     Some(())
+}
+
+/// The same for a row of `--growth`, by the proved library.
+fn grown_once([measure, service]: [&str; 2], numbers: [&str; 3]) -> Option<()> {
+    let row = growing::named(measure, service)?;
+    let [size, parts, calls] = numbers.map(|number| number.parse::<usize>().ok());
+    make(&(row.call)(size?, parts?), Proved, calls?);
+    Some(())
+}
+
+fn make(call: &Call, by: Implementation, calls: usize) {
+    let mut areas = Areas::new();
+    for _ in 0..calls {
+        black_box(call).make(by, black_box(&mut areas));
+    }
+}
+
+/// Shows how instructions grow, by all measures or one, of all services or one.
+fn grown(chosen: &[&str]) -> Option<bool> {
+    let [measure, service] = [0, 1].map(|place| chosen.get(place).copied());
+    match chosen.len() {
+        0..=2 => growth::shown(Choice { measure, service }),
+        _ => None,
+    }
 }
 
 /// The plans for the rows and for all the rest.

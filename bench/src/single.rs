@@ -24,8 +24,9 @@ pub const SINGLES: [Single; 22] = [
     Single {
         label: "Number of a setting, type of 127 nodes",
         call: || {
-            let (file, ty) = inputs::many_settings();
-            Call::number(file, ty, inputs::last_setting(), inputs::LAST)
+            let (file, ty) = inputs::many_settings(inputs::MOST_BITS);
+            let (letters, number) = inputs::last_setting(inputs::MOST_BITS);
+            Call::number(file, ty, letters, number)
         },
     },
     Single {
@@ -35,8 +36,9 @@ pub const SINGLES: [Single; 22] = [
     Single {
         label: "Setting of a number, type of 127 nodes",
         call: || {
-            let (file, ty) = inputs::many_settings();
-            Call::setting(file, ty, inputs::last_setting(), inputs::LAST)
+            let (file, ty) = inputs::many_settings(inputs::MOST_BITS);
+            let (letters, number) = inputs::last_setting(inputs::MOST_BITS);
+            Call::setting(file, ty, letters, number)
         },
     },
     Single {
@@ -49,7 +51,7 @@ pub const SINGLES: [Single; 22] = [
     Single {
         label: "Overlap, patterns of 127 nodes, no clash",
         call: || {
-            let (file, left, right) = inputs::two_trees();
+            let (file, left, right) = inputs::two_trees(127);
             let (clash, pairs) = (false, 127);
             Call::overlap(file, left, right, Overlap { clash, pairs })
         },
@@ -72,7 +74,7 @@ pub const SINGLES: [Single; 22] = [
     },
     Single {
         label: "Export, 4,096 values of 12 bits",
-        call: || Call::export(inputs::flips(12), 1, inputs::FLIPS),
+        call: || Call::export(inputs::flips(12, inputs::FLIPS), 1, 9),
     },
     Single {
         label: "Import, 4 pairs, file S",
@@ -103,7 +105,7 @@ pub const SINGLES: [Single; 22] = [
     },
     Single {
         label: "Witness of a gap, 127 clauses, 25 bits in a variable",
-        call: || Call::witness(inputs::gap_behind_variable()),
+        call: || Call::witness(inputs::gap_behind_variable(25, 7)),
     },
     Single {
         label: "Witness of a gap, 1 of 4,294,967,296 settings, 32 clauses",
@@ -115,11 +117,11 @@ pub const SINGLES: [Single; 22] = [
     },
     Single {
         label: "Witness of an overlap, 32 clauses of 127 nodes",
-        call: || Call::witness(inputs::overlap(32)),
+        call: || Call::witness(inputs::overlap(32, 127)),
     },
     Single {
         label: "Witness of an overlap, 128 clauses of 127 nodes",
-        call: || Call::witness(inputs::overlap(128)),
+        call: || Call::witness(inputs::overlap(128, 127)),
     },
 ];
 
