@@ -1,12 +1,13 @@
 //! The two desk programs on files of queries.
 
 use crate::call::{Apart, Implementation, Proved};
+use crate::clock;
 use crate::inputs;
 use crate::measure::Timed;
 use std::fs::{self, File};
 use std::path::{Path, PathBuf};
 use std::process::Command;
-use std::time::{Duration, Instant};
+use std::time::Duration;
 
 /// The programs, and a folder for what they read and write.
 pub struct Desk {
@@ -46,9 +47,9 @@ impl Queries<'_> {
         let mut command = Command::new(self.desk.program(by));
         command.stdin(self.desk.input(self.count));
         command.stdout(File::create(&output).expect("the folder takes a file"));
-        let begin = Instant::now();
+        let begin = clock::of_children();
         let status = command.status().expect("the program is there");
-        let spent = begin.elapsed();
+        let spent = clock::of_children() - begin;
         assert!(status.success(), "{by:?} ends with {status}");
         let answers = fs::read(&output).expect("the answers are there");
         assert!(

@@ -12,25 +12,24 @@ const QUERIES: usize = 100_000;
 const SHEET: usize = rulefile::MAX_QUERIES;
 /// The most visits of a play.
 const VISITS: usize = 4_096;
+/// One above the applications of the towers.
+const TOWERS: usize = 1 << 14;
 /// Instructions of longer runs are not counted.
 const COUNTED: usize = 1 << 16;
 
-/// A row of the first table: what is done, what the cost is given for, and the point that stands for it;
-/// instructions may be counted at a smaller point.
+/// A row of the first table: what is done, what the cost is given for, and the point that stands for it.
 pub struct Row {
     pub label: String,
     pub part: &'static str,
     pub point: Point,
-    pub counted: Point,
 }
 
 impl Row {
-    fn new(label: &str, part: &'static str, series: Series, size: usize, counted: usize) -> Row {
+    fn new(label: &str, part: &'static str, series: Series, size: usize) -> Row {
         Row {
             label: label.to_string(),
             part,
             point: Point::new(series, size),
-            counted: Point::new(series, counted),
         }
     }
 }
@@ -84,8 +83,8 @@ pub fn costliest(many: bool, times: &[Both], counts: &Counts) -> Point {
 /// The points whose instructions are counted, each once. The row of the worst case is one of the candidates.
 pub fn counted(growths: &[Growth]) -> Vec<Point> {
     let mut points = candidates();
-    let rows = rows([points[0]; 2], false);
-    points.extend(rows.iter().map(|row| row.counted));
+    let rows = rows([points[0]; 2]);
+    points.extend(rows.iter().map(|row| row.point));
     points.extend(growths.iter().flat_map(Growth::points));
     let mut once = Vec::new();
     for point in points.into_iter().filter(is_counted) {
@@ -97,20 +96,15 @@ pub fn counted(growths: &[Growth]) -> Vec<Point> {
 }
 
 /// The rows of the first table.
-pub fn rows(worst: [Point; 2], quick: bool) -> Vec<Row> {
-    let call = |label, series, size| Row::new(label, "a call", series, size, size);
-    let (tower, swaps) = if quick {
-        (1 << 16, 1 << 12)
-    } else {
-        (1 << 23, 1 << 18)
-    };
-    let runs = |label, series, size| Row::new(label, "an application", series, size, 1 << 14);
+pub fn rows(worst: [Point; 2]) -> Vec<Row> {
+    let call = |label, series, size| Row::new(label, "a call", series, size);
+    let runs = |label, series| Row::new(label, "an application", series, TOWERS);
     let mut rows = rows_of_checks(worst);
     rows.extend([
         call("Turn, 4,096 lines", Series::Turn, 4_096),
-        runs("Run, tower of isos on one bit", Series::Applications, tower),
+        runs("Run, tower of isos on one bit", Series::Applications),
         call("Run, one swap of a value of 127 letters", Series::Swap, 127),
-        runs("Run, tower of isos on 127 letters", Series::Swaps, swaps),
+        runs("Run, tower of isos on 127 letters", Series::Swaps),
     ]);
     rows.extend(rows_of_queries());
     rows.extend(rows_of_plays());
@@ -120,7 +114,7 @@ pub fn rows(worst: [Point; 2], quick: bool) -> Vec<Row> {
 
 /// The rows of Check; the last two are candidates for the worst case.
 fn rows_of_checks(worst: [Point; 2]) -> Vec<Row> {
-    let call = |label: &str, series, size| Row::new(label, "a call", series, size, size);
+    let call = |label: &str, series, size| Row::new(label, "a call", series, size);
     let pairs = "Check, 256 T and 1,024 P lines of units and pairs";
     let closed = "Check, 29 isos of 128 closed clauses";
     let mut rows = vec![
@@ -138,26 +132,22 @@ fn rows_of_checks(worst: [Point; 2]) -> Vec<Row> {
     rows
 }
 
-/// The rows for many queries of one file. The instructions of runs on a long file are counted at a few.
+/// The rows for many queries of one file. Of the runs on a long file, which are all alike, a few are made.
 fn rows_of_queries() -> [Row; 5] {
-    let row = |label, series, size, counted| Row::new(label, "a query", series, size, counted);
-    let sheet = |label, series, counted| row(label, series, SHEET, counted);
+    let row = |label, series, size| Row::new(label, "a query", series, size);
+    let in_one = "600 queries in one sheet, 4,096 lines";
     [
-        sheet("600 queries in one sheet, file S", Series::Sheet, SHEET),
-        sheet("600 runs of their own, file S", Series::Runs, SHEET),
-        sheet(
-            "600 queries in one sheet, 4,096 lines",
-            Series::LongSheet,
-            SHEET,
-        ),
-        sheet("600 runs of their own, 4,096 lines", Series::LongRuns, 4),
-        row("`rules`, 100,000 queries", Series::Desk, QUERIES, QUERIES),
+        row("600 queries in one sheet, file S", Series::Sheet, SHEET),
+        row("600 runs of their own, file S", Series::Runs, SHEET),
+        row(in_one, Series::LongSheet, SHEET),
+        row("600 runs of their own, 4,096 lines", Series::LongRuns, 4),
+        row("`rules`, 100,000 queries", Series::Desk, QUERIES),
     ]
 }
 
 /// The rows for a play of 1,000 units, and for the same runs in sheets.
 fn rows_of_plays() -> [Row; 4] {
-    let row = |label, series| Row::new(label, "a visit", series, VISITS, VISITS);
+    let row = |label, series| Row::new(label, "a visit", series, VISITS);
     [
         row(
             "1,000 units, 4,096 visits in one play, file S",
@@ -180,7 +170,7 @@ fn rows_of_plays() -> [Row; 4] {
 
 /// The rows of the later services.
 fn rows_of_singles() -> impl Iterator<Item = Row> {
-    let row = |(place, label)| Row::new(label, "a call", Series::Single, place, place);
+    let row = |(place, label)| Row::new(label, "a call", Series::Single, place);
     (1..)
         .zip(SINGLES.iter().map(|single| single.label))
         .map(row)

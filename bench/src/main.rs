@@ -2,6 +2,7 @@
 
 mod answer;
 mod call;
+mod clock;
 mod desk;
 mod draft;
 mod fit;
@@ -139,7 +140,7 @@ fn plans(quick: bool) -> [Plan; 2] {
     };
     match quick {
         true => [plan(2, 1), plan(1, 1)],
-        false => [plan(50, 7), plan(20, 5)],
+        false => [plan(20, 25), plan(10, 9)],
     }
 }
 
@@ -165,7 +166,7 @@ fn bench(desk: &Desk, mode: Mode) -> String {
     };
     let candidate_times = timed(&candidates, short);
     let worst = [false, true].map(|many| list::costliest(many, &candidate_times, &counts));
-    let rows = list::rows(worst, mode.quick);
+    let rows = list::rows(worst);
     let points: Vec<Point> = rows.iter().map(|row| row.point).collect();
     let row_times = timed(&points, long);
     let grow = |growth: &Growth| timed(&growth.points(), short);

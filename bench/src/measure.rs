@@ -1,9 +1,10 @@
-//! Times: the median of rounds. The rounds of a group take turns, and so do the two implementations, so that
+//! Times: the best of many rounds. The rounds of a group take turns, and so do the two implementations, so that
 //! what slows the machine for a while hits all alike.
 
 use crate::call::{Apart, Areas, Call, Implementation, Proved};
+use crate::clock;
 use std::hint::black_box;
-use std::time::{Duration, Instant};
+use std::time::Duration;
 
 /// How long a round takes at least, and how many rounds there are.
 #[derive(Clone, Copy)]
@@ -56,11 +57,11 @@ impl Timed for Lent {
     /// In areas as no call leaves them.
     fn time(&mut self, by: Implementation, count: u32) -> Duration {
         self.areas.soil();
-        let begin = Instant::now();
+        let begin = clock::own();
         for _ in 0..count {
             black_box(&self.call).make(by, black_box(&mut self.areas));
         }
-        begin.elapsed()
+        clock::own() - begin
     }
 }
 
@@ -78,17 +79,17 @@ pub fn times(group: &mut [Box<dyn Timed + '_>], plan: Plan) -> Vec<Both> {
         }
     }
     let both = |[proved, apart]: [Clock; 2]| Both {
-        proved: proved.median(),
-        apart: apart.median(),
+        proved: proved.best,
+        apart: apart.best,
     };
     clocks.into_iter().map(both).collect()
 }
 
-/// How often something is done in a round, and nanoseconds each time, round by round.
+/// How often something is done in a round, and nanoseconds each time in the best round.
 struct Clock {
     by: Implementation,
     count: u32,
-    rounds: Vec<f64>,
+    best: f64,
 }
 
 impl Clock {
@@ -99,8 +100,8 @@ impl Clock {
             let spent = timed.time(by, count).as_secs_f64();
             let missing = round.as_secs_f64() / spent.max(1e-9);
             if missing <= 1.0 {
-                let rounds = Vec::new();
-                return Clock { by, count, rounds };
+                let best = f64::INFINITY;
+                return Clock { by, count, best };
             }
             count = (f64::from(count) * (missing * 1.1).clamp(1.5, 100.0)).ceil() as u32;
         }
@@ -108,12 +109,35 @@ impl Clock {
 
     fn round(&mut self, timed: &mut dyn Timed) {
         let spent = timed.time(self.by, self.count).as_nanos();
-        self.rounds.push(spent as f64 / f64::from(self.count));
+        self.best = self.best.min(spent as f64 / f64::from(self.count));
+    }
+}
+
+#[cfg(test)]
+mod tests {
+    use super::*;
+
+    /// Takes a millisecond each time, and in its second round three.
+    struct Slowed {
+        rounds: u32,
     }
 
-    fn median(mut self) -> f64 {
-        self.rounds.sort_by(f64::total_cmp);
-        let count = self.rounds.len();
-        (self.rounds[(count - 1) / 2] + self.rounds[count / 2]) / 2.0
+    impl Timed for Slowed {
+        fn time(&mut self, _: Implementation, count: u32) -> Duration {
+            self.rounds += 1;
+            Duration::from_millis(if self.rounds == 2 { 3 } else { 1 }) * count
+        }
+    }
+
+    #[test]
+    fn a_round_that_was_slowed_does_not_count() {
+        let mut slowed = Slowed { rounds: 0 };
+        // the round that finds the count takes as long as is asked for
+        let mut clock = Clock::new(Proved, &mut slowed, Duration::from_millis(1));
+        clock.round(&mut slowed);
+        assert_eq!(clock.best, 3e6);
+        clock.round(&mut slowed);
+        clock.round(&mut slowed);
+        assert_eq!(clock.best, 1e6);
     }
 }

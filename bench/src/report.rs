@@ -38,8 +38,8 @@ pub fn side_by_side(rows: &[Row], times: &[Both], counts: &Counts) {
         if let Some(both) = times.get(place) {
             cells.extend(compared(each(row.point, both), time));
         }
-        if let Some(both) = counts.get(&row.counted) {
-            cells.extend(compared(each(row.counted, both), whole));
+        if let Some(both) = counts.get(&row.point) {
+            cells.extend(compared(each(row.point, both), whole));
         }
         table.row(cells);
     }
