@@ -41,7 +41,7 @@ fn most_clauses(file: &[u8]) -> usize {
 /// All have as many isos as the lines allow, up to 32. In a late clash, the clauses of an iso differ only in the last
 /// nodes of patterns that fill a type of 127 nodes. The let steps, as many as there is room for, have patterns of 127
 /// nodes. Where no number of clauses is named, an iso has 32; where no shape is named, trees are deep to the left.
-pub const CANDIDATES: [Candidate; 28] = [
+pub const CANDIDATES: [Candidate; 31] = [
     Candidate {
         label: "late clash, even trees",
         call: || {
@@ -219,6 +219,36 @@ pub const CANDIDATES: [Candidate; 28] = [
                 bits: 7,
                 variables: 32,
                 ..AROUND
+            }))
+        },
+    },
+    Candidate {
+        label: "let steps over 132 trees around a variable, a T line for each iso",
+        call: || {
+            Call::check(crossed(Crossed {
+                types: 12,
+                variables: 1,
+                free: 12,
+            }))
+        },
+    },
+    Candidate {
+        label: "let steps over 420 trees around a variable, a T line for each iso",
+        call: || {
+            Call::check(crossed(Crossed {
+                types: 11,
+                variables: 1,
+                free: 21,
+            }))
+        },
+    },
+    Candidate {
+        label: "let steps over 132 trees around 17 variables, a T line for each iso",
+        call: || {
+            Call::check(crossed(Crossed {
+                types: 12,
+                variables: 17,
+                free: 12,
             }))
         },
     },
@@ -408,10 +438,14 @@ fn front_nodes(bits: usize) -> usize {
 
 /// The types of the tree and of the bits.
 fn front_and_bits(draft: &mut Draft, bits: usize, shape: Shape) -> (usize, usize) {
+    let back = bit_types(draft, bits);
+    (shape.of_types(draft, front_nodes(bits)), back)
+}
+
+fn bit_types(draft: &mut Draft, bits: usize) -> usize {
     let unit = draft.type_of(0, 0, 0);
     let bit = draft.type_of(SUM, unit, unit);
-    let back = (1..bits).fold(bit, |back, _| draft.type_of(PRODUCT, bit, back));
-    (shape.of_types(draft, front_nodes(bits)), back)
+    (1..bits).fold(bit, |back, _| draft.type_of(PRODUCT, bit, back))
 }
 
 /// The 2^bits closed patterns of the bits.
@@ -562,6 +596,122 @@ fn tree_around(draft: &mut Draft, variables: usize, nodes: usize) -> usize {
         };
         draft.pattern(PAIR, tree, leaf)
     })
+}
+
+/// Trees of 127 nodes around variables, with two variables more at the top; each two of the free variables make a
+/// tree. No two T lines are equal trees, and nearly no tree comes back on a T line.
+#[derive(Clone, Copy)]
+struct Crossed {
+    /// T lines of 127 nodes, each with an iso of its own and one more whose let steps call it.
+    types: usize,
+    /// Variables within the tree.
+    variables: usize,
+    /// Variables that take the two at the top by turns.
+    free: usize,
+}
+
+const BITS: usize = 5;
+
+fn crossed(plan: Crossed) -> Vec<u8> {
+    let mut draft = Draft::default();
+    let back = bit_types(&mut draft, BITS);
+    let chain = Shape::Leftward.of_types(&mut draft, NODES - 10);
+    let unit = draft.type_of(0, 0, 0);
+    let most = draft.type_of(PRODUCT, chain, unit);
+    let within = Shape::Leftward.of_types(&mut draft, 2 * plan.variables + 1);
+    let types: Vec<(usize, usize)> = (0..plan.types)
+        .map(|number| {
+            let ty = small_type(&mut draft, number);
+            let whole = draft.type_of(PRODUCT, most, ty);
+            let rest = draft.type_of(PRODUCT, ty, within);
+            (whole, draft.type_of(PRODUCT, back, rest))
+        })
+        .collect();
+    let trees = Trees::new(&mut draft, plan);
+    let bits = bit_patterns(&mut draft, BITS);
+    let sides: Vec<usize> = bits
+        .iter()
+        .map(|bits| draft.pattern(PAIR, *bits, trees.rest))
+        .collect();
+    for (whole, _) in &types {
+        draft.iso(*whole, *whole);
+        draft.clause(trees.first, trees.first);
+    }
+    let mut turn = 0;
+    for (iso, (_, all)) in types.iter().enumerate() {
+        draft.iso(*all, *all);
+        for side in &sides {
+            draft.clause(*side, *side);
+            trees.steps(&mut draft, iso, &mut turn);
+        }
+    }
+    draft.into_bytes()
+}
+
+/// One of sixteen types of seven nodes, each another tree.
+fn small_type(draft: &mut Draft, number: usize) -> usize {
+    let unit = draft.type_of(0, 0, 0);
+    (0..3).fold(unit, |ty, place| {
+        let kind = if number >> place & 1 == 0 {
+            SUM
+        } else {
+            PRODUCT
+        };
+        match number < 8 {
+            true => draft.type_of(kind, ty, unit),
+            false => draft.type_of(kind, unit, ty),
+        }
+    })
+}
+
+/// The trees of a crossed file, and the variables of a side.
+struct Trees {
+    first: usize,
+    others: Vec<usize>,
+    rest: usize,
+}
+
+impl Trees {
+    fn new(draft: &mut Draft, plan: Crossed) -> Self {
+        let chain = tree_around(draft, plan.variables, NODES - 10);
+        let mut tree = |one: usize, two: usize| {
+            let [one, two] = [one, two].map(|number| draft.pattern(VARIABLE, number, 0));
+            let most = draft.pattern(PAIR, chain, one);
+            draft.pattern(PAIR, most, two)
+        };
+        let own = plan.variables;
+        let first = tree(own, own + 1);
+        let free = own + 2..own + 2 + plan.free;
+        let mut others = Vec::new();
+        for one in free.clone() {
+            others.extend(
+                free.clone()
+                    .filter(|two| *two != one)
+                    .map(|two| tree(one, two)),
+            );
+        }
+        let within = tree_around(draft, own + 1, 2 * own + 1);
+        let last = draft.pattern(VARIABLE, own + 1, 0);
+        let rest = draft.pattern(PAIR, last, within);
+        Trees {
+            first,
+            others,
+            rest,
+        }
+    }
+
+    /// Eight let steps, from the first tree through seven others back to it.
+    fn steps(&self, draft: &mut Draft, iso: usize, turn: &mut usize) {
+        let mut here = self.first;
+        for _ in 0..7 {
+            // 31 has no common divisor with the number of trees
+            let next = self.others[*turn * 31 % self.others.len()];
+            *turn += 1;
+            draft.step(next, iso, here);
+            here = next;
+        }
+        draft.step(self.first, iso, here);
+    }
 }
 
 /// Eight let steps, which send the first of two patterns to the second, and the second to the first.

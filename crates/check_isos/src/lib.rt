@@ -397,7 +397,7 @@ fn walk_with(
 {
     find_facts(t, f, base);
     find_bares(t, g, base);
-    if any_large(t, base, stop) {
+    if any_large(t, g, base, stop) {
         return walk_known(t, f, g, base, starts, stop, lines, isos);
     }
     walk_small(t, f, g, base, starts, stop, lines, isos)

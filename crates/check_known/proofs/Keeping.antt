@@ -16,10 +16,10 @@ use Rattle.calculus.specs.Tools.{_>>=_, guard}
 use Rattle.calculus.specs.Trees.{Ty, Pat, sameType}
 use Rattle.calculus.specs.Slots.{Slots}
 use Rattle.calculus.proofs.Basic.{some-bind, sameType-refl, bind-some, none≢some, some-inj, le-or-lt}
-use Rattle.table_trees.specs.Unfolding.{typeOf, patternOf}
+use Rattle.table_trees.specs.Unfolding.{cellOf, typeOf, patternOf}
 use Rattle.check_typing.specs.declared.Env.{Env}
 use Rattle.check_typing.specs.Fitting.{fitting, fitAll, entryView, viewIf, envView, freshEnv}
-use Rattle.check_known.specs.Known.{found, meet, zipAll, meetAll, meeting, Entries, NextEntry, MetEntry, Kept, lineAt, ownAt, Known, Place, Went, Entered, Stored}
+use Rattle.check_known.specs.Known.{found, meet, zipAll, meetAll, meeting, Entries, NextEntry, Skipped, MetEntry, Kept, lineAt, ownAt, Known, Slot, Place, Full, Went, Entered, Stored}
 use Rattle.check_known.proofs.Meets.{fitting-meets, meet-fresh}
 
 -- ---- slots
@@ -35,6 +35,26 @@ place-free k p a s w e z = record { within = omega arith; slot = s; begins = ref
 
 pub place-own : (k : List ℕ) (p a s : ℕ) → s * 36 + 36 ≤ length k → (lineAt k (s * 36) ≡ p) × (ownAt k (s * 36) ≡ a) → Place k p a (s * 36)
 place-own k p a s w h = record { within = omega arith; slot = s; begins = refl; line = λ n. h .0; own = λ n. h .1 }
+
+pub slot-there : {k : List ℕ} {p a at : ℕ} → Place k p a at → Slot k at
+slot-there w = record { within = w .within; slot = w .slot; begins = w .begins }
+
+pub slot-stays : {k k′ : List ℕ} {at : ℕ} → length k′ ≡ length k → Slot k at → Slot k′ at
+slot-stays {at = at} e w = record { within = subst (λ n. at + 35 < n) (sym e) (w .within); slot = w .slot; begins = w .begins }
+
+pub place-full : {k : List ℕ} {p a at h : ℕ} → Place k p a at → h ≡ getD k (at + 33) 0 → 0 < h → h < 4 → Full k p a at
+place-full w e l m = record { place = w; some = subst (λ n. 0 < n) e l; few = subst (λ n. n < 4) e m }
+
+pub last-how : (h : ℕ) → 0 < h → h < 4 → (h ≡ 1 → ⊥) → (h ≡ 2 → ⊥) → h ≡ 3
+last-how zero l m n o = absurd (omega arith)
+last-how (suc zero) l m n o = absurd (n refl)
+last-how (suc (suc zero)) l m n o = absurd (o refl)
+last-how (suc (suc (suc h))) l m n o = omega arith
+
+-- a pair and a product
+pub both-parted : (t : List ℕ) (base p a : ℕ) {d x y : ℕ} → 0 < d → x ≡ cellOf t (base + p) 1 → x ≡ 4 → y ≡ cellOf t a 1 → eqb y 2 ≡ true
+    → (cellOf t (base + p) 1 ≡ 4) × (cellOf t a 1 ≡ 2) × (0 < d)
+both-parted t base p a {y = y} l e h f q = (sym e ∙ h, sym f ∙ eqb-true y 2 q, l)
 
 pub no-place : {A : Type 0} (n : ℕ) → n < n → A
 no-place n h = absurd (omega arith)
@@ -76,24 +96,42 @@ module _ (t : List ℕ) {b : Bool} (n x : ℕ) (h : 0 < x) (l : x < 256) where
 
 -- ---- the next entry
 
-pub record Scanned (k : List ℕ) (at from i : ℕ) : Type 0 where
-  pub onward : from ≤ i
-  pub empty : (j : ℕ) → from ≤ j → j < i → getD k (at + j) 0 ≡ 0
-
-pub scan-start : (k : List ℕ) (at from : ℕ) → Scanned k at from from
+pub scan-start : (k : List ℕ) (at from : ℕ) → Skipped k at from from
 scan-start k at from = record { onward = omega arith; empty = λ j h l. absurd (omega arith) }
 
-pub scan-step : (k : List ℕ) (at from i : ℕ) {v : ℕ} → Scanned k at from i → v ≡ getD k (at + i) 0 → v ≤ 0 → Scanned k at from (i + 1)
+pub scan-step : (k : List ℕ) (at from i : ℕ) {v : ℕ} → Skipped k at from i → v ≡ getD k (at + i) 0 → v ≤ 0 → Skipped k at from (i + 1)
 scan-step k at from i {v} s e z = record { onward = omega (arith, s .onward); empty = λ j h l. go j h (eq-or-lt-of-le l) }
   where
     go : (j : ℕ) → from ≤ j → (suc j ≡ i + 1) ⊎ (suc j < i + 1) → getD k (at + j) 0 ≡ 0
     go j h (inl q) = let same : j ≡ i = omega arith in ap (λ n. getD k (at + n) 0) same ∙ sym e ∙ omega arith
     go j h (inr q) = s .empty j h (omega arith)
 
-pub scan-found : (k : List ℕ) (at from i : ℕ) {v : ℕ} → Scanned k at from i → v ≡ getD k (at + i) 0 → 0 < v → NextEntry k at from i
+-- four numbers that add up to nothing
+pub four-none : (k : List ℕ) (at : ℕ) {w x y z : ℕ} → w ≡ getD k at 0 → x ≡ getD k (at + 1) 0 → y ≡ getD k (at + 2) 0 → z ≡ getD k (at + 3) 0 → eqb (w + x + (y + z)) 0 ≡ true
+    → (j : ℕ) → j < 4 → getD k (at + j) 0 ≡ 0
+four-none k at {w} {x} {y} {z} a b c d e = go
+  where
+    none : w + x + (y + z) ≡ 0
+    none = eqb-true (w + x + (y + z)) 0 e
+
+    go : (j : ℕ) → j < 4 → getD k (at + j) 0 ≡ 0
+    go zero h = let same : at + 0 ≡ at = omega arith in ap (λ n. getD k n 0) same ∙ sym a ∙ omega (arith, none)
+    go (suc zero) h = sym b ∙ omega (arith, none)
+    go (suc (suc zero)) h = sym c ∙ omega (arith, none)
+    go (suc (suc (suc zero))) h = sym d ∙ omega (arith, none)
+    go (suc (suc (suc (suc j)))) h = absurd (omega arith)
+
+pub scan-four : (k : List ℕ) (at from i : ℕ) → Skipped k at from i → ((j : ℕ) → j < 4 → getD k (at + i + j) 0 ≡ 0) → Skipped k at from (i + 4)
+scan-four k at from i s f = record { onward = omega (arith, s .onward); empty = λ j h l. go j h l (le-or-lt i j) }
+  where
+    go : (j : ℕ) → from ≤ j → j < i + 4 → (i ≤ j) ⊎ (j < i) → getD k (at + j) 0 ≡ 0
+    go j h l (inr q) = s .empty j h q
+    go j h l (inl q) = let same : at + j ≡ at + i + (j - i) = omega arith in ap (λ n. getD k n 0) same ∙ f (j - i) (omega arith)
+
+pub scan-found : (k : List ℕ) (at from i : ℕ) {v : ℕ} → Skipped k at from i → v ≡ getD k (at + i) 0 → 0 < v → NextEntry k at from i
 scan-found k at from i s e p = record { onward = s .onward; empty = s .empty; full = λ l. subst (λ n. 0 < n) e p }
 
-pub scan-end : (k : List ℕ) (at from i : ℕ) → Scanned k at from i → 32 ≤ i → NextEntry k at from i
+pub scan-end : (k : List ℕ) (at from i : ℕ) → Skipped k at from i → 32 ≤ i → NextEntry k at from i
 scan-end k at from i s p = record { onward = s .onward; empty = s .empty; full = λ l. absurd (omega arith) }
 
 -- ---- all entries
@@ -391,7 +429,7 @@ empty-view t line w h =
     long : length (map (entryView t) line) ≡ 32
     long = length-map line (entryView t) ∙ w
 
-module _ (t k k′ : List ℕ) (base p a at : ℕ) (e f : Env) {h : ℕ} (wide : length (e .line) ≡ 32) (known : Known t base k) (place : Place k p a at) (s : Stored k′ k at (e .line) p a h) (w : Went e h)
+module _ (t k k′ : List ℕ) (base p a at : ℕ) (e f : Env) {h : ℕ} (wide : length (e .line) ≡ 32) (known : Known t base k) (place : Slot k at) (s : Stored k′ k at (e .line) p a h) (w : Went e h)
     (z : f ≡ freshEnv) (q : envView t e ≡ fitAll true (patternOf t base p) (typeOf t a) (envView t f)) where
   fit-found : found (patternOf t base p) (typeOf t a) ≡ envView t e
   fit-found = found-is t (patternOf t base p) (typeOf t a) e f z q

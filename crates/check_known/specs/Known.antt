@@ -1,7 +1,7 @@
 -- The fit of a P line to a T line, found once with no variable live, and what it tells of the same fit wherever others are live.
 use Prim.Native.Nat.{ℕ, zero, suc, _+_, _-_, _*_, _<_, _≤_}
 use mathlib.Core.Path.{_≡_}
-use mathlib.Core.Bool.{Bool, true, false, cond, _||_}
+use mathlib.Core.Bool.{Bool, true, false, cond, _&&_, _||_}
 use mathlib.Core.Option.{Option, none, some}
 use mathlib.Core.List.{List, [], _∷_}
 use lib.Dec.{leb, eqb}
@@ -45,6 +45,11 @@ pub record Entries (t k : List ℕ) (at : ℕ) (w : Slots Ty) : Type 0 where
   pub long : length w ≡ variables
   pub each : (i : ℕ) → i < variables → getD w i none ≡ entryView t (getD k (at + i) 0)
 
+-- no entry from number `from` on and before i that is not 0
+pub record Skipped (k : List ℕ) (at from i : ℕ) : Type 0 where
+  pub onward : from ≤ i
+  pub empty : (j : ℕ) → from ≤ j → j < i → getD k (at + j) 0 ≡ 0
+
 -- the first entry from number `from` on that is not 0
 pub record NextEntry (k : List ℕ) (at from r : ℕ) : Type 0 where
   pub onward : from ≤ r
@@ -75,6 +80,12 @@ ownAt k at = getD k (at + 32) 0
 pub record Known (t : List ℕ) (base : ℕ) (k : List ℕ) : Type 0 where
   pub kept : (s : ℕ) → s * 36 + 35 < length k → Kept t k (s * 36) (found (patternOf t base (lineAt k (s * 36))) (typeOf t (ownAt k (s * 36))))
 
+-- a place at which a slot begins
+pub record Slot (k : List ℕ) (at : ℕ) : Type 0 where
+  pub within : at + 35 < length k
+  pub slot : ℕ
+  pub begins : at ≡ slot * 36
+
 -- a place for P line p on T line a: it is kept there, or nothing is
 pub record Place (k : List ℕ) (p a at : ℕ) : Type 0 where
   pub within : at + 35 < length k
@@ -82,6 +93,12 @@ pub record Place (k : List ℕ) (p a at : ℕ) : Type 0 where
   pub begins : at ≡ slot * 36
   pub line : (getD k (at + 33) 0 ≡ 0 → ⊥) → lineAt k at ≡ p
   pub own : (getD k (at + 33) 0 ≡ 0 → ⊥) → ownAt k at ≡ a
+
+-- a place at which it is kept
+pub record Full (k : List ℕ) (p a at : ℕ) : Type 0 where
+  pub place : Place k p a at
+  pub some : 0 < getD k (at + 33) 0
+  pub few : getD k (at + 33) 0 < 4
 
 -- how a fit went, as a number: 4 where an entry has no room in a byte
 pub record Went (e : E.Env) (h : ℕ) : Type 0 where
@@ -109,15 +126,19 @@ pub record Stored (k′ k : List ℕ) (at : ℕ) (line : List ℕ) (p a h : ℕ)
 
 -- ---- which rows are looked at; nothing but time rests on it
 
--- whether one of n rows, from a row on, has a size of 16 nodes or more
-abbrev pub anyLarge : List ℕ → ℕ → ℕ → Bool
-anyLarge t from zero = false
-anyLarge t from (suc n) = leb 16 (cellOf t from 4) || anyLarge t (suc from) n
+-- whether row n has a size of 16 nodes or more and no mark
+abbrev pub largeRow : List ℕ → List ℕ → ℕ → Bool
+largeRow t g n = leb 16 (cellOf t n 4) && eqb (getD g n 0) 0
+
+-- whether one of n rows, from a row on, does
+abbrev pub anyLarge : List ℕ → List ℕ → ℕ → ℕ → Bool
+anyLarge t g from zero = false
+anyLarge t g from (suc n) = largeRow t g from || anyLarge t g (suc from) n
 
 -- the I row at or above row n, where `head` is the one above it
 abbrev pub headAt : List ℕ → ℕ → ℕ → ℕ
 headAt t n head = cond (eqb (cellOf t n 0) 73) n head
 
 -- what is left of the rows decides
-pub record LargeLeft (t : List ℕ) (from to n : ℕ) : Type 0 where
-  pub same : anyLarge t from (to - from) ≡ anyLarge t n (to - n)
+pub record LargeLeft (t g : List ℕ) (from to n : ℕ) : Type 0 where
+  pub same : anyLarge t g from (to - from) ≡ anyLarge t g n (to - n)

@@ -2,23 +2,34 @@
 // has an entry for each of the 32 variables, the T line, how the fit went, and the P line in two bytes.
 
 use area_words::wide;
+use area_words::word_at;
+use check_bare::is_bare;
 use check_facts::number;
 use check_shapes::same_type;
 use check_typing::Env;
 use check_typing::fit;
+use check_typing::later;
 use check_typing::no_types;
+use check_typing::sooner;
 use codes::CLAUSE_LEFT;
 use codes::CLAUSE_LINE;
 use codes::CLAUSE_RIGHT;
+use codes::FIRST;
 use codes::ISO_FROM;
 use codes::ISO_LINE;
 use codes::ISO_TO;
+use codes::KIND;
 use codes::LET_ISO;
 use codes::LET_P;
 use codes::LET_Q;
+use codes::PAIR;
+use codes::PRODUCT;
 use codes::ROW_LETTER;
+use codes::SECOND;
 use codes::SIZE;
 use limits::VARIABLES;
+use table_parts::pattern_part;
+use table_parts::type_part;
 use table_trees::cell;
 use table_trees::pattern_cell;
 ghost use mathlib.Core.Path.{_≡_};
@@ -31,9 +42,9 @@ ghost use Rattle.limits.specs.Limits.{variables};
 ghost use Rattle.calculus.specs.Trees.{Ty};
 ghost use Rattle.calculus.specs.Slots.{Slots};
 ghost use Rattle.check_bare.specs.Bare.{Bares};
-ghost use Rattle.table_trees.specs.Unfolding.{typeOf, patternOf};
+ghost use Rattle.table_trees.specs.Unfolding.{cellOf, typeOf, patternOf};
 ghost use Rattle.check_typing.specs.Fitting.{envView, fitAll};
-ghost use Rattle.check_known.specs.Known.{meeting, MetEntry, NextEntry, Entries, Kept, lineAt, ownAt, Known, Place, Went, Entered, Stored, anyLarge, headAt};
+ghost use Rattle.check_known.specs.Known.{meeting, MetEntry, NextEntry, Skipped, Entries, lineAt, ownAt, Known, Slot, Place, Full, Went, Entered, Stored, largeRow, anyLarge, headAt};
 
 // What stands behind the entries of a slot.
 const OWN: usize = 32;
@@ -51,8 +62,11 @@ const SLOTS: usize = 1024;
 // The bytes of all slots.
 pub const KNOWN: usize = WIDTH * SLOTS;
 
-// As many slots are tried for a P line, from its own on.
-const TRIES: usize = 32;
+// As many slots are tried, from the first one of a P line and a T line on.
+const TRIES: usize = 4;
+
+// As far below a line that is not kept its parts are kept and looked up.
+const DEPTH: usize = 3;
 
 // How a fit went.
 const CLOSED: usize = 1;
@@ -92,7 +106,7 @@ fn is_slot_of(k: &[u8], at: usize, p: usize, a: usize) -> bool
 fn slot_of(k: &[u8], p: usize, a: usize) -> usize
     ensures { λ r. ⌜ (r < length (now (k .entry)) → Place (now (k .entry)) p a r) ⌝ }
 {
-    let first = p % SLOTS;
+    let first = (p % SLOTS) * 633 + (a % SLOTS) * 67;
     let mut i: usize = 0;
     while i < TRIES {
         let at = ((first + i) % SLOTS) * WIDTH;
@@ -135,12 +149,43 @@ fn meet_entry(t: &[u16], known: usize, x: usize, binds: bool) -> usize
     MISFIT
 }
 
+// Whether four entries from place `at` on are empty.
+fn four_empty(k: &[u8], at: usize) -> bool
+    requires { ⌜ at + 3 < length (now k) ⌝ }
+    ensures { λ r. ⌜ (r ≡ true → (j : ℕ) → j < 4 → getD (now (k .entry)) (at + j) 0 ≡ 0) ⌝ }
+{
+    let first = number(k[at]) + number(k[at + 1]);
+    let last = number(k[at + 2]) + number(k[at + 3]);
+    first + last == 0
+}
+
+// The number of a variable from `from` on, before which the entries from place `at` on have no types.
+fn skip_empty(k: &[u8], at: usize, from: usize) -> usize
+    requires { ⌜ at + 35 < length (now k) ⌝ }
+    ensures { λ r. ⌜ Skipped (now (k .entry)) at from r ⌝ }
+{
+    let mut i = from;
+    while i < VARIABLES - 3 {
+        if four_empty(k, at + i) {
+            i += 4;
+        } else {
+            return i;
+        }
+    }
+    i
+}
+
 // The number of the first variable from `from` on that the entries from place `at` on have a type for, at least 32 where there is none.
 fn next_entry(k: &[u8], at: usize, from: usize) -> usize
     requires { ⌜ at + 35 < length (now k) ⌝ }
     ensures { λ r. ⌜ NextEntry (now (k .entry)) at from r ⌝ }
 {
-    let mut i = from;
+    if from < VARIABLES {
+        if 0 < number(k[at + from]) {
+            return from;
+        }
+    }
+    let mut i = skip_empty(k, at, from);
     while i < VARIABLES {
         if 0 < number(k[at + i]) {
             return i;
@@ -197,7 +242,150 @@ fn meet_kept(t: &[u16], k: &[u8], at: usize, binds: bool, e: Env) -> Env
     e
 }
 
-// What `fit` gives: by the fit that is kept, or walked where none is.
+// The same by a kept fit of P line p to T line a: closed, with types, or failed.
+fn fit_kept(
+    t: &[u16],
+    k: &[u8],
+    base: usize,
+    p: usize,
+    a: usize,
+    at: usize,
+    binds: bool,
+    e: Env,
+) -> Env
+    requires { ⌜ Known (now t) base (now k) × Full (now k) p a at ⌝ }
+    ensures { λ r. ⌜
+        envView (now (t .entry)) r ≡ fitAll binds (patternOf (now (t .entry)) base p)
+        (typeOf (now (t .entry)) a) (envView (now (t .entry)) e)
+        ⌝ }
+{
+    let how = number(k[at + HOW]);
+    if how == CLOSED {
+        return e;
+    }
+    if how == TYPES {
+        return meet_kept(t, k, at, binds, e);
+    }
+    misfit(e)
+}
+
+// ---- which fits are looked up
+
+// Whether P line p has a mark: it holds only units and pairs, and its mark tells its fit.
+fn has_mark(g: &[u16], base: usize, p: usize) -> bool {
+    if base <= g.len() {
+        if p < g.len() - base {
+            return 0 < wide(g[base + p]);
+        }
+    }
+    false
+}
+
+// Whether P line p is large and without a mark, and both lines have numbers that a slot has room for.
+fn is_large(t: &[u16], g: &[u16], base: usize, p: usize, a: usize) -> bool
+    ensures { λ r. ⌜ (r ≡ true → (p < 65536) × (a < 256)) ⌝ }
+{
+    if pattern_cell(t, base, p, SIZE) < LARGE {
+        return false;
+    }
+    if has_mark(g, base, p) {
+        return false;
+    }
+    if p < 65536 {
+        return a < 256;
+    }
+    false
+}
+
+// Whether the parts of P line p and T line a, a pair and a product, are looked up: both lines are large, and parts are left to go down to.
+fn is_parted(t: &[u16], g: &[u16], base: usize, p: usize, a: usize, depth: usize) -> bool
+    ensures { λ r. ⌜ (r ≡ true → (cellOf (now (t .entry)) (base + p) 1 ≡ 4) × (cellOf (now (t .entry)) a 1 ≡ 2) × (0 < depth)) ⌝ }
+{
+    if 0 < depth {
+        if is_large(t, g, base, p, a) {
+            if pattern_cell(t, base, p, KIND) == PAIR {
+                return cell(t, a, KIND) == PRODUCT;
+            }
+        }
+    }
+    false
+}
+
+// The place at which the fit of P line p to T line a is kept; the end where it is not.
+fn kept_at(t: &[u16], g: &[u16], k: &[u8], base: usize, p: usize, a: usize) -> usize
+    ensures { λ r. ⌜ (r < length (now (k .entry)) → Full (now (k .entry)) p a r) ⌝ }
+{
+    if is_large(t, g, base, p, a) {
+        let at = slot_of(k, p, a);
+        if at < k.len() {
+            let how = number(k[at + HOW]);
+            if 0 < how {
+                if how < NO_ROOM {
+                    return at;
+                }
+            }
+        }
+    }
+    k.len()
+}
+
+// What `fit` gives: by the fit that is kept, or part by part where none is.
+fn fit_deep(
+    t: &[u16],
+    g: &[u16],
+    k: &[u8],
+    base: usize,
+    p: usize,
+    a: usize,
+    binds: bool,
+    depth: usize,
+    e: Env,
+) -> Env
+    requires { ⌜ Bares (now t) base (now g) × Known (now t) base (now k) ⌝ }
+    ensures { λ r. ⌜
+        envView (now (t .entry)) r ≡ fitAll binds (patternOf (now (t .entry)) base p)
+        (typeOf (now (t .entry)) a) (envView (now (t .entry)) e)
+        ⌝ }
+{
+    let at = kept_at(t, g, k, base, p, a);
+    if at < k.len() {
+        return fit_kept(t, k, base, p, a, at, binds, e);
+    }
+    fit_apart(t, g, k, base, p, a, binds, depth, e)
+}
+
+// The same by the fits of the parts, down to some depth; walked below it, and where there are none.
+fn fit_apart(
+    t: &[u16],
+    g: &[u16],
+    k: &[u8],
+    base: usize,
+    p: usize,
+    a: usize,
+    binds: bool,
+    depth: usize,
+    e: Env,
+) -> Env
+    requires { ⌜ Bares (now t) base (now g) × Known (now t) base (now k) ⌝ }
+    ensures { λ r. ⌜
+        envView (now (t .entry)) r ≡ fitAll binds (patternOf (now (t .entry)) base p)
+        (typeOf (now (t .entry)) a) (envView (now (t .entry)) e)
+        ⌝ }
+{
+    if is_parted(t, g, base, p, a, depth) {
+        let i = sooner(binds);
+        let q = pattern_part(t, base, p, i);
+        let b = type_part(t, a, i);
+        let one = fit_deep(t, g, k, base, q, b, binds, depth - 1, e);
+        let j = later(binds);
+        let s = pattern_part(t, base, p, j);
+        let c = type_part(t, a, j);
+        return fit_deep(t, g, k, base, s, c, binds, depth - 1, one);
+    }
+    fit(t, g, base, p, a, binds, e)
+}
+
+// The same from the line itself on, which is mostly kept.
 pub fn fit_known(
     t: &[u16],
     g: &[u16],
@@ -214,20 +402,26 @@ pub fn fit_known(
         (typeOf (now (t .entry)) a) (envView (now (t .entry)) e)
         ⌝ }
 {
+    if pattern_cell(t, base, p, SIZE) < LARGE {
+        return fit(t, g, base, p, a, binds, e);
+    }
+    if is_bare(g, base, p, a) {
+        return e;
+    }
     let at = slot_of(k, p, a);
     if at < k.len() {
         let how = number(k[at + HOW]);
-        if how == CLOSED {
-            return e;
-        }
         if how == TYPES {
             return meet_kept(t, k, at, binds, e);
+        }
+        if how == CLOSED {
+            return e;
         }
         if how == FAILS {
             return misfit(e);
         }
     }
-    fit(t, g, base, p, a, binds, e)
+    fit_apart(t, g, k, base, p, a, binds, DEPTH, e)
 }
 
 // ---- a fit kept
@@ -300,39 +494,72 @@ fn store(k: &mut [u8], at: usize, p: usize, a: usize, how: usize, e: Env)
 
 // The fit of P line p to T line a found and kept in the slot at place `at`.
 fn keep_fit(t: &[u16], g: &[u16], k: &mut [u8], base: usize, p: usize, a: usize, at: usize)
-    requires { ⌜ Bares (now t) base (now g) × Known (now t) base (now k) × Place (now k) p a at × (p < 65536) × (a < 256) ⌝ }
+    requires { ⌜ Bares (now t) base (now g) × Known (now t) base (now k) × Slot (now k) at × (p < 65536) × (a < 256) ⌝ }
     ensures { λ r. ⌜ (length (now (k .exit)) ≡ length (now (k .entry))) × Known (now (t .entry)) base (now (k .exit)) ⌝ }
 {
-    let e = fit(t, g, base, p, a, true, no_types());
+    let e = fit_known(t, g, k, base, p, a, true, no_types());
     let how = how_of(e);
     if how < NO_ROOM {
         store(k, at, p, a, how, e);
     }
 }
 
-// Whether P line p is large, and both lines have numbers that a slot has room for.
-fn is_large(t: &[u16], base: usize, p: usize, a: usize) -> bool
-    ensures { λ r. ⌜ (r ≡ true → (p < 65536) × (a < 256)) ⌝ }
+// Whether nothing is kept at a place.
+fn is_free(k: &[u8], at: usize) -> bool
+    requires { ⌜ (at < length (now k) → at + 35 < length (now k)) ⌝ }
+    ensures { λ r. ⌜ (r ≡ true → at < length (now (k .entry))) ⌝ }
 {
-    if LARGE <= pattern_cell(t, base, p, SIZE) {
-        if p < 65536 {
-            return a < 256;
-        }
+    if at < k.len() {
+        return number(k[at + HOW]) == 0;
     }
     false
 }
 
-// The fit of P line p to T line a kept, where the line is large, the fit not kept yet, and a slot free for it.
+// The fit of P line p to T line a kept, and before it those of its parts down to some depth: of large lines, where the fit is not kept yet
+// and a slot is free for it.
+fn keep_deep(t: &[u16], g: &[u16], k: &mut [u8], base: usize, p: usize, a: usize, depth: usize)
+    requires { ⌜ Bares (now t) base (now g) × Known (now t) base (now k) ⌝ }
+    ensures { λ r. ⌜ (length (now (k .exit)) ≡ length (now (k .entry))) × Known (now (t .entry)) base (now (k .exit)) ⌝ }
+{
+    if is_large(t, g, base, p, a) {
+        let at = slot_of(k, p, a);
+        if is_free(k, at) {
+            if is_parted(t, g, base, p, a, depth) {
+                keep_deep(
+                    t,
+                    g,
+                    k,
+                    base,
+                    pattern_part(t, base, p, FIRST),
+                    type_part(t, a, FIRST),
+                    depth - 1,
+                );
+                keep_deep(
+                    t,
+                    g,
+                    k,
+                    base,
+                    pattern_part(t, base, p, SECOND),
+                    type_part(t, a, SECOND),
+                    depth - 1,
+                );
+                keep_fit(t, g, k, base, p, a, at);
+                return;
+            }
+            keep_fit(t, g, k, base, p, a, at);
+        }
+    }
+}
+
+// The same from the line itself on, which is mostly kept.
 fn keep_line(t: &[u16], g: &[u16], k: &mut [u8], base: usize, p: usize, a: usize)
     requires { ⌜ Bares (now t) base (now g) × Known (now t) base (now k) ⌝ }
     ensures { λ r. ⌜ (length (now (k .exit)) ≡ length (now (k .entry))) × Known (now (t .entry)) base (now (k .exit)) ⌝ }
 {
-    if is_large(t, base, p, a) {
+    if is_large(t, g, base, p, a) {
         let at = slot_of(k, p, a);
-        if at < k.len() {
-            if number(k[at + HOW]) == 0 {
-                keep_fit(t, g, k, base, p, a, at);
-            }
+        if is_free(k, at) {
+            keep_deep(t, g, k, base, p, a, DEPTH);
         }
     }
 }
@@ -417,13 +644,23 @@ pub fn find_known(
     }
 }
 
-// Whether one of the rows from `from` up to `to`, which are P lines, is large.
-pub fn any_large(t: &[u16], from: usize, to: usize) -> bool
-    ensures { λ r. ⌜ r ≡ anyLarge (now (t .entry)) from (to - from) ⌝ }
+// Whether row n, a P line, is large and without a mark.
+fn is_large_row(t: &[u16], g: &[u16], n: usize) -> bool
+    ensures { λ r. ⌜ r ≡ largeRow (now (t .entry)) (now (g .entry)) n ⌝ }
+{
+    if cell(t, n, SIZE) < LARGE {
+        return false;
+    }
+    wide(word_at(g, n)) == 0
+}
+
+// Whether one of the rows from `from` up to `to`, which are P lines, is large and without a mark.
+pub fn any_large(t: &[u16], g: &[u16], from: usize, to: usize) -> bool
+    ensures { λ r. ⌜ r ≡ anyLarge (now (t .entry)) (now (g .entry)) from (to - from) ⌝ }
 {
     let mut n = from;
     while n < to {
-        if LARGE <= cell(t, n, SIZE) {
+        if is_large_row(t, g, n) {
             return true;
         }
         n += 1;

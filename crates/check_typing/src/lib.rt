@@ -323,7 +323,7 @@ fn fit_parts(
 }
 
 // The field of the part that comes first, and of the one that comes second.
-fn sooner(binds: bool) -> usize
+pub fn sooner(binds: bool) -> usize
     ensures { λ r. ⌜ r ≡ cond binds 2 3 ⌝ }
 {
     if binds {
@@ -332,7 +332,7 @@ fn sooner(binds: bool) -> usize
     3
 }
 
-fn later(binds: bool) -> usize
+pub fn later(binds: bool) -> usize
     ensures { λ r. ⌜ r ≡ cond binds 3 2 ⌝ }
 {
     if binds {

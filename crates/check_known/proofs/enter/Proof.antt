@@ -1,3 +1,4 @@
+-- `check_known::enter` meets its contract.
 use lib.ListN.{length}
 use Prim.Native.Nat.{_-_, _+_, _<_, _≤_}
 use native.Mathlib.Omega.{arith}
@@ -5,10 +6,6 @@ use Rattle.check_known.proofs.Keeping.{Entering, enter-start, enter-ste
 use borrow.Author.Needs.{needs}
 use Rattle.check_known.proofs.enter.Statement.{statement}
 use Rattle.check_known.proofs.enter.Tie as tie
-use Rattle.check_known.proofs.enter.Reads as reads
-use Rattle.check_known.proofs.enter.Lts as lts
-use Rattle.area_words.proofs.wide.Reads as wide-reads
-use Rattle.check_known.proofs.byte.Reads as byte-reads
 
 abbrev Inv-loop : tie.InvT-loop
 Inv-loop k₀ at line i₀ k i = Entering k₀ k at line i × (i ≤ 32) × (at + 35 < length k₀)
@@ -16,43 +13,33 @@ Inv-loop k₀ at line i₀ k i = Entering k₀ k at line i × (i ≤ 32) × (at 
 abbrev μ-loop : tie.MeasureT-loop
 μ-loop k₀ at line i₀ k i = 32 - i
 
--- src/lib.rt:283:5
 loop-holds : tie.Need-loop-holds Inv-loop μ-loop
 loop-holds c = (enter-start _ _ _, omega arith, c .before .before .pre)
 
--- src/lib.rt:284:31
 mul-wide : tie.Need-mul-wide Inv-loop μ-loop
 mul-wide c = search needs
 
--- src/lib.rt:284:31
 array-read-wide : tie.Need-array-read-wide Inv-loop μ-loop
 array-read-wide c = search needs
 
--- src/lib.rt:284:26
 wide-requires : tie.Need-wide-requires Inv-loop μ-loop
 wide-requires c κs = search needs
 
--- src/lib.rt:284:21
 byte-requires : tie.Need-byte-requires Inv-loop μ-loop
 byte-requires c κs = search needs
 
--- src/lib.rt:284:11
 add-k : tie.Need-add-k Inv-loop μ-loop
 add-k c = search needs
 
--- src/lib.rt:284:9
 slice-write-k : tie.Need-slice-write-k Inv-loop μ-loop
 slice-write-k c = let w = c .before .before .before .loop .inv in omega (arith, w .0 .long, w .2, c .before .before .loop-test .taken)
 
--- src/lib.rt:285:9
 add-i : tie.Need-add-i Inv-loop μ-loop
 add-i c = search needs
 
--- src/lib.rt:283:5
 loop-less : tie.Need-loop-less Inv-loop μ-loop
 loop-less c = omega arith
 
--- src/lib.rt:283:5
 loop-again : tie.Need-loop-again Inv-loop μ-loop
 loop-again c =
     let loop′ = c .before .before .before .loop in
@@ -60,11 +47,9 @@ loop-again c =
     let wide = c .before .wide in
     let w = loop′ .inv in (enter-step (w .0) (omega (arith, w .0 .long, w .2, loop-test .taken)) (wide .ensures .0) (c .byte .ensures), omega arith, w .2)
 
--- src/lib.rt:277:1
 same-length : tie.Need-same-length Inv-loop μ-loop
 same-length c = c .before .loop .inv .0 .long
 
--- src/lib.rt:277:1
 returns : tie.Need-returns Inv-loop μ-loop
 returns c = let w = c .before .loop .inv in enter-all (w .0) (c .loop-test .left) (w .1)
 

@@ -1,14 +1,11 @@
+-- `check_known::greatest` meets its contract.
 use lib.ListN.{getD}
-use Prim.Native.Nat.{ℕ, _-_, _+_, _<_, _≤_}
+use Prim.Native.Nat.{ℕ, _-_, _<_, _≤_}
 use native.Mathlib.Omega.{arith}
 use Rattle.check_known.proofs.Keeping.{below-next}
 use borrow.Author.Needs.{needs}
 use Rattle.check_known.proofs.greatest.Statement.{statement}
 use Rattle.check_known.proofs.greatest.Tie as tie
-use Rattle.check_known.proofs.greatest.Reads as reads
-use Rattle.check_known.proofs.greatest.Lts as lts
-use Rattle.area_words.proofs.wide.Reads as wide-reads
-use Rattle.check_known.proofs.larger.Reads as larger-reads
 
 abbrev Inv-loop : tie.InvT-loop
 Inv-loop line most₀ i₀ most i = (j : ℕ) → j < i → getD line j 0 ≤ most
@@ -16,35 +13,27 @@ Inv-loop line most₀ i₀ most i = (j : ℕ) → j < i → getD line j 0 ≤ mo
 abbrev μ-loop : tie.MeasureT-loop
 μ-loop line most₀ i₀ most i = 32 - i
 
--- src/lib.rt:252:5
 loop-holds : tie.Need-loop-holds Inv-loop μ-loop
 loop-holds c = λ j l. absurd (omega arith)
 
--- src/lib.rt:253:34
 mul-wide : tie.Need-mul-wide Inv-loop μ-loop
 mul-wide c = search needs
 
--- src/lib.rt:253:34
 array-read-wide : tie.Need-array-read-wide Inv-loop μ-loop
 array-read-wide c = search needs
 
--- src/lib.rt:253:29
 wide-requires : tie.Need-wide-requires Inv-loop μ-loop
 wide-requires c κs = search needs
 
--- src/lib.rt:253:9
 larger-requires : tie.Need-larger-requires Inv-loop μ-loop
 larger-requires c κs = search needs
 
--- src/lib.rt:254:9
 add-i : tie.Need-add-i Inv-loop μ-loop
 add-i c = search needs
 
--- src/lib.rt:252:5
 loop-less : tie.Need-loop-less Inv-loop μ-loop
 loop-less c = omega arith
 
--- src/lib.rt:252:5
 loop-again : tie.Need-loop-again Inv-loop μ-loop
 loop-again c =
     let args = c .before .before .before .before .before .args in
@@ -52,7 +41,6 @@ loop-again c =
     let wide = c .before .wide in
     below-next (args .e .line) (loop′ .inv) (wide .ensures .0) (c .larger .ensures)
 
--- src/lib.rt:246:1
 returns : tie.Need-returns Inv-loop μ-loop
 returns c = λ j l. c .before .loop .inv j (omega arith)
 

@@ -1,17 +1,15 @@
+-- `check_known::head_at` meets its contract.
 use Rattle.check_known.proofs.Looking.{head-own, head-above}
 use borrow.Author.Needs.{needs}
 use Rattle.check_known.proofs.head_at.Statement.{statement}
 use Rattle.check_known.proofs.head_at.Tie as tie
 
--- src/lib.rt:392:8
 cell-requires : tie.Need-cell-requires
 cell-requires c κs = search needs
 
--- src/lib.rt:393:9
 returns : tie.Need-returns
 returns c = let s = c .before .before .before .args in head-own (s .t .now) (s .n) (s .head) (c .before .cell .ensures .0) (c .if1 .taken)
 
--- src/lib.rt:389:1
 returns-2 : tie.Need-returns-2
 returns-2 c = let s = c .before .before .before .args in head-above (s .t .now) (s .n) (s .head) (c .before .cell .ensures .0) (c .if1 .left)
 

@@ -1,28 +1,21 @@
+-- `check_known::how_of` meets its contract.
 use Rattle.check_known.proofs.Keeping.{went-closed, went-types, went-no-room, went-fails}
 use borrow.Author.Needs.{needs}
 use Rattle.check_known.proofs.how_of.Statement.{statement}
 use Rattle.check_known.proofs.how_of.Tie as tie
-use Rattle.check_known.proofs.how_of.Reads as reads
-use Rattle.check_known.proofs.how_of.Lts as lts
-use Rattle.check_known.proofs.greatest.Reads as greatest-reads
 
--- src/lib.rt:264:13
 greatest-requires : tie.Need-greatest-requires
 greatest-requires c κs = search needs
 
--- src/lib.rt:266:13
 returns : tie.Need-returns
 returns c = went-closed _ (c .before .before .if1 .taken) (c .before .greatest .ensures) (c .if2 .taken)
 
--- src/lib.rt:269:13
 returns-2 : tie.Need-returns-2
 returns-2 c = went-types _ (c .before .before .before .if1 .taken) (c .before .before .greatest .ensures) (c .if3 .taken)
 
--- src/lib.rt:271:9
 returns-3 : tie.Need-returns-3
 returns-3 c = went-no-room _
 
--- src/lib.rt:260:1
 returns-4 : tie.Need-returns-4
 returns-4 c = went-fails _ (c .if1 .left)
 

@@ -1,43 +1,33 @@
+-- `check_known::meet_entry` meets its contract.
 use Rattle.check_known.proofs.Keeping.{bind-free, bind-live, use-free, use-same, use-own, use-other}
 use borrow.Author.Needs.{needs}
 use Rattle.check_known.proofs.meet_entry.Statement.{statement}
 use Rattle.check_known.proofs.meet_entry.Tie as tie
-use Rattle.check_known.proofs.meet_entry.Reads as reads
-use Rattle.check_known.proofs.meet_entry.Lts as lts
-use Rattle.check_shapes.proofs.same_type.Reads as same-type-reads
 
--- src/lib.rt:122:13
 returns : tie.Need-returns
 returns c = let s = c .before .before .before in bind-free (s .args .t .now) _ _ (s .pre .0) (s .pre .1) (c .before .if1 .taken) (c .if2 .taken)
 
--- src/lib.rt:124:9
 returns-2 : tie.Need-returns-2
 returns-2 c = let s = c .before .before .before in bind-live (s .args .t .now) _ _ (s .pre .0) (s .pre .1) (c .before .if1 .taken) (c .if2 .left)
 
--- src/lib.rt:127:9
 returns-3 : tie.Need-returns-3
 returns-3 c = let s = c .before .before .before in use-free (s .args .t .now) _ _ (s .pre .0) (s .pre .1) (c .before .if1 .left) (c .if3 .taken)
 
--- src/lib.rt:130:9
 returns-4 : tie.Need-returns-4
 returns-4 c =
     let if1 = c .before .before .if1 in
     let if3 = c .before .if3 in
     let s = c .before .before .before .before in use-own (s .args .t .now) _ _ (s .pre .0) (s .pre .1) (if1 .left) (if3 .left) (c .if4 .taken)
 
--- src/lib.rt:132:21
 sub-same-type : tie.Need-sub-same-type
 sub-same-type c = search needs
 
--- src/lib.rt:132:32
 sub-same-type-2 : tie.Need-sub-same-type-2
 sub-same-type-2 c = search needs
 
--- src/lib.rt:132:8
 same-type-requires : tie.Need-same-type-requires
 same-type-requires c κs = search needs
 
--- src/lib.rt:133:9
 returns-5 : tie.Need-returns-5
 returns-5 c =
     let if1 = c .before .before .before .before .if1 in
@@ -45,7 +35,6 @@ returns-5 c =
     let same-type = c .before .same-type in
     let s = c .before .before .before .before .before .before in use-same (s .args .t .now) _ _ (s .pre .0) (s .pre .1) (if1 .left) (if3 .left) (same-type .ensures) (c .if5 .taken)
 
--- src/lib.rt:116:1
 returns-6 : tie.Need-returns-6
 returns-6 c =
     let if1 = c .before .before .before .before .if1 in

@@ -1,20 +1,15 @@
+-- `check_known::meet_kept` meets its contract.
 use Rattle.check_known.proofs.Keeping.{met-stopped}
 use borrow.Author.Needs.{needs}
 use Rattle.check_known.proofs.meet_kept.Statement.{statement}
 use Rattle.check_known.proofs.meet_kept.Tie as tie
-use Rattle.check_known.proofs.meet_kept.Reads as reads
-use Rattle.check_known.proofs.meet_kept.Lts as lts
-use Rattle.check_known.proofs.meet_types.Reads as meet-types-reads
 
--- src/lib.rt:195:9
 meet-types-requires : tie.Need-meet-types-requires
 meet-types-requires c κs = search needs
 
--- src/lib.rt:195:9
 returns : tie.Need-returns
 returns c = search needs
 
--- src/lib.rt:187:1
 returns-2 : tie.Need-returns-2
 returns-2 c = λ w v. let s = c .before .before .before in met-stopped (s .args .t .now) (s .args .binds) (s .args .e) w (c .if1 .left)
 

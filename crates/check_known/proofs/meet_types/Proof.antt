@@ -1,3 +1,4 @@
+-- `check_known::meet_types` meets its contract.
 use mathlib.Core.Path.{refl, subst, sym}
 use lib.ListN.{getD}
 use Rattle.calculus.proofs.Basic.{array-length}
@@ -7,13 +8,6 @@ use Rattle.check_known.proofs.Keeping.{Met, met-start, met-step, met-ap
 use borrow.Author.Needs.{needs}
 use Rattle.check_known.proofs.meet_types.Statement.{statement}
 use Rattle.check_known.proofs.meet_types.Tie as tie
-use Rattle.check_known.proofs.meet_types.Reads as reads
-use Rattle.check_known.proofs.meet_types.Lts as lts
-use Rattle.area_words.proofs.wide.Reads as wide-reads
-use Rattle.check_facts.proofs.number.Reads as number-reads
-use Rattle.check_known.proofs.meet_entry.Reads as meet-entry-reads
-use Rattle.check_known.proofs.misfit.Reads as misfit-reads
-use Rattle.check_known.proofs.next_entry.Reads as next-entry-reads
 
 abbrev Inv-loop : tie.InvT-loop
 Inv-loop t k at binds e line₀ i₀ line i = Met t k at binds (e .line) line i × (i < 32 → 0 < getD k (at + i) 0)
@@ -21,50 +15,39 @@ Inv-loop t k at binds e line₀ i₀ line i = Met t k at binds (e .line) line i 
 abbrev μ-loop : tie.MeasureT-loop
 μ-loop t k at binds e line₀ i₀ line i = 32 - i
 
--- src/lib.rt:171:9
 next-entry-requires : tie.Need-next-entry-requires Inv-loop μ-loop
 next-entry-requires c κs = search needs
 
--- src/lib.rt:172:5
 loop-holds : tie.Need-loop-holds Inv-loop μ-loop
 loop-holds c = let s = c .before .before .before .before in met-start (s .args .t .now) (s .args .binds) (s .args .e .line) (c .next-entry .ensures)
 
--- src/lib.rt:173:36
 mul-wide : tie.Need-mul-wide Inv-loop μ-loop
 mul-wide c = search needs
 
--- src/lib.rt:173:36
 array-read-wide : tie.Need-array-read-wide Inv-loop μ-loop
 array-read-wide c = search needs
 
--- src/lib.rt:173:31
 wide-requires : tie.Need-wide-requires Inv-loop μ-loop
 wide-requires c κs = search needs
 
--- src/lib.rt:173:55
 add-number : tie.Need-add-number Inv-loop μ-loop
 add-number c = search needs
 
--- src/lib.rt:173:53
 shared-slice-read-number : tie.Need-shared-slice-read-number Inv-loop μ-loop
 shared-slice-read-number c = search needs
 
--- src/lib.rt:173:46
 number-requires : tie.Need-number-requires Inv-loop μ-loop
 number-requires c κs = search needs
 
--- src/lib.rt:173:13
 meet-entry-requires : tie.Need-meet-entry-requires Inv-loop μ-loop
 meet-entry-requires c κs =
     let loop′ = c .before .before .before .before .loop in
     let loop-test = c .before .before .before .loop-test in
     (subst (λ n. 0 < n) (sym (c .number .ensures .0)) (loop′ .inv .1 (loop-test .taken)), c .number .ensures .1)
 
--- src/lib.rt:175:13
 misfit-requires : tie.Need-misfit-requires Inv-loop μ-loop
 misfit-requires c κs = search needs
 
--- src/lib.rt:175:13
 returns : tie.Need-returns Inv-loop μ-loop
 returns c =
     let loop′ = c .before .before .before .before .before .before .before .loop in
@@ -77,31 +60,24 @@ returns c =
     (s .args .binds) (s .args .e) (array-length (s .args .e .line) (s .good .1 .1 .1 .1 .0 .1 .1 .1 .0 .1 .0 .1)) (s .pre .1) w v (c .misfit .result) (loop′ .inv .0) (loop-test .taken)
     (wide .ensures .0) (number .ensures .0) (meet-entry .ensures) (if1 .taken) (c .misfit .ensures)
 
--- src/lib.rt:177:19
 cast-line : tie.Need-cast-line Inv-loop μ-loop
 cast-line c = search needs
 
--- src/lib.rt:177:9
 mul-line : tie.Need-mul-line Inv-loop μ-loop
 mul-line c = search needs
 
--- src/lib.rt:177:9
 array-write-line : tie.Need-array-write-line Inv-loop μ-loop
 array-write-line c = search needs
 
--- src/lib.rt:178:31
 add-next-entry : tie.Need-add-next-entry Inv-loop μ-loop
 add-next-entry c = search needs
 
--- src/lib.rt:178:9
 next-entry-requires-2 : tie.Need-next-entry-requires-2 Inv-loop μ-loop
 next-entry-requires-2 c κs = search needs
 
--- src/lib.rt:172:5
 loop-less : tie.Need-loop-less Inv-loop μ-loop
 loop-less c = omega (arith, c .next-entry2 .ensures .onward)
 
--- src/lib.rt:172:5
 loop-again : tie.Need-loop-again Inv-loop μ-loop
 loop-again c =
     let loop′ = c .before .before .before .before .before .before .before .loop in
@@ -114,7 +90,6 @@ loop-again c =
     (omega (arith, w .long, array-length (s .args .e .line) (s .good .1 .1 .1 .1 .0 .1 .1 .1 .0 .1 .0 .1), loop-test .taken)) (wide .ensures .0) (number .ensures .0)
     (meet-entry .ensures) (if1 .left) refl (c .next-entry2 .ensures)
 
--- src/lib.rt:163:1
 returns-2 : tie.Need-returns-2 Inv-loop μ-loop
 returns-2 c =
     let loop′ = c .before .loop in
