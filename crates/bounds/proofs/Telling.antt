@@ -2,14 +2,14 @@
 use Prim.Native.Nat.{ℕ, zero, suc, _≤_, _<_, min}
 use native.Mathlib.Omega.{arith}
 use mathlib.Core.Path.{_≡_, refl, sym, ap, _∙_, subst}
-use mathlib.Core.Bool.{Bool, true, false}
+use mathlib.Core.Bool.{Bool, true, false, cond}
 use mathlib.Core.Option.{none, some}
 use mathlib.Core.List.{List, [], _∷_}
 use lib.Dec.{ltb}
 use lib.ListN.{length, getD, getElem?, replicate}
 use Rattle.limits.specs.Limits.{maxIsos, maxCount}
 use Rattle.calculus.specs.Tools.{isSome}
-use Rattle.calculus.specs.Refusals.{noIso}
+use Rattle.calculus.specs.Refusals.{noIso, tooMany}
 use Rattle.format.specs.Lines.{Row}
 use Rattle.format.specs.Unfold.{isosOf}
 use Rattle.model.specs.Services.{Outcome, gives, fails, refusalNumber}
@@ -19,6 +19,10 @@ use Rattle.format.specs.Code.{refusalView, numberOf, numbered}
 use Rattle.format.specs.declared.Answer as A
 use Rattle.format.specs.declared.Refusal as F
 use Rattle.calculus.proofs.Basic.{ltb-lt, ltb-false, lt-ltb, not-ltb}
+use Rattle.calculus.proofs.Lists.{free-iff}
+use Rattle.format.proofs.Listless.{isos-free}
+use Rattle.model.proofs.Runs.{good}
+use Rattle.model.proofs.Sizes.{near-of}
 use Rattle.run_index.specs.Index.{isosAt}
 use Rattle.checker.specs.CheckSays.{CheckSays, Accepted}
 use Rattle.checker.specs.declared.Checked as C
@@ -84,7 +88,8 @@ told t index least greatest isos i l g r h hl hg el eg n tl tg ol og base rs p =
     let y = eg ∙ hg base room i ∙ ap (λ os. min (getD (costsFrom greatestOf [] os) i 0) cap) (sym (p .indexed)) in
     let low : ℕ = getD (costsFrom leastOf [] (isosOf rs)) i 0 in
     let high : ℕ = getD (costsFrom greatestOf [] (isosOf rs)) i 0 in
-    subst (λ z. ToldOf z r) (sym (ap (onIso (isosOf rs) i) (o .1)))
+    let free = free-iff (isosOf rs) (near-of (good rs (p .good))) i (o .0) (o .1) .1 (isos-free rs i) in
+    subst (λ z. ToldOf z r) (sym (ap (onIso (isosOf rs) i) (o .1) ∙ ap (λ b. cond b (gives (low, high)) (fails tooMany)) free))
     (record {
       refusal = n;
       told = record {

@@ -13,8 +13,9 @@ use lib.Dec.{T, leb, ltb, eqb, eqb→eq, eqb-refl, leb→le, le→leb, ltb→lt,
 use lib.ListN.{getElem?, length, getD, drop, set, length-map}
 use lib.Seq.{drop-cons, drop-set-lt, lt-length-set, getD-set-same}
 use Rattle.calculus.specs.Tools.{_>>=_, guard, isSome, all, select, orElse, firstOf, stages}
-use Rattle.calculus.specs.Trees.{Ty, tunit, tsum, tprod, Tag, left, right, sameTag, sameType}
+use Rattle.calculus.specs.Trees.{Ty, tunit, tsum, tprod, Tag, left, right, sameTag, sameType, tlist, Leaf, unitLeaf, emptyLeaf, Node, pairNode, elementNode, sameLeaf, sameNode}
 use Rattle.calculus.specs.Paper.{Distinct, nobody, another}
+use Rattle.calculus.specs.Reduction.{Counted, going, _>>>_}
 
 -- ---- options
 
@@ -55,6 +56,24 @@ orElse-cases (some b) y a e = inl e
 pub orElse-none : {A : Type 0} (x y : Option A) → orElse x y ≡ none → (x ≡ none) × (y ≡ none)
 orElse-none none y e = (refl, e)
 orElse-none (some b) y e = absurd (none≢some (sym e))
+
+-- ---- what is given, and a number of applications
+
+pub counted : {A : Type 0} {x y : Option A} {j k : ℕ} → x ≡ y → j ≡ k → _≡_ {A = Counted A} (x, j) (y, k)
+counted p q = λ i. (p i, q i)
+
+-- what gives something was given something, and its number is the sum
+pub then-some : {A B : Type 0} (x : Counted A) (f : A → Counted B) {b : B} {k : ℕ} → (x >>> f) ≡ (some b, k)
+    → (a : A) × (m j : ℕ) × (x ≡ (some a, m)) × (f a ≡ (some b, j)) × (m + j ≡ k)
+then-some {A} {B} x f {b} {k} e = go (x .0) refl e
+  where
+    go : (y : Option A) → x .0 ≡ y → going y (x .1) f ≡ (some b, k) → (a : A) × (m j : ℕ) × (x ≡ (some a, m)) × (f a ≡ (some b, j)) × (m + j ≡ k)
+    go none h e = absurd (none≢some (ap (λ r. r .0) e))
+    go (some a) h e = (a, x .1, f a .1, counted h refl, counted (ap (λ r. r .0) e) refl, ap (λ r. r .1) e)
+
+pub some-then : {A B : Type 0} {x : Counted A} {a : A} {m : ℕ} (f : A → Counted B) {y : Option B} {j : ℕ} → x ≡ (some a, m) → f a ≡ (y, j)
+    → (x >>> f) ≡ (y, m + j)
+some-then {m} f e h = ap (λ x. x >>> f) e ∙ ap (λ r. (r .0, m + r .1)) h
 
 -- ---- tests
 
@@ -168,21 +187,55 @@ sameTag-refl right = refl
 pub eq-sameTag : {s t : Tag} → s ≡ t → sameTag s t ≡ true
 eq-sameTag {s} e = ap (sameTag s) (sym e) ∙ sameTag-refl s
 
+pub sameLeaf-eq : (l k : Leaf) → sameLeaf l k ≡ true → l ≡ k
+sameLeaf-eq unitLeaf unitLeaf e = refl
+sameLeaf-eq unitLeaf emptyLeaf e = absurd (false≢true e)
+sameLeaf-eq emptyLeaf unitLeaf e = absurd (false≢true e)
+sameLeaf-eq emptyLeaf emptyLeaf e = refl
+
+pub sameLeaf-refl : (l : Leaf) → sameLeaf l l ≡ true
+sameLeaf-refl unitLeaf = refl
+sameLeaf-refl emptyLeaf = refl
+
+pub eq-sameLeaf : {l k : Leaf} → l ≡ k → sameLeaf l k ≡ true
+eq-sameLeaf {l} e = ap (sameLeaf l) (sym e) ∙ sameLeaf-refl l
+
+pub sameNode-eq : (l k : Node) → sameNode l k ≡ true → l ≡ k
+sameNode-eq pairNode pairNode e = refl
+sameNode-eq pairNode elementNode e = absurd (false≢true e)
+sameNode-eq elementNode pairNode e = absurd (false≢true e)
+sameNode-eq elementNode elementNode e = refl
+
+pub sameNode-refl : (l : Node) → sameNode l l ≡ true
+sameNode-refl pairNode = refl
+sameNode-refl elementNode = refl
+
+pub eq-sameNode : {l k : Node} → l ≡ k → sameNode l k ≡ true
+eq-sameNode {l} e = ap (sameNode l) (sym e) ∙ sameNode-refl l
+
 pub sameType-eq : (a b : Ty) → sameType a b ≡ true → a ≡ b
 sameType-eq tunit tunit e = refl
+sameType-eq tunit (tlist c) e = absurd (false≢true e)
 sameType-eq tunit (tsum c d) e = absurd (false≢true e)
 sameType-eq tunit (tprod c d) e = absurd (false≢true e)
+sameType-eq (tlist a) tunit e = absurd (false≢true e)
+sameType-eq (tlist a) (tlist c) e = ap tlist (sameType-eq a c e)
+sameType-eq (tlist a) (tsum c d) e = absurd (false≢true e)
+sameType-eq (tlist a) (tprod c d) e = absurd (false≢true e)
 sameType-eq (tsum a b) tunit e = absurd (false≢true e)
+sameType-eq (tsum a b) (tlist c) e = absurd (false≢true e)
 sameType-eq (tsum a b) (tsum c d) e =
     let h = and-true (sameType a c) (sameType b d) e in ap₂ tsum (sameType-eq a c (h .0)) (sameType-eq b d (h .1))
 sameType-eq (tsum a b) (tprod c d) e = absurd (false≢true e)
 sameType-eq (tprod a b) tunit e = absurd (false≢true e)
+sameType-eq (tprod a b) (tlist c) e = absurd (false≢true e)
 sameType-eq (tprod a b) (tsum c d) e = absurd (false≢true e)
 sameType-eq (tprod a b) (tprod c d) e =
     let h = and-true (sameType a c) (sameType b d) e in ap₂ tprod (sameType-eq a c (h .0)) (sameType-eq b d (h .1))
 
 pub sameType-refl : (a : Ty) → sameType a a ≡ true
 sameType-refl tunit = refl
+sameType-refl (tlist a) = sameType-refl a
 sameType-refl (tsum a b) = true-and (sameType-refl a) (sameType-refl b)
 sameType-refl (tprod a b) = true-and (sameType-refl a) (sameType-refl b)
 

@@ -1,41 +1,51 @@
 -- The law of covering: pairwise orthogonal patterns that fit a type match every closed value of it exactly when they weigh 2^40
--- together. Each pattern has its part of the weight of all closed values (`Weights`), and no value is counted for two patterns.
-use Prim.Native.Nat.{ℕ, _+_, _*_, _^_, _<_, _≤_}
-use native.Mathlib.Nat.{one-mul, zero-mul, mul-le-mul, mul-lt-mul-of-pos-left, eq-of-mul-eq-mul-right, lt-of-mul-lt-mul-right, eq-or-lt-of-le, ne-of-lt}
+-- together. It holds with lists, whose closed values are infinitely many: `Matrix` has the induction.
+use Prim.Native.Nat.{ℕ, _+_, _*_, _-_, _^_, _<_, _≤_}
+use native.Mathlib.Nat.{one-mul, zero-mul, mul-le-mul, eq-or-lt-of-le, sub-add-cancel, ne-of-lt}
 use native.Mathlib.Omega.{arith}
 use mathlib.Core.Path.{_≡_, refl, sym, ap, ap₂, _∙_, subst}
 use mathlib.Core.Logic.{_⊎_, inl, inr, _↔_}
 use mathlib.Core.Bool.{Bool, true, false, cond, _||_, false≢true}
-use mathlib.Core.List.{List, [], _∷_, _++_, List·Memᴰ, List·Memᴰ·head, List·Memᴰ·tail, Memᴰ·append-left, Memᴰ·append-right}
+use mathlib.Core.List.{List, [], _∷_, _++_, map, map-map, List·Memᴰ, List·Memᴰ·head, List·Memᴰ·tail, Memᴰ·append-left, Memᴰ·append-right, Memᴰ·map}
 use lib.Dec.{eqb}
-use lib.Pow.{pow-pos}
+use lib.Pow.{pow-add, pow-pos}
 use Rattle.limits.specs.Limits.{maxTags}
-use Rattle.calculus.specs.Trees.{Ty, Pat, punit, pvar, pinj, ppair, Val, vunit, vinj, vpair, sameTag, tags, vars}
-use Rattle.calculus.specs.Slots.{Slots}
-use Rattle.calculus.specs.Clauses.{fullWeight}
-use Rattle.calculus.specs.Paper.{Of, Fits, Orth, Apart, Distinct, Matched, fill, Covers}
+use Rattle.calculus.specs.Tools.{total}
+use Rattle.calculus.specs.Trees.{Ty, Leaf, unitLeaf, Node, Pat, pvar, pleaf, pinj, pnode, Val, vleaf, vinj, vnode, tags, vars, sameTag, sameLeaf, sameNode}
+use Rattle.calculus.specs.Clauses.{fullWeight, elem}
+use Rattle.calculus.specs.Paper.{Of, Orth, Apart, Distinct, Matched, fill, Covers}
+use Rattle.calculus.proofs.Basic.{not-both, is-false, or-true, true-or-left, true-or-right, eqb-eq, eq-eqb, not-eqb, each-map}
 use Rattle.calculus.specs.Hits.{hit, hits}
-use Rattle.calculus.proofs.Basic.{not-both, is-false, or-true, true-or-left, true-or-right, eqb-eq, eq-eqb, not-eqb, sameTag-eq, eq-sameTag, distinct-left, distinct-right, distinct-across}
+use Rattle.calculus.specs.Shapes.{Shape}
+use Rattle.calculus.proofs.Basic.{sameTag-eq, eq-sameTag, sameLeaf-eq, eq-sameLeaf, sameNode-eq, eq-sameNode, distinct-left, distinct-right, distinct-across}
 use Rattle.calculus.proofs.Orthogonal.{Alike, matched-alike, orth-alike}
-use Rattle.calculus.proofs.Weights.{size, size-positive, integral, Outcome, dichotomy, weights, all-weights}
+use Rattle.calculus.proofs.Matrix.{tagsAll, Shapes, Ofs, Alikes, Orths, Row, weights, ApartRows, Matrix, Full, Short, Outcome, dichotomy}
 
 -- ---- the shape of a pattern
 
 pub hit-le : (p : Pat) (v : Val) → hit p v ≤ 1
-hit-le punit vunit = omega arith
-hit-le punit (vinj t v) = omega arith
-hit-le punit (vpair v w) = omega arith
+hit-le (pleaf l) (vleaf k) = go (sameLeaf l k)
+  where
+    go : (b : Bool) → cond b 1 0 ≤ 1
+    go true = omega arith
+    go false = omega arith
+hit-le (pleaf l) (vinj t v) = omega arith
+hit-le (pleaf l) (vnode k v w) = omega arith
 hit-le (pvar n) v = omega arith
-hit-le (pinj s p) vunit = omega arith
+hit-le (pinj s p) (vleaf k) = omega arith
 hit-le (pinj s p) (vinj t v) = go (sameTag s t) (hit-le p v)
   where
     go : (b : Bool) → hit p v ≤ 1 → cond b (hit p v) 0 ≤ 1
     go true h = h
     go false h = omega arith
-hit-le (pinj s p) (vpair v w) = omega arith
-hit-le (ppair p q) vunit = omega arith
-hit-le (ppair p q) (vinj t v) = omega arith
-hit-le (ppair p q) (vpair v w) = mul-le-mul (hit-le p v) (hit-le q w)
+hit-le (pinj s p) (vnode k v w) = omega arith
+hit-le (pnode m p q) (vleaf k) = omega arith
+hit-le (pnode m p q) (vinj t v) = omega arith
+hit-le (pnode m p q) (vnode k v w) = go (sameNode m k) (mul-le-mul (hit-le p v) (hit-le q w))
+  where
+    go : (b : Bool) → hit p v * hit q w ≤ 1 → cond b (hit p v * hit q w) 0 ≤ 1
+    go true h = h
+    go false h = omega arith
 
 -- both factors are 1
 pub factors : (m n : ℕ) → m ≤ 1 → m * n ≡ 1 → (m ≡ 1) × (n ≡ 1)
@@ -47,27 +57,36 @@ factors m n l e = go (eq-or-lt-of-le l)
 
 -- the count is 1 exactly where the value has the shape of the pattern
 hit-alike : (p : Pat) (v : Val) → hit p v ≡ 1 → Alike p v
-hit-alike punit vunit e = Alike.unit
-hit-alike punit (vinj t v) e = absurd (omega arith)
-hit-alike punit (vpair v w) e = absurd (omega arith)
+hit-alike (pleaf l) (vleaf k) e = go (sameLeaf l k) refl e
+  where
+    go : (b : Bool) → sameLeaf l k ≡ b → _≡_ {A = ℕ} (cond b 1 0) 1 → Alike (pleaf l) (vleaf k)
+    go true h e = Alike.leaf (sameLeaf-eq l k h)
+    go false h e = absurd (omega arith)
+hit-alike (pleaf l) (vinj t v) e = absurd (omega arith)
+hit-alike (pleaf l) (vnode k v w) e = absurd (omega arith)
 hit-alike (pvar n) v e = Alike.var
-hit-alike (pinj s p) vunit e = absurd (omega arith)
+hit-alike (pinj s p) (vleaf k) e = absurd (omega arith)
 hit-alike (pinj s p) (vinj t v) e = go (sameTag s t) refl e (hit-alike p v)
   where
     go : (b : Bool) → sameTag s t ≡ b → cond b (hit p v) 0 ≡ 1 → (hit p v ≡ 1 → Alike p v) → Alike (pinj s p) (vinj t v)
     go true h e below = Alike.inj (sameTag-eq s t h) (below e)
     go false h e below = absurd (omega arith)
-hit-alike (pinj s p) (vpair v w) e = absurd (omega arith)
-hit-alike (ppair p q) vunit e = absurd (omega arith)
-hit-alike (ppair p q) (vinj t v) e = absurd (omega arith)
-hit-alike (ppair p q) (vpair v w) e =
-    let h = factors (hit p v) (hit q w) (hit-le p v) e in Alike.pair (hit-alike p v (h .0)) (hit-alike q w (h .1))
+hit-alike (pinj s p) (vnode k v w) e = absurd (omega arith)
+hit-alike (pnode m p q) (vleaf k) e = absurd (omega arith)
+hit-alike (pnode m p q) (vinj t v) e = absurd (omega arith)
+hit-alike (pnode m p q) (vnode k v w) e = go (sameNode m k) refl e (hit-alike p v) (hit-alike q w)
+  where
+    go : (b : Bool) → sameNode m k ≡ b → cond b (hit p v * hit q w) 0 ≡ 1 → (hit p v ≡ 1 → Alike p v) → (hit q w ≡ 1 → Alike q w)
+        → Alike (pnode m p q) (vnode k v w)
+    go true h e f g = let r = factors (hit p v) (hit q w) (hit-le p v) e in Alike.node (sameNode-eq m k h) (f (r .0)) (g (r .1))
+    go false h e f g = absurd (omega arith)
 
 alike-hit : {p : Pat} {v : Val} → Alike p v → hit p v ≡ 1
-alike-hit Alike.unit = refl
+alike-hit (Alike.leaf e) = ap (λ b. cond b 1 0) (eq-sameLeaf e)
 alike-hit Alike.var = refl
 alike-hit (Alike.inj {p = p} {v = v} e m) = ap (λ b. cond b (hit p v) 0) (eq-sameTag e) ∙ alike-hit m
-alike-hit (Alike.pair m k) = ap₂ _*_ (alike-hit m) (alike-hit k)
+alike-hit (Alike.node {p = p} {q = q} {v = v} {w = w} e m k) =
+    ap (λ b. cond b (hit p v * hit q w) 0) (eq-sameNode e) ∙ ap₂ _*_ (alike-hit m) (alike-hit k)
 
 pub matched-hit : {p : Pat} {v : Val} → Matched p v → hit p v ≡ 1
 matched-hit m = alike-hit (matched-alike m)
@@ -98,31 +117,13 @@ pub hit-le-hits : {p : Pat} {ps : List Pat} (v : Val) → List·Memᴰ p ps → 
 hit-le-hits v (List·Memᴰ·head e) = let z = ap (λ q. hit q v) e in omega arith
 hit-le-hits v (List·Memᴰ·tail m) = let l = hit-le-hits v m in omega arith
 
--- where the count is 0 nothing matches, where it is 1 something does
-missed : {p : Pat} {ps : List Pat} {v : Val} → hits ps v < 1 → List·Memᴰ p ps → Matched p v → ⊥
-missed {v} l m k = let h = hit-le-hits v m in let e = matched-hit k in omega arith
-
-found : (ps : List Pat) (v : Val) → hits ps v ≡ 1 → (p : Pat) × List·Memᴰ p ps × (hit p v ≡ 1)
-found [] v e = absurd (omega arith)
-found (p ∷ ps) v e = go (eq-or-lt-of-le (hit-le p v)) (found ps v)
-  where
-    go : (hit p v ≡ 1) ⊎ (hit p v < 1) → (hits ps v ≡ 1 → (q : Pat) × List·Memᴰ q ps × (hit q v ≡ 1))
-        → (q : Pat) × List·Memᴰ q (p ∷ ps) × (hit q v ≡ 1)
-    go (inl h) below = (p, List·Memᴰ·head refl, h)
-    go (inr l) below = let r = below (omega arith) in (r .0, List·Memᴰ·tail (r .1), r .2)
-
 -- ---- blanks and variables
 
--- is the number in the list
-abbrev elem : ℕ → List ℕ → Bool
-elem n [] = false
-elem n (m ∷ ms) = eqb n m || elem n ms
-
-mem-elem : {n : ℕ} {ms : List ℕ} → List·Memᴰ n ms → elem n ms ≡ true
+pub mem-elem : {n : ℕ} {ms : List ℕ} → List·Memᴰ n ms → elem n ms ≡ true
 mem-elem {n} (List·Memᴰ·head {x} {xs} e) = true-or-left (elem n xs) (eq-eqb e)
 mem-elem {n} (List·Memᴰ·tail {x} m) = true-or-right (eqb n x) (mem-elem m)
 
-elem-mem : (n : ℕ) (ms : List ℕ) → elem n ms ≡ true → List·Memᴰ n ms
+pub elem-mem : (n : ℕ) (ms : List ℕ) → elem n ms ≡ true → List·Memᴰ n ms
 elem-mem n [] e = absurd (false≢true e)
 elem-mem n (m ∷ ms) e = go (or-true (eqb n m) (elem n ms) e) (elem-mem n ms)
   where
@@ -132,14 +133,14 @@ elem-mem n (m ∷ ms) e = go (or-true (eqb n m) (elem n ms) e) (elem-mem n ms)
 
 -- only the values of its own variables matter to a pattern
 pub fill-ext : (p : Pat) {χ ψ : ℕ → Val} → ((n : ℕ) → List·Memᴰ n (vars p) → χ n ≡ ψ n) → fill χ p ≡ fill ψ p
-fill-ext punit h = refl
 fill-ext (pvar n) h = h n (List·Memᴰ·head refl)
+fill-ext (pleaf l) h = refl
 fill-ext (pinj t p) h = ap (vinj t) (fill-ext p h)
-fill-ext (ppair p q) h =
-    ap₂ vpair (fill-ext p (λ n m. h n (Memᴰ·append-left (vars q) m))) (fill-ext q (λ n m. h n (Memᴰ·append-right (vars p) m)))
+fill-ext (pnode k p q) h =
+    ap₂ (vnode k) (fill-ext p (λ n m. h n (Memᴰ·append-left (vars q) m))) (fill-ext q (λ n m. h n (Memᴰ·append-right (vars p) m)))
 
-pair-matched : {p q : Pat} {v w : Val} → Distinct (vars p ++ vars q) → Matched p v → Matched q w → Matched (ppair p q) (vpair v w)
-pair-matched {p} {q} {v} {w} d m k = record { choice = χ; turns = ap₂ vpair (fill-ext p first ∙ m .turns) (fill-ext q second ∙ k .turns) }
+node-matched : {o u : Node} {p q : Pat} {v w : Val} → o ≡ u → Distinct (vars p ++ vars q) → Matched p v → Matched q w → Matched (pnode o p q) (vnode u v w)
+node-matched {o} {u} {p} {q} {v} {w} e d m k = record { choice = χ; turns = ap₂ (vnode o) (fill-ext p first ∙ m .turns) (fill-ext q second ∙ k .turns) ∙ ap (λ z. vnode z v w) e }
   where
     χ : ℕ → Val
     χ n = cond (elem n (vars p)) (m .choice n) (k .choice n)
@@ -155,11 +156,11 @@ pair-matched {p} {q} {v} {w} d m k = record { choice = χ; turns = ap₂ vpair (
 
 -- a value of the shape of a pattern without repeated variables is matched by it
 alike-matched : {p : Pat} {v : Val} → Alike p v → Distinct (vars p) → Matched p v
-alike-matched Alike.unit d = record { choice = λ n. vunit; turns = refl }
+alike-matched (Alike.leaf e) d = record { choice = λ n. vleaf unitLeaf; turns = ap vleaf e }
 alike-matched (Alike.var {v = v}) d = record { choice = λ m. v; turns = refl }
 alike-matched (Alike.inj e m) d = let r = alike-matched m d in record { choice = r .choice; turns = ap₂ vinj e (r .turns) }
-alike-matched (Alike.pair {p = p} {q = q} m k) d =
-    pair-matched d (alike-matched m (distinct-left (vars p) (vars q) d)) (alike-matched k (distinct-right (vars p) (vars q) d))
+alike-matched (Alike.node {p = p} {q = q} e m k) d =
+    node-matched e d (alike-matched m (distinct-left (vars p) (vars q) d)) (alike-matched k (distinct-right (vars p) (vars q) d))
 
 -- for a pattern without repeated variables the count decides
 pub hit-matched : {p : Pat} {v : Val} → Distinct (vars p) → hit p v ≡ 1 → Matched p v
@@ -167,36 +168,20 @@ hit-matched {p} {v} d e = alike-matched (hit-alike p v e) d
 
 -- ---- the law
 
--- the weights are full and each value has one match, or they fall short and some value has none
-abbrev Weighed : ℕ → Ty → List Pat → Type 0
-Weighed n a ps =
-    ((weights n ps ≡ 2 ^ n) × ((v : Val) → Of v a → hits ps v ≡ 1)) ⊎ ((weights n ps < 2 ^ n) × (v : Val) × Of v a × (hits ps v < 1))
+-- one column
+abbrev alone : Pat → Row
+alone p = record { weight = 2 ^ (maxTags - tags p); pats = p ∷ [] }
 
-weighed : (n : ℕ) (a : Ty) (ps : List Pat)
-    → ((p : Pat) → List·Memᴰ p ps → (d : Slots Ty) × Fits d p a)
-    → ((p : Pat) → List·Memᴰ p ps → tags p ≤ n)
-    → Apart ps
-    → Weighed n a ps
-weighed n a ps fits light apart = go (dichotomy a (hits ps) 1 (λ v o. hits-le apart v))
+alone-apart : {ps : List Pat} → Apart ps → ApartRows (map alone ps)
+alone-apart Apart.alone = ApartRows.alone
+alone-apart (Apart.beside {p} {ps} h a) = ApartRows.beside (each-map (λ s. Orths (p ∷ []) (s .pats)) alone ps (λ q i. Orths.here (h q i))) (alone-apart a)
+
+alone-weighs : (p : Pat) → tags p ≤ maxTags → 2 ^ (maxTags - tags p) * 2 ^ (tags p + 0) ≡ 2 ^ maxTags
+alone-weighs p l =
+    sym (pow-add 2 (maxTags - tags p) (tags p + 0)) ∙ ap (λ n. 2 ^ n) (ap (λ n. maxTags - tags p + n) zeroed ∙ sub-add-cancel l)
   where
-    same : 2 ^ n * integral a (hits ps) ≡ weights n ps * size a
-    same = all-weights n a ps fits light
-
-    go : Outcome a (hits ps) 1 → Weighed n a ps
-    go (inl d) =
-        inl (
-          eq-of-mul-eq-mul-right
-              (size a)
-              (size-positive a)
-              (weights n ps)
-              (2 ^ n)
-              (sym same ∙ ap (λ k. 2 ^ n * k) (d .0 ∙ one-mul (size a))),
-          d .1,
-        )
-    go (inr d) =
-        let l : integral a (hits ps) < size a = subst (λ k. integral a (hits ps) < k) (one-mul (size a)) (d .0) in
-        let s = mul-lt-mul-of-pos-left l (pow-pos n) in
-        inr (lt-of-mul-lt-mul-right (size a) (subst (λ k. k < 2 ^ n * size a) same s), d .1, d .2, d .3)
+    zeroed : tags p + 0 ≡ tags p
+    zeroed = omega arith
 
 -- a closed value of the type that no pattern matches
 abbrev Gap : Ty → List Pat → Type 0
@@ -206,24 +191,50 @@ abbrev CoversOrGap : Ty → List Pat → Type 0
 CoversOrGap a ps = ((fullWeight ps ≡ true) × Covers a ps) ⊎ ((fullWeight ps ≡ false) × Gap a ps)
 
 covers-or-gap : (a : Ty) (ps : List Pat)
-    → ((p : Pat) → List·Memᴰ p ps → (d : Slots Ty) × Fits d p a)
+    → ((p : Pat) → List·Memᴰ p ps → Shape p a)
     → ((p : Pat) → List·Memᴰ p ps → Distinct (vars p))
     → ((p : Pat) → List·Memᴰ p ps → tags p ≤ maxTags)
     → Apart ps
     → CoversOrGap a ps
-covers-or-gap a ps fits distinct light apart = go (weighed maxTags a ps fits light apart)
+covers-or-gap a ps fits distinct light apart = go (dichotomy (2 ^ maxTags) (pow-pos maxTags) (a ∷ []) (map alone ps) matrix)
   where
-    go : Weighed maxTags a ps → CoversOrGap a ps
+    matrix : Matrix (2 ^ maxTags) (a ∷ []) (map alone ps)
+    matrix = record {
+      shapes = each-map (λ r. Shapes (r .pats) (a ∷ [])) alone ps (λ p i. Shapes.more (fits p i) Shapes.end);
+      weighs = each-map (λ r. r .weight * 2 ^ tagsAll (r .pats) ≡ 2 ^ maxTags) alone ps (λ p i. alone-weighs p (light p i));
+      apart = alone-apart apart;
+    }
+
+    sum : weights (map alone ps) ≡ total (map (λ p. 2 ^ (maxTags - tags p)) ps)
+    sum = ap total (map-map (λ r. r .weight) alone ps)
+
+    first : {p : Pat} {v : Val} → Alikes (p ∷ []) (v ∷ []) → Alike p v
+    first (Alikes.more x y) = x
+
+    one : (p : Pat) → List·Memᴰ p ps → (v : Val) → Alike p v → (q : Pat) × List·Memᴰ q ps × Matched q v
+    one p i v x = (p, i, alike-matched x (distinct p i))
+
+    only : (P : Val → Type 0) (vs : List Val) → Ofs vs (a ∷ []) → ((v : Val) → Of v a → vs ≡ v ∷ [] → P v) → (v : Val) × Of v a × P v
+    only P (v ∷ []) (Ofs.more o Ofs.end) f = (v, o, f v o refl)
+    only P (v ∷ (w ∷ vs)) (Ofs.more o n) f = elim n [ ]
+
+    go : Outcome (2 ^ maxTags) (a ∷ []) (map alone ps) → CoversOrGap a ps
     go (inl d) =
         inl (
-          eq-eqb (d .0),
-          λ v o. let r = found ps v (d .1 v o) in (r .0, r .1, hit-matched (distinct (r .0) (r .1)) (r .2)),
+          eq-eqb (sym sum ∙ d .0),
+          λ v o. let r = d .1 (v ∷ []) (Ofs.more o Ofs.end) in
+              each-map (λ s. Alikes (s .pats) (v ∷ []) → (q : Pat) × List·Memᴰ q ps × Matched q v) alone ps (λ p i x. one p i v (first x)) (r .0) (r .1) (r .2),
         )
-    go (inr d) = inr (not-eqb (ne-of-lt (d .0)), (d .1, d .2, λ p m k. missed (d .3) m k))
+    go (inr d) =
+        inr (
+          not-eqb (ne-of-lt (subst (λ n. n < 2 ^ maxTags) sum (d .0))),
+          only (λ v. (p : Pat) → List·Memᴰ p ps → Matched p v → ⊥) (d .1) (d .2)
+              (λ v o e p i k. d .3 (alone p) (Memᴰ·map alone i) (subst (Alikes (p ∷ [])) (sym e) (Alikes.more (matched-alike k) Alikes.end))),
+        )
 
 -- 13 and 14: the test of the weights is the rule that every closed value is matched
 pub covering : (a : Ty) (ps : List Pat)
-    → ((p : Pat) → List·Memᴰ p ps → (d : Slots Ty) × Fits d p a)
+    → ((p : Pat) → List·Memᴰ p ps → Shape p a)
     → ((p : Pat) → List·Memᴰ p ps → Distinct (vars p))
     → ((p : Pat) → List·Memᴰ p ps → tags p ≤ maxTags)
     → Apart ps
@@ -236,7 +247,7 @@ covering a ps fits distinct light apart = go (covers-or-gap a ps fits distinct l
 
 -- where the weights fall short some closed value is matched by no pattern
 pub uncovered : (a : Ty) (ps : List Pat)
-    → ((p : Pat) → List·Memᴰ p ps → (d : Slots Ty) × Fits d p a)
+    → ((p : Pat) → List·Memᴰ p ps → Shape p a)
     → ((p : Pat) → List·Memᴰ p ps → Distinct (vars p))
     → ((p : Pat) → List·Memᴰ p ps → tags p ≤ maxTags)
     → Apart ps

@@ -1,5 +1,5 @@
 -- What reading a file guarantees of the isos that its rows unfold to: every variable has a slot, no pattern passes the ceiling of left
--- and right nodes, and a let step names an earlier iso.
+-- and right nodes, and a let step names no later iso.
 use Prim.Native.Nat.{ℕ, _<_, _≤_}
 use mathlib.Core.Path.{_≡_}
 use mathlib.Core.Option.{some}
@@ -16,7 +16,7 @@ pub record FormedPat (p : Pat) : Type 0 where
 pub record FormedLet (i : ℕ) (l : Let) : Type 0 where
   pub p : FormedPat (l .p)
   pub q : FormedPat (l .q)
-  pub earlier : l .iso < i
+  pub earlier : l .iso ≤ i
 
 pub record FormedClause (i : ℕ) (c : Clause) : Type 0 where
   pub lhs : FormedPat (c .lhs)

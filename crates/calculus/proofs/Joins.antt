@@ -7,11 +7,11 @@ use mathlib.Core.List.{[], _∷_}
 use lib.ListN.{length, replicate}
 use Rattle.limits.specs.Limits.{variables}
 use Rattle.calculus.specs.Tools.{_>>=_}
-use Rattle.calculus.specs.Trees.{Ty, tsum, tprod, Tag, Pat, pinj, ppair, Val, vunit, vinj, vpair, part}
+use Rattle.calculus.specs.Trees.{Ty, tsum, tprod, Tag, Pat, pinj, Val, vinj, part, tlist, Leaf, unitLeaf, emptyLeaf, Node, pairNode, elementNode, pleaf, pnode, vleaf, vnode}
 use Rattle.calculus.specs.Slots.{Slots, put, get, empty, allEmpty}
 use Rattle.calculus.specs.Reduction.{bind, build}
 use Rattle.calculus.specs.Paper.{Of, Join, Fits, Product, Matched}
-use Rattle.calculus.proofs.Basic.{bind-some, some-bind, none≢some, some-inj, eq-sameTag, true-guard}
+use Rattle.calculus.proofs.Basic.{bind-some, some-bind, none≢some, some-inj, eq-sameTag, true-guard, eq-sameLeaf, eq-sameNode}
 use Rattle.calculus.proofs.Slots.{allEmpty-replicate}
 use Rattle.calculus.proofs.Orthogonal.{Alike, matched-alike}
 
@@ -110,29 +110,38 @@ build-inj {t} r =
       env = r .env;
     }
 
-build-pair : {p q : Pat} {a b : Ty} {ε : Slots Val} {x f : Slots Ty} (r : Built q ε b x) → Built p (r .rest) a f → Built (ppair p q) ε (tprod a b) f
-build-pair {p} r s =
+build-node : (k : Node) {p q : Pat} {a b c : Ty} {ε : Slots Val} {x f : Slots Ty} (r : Built q ε b x) (s : Built p (r .rest) a f)
+    → Of (vnode k (s .value) (r .value)) c → Built (pnode k p q) ε c f
+build-node k {p} r s o =
     record {
-      value = vpair (s .value) (r .value);
+      value = vnode k (s .value) (r .value);
       rest = s .rest;
       builds =
-          some-bind (λ t. build p (t .1) >>= λ u. some (vpair (u .0) (t .0), u .1)) (r .builds)
-          ∙ some-bind (λ u. some (vpair (u .0) (r .value), u .1)) (s .builds);
-      typed = Of.pair (s .typed) (r .typed);
+          some-bind (λ t. build p (t .1) >>= λ u. some (vnode k (u .0) (t .0), u .1)) (r .builds)
+          ∙ some-bind (λ u. some (vnode k (u .0) (r .value), u .1)) (s .builds);
+      typed = o;
       env = s .env;
     }
 
 -- a pattern that fits takes its part of the environment
 pub build-total : {d e f : Slots Ty} {q : Pat} {a : Ty} {ε : Slots Val} → Fits e q a → Join d e f → EnvOf ε d → Built q ε a f
 build-total {ε} (Fits.unit h) j r =
-    record { value = vunit; rest = ε; builds = refl; typed = Of.unit; env = subst (EnvOf ε) (join-empty h j) r }
+    record { value = vleaf unitLeaf; rest = ε; builds = refl; typed = Of.unit; env = subst (EnvOf ε) (join-empty h j) r }
+build-total {ε} (Fits.nil h) j r =
+    record { value = vleaf emptyLeaf; rest = ε; builds = refl; typed = Of.nil; env = subst (EnvOf ε) (join-empty h j) r }
 build-total (Fits.var {n = n} {a = a} z h p) j r =
     let t = get-total n a z h p j r in record { value = t .0; rest = t .1; builds = t .2; typed = t .3; env = t .4 }
 build-total (Fits.inj {t = t} i) j r = build-inj (build-total i j r)
 build-total (Fits.pair k x y) j r =
     let s = join-assoc j (join-comm k) in
     let t = build-total y (s .1) r in
-    build-pair t (build-total x (s .2) (t .env))
+    let u = build-total x (s .2) (t .env) in
+    build-node pairNode t u (Of.pair (u .typed) (t .typed))
+build-total (Fits.cons k x y) j r =
+    let s = join-assoc j (join-comm k) in
+    let t = build-total y (s .1) r in
+    let u = build-total x (s .2) (t .env) in
+    build-node elementNode t u (Of.cons (u .typed) (t .typed))
 
 -- ---- binding
 
@@ -161,9 +170,9 @@ put-total (suc n) a (some b ∷ z) i p j r o = absurd (false≢true i)
 
 -- every value of its type has the shape of a product pattern
 pub product-alike : {g : Slots Ty} {p : Pat} {b : Ty} {u : Val} → Fits g p b → Product p → Of u b → Alike p u
-product-alike (Fits.unit h) Product.unit Of.unit = Alike.unit
+product-alike (Fits.unit h) Product.unit Of.unit = Alike.leaf refl
 product-alike (Fits.var z h p) Product.var o = Alike.var
-product-alike (Fits.pair j x y) (Product.pair p q) (Of.pair o l) = Alike.pair (product-alike x p o) (product-alike y q l)
+product-alike (Fits.pair j x y) (Product.pair p q) (Of.pair o l) = Alike.node refl (product-alike x p o) (product-alike y q l)
 
 -- what binding gives: an environment of h
 pub record BoundTo (p : Pat) (u : Val) (φ : Slots Val) (h : Slots Ty) : Type 0 where
@@ -179,24 +188,35 @@ bind-inj {p = p} {u} {φ} e r =
       env = r .env;
     }
 
-bind-pair : {p q : Pat} {u w : Val} {φ : Slots Val} {x h : Slots Ty} (r : BoundTo p u φ x) → BoundTo q w (r .slots) h
-    → BoundTo (ppair p q) (vpair u w) φ h
-bind-pair {q} {w} r s =
-    record { slots = s .slots; binds = some-bind (λ d. bind q w d) (r .binds) ∙ s .binds; env = s .env }
+bind-node : {k m : Node} {p q : Pat} {u w : Val} {φ : Slots Val} {x h : Slots Ty} → k ≡ m → (r : BoundTo p u φ x) → BoundTo q w (r .slots) h
+    → BoundTo (pnode k p q) (vnode m u w) φ h
+bind-node {p} {q} {u} {w} {φ} e r s =
+    record {
+      slots = s .slots;
+      binds = some-bind (λ _. bind p u φ >>= bind q w) (true-guard (eq-sameNode e)) ∙ some-bind (λ d. bind q w d) (r .binds) ∙ s .binds;
+      env = s .env;
+    }
+
+bind-leaf : {l k : Leaf} {φ : Slots Val} {h : Slots Ty} → l ≡ k → EnvOf φ h → BoundTo (pleaf l) (vleaf k) φ h
+bind-leaf {φ = φ} e r = record { slots = φ; binds = some-bind (λ _. some φ) (true-guard (eq-sameLeaf e)); env = r }
 
 -- a pattern that fits adds its part to the environment
 pub bind-alike : {f g h : Slots Ty} {p : Pat} {b : Ty} {u : Val} {φ : Slots Val} → Fits g p b → Of u b → Alike p u → Join h f g → EnvOf φ f
     → BoundTo p u φ h
-bind-alike {φ} (Fits.unit i) Of.unit Alike.unit j r =
-    record { slots = φ; binds = refl; env = subst (EnvOf φ) (sym (join-empty i (join-comm j))) r }
+bind-alike {φ} (Fits.unit i) Of.unit (Alike.leaf e) j r = bind-leaf e (subst (EnvOf φ) (sym (join-empty i (join-comm j))) r)
+bind-alike {φ} (Fits.nil i) Of.nil (Alike.leaf e) j r = bind-leaf e (subst (EnvOf φ) (sym (join-empty i (join-comm j))) r)
 bind-alike (Fits.var {n = n} {a = a} z i p) o Alike.var j r =
     let t = put-total n a z i p j r o in record { slots = t .0; binds = t .1; env = t .2 }
 bind-alike (Fits.inj {a = a} {b = b} x) (Of.inj {v = v} o) (Alike.inj e m) j r =
     bind-inj e (bind-alike x (subst (λ t. Of v (part t a b)) (sym e) o) m j r)
-bind-alike (Fits.pair k x y) (Of.pair o l) (Alike.pair m n) j r =
+bind-alike (Fits.pair k x y) (Of.pair o l) (Alike.node e m n) j r =
     let s = join-assoc (join-comm j) (join-comm k) in
     let t = bind-alike x o m (join-comm (s .2)) r in
-    bind-pair t (bind-alike y l n (join-comm (s .1)) (t .env))
+    bind-node e t (bind-alike y l n (join-comm (s .1)) (t .env))
+bind-alike (Fits.cons k x y) (Of.cons o l) (Alike.node e m n) j r =
+    let s = join-assoc (join-comm j) (join-comm k) in
+    let t = bind-alike x o m (join-comm (s .2)) r in
+    bind-node e t (bind-alike y l n (join-comm (s .1)) (t .env))
 
 -- "match what comes out with p": a product pattern binds every value of its type
 pub bind-total : {f g h : Slots Ty} {p : Pat} {b : Ty} {u : Val} {φ : Slots Val} → Fits g p b → Product p → Of u b → Join h f g → EnvOf φ f

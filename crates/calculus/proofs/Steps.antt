@@ -3,22 +3,22 @@ use Prim.Native.Nat.{ℕ, zero, suc, _+_}
 use native.Mathlib.Omega.{arith}
 use mathlib.Core.Path.{_≡_, refl, sym, ap, ap₂, _∙_, subst, subst₂}
 use mathlib.Core.Logic.{_⊎_, inl, inr, _↔_}
-use mathlib.Core.Bool.{true≢false}
+use mathlib.Core.Bool.{true≢false, Bool}
 use mathlib.Core.Option.{Option, some}
 use mathlib.Core.List.{List, [], _∷_, _++_, map, List·Memᴰ, List·Memᴰ·not-nil, List·Memᴰ·cases-cons, Memᴰ·map}
 use lib.ListN.{getElem?}
 use Rattle.calculus.specs.Tools.{select}
-use Rattle.calculus.specs.Trees.{Tag, Pat, Val, vunit, vinj, vpair, Let, Clause, Iso, vars}
+use Rattle.calculus.specs.Trees.{Tag, Pat, Val, vinj, Let, Clause, Iso, vars, Node, vleaf, vnode}
 use Rattle.calculus.specs.Slots.{Slots, empty}
 use Rattle.calculus.specs.Reduction.{build, Call, runLets, runClause, hits, only, apply, reduceTo}
 use Rattle.calculus.specs.Clauses.{lefts}
-use Rattle.calculus.specs.Paper.{Valuation, Matches, Matches.unit, Matches.var, Matches.inj, Matches.pair, Orth, Apart}
-use Rattle.calculus.specs.Terms.{Term, einj, epair, eapp, elet, patTerm, valTerm, chain, look, without, replace, Step, isoApp, letE, inInj, inFst, inSnd, inApp, inLet, Steps, still, more}
-use Rattle.calculus.proofs.Basic.{bind-some, none≢some, some-inj, some-pair, index-mem}
+use Rattle.calculus.specs.Paper.{Valuation, Matches, Matches.var, Matches.inj, Orth, Apart, Matches.leaf, Matches.node}
+use Rattle.calculus.specs.Terms.{Term, einj, eapp, elet, patTerm, valTerm, chain, look, without, replace, Step, isoApp, letE, inInj, inFst, inSnd, inApp, inLet, Steps, still, more, enode}
+use Rattle.calculus.proofs.Basic.{none≢some, some-inj, index-mem, counted}
 use Rattle.calculus.proofs.Slots.{slot, Contained}
 use Rattle.calculus.proofs.Orthogonal.{orth-apart, apart-head, apart-tail}
 use Rattle.calculus.proofs.Binding.{bind-found, build-found}
-use Rattle.calculus.proofs.Running.{let-run, clause-run, hit-only}
+use Rattle.calculus.proofs.Running.{let-run, clause-run, hit-only, given-some, application}
 use Rattle.calculus.proofs.Substitution.{build-replace, over, replace-over, bound-over, bound-start}
 use Rattle.calculus.proofs.Valuations.{matches-matched}
 
@@ -39,7 +39,7 @@ steps-let p u (more a r h) = more (inLet a) (steps-let p u r) h
 
 -- what a call gives, an application steps to
 abbrev Takes : List Iso → Call → Type 0
-Takes os call = (i : ℕ) (v w : Val) (k : ℕ) → call i v ≡ some (w, k) → Steps os (eapp i (valTerm v)) (valTerm w) k
+Takes os call = (i : ℕ) (v w : Val) (k : ℕ) → call i v ≡ (some w, k) → Steps os (eapp i (valTerm v)) (valTerm w) k
 
 -- a let step is the steps of its application, LetE, and the steps of its body under one substitution
 let-steps : {os : List Iso} (g : ℕ → Option Val) (l : Let) (body : Term) (u w x : Val) (σ : Valuation) (j k : ℕ)
@@ -54,10 +54,10 @@ let-steps g l body u w x σ j k argument application matches rest =
 
 -- the run of a let chain is the steps of its term, under any substitution that gives what the slots hold
 lets-forward : {os : List Iso} (call : Call) → Takes os call → (ls : List Let) (r : Pat) (e : Slots Val) (g : ℕ → Option Val)
-    → Contained (slot e) g → {d f : Slots Val} {k : ℕ} → runLets call ls e ≡ some (d, k) → {w : Val} → build r d ≡ some (w, f)
+    → Contained (slot e) g → {d f : Slots Val} {k : ℕ} → runLets call ls e ≡ (some d, k) → {w : Val} → build r d ≡ some (w, f)
     → Steps os (replace g (chain ls r)) (valTerm w) k
 lets-forward call takes [] r e g below h built =
-    still (build-replace r e g below (ap (build r) (ap (λ t. t .0) (some-inj h)) ∙ built)) (ap (λ t. t .1) (sym (some-inj h)))
+    still (build-replace r e g below (ap (build r) (some-inj (ap (λ t. t .0) h)) ∙ built)) (ap (λ t. t .1) (sym h))
 lets-forward call takes (l ∷ ls) r e g below h {w} built =
     let s = let-run call l ls e h in
     let m = bind-found (l .p) (s .gives) (s .rest) (s .bound) in
@@ -72,56 +72,62 @@ lets-forward call takes (l ∷ ls) r e g below h {w} built =
 
 -- the run of a clause is IsoApp and the steps of its let chain
 clause-forward : {os : List Iso} (call : Call) → Takes os call → (i : ℕ) (o : Iso) (c : Clause) → getElem? os i ≡ some o
-    → List·Memᴰ c (o .clauses) → (v w : Val) (k : ℕ) → runClause call c v ≡ some (w, k) → Steps os (eapp i (valTerm v)) (valTerm w) k
+    → List·Memᴰ c (o .clauses) → (v w : Val) (k : ℕ) → runClause call c v ≡ (some w, k) → Steps os (eapp i (valTerm v)) (valTerm w) (suc k)
 clause-forward {os} call takes i o c known member v w k h =
     let s = clause-run call c v h in
     let m = bind-found (c .lhs) v (empty Val) (s .bound) in
     let rest = lets-forward call takes (c .lets) (c .rhs) (s .first) (look (m .σ)) (bound-start (m .bound)) (s .lets) (s .built) in
-    more {k = s .count} {m = k} (isoApp o c v (m .σ) known member refl (m .matches) refl) rest (omega (arith, s .counts))
+    more {k = k} {m = suc k} (isoApp o c v (m .σ) known member refl (m .matches) refl) rest (omega arith)
 
 -- where the executable reduction gives something, the paper's gives it too, with the same number of applications
-pub forward : (os : List Iso) (d i : ℕ) (v w : Val) (k : ℕ) → reduceTo d os i v ≡ some (w, k) → Steps os (eapp i (valTerm v)) (valTerm w) k
-forward os zero i v w k h = absurd (none≢some h)
-forward os (suc d) i v w k h =
-    let (o, known, applied) = bind-some (getElem? os i) (λ o. apply (reduceTo d os) o v) h in
-    let (c, chosen, ran) = bind-some (only (select (hits v) (o .clauses))) (λ c. runClause (reduceTo d os) c v) applied in
-    clause-forward (reduceTo d os) (forward os d) i o c known (hit-only (hits v) (o .clauses) chosen .0) v w k ran
+pub forward : (os : List Iso) (fits : Val → Bool) (d i : ℕ) (v w : Val) (k : ℕ) → reduceTo fits d os i v ≡ (some w, k)
+    → Steps os (eapp i (valTerm v)) (valTerm w) k
+forward os fits zero i v w k h = absurd (none≢some (ap (λ r. r .0) h))
+forward os fits (suc d) i v w k h =
+    let t = application fits d os i v h in
+    let (c, chosen, ran) = given-some (only (select (hits v) (t .iso .clauses))) (λ c. runClause (reduceTo fits d os) c v) (t .applies) in
+    steps-from refl (sym (t .counts))
+    (clause-forward (reduceTo fits d os) (forward os fits d) i (t .iso) c (t .known) (hit-only (hits v) (t .iso .clauses) chosen .0) v w (t .count) ran)
 
 -- ---- the steps of a term are determined
 
 pub valTerm-injective : (v w : Val) → valTerm v ≡ valTerm w → v ≡ w
-valTerm-injective vunit vunit e = refl
-valTerm-injective vunit (vinj t w) e = cc
-valTerm-injective vunit (vpair w w′) e = cc
-valTerm-injective (vinj s v) vunit e = cc
+valTerm-injective (vleaf l) (vleaf k) e = ap vleaf cc
+valTerm-injective (vleaf l) (vinj t w) e = cc
+valTerm-injective (vleaf l) (vnode m w w′) e = cc
+valTerm-injective (vinj s v) (vleaf k) e = cc
 valTerm-injective (vinj s v) (vinj t w) e =
     let tag : s ≡ t = cc in
     let under : valTerm v ≡ valTerm w = cc in
     ap₂ vinj tag (valTerm-injective v w under)
-valTerm-injective (vinj s v) (vpair w w′) e = cc
-valTerm-injective (vpair v v′) vunit e = cc
-valTerm-injective (vpair v v′) (vinj t w) e = cc
-valTerm-injective (vpair v v′) (vpair w w′) e = ap₂ vpair (valTerm-injective v w cc) (valTerm-injective v′ w′ cc)
+valTerm-injective (vinj s v) (vnode m w w′) e = cc
+valTerm-injective (vnode k v v′) (vleaf l) e = cc
+valTerm-injective (vnode k v v′) (vinj t w) e = cc
+valTerm-injective (vnode k v v′) (vnode m w w′) e =
+    let same : k ≡ m = cc in
+    let a = valTerm-injective v w cc in
+    let b = valTerm-injective v′ w′ cc in
+    λ i. vnode (same i) (a i) (b i)
 
-not-app : {i : ℕ} {t : Term} (v : Val) → eapp i t ≡ valTerm v → ⊥
-not-app vunit e = true≢false cc
+pub not-app : {i : ℕ} {t : Term} (v : Val) → eapp i t ≡ valTerm v → ⊥
+not-app (vleaf l) e = true≢false cc
 not-app (vinj s v) e = true≢false cc
-not-app (vpair v w) e = true≢false cc
+not-app (vnode k v w) e = true≢false cc
 
-not-let : {p : Pat} {t u : Term} (v : Val) → elet p t u ≡ valTerm v → ⊥
-not-let vunit e = true≢false cc
+pub not-let : {p : Pat} {t u : Term} (v : Val) → elet p t u ≡ valTerm v → ⊥
+not-let (vleaf l) e = true≢false cc
 not-let (vinj s v) e = true≢false cc
-not-let (vpair v w) e = true≢false cc
+not-let (vnode k v w) e = true≢false cc
 
 inj-value : {s : Tag} {t : Term} (v : Val) → einj s t ≡ valTerm v → (w : Val) × (t ≡ valTerm w)
-inj-value vunit e = absurd (true≢false cc)
+inj-value (vleaf l) e = absurd (true≢false cc)
 inj-value (vinj s v) e = (v, cc)
-inj-value (vpair v w) e = absurd (true≢false cc)
+inj-value (vnode k v w) e = absurd (true≢false cc)
 
-pair-value : {t u : Term} (v : Val) → epair t u ≡ valTerm v → (w w′ : Val) × (t ≡ valTerm w) × (u ≡ valTerm w′)
-pair-value vunit e = absurd (true≢false cc)
+pair-value : {m : Node} {t u : Term} (v : Val) → enode m t u ≡ valTerm v → (w w′ : Val) × (t ≡ valTerm w) × (u ≡ valTerm w′)
+pair-value (vleaf l) e = absurd (true≢false cc)
 pair-value (vinj s v) e = absurd (true≢false cc)
-pair-value (vpair v w) e = (v, w, cc, cc)
+pair-value (vnode k v w) e = (v, w, cc, cc)
 
 -- a closed value does not step
 pub value-still : {os : List Iso} {t u : Term} {k : ℕ} → Step os t u k → (v : Val) → t ≡ valTerm v → ⊥
@@ -135,10 +141,10 @@ value-still (inLet a) v h = not-let v h
 
 -- a valuation is determined by the pattern and the value
 pub matches-unique : {σ ρ : Valuation} {p : Pat} {v : Val} → Matches σ p v → Matches ρ p v → σ ≡ ρ
-matches-unique Matches.unit Matches.unit = refl
+matches-unique (Matches.leaf s) (Matches.leaf t) = refl
 matches-unique (Matches.var e) (Matches.var f) = e ∙ sym f
 matches-unique (Matches.inj s m) (Matches.inj t n) = matches-unique m n
-matches-unique (Matches.pair m m′ d e) (Matches.pair n n′ d′ f) = e ∙ ap₂ _++_ (matches-unique m n) (matches-unique m′ n′) ∙ sym f
+matches-unique (Matches.node s m m′ d e) (Matches.node t n n′ d′ f) = e ∙ ap₂ _++_ (matches-unique m n) (matches-unique m′ n′) ∙ sym f
 
 -- orthogonal patterns match no common value
 pub orth-matches : {σ ρ : Valuation} {p q : Pat} {v : Val} → Orth p q → Matches σ p v → Matches ρ q v → ⊥
@@ -190,10 +196,10 @@ step-unique apart (letE {u = u} v σ e m f) (letE v′ σ′ e′ m′ f′) =
     (f ∙ letE-unique u (valTerm-injective v′ v (sym e′ ∙ e)) m m′ ∙ sym f′, refl)
 step-unique apart (letE v σ e m f) (inLet b) = absurd (value-still b v e)
 step-unique apart (inInj {s = s} a) (inInj b) = let (e, n) = step-unique apart a b in (ap (einj s) e, n)
-step-unique apart (inFst {u = u} w x a) (inFst w′ x′ b) = let (e, n) = step-unique apart a b in (ap (λ t. epair t u) e, n)
+step-unique apart (inFst {m = m} {u = u} w x a) (inFst w′ x′ b) = let (e, n) = step-unique apart a b in (ap (λ t. enode m t u) e, n)
 step-unique apart (inFst w x a) (inSnd v y b) = absurd (value-still b w x)
 step-unique apart (inSnd v y a) (inFst w x b) = absurd (value-still a w x)
-step-unique apart (inSnd {t = t} v y a) (inSnd v′ y′ b) = let (e, n) = step-unique apart a b in (ap (epair t) e, n)
+step-unique apart (inSnd {m = m} {t = t} v y a) (inSnd v′ y′ b) = let (e, n) = step-unique apart a b in (ap (enode m t) e, n)
 step-unique apart (inApp a) (isoApp o c v σ known member e m f) = absurd (value-still a v e)
 step-unique apart (inApp {i = i} a) (inApp b) = let (e, n) = step-unique apart a b in (ap (eapp i) e, n)
 step-unique apart (inLet a) (letE v σ e m f) = absurd (value-still a v e)
@@ -215,12 +221,12 @@ pub unique : (os : List Iso) → ((o : Iso) → List·Memᴰ o os → Apart (lef
 unique os apart t v w j k r s = steps-unique apart r s v w refl refl
 
 -- where the executable reduction gives something, it gives what the paper's gives, and no other
-pub reduction : (os : List Iso) → ((o : Iso) → List·Memᴰ o os → Apart (lefts o)) → (d i : ℕ) (v w : Val) (k : ℕ)
-    → reduceTo d os i v ≡ some (w, k) → (w′ : Val) (k′ : ℕ)
-    → Steps os (eapp i (valTerm v)) (valTerm w′) k′ ↔ (_≡_ {A = Option (Val × ℕ)} (reduceTo d os i v) (some (w′, k′)))
-reduction os apart d i v w k h w′ k′ = (there, forward os d i v w′ k′)
+pub reduction : (os : List Iso) → ((o : Iso) → List·Memᴰ o os → Apart (lefts o)) → (fits : Val → Bool) (d i : ℕ) (v w : Val) (k : ℕ)
+    → reduceTo fits d os i v ≡ (some w, k) → (w′ : Val) (k′ : ℕ)
+    → Steps os (eapp i (valTerm v)) (valTerm w′) k′ ↔ (_≡_ {A = Option Val × ℕ} (reduceTo fits d os i v) (some w′, k′))
+reduction os apart fits d i v w k h w′ k′ = (there, forward os fits d i v w′ k′)
   where
-    there : Steps os (eapp i (valTerm v)) (valTerm w′) k′ → _≡_ {A = Option (Val × ℕ)} (reduceTo d os i v) (some (w′, k′))
+    there : Steps os (eapp i (valTerm v)) (valTerm w′) k′ → _≡_ {A = Option Val × ℕ} (reduceTo fits d os i v) (some w′, k′)
     there s =
-        let (value, count) = unique os apart (eapp i (valTerm v)) w w′ k k′ (forward os d i v w k h) s in
-        h ∙ some-pair value count
+        let (value, count) = unique os apart (eapp i (valTerm v)) w w′ k k′ (forward os fits d i v w k h) s in
+        h ∙ counted (ap some value) count

@@ -8,11 +8,11 @@ use mathlib.Core.Option.{Option, none, some}
 use mathlib.Core.List.{List, [], _∷_, List·Memᴰ, List·Memᴰ·head, List·Memᴰ·tail, List·Memᴰ·not-nil, List·Memᴰ·cases-cons, Memᴰ·append-left, Memᴰ·append-right}
 use lib.Dec.{eqb}
 use Rattle.calculus.specs.Tools.{orElse}
-use Rattle.calculus.specs.Trees.{Pat, Val, vunit, vinj, vpair, vars}
+use Rattle.calculus.specs.Trees.{Pat, Val, vinj, vars, vleaf, vnode}
 use Rattle.calculus.specs.Slots.{Slots, empty}
 use Rattle.calculus.specs.Reduction.{build}
 use Rattle.calculus.specs.Paper.{Valuation, Matches}
-use Rattle.calculus.specs.Terms.{Term, eunit, evar, einj, epair, eapp, elet, patTerm, valTerm, look, orVar, without, replace}
+use Rattle.calculus.specs.Terms.{Term, evar, einj, eapp, elet, patTerm, valTerm, look, orVar, without, replace, eleaf, enode}
 use Rattle.calculus.proofs.Basic.{none≢some, bool-cases, eqb-false, eqb-eq}
 use Rattle.calculus.proofs.Slots.{slot, Contained, slot-empty}
 use Rattle.calculus.proofs.Binding.{Gives, Bound, build-found, gives-var, var-gives}
@@ -21,20 +21,20 @@ use Rattle.calculus.proofs.Binding.{Gives, Bound, build-found, gives-va
 
 -- a closed value has no variable
 pub replace-value : (f : ℕ → Option Val) (v : Val) → replace f (valTerm v) ≡ valTerm v
-replace-value f vunit = refl
+replace-value f (vleaf l) = refl
 replace-value f (vinj t v) = ap (einj t) (replace-value f v)
-replace-value f (vpair v w) = ap₂ epair (replace-value f v) (replace-value f w)
+replace-value f (vnode k v w) = ap₂ (enode k) (replace-value f v) (replace-value f w)
 
 -- a substitution that gives what the valuation gives turns the pattern into the value
 matches-replace : {σ : Valuation} {p : Pat} {v : Val} → Matches σ p v → (g : ℕ → Option Val) → ((n : ℕ) (w : Val) → Gives σ n w → g n ≡ some w)
     → replace g (patTerm p) ≡ valTerm v
-matches-replace Matches.unit g h = refl
+matches-replace (Matches.leaf e) g h = ap eleaf e
 matches-replace (Matches.var {σ} {n} {v} e) g h = ap (orVar n) (h n v (subst (λ ρ. Gives ρ n v) (sym e) (List·Memᴰ·head refl)))
 matches-replace (Matches.inj e m) g h = ap₂ einj e (matches-replace m g h)
-matches-replace (Matches.pair {σ} {ρ} m k d e) g h =
-    ap₂ epair
-    (matches-replace m g (λ n w i. h n w (subst (λ τ. Gives τ n w) (sym e) (Memᴰ·append-left ρ i))))
-    (matches-replace k g (λ n w i. h n w (subst (λ τ. Gives τ n w) (sym e) (Memᴰ·append-right σ i))))
+matches-replace (Matches.node {σ} {ρ} s m k d e) g h =
+    let a = matches-replace m g (λ n w i. h n w (subst (λ τ. Gives τ n w) (sym e) (Memᴰ·append-left ρ i))) in
+    let b = matches-replace k g (λ n w i. h n w (subst (λ τ. Gives τ n w) (sym e) (Memᴰ·append-right σ i))) in
+    λ i. enode (s i) (a i) (b i)
 
 -- putting values into a pattern is substitution, by the slots or by more
 pub build-replace : (q : Pat) (e : Slots Val) {v : Val} {d : Slots Val} (g : ℕ → Option Val)
@@ -60,10 +60,10 @@ replace-var f n (some v) = replace-value f v
 
 -- two substitutions are one
 pub replace-over : (f g : ℕ → Option Val) (t : Term) → replace f (replace g t) ≡ replace (over f g) t
-replace-over f g eunit = refl
 replace-over f g (evar n) = replace-var f n (g n)
+replace-over f g (eleaf l) = refl
 replace-over f g (einj s t) = ap (einj s) (replace-over f g t)
-replace-over f g (epair t u) = ap₂ epair (replace-over f g t) (replace-over f g u)
+replace-over f g (enode k t u) = ap₂ (enode k) (replace-over f g t) (replace-over f g u)
 replace-over f g (eapp i t) = ap (eapp i) (replace-over f g t)
 replace-over f g (elet p t u) =
     ap₂ (elet p) (replace-over f g t)

@@ -9,7 +9,8 @@ use mathlib.Core.List.{List, [], _∷_, _++_, map, reverse, reverse-cons}
 use lib.ListN.{getElem?, length, replicate}
 use Rattle.limits.specs.Limits.{variables}
 use Rattle.calculus.specs.Tools.{_>>=_, guard}
-use Rattle.calculus.specs.Trees.{Ty, tunit, tsum, tprod, Pat, punit, pvar, pinj, ppair, Let, Clause, sameType, part, invertLet, invertClause}
+use Rattle.calculus.specs.Trees.{Ty, tunit, tsum, tprod, Pat, pvar, pinj, Let, Clause, sameType, part, invertLet, invertClause, tlist, Leaf, unitLeaf}
+use Rattle.calculus.specs.Trees.{emptyLeaf, Tag, Node, pairNode, elementNode, pleaf, pnode, leafFits, beneath, parts}
 use Rattle.calculus.specs.Slots.{Slots, put, get, empty, allEmpty}
 use Rattle.calculus.specs.Clauses.{learn, spend, Sigs, typeLets, typeClause, used, typed}
 use Rattle.calculus.specs.Paper.{Join, Fits, Chain, Linear}
@@ -20,50 +21,48 @@ use Rattle.calculus.proofs.Joins.{join-comm, join-assoc, join-empty, jo
 -- ---- binding and using undo each other
 
 pub spend-of-learn : (p : Pat) (a : Ty) (e : Slots Ty) {d : Slots Ty} → learn p a e ≡ some d → spend p a d ≡ some e
-spend-of-learn punit tunit e h = sym h
-spend-of-learn punit (tsum a b) e h = absurd (none≢some h)
-spend-of-learn punit (tprod a b) e h = absurd (none≢some h)
 spend-of-learn (pvar n) a e h =
     some-bind (λ r. guard (sameType (r .0) a) >>= λ _. some (r .1)) (get-of-put n a e h) ∙ some-bind (λ _. some e) (true-guard (sameType-refl a))
-spend-of-learn (pinj t p) tunit e h = absurd (none≢some h)
-spend-of-learn (pinj t p) (tsum a b) e h = spend-of-learn p (part t a b) e h
-spend-of-learn (pinj t p) (tprod a b) e h = absurd (none≢some h)
-spend-of-learn (ppair p q) tunit e h = absurd (none≢some h)
-spend-of-learn (ppair p q) (tsum a b) e h = absurd (none≢some h)
-spend-of-learn (ppair p q) (tprod a b) e h =
-    let m = bind-some (learn p a e) (λ x. learn q b x) h in
-    some-bind (λ x. spend p a x) (spend-of-learn q b (m .0) (m .2)) ∙ spend-of-learn p a e (m .1)
+spend-of-learn (pleaf l) a e h =
+    let g = bind-some (guard (leafFits l a)) (λ _. some e) h in
+    ap (λ x. guard (leafFits l a) >>= λ _. some x) (sym (some-inj (g .2))) ∙ some-bind (λ _. some e) (g .1)
+spend-of-learn (pinj t p) a e {d} h =
+    let g = bind-some (beneath t a) (λ b. learn p b e) h in
+    some-bind (λ b. spend p b d) (g .1) ∙ spend-of-learn p (g .0) e (g .2)
+spend-of-learn (pnode k p q) a e {d} h =
+    let g = bind-some (parts k a) (λ s. learn p (s .0) e >>= λ x. learn q (s .1) x) h in
+    let m = bind-some (learn p (g .0 .0) e) (λ x. learn q (g .0 .1) x) (g .2) in
+    some-bind (λ s. spend q (s .1) d >>= λ x. spend p (s .0) x) (g .1)
+    ∙ some-bind (λ x. spend p (g .0 .0) x) (spend-of-learn q (g .0 .1) (m .0) (m .2))
+    ∙ spend-of-learn p (g .0 .0) e (m .1)
 
 pub learn-of-spend : (p : Pat) (a : Ty) (d : Slots Ty) {e : Slots Ty} → spend p a d ≡ some e → learn p a e ≡ some d
-learn-of-spend punit tunit d h = sym h
-learn-of-spend punit (tsum a b) d h = absurd (none≢some h)
-learn-of-spend punit (tprod a b) d h = absurd (none≢some h)
 learn-of-spend (pvar n) a d {e} h =
     let g = bind-some (get n d) (λ r. guard (sameType (r .0) a) >>= λ _. some (r .1)) h in
     let m = bind-some (guard (sameType (g .0 .0) a)) (λ _. some (g .0 .1)) (g .2) in
     let same = sameType-eq (g .0 .0) a (guard-true (sameType (g .0 .0) a) (m .1)) in
     ap₂ (put n) (sym same) (sym (some-inj (m .2))) ∙ put-of-get n (g .0 .0) d (g .1)
-learn-of-spend (pinj t p) tunit d h = absurd (none≢some h)
-learn-of-spend (pinj t p) (tsum a b) d h = learn-of-spend p (part t a b) d h
-learn-of-spend (pinj t p) (tprod a b) d h = absurd (none≢some h)
-learn-of-spend (ppair p q) tunit d h = absurd (none≢some h)
-learn-of-spend (ppair p q) (tsum a b) d h = absurd (none≢some h)
-learn-of-spend (ppair p q) (tprod a b) d h =
-    let m = bind-some (spend q b d) (λ x. spend p a x) h in
-    some-bind (λ x. learn q b x) (learn-of-spend p a (m .0) (m .2)) ∙ learn-of-spend q b d (m .1)
+learn-of-spend (pleaf l) a d h =
+    let g = bind-some (guard (leafFits l a)) (λ _. some d) h in
+    ap (λ x. guard (leafFits l a) >>= λ _. some x) (sym (some-inj (g .2))) ∙ some-bind (λ _. some d) (g .1)
+learn-of-spend (pinj t p) a d {e} h =
+    let g = bind-some (beneath t a) (λ b. spend p b d) h in
+    some-bind (λ b. learn p b e) (g .1) ∙ learn-of-spend p (g .0) d (g .2)
+learn-of-spend (pnode k p q) a d {e} h =
+    let g = bind-some (parts k a) (λ s. spend q (s .1) d >>= λ x. spend p (s .0) x) h in
+    let m = bind-some (spend q (g .0 .1) d) (λ x. spend p (g .0 .0) x) (g .2) in
+    some-bind (λ s. learn p (s .0) e >>= λ x. learn q (s .1) x) (g .1)
+    ∙ some-bind (λ x. learn q (g .0 .1) x) (learn-of-spend p (g .0 .0) (m .0) (m .2))
+    ∙ learn-of-spend q (g .0 .1) d (m .1)
 
 pub learn-length : (p : Pat) (a : Ty) (e : Slots Ty) {d : Slots Ty} → learn p a e ≡ some d → length d ≡ length e
-learn-length punit tunit e h = ap length (sym (some-inj h))
-learn-length punit (tsum a b) e h = absurd (none≢some h)
-learn-length punit (tprod a b) e h = absurd (none≢some h)
 learn-length (pvar n) a e h = put-length n a e h
-learn-length (pinj t p) tunit e h = absurd (none≢some h)
-learn-length (pinj t p) (tsum a b) e h = learn-length p (part t a b) e h
-learn-length (pinj t p) (tprod a b) e h = absurd (none≢some h)
-learn-length (ppair p q) tunit e h = absurd (none≢some h)
-learn-length (ppair p q) (tsum a b) e h = absurd (none≢some h)
-learn-length (ppair p q) (tprod a b) e h =
-    let m = bind-some (learn p a e) (λ x. learn q b x) h in learn-length q b (m .0) (m .2) ∙ learn-length p a e (m .1)
+learn-length (pleaf l) a e h = ap length (sym (some-inj (bind-some (guard (leafFits l a)) (λ _. some e) h .2)))
+learn-length (pinj t p) a e h = let g = bind-some (beneath t a) (λ b. learn p b e) h in learn-length p (g .0) e (g .2)
+learn-length (pnode k p q) a e h =
+    let g = bind-some (parts k a) (λ s. learn p (s .0) e >>= λ x. learn q (s .1) x) h in
+    let m = bind-some (learn p (g .0 .0) e) (λ x. learn q (g .0 .1) x) (g .2) in
+    learn-length q (g .0 .1) (m .0) (m .2) ∙ learn-length p (g .0 .0) e (m .1)
 
 pub spend-length : (p : Pat) (a : Ty) (d : Slots Ty) {e : Slots Ty} → spend p a d ≡ some e → length e ≡ length d
 spend-length p a d {e} h = sym (learn-length p a e (learn-of-spend p a d h))
@@ -94,24 +93,55 @@ put-adds (suc n) a (some b ∷ e) h =
 abbrev Adds : Pat → Ty → Slots Ty → Slots Ty → Type 0
 Adds p a e d = (g : Slots Ty) × Fits g p a × Join d e g
 
+leaf-fits : (l : Leaf) (a : Ty) (g : Slots Ty) → leafFits l a ≡ true → allEmpty g ≡ true → Fits g (pleaf l) a
+leaf-fits unitLeaf tunit g e h = Fits.unit h
+leaf-fits unitLeaf (tlist a) g e h = absurd (false≢true e)
+leaf-fits unitLeaf (tsum a b) g e h = absurd (false≢true e)
+leaf-fits unitLeaf (tprod a b) g e h = absurd (false≢true e)
+leaf-fits emptyLeaf tunit g e h = absurd (false≢true e)
+leaf-fits emptyLeaf (tlist a) g e h = Fits.nil h
+leaf-fits emptyLeaf (tsum a b) g e h = absurd (false≢true e)
+leaf-fits emptyLeaf (tprod a b) g e h = absurd (false≢true e)
+
+tag-fits : (t : Tag) (a b : Ty) (p : Pat) (g : Slots Ty) → beneath t a ≡ some b → Fits g p b → Fits g (pinj t p) a
+tag-fits t tunit b p g e f = absurd (none≢some e)
+tag-fits t (tlist a) b p g e f = absurd (none≢some e)
+tag-fits t (tsum a c) b p g e f = Fits.inj (subst (Fits g p) (sym (some-inj e)) f)
+tag-fits t (tprod a c) b p g e f = absurd (none≢some e)
+
+node-fits : (k : Node) (a : Ty) (s : Ty × Ty) (p q : Pat) (d e f : Slots Ty) → parts k a ≡ some s → Join d e f → Fits e p (s .0) → Fits f q (s .1)
+    → Fits d (pnode k p q) a
+node-fits pairNode tunit s p q d e f h j x y = absurd (none≢some h)
+node-fits pairNode (tlist a) s p q d e f h j x y = absurd (none≢some h)
+node-fits pairNode (tsum a b) s p q d e f h j x y = absurd (none≢some h)
+node-fits pairNode (tprod a b) s p q d e f h j x y =
+    Fits.pair j (subst (λ r. Fits e p (r .0)) (sym (some-inj h)) x) (subst (λ r. Fits f q (r .1)) (sym (some-inj h)) y)
+node-fits elementNode tunit s p q d e f h j x y = absurd (none≢some h)
+node-fits elementNode (tlist a) s p q d e f h j x y =
+    Fits.cons j (subst (λ r. Fits e p (r .0)) (sym (some-inj h)) x) (subst (λ r. Fits f q (r .1)) (sym (some-inj h)) y)
+node-fits elementNode (tsum a b) s p q d e f h j x y = absurd (none≢some h)
+node-fits elementNode (tprod a b) s p q d e f h j x y = absurd (none≢some h)
+
 pub learn-adds : (p : Pat) (a : Ty) (e : Slots Ty) {d : Slots Ty} → learn p a e ≡ some d → Adds p a e d
-learn-adds punit tunit e h =
-    let blank : Slots Ty = replicate (length e) none in
-    (blank, Fits.unit (allEmpty-replicate Ty (length e)), subst (λ d. Join d e blank) (some-inj h) (join-comm (join-blank e (length e) refl)))
-learn-adds punit (tsum a b) e h = absurd (none≢some h)
-learn-adds punit (tprod a b) e h = absurd (none≢some h)
 learn-adds (pvar n) a e h = let r = put-adds n a e h in (r .1, Fits.var (r .0) (r .2) (r .3), r .4)
-learn-adds (pinj t p) tunit e h = absurd (none≢some h)
-learn-adds (pinj t p) (tsum a b) e h = let r = learn-adds p (part t a b) e h in (r .0, Fits.inj (r .1), r .2)
-learn-adds (pinj t p) (tprod a b) e h = absurd (none≢some h)
-learn-adds (ppair p q) tunit e h = absurd (none≢some h)
-learn-adds (ppair p q) (tsum a b) e h = absurd (none≢some h)
-learn-adds (ppair p q) (tprod a b) e h =
-    let m = bind-some (learn p a e) (λ x. learn q b x) h in
-    let x = learn-adds p a e (m .1) in
-    let y = learn-adds q b (m .0) (m .2) in
+learn-adds (pleaf l) a e h =
+    let g = bind-some (guard (leafFits l a)) (λ _. some e) h in
+    let blank : Slots Ty = replicate (length e) none in (
+      blank,
+      leaf-fits l a blank (guard-true (leafFits l a) (g .1)) (allEmpty-replicate Ty (length e)),
+      subst (λ d. Join d e blank) (some-inj (g .2)) (join-comm (join-blank e (length e) refl)),
+    )
+learn-adds (pinj t p) a e h =
+    let g = bind-some (beneath t a) (λ b. learn p b e) h in
+    let r = learn-adds p (g .0) e (g .2) in
+    (r .0, tag-fits t a (g .0) p (r .0) (g .1) (r .1), r .2)
+learn-adds (pnode k p q) a e h =
+    let g = bind-some (parts k a) (λ s. learn p (s .0) e >>= λ x. learn q (s .1) x) h in
+    let m = bind-some (learn p (g .0 .0) e) (λ x. learn q (g .0 .1) x) (g .2) in
+    let x = learn-adds p (g .0 .0) e (m .1) in
+    let y = learn-adds q (g .0 .1) (m .0) (m .2) in
     let j = join-assoc (y .2) (x .2) in
-    (j .0, Fits.pair (j .2) (x .1) (y .1), j .1)
+    (j .0, node-fits k a (g .0) p q (j .0) (x .0) (y .0) (g .1) (j .2) (x .1) (y .1), j .1)
 
 put-join : (n : ℕ) (a : Ty) (z : Slots Ty) {g d e : Slots Ty} → allEmpty z ≡ true → put n a z ≡ some g → Join d e g → put n a e ≡ some d
 put-join n a [] h k j = absurd (none≢some k)
@@ -132,11 +162,15 @@ put-join (suc n) a (some b ∷ z) h k j = absurd (false≢true h)
 
 pub adds-learn : {g : Slots Ty} {p : Pat} {a : Ty} {d e : Slots Ty} → Fits g p a → Join d e g → learn p a e ≡ some d
 adds-learn (Fits.unit h) j = ap some (sym (join-empty h (join-comm j)))
+adds-learn (Fits.nil h) j = ap some (sym (join-empty h (join-comm j)))
 adds-learn (Fits.var {n = n} {a = a} z h k) j = put-join n a z h k j
 adds-learn (Fits.inj f) j = adds-learn f j
 adds-learn {e = e} (Fits.pair {q = q} {b = b} i x y) j =
     let s = join-assoc (join-comm j) (join-comm i) in
     some-bind (λ r. learn q b r) (adds-learn x (join-comm (s .2))) ∙ adds-learn y (join-comm (s .1))
+adds-learn {e = e} (Fits.cons {q = q} {a = a} i x y) j =
+    let s = join-assoc (join-comm j) (join-comm i) in
+    some-bind (λ r. learn q (tlist a) r) (adds-learn x (join-comm (s .2))) ∙ adds-learn y (join-comm (s .1))
 
 -- ---- let steps and clauses
 

@@ -6,7 +6,7 @@ use mathlib.Core.Bool.{Bool, true, false, cond, _&&_, false≢true}
 use mathlib.Core.List.{List, [], _∷_, _++_, map, reverse, append-nil, append-assoc, reverse-cons, List·Memᴰ, List·Memᴰ·head, List·Memᴰ·tail, Memᴰ·map, cons-ne-nil}
 use lib.Dec.{eqb}
 use Rattle.calculus.specs.Tools.{all}
-use Rattle.calculus.specs.Trees.{Pat, punit, pvar, pinj, ppair, Let, Clause, vars, invertLet, invertClause}
+use Rattle.calculus.specs.Trees.{Pat, pvar, pinj, Let, Clause, vars, invertLet, invertClause, unitLeaf, emptyLeaf, pairNode, elementNode, pleaf, pnode}
 use Rattle.calculus.specs.Clauses.{Deed, binds, uses, Event, deeds, letEvents, events, history, alternate, variablesRule, plain, letShapes}
 use Rattle.calculus.specs.Paper.{Alternate, BoundThenUsed, Distinct, nobody, another, Product, LetProducts}
 use Rattle.calculus.proofs.Basic.{bool-cases, and-true, true-and, eqb-eq, eq-eqb, each-map, all-mem, mem-all, mem-reverse}
@@ -83,10 +83,12 @@ variables-iff c = (λ h n. there h n (history-mem n (events c)), λ h. mem-all t
 -- ---- refusal 9
 
 plain-product : (p : Pat) → plain p ≡ true → Product p
-plain-product punit e = Product.unit
 plain-product (pvar n) e = Product.var
+plain-product (pleaf unitLeaf) e = Product.unit
+plain-product (pleaf emptyLeaf) e = absurd (false≢true e)
 plain-product (pinj t p) e = absurd (false≢true e)
-plain-product (ppair p q) e = let h = and-true (plain p) (plain q) e in Product.pair (plain-product p (h .0)) (plain-product q (h .1))
+plain-product (pnode pairNode p q) e = let h = and-true (plain p) (plain q) e in Product.pair (plain-product p (h .0)) (plain-product q (h .1))
+plain-product (pnode elementNode p q) e = absurd (false≢true e)
 
 product-plain : {p : Pat} → Product p → plain p ≡ true
 product-plain Product.unit = refl

@@ -1,13 +1,13 @@
--- Refusals 8 to 14 as judgements, in the stated order ("Only then the isos in order: each clause in order, lowest of 8 to 10, then the iso, lowest of
--- 11 to 14."), and what is reached.
-use Prim.Native.Nat.{ℕ}
+-- Refusals 8 to 14 and 23 as judgements, in the stated order ("Only then the isos in order: each clause in order, lowest of 8 to 10, then the iso",
+-- 23 and the "lowest of 11 to 14."), and what is reached.
+use Prim.Native.Nat.{ℕ, suc}
 use mathlib.Core.Path.{_≡_}
 use mathlib.Core.List.{List, _∷_, List·Memᴰ}
 use Rattle.calculus.specs.Trees.{Ty, Val, Clause, Iso, left, right}
-use Rattle.calculus.specs.Refusals.{Refusal, clauseLine, isoLine, variable, letShape, badType, overlap, gap}
+use Rattle.calculus.specs.Refusals.{Refusal, clauseLine, isoLine, variable, letShape, badType, overlap, gap, recursion}
 use Rattle.calculus.specs.Terms.{Steps, eapp, valTerm}
 use Rattle.calculus.specs.Clauses.{Sigs, lefts, rights}
-use Rattle.calculus.specs.Paper.{BoundThenUsed, LetProducts, Linear, Of, Apart, Covers, ClauseOk, IsoOk}
+use Rattle.calculus.specs.Paper.{BoundThenUsed, LetProducts, Linear, Of, Apart, Covers, Zoned, ShowsThere, Recursion, ClauseOk, IsoOk}
 
 -- 8 "variables rule broken", 9 "left or right in a let pattern", 10 "no such assignment" (of types to bindings: the crate `law_reuse`)
 pub data ClauseFault (sigs : Sigs) (a b : Ty) (c : Clause) : Refusal → Type 0 where
@@ -27,15 +27,27 @@ pub data FirstClause (sigs : Sigs) (a b : Ty) : List Clause → Refusal → ℕ 
   here : {c : Clause} {cs : List Clause} {f : Refusal} {n : ℕ} → ClauseFault sigs a b c f → n ≡ c .line → FirstClause sigs a b (c ∷ cs) f n
   later : {c : Clause} {cs : List Clause} {f : Refusal} {n : ℕ} → ClauseOk sigs a b c → FirstClause sigs a b cs f n → FirstClause sigs a b (c ∷ cs) f n
 
--- a faulty iso: in its clauses, and only then in its sides, at its I line
-pub data IsoFault (sigs : Sigs) (o : Iso) : Refusal → ℕ → Type 0 where
-  inClause : {f : Refusal} {n : ℕ} → FirstClause sigs (o .from) (o .to) (o .clauses) f n → IsoFault sigs o f n
-  inSides : {f : Refusal} {n : ℕ} → ((c : Clause) → List·Memᴰ c (o .clauses) → ClauseOk sigs (o .from) (o .to) c) → SideFault o f → n ≡ o .line → IsoFault sigs o f n
+-- 23 "at the I line where the from-type is neither, otherwise at the first C line that breaks the rule as written"
+pub data FirstBreach (i : ℕ) : List Clause → ℕ → Type 0 where
+  here : {c : Clause} {cs : List Clause} {n : ℕ} → ¬ ShowsThere i (c .lets) (c .lhs) → n ≡ c .line → FirstBreach i (c ∷ cs) n
+  later : {c : Clause} {cs : List Clause} {n : ℕ} → ShowsThere i (c .lets) (c .lhs) → FirstBreach i cs n → FirstBreach i (c ∷ cs) n
 
--- the first faulty iso
-pub data FirstIso (sigs : Sigs) : List Iso → Refusal → ℕ → Type 0 where
-  here : {o : Iso} {os : List Iso} {f : Refusal} {n : ℕ} → IsoFault sigs o f n → FirstIso sigs (o ∷ os) f n
-  later : {o : Iso} {os : List Iso} {f : Refusal} {n : ℕ} → IsoOk sigs o → FirstIso sigs os f n → FirstIso sigs (o ∷ os) f n
+pub data Breach (i : ℕ) (o : Iso) : Refusal → ℕ → Type 0 where
+  inType : {n : ℕ} → ¬ Zoned (o .from) → n ≡ o .line → Breach i o (recursion isoLine) n
+  inClause : {n : ℕ} → Zoned (o .from) → FirstBreach i (o .clauses) n → Breach i o (recursion clauseLine) n
+
+-- a faulty iso: in its clauses, and only then in its recursion, and only then in its sides, at its I line
+pub data IsoFault (sigs : Sigs) (i : ℕ) (o : Iso) : Refusal → ℕ → Type 0 where
+  inClause : {f : Refusal} {n : ℕ} → FirstClause sigs (o .from) (o .to) (o .clauses) f n → IsoFault sigs i o f n
+  inRecursion : {f : Refusal} {n : ℕ} → ((c : Clause) → List·Memᴰ c (o .clauses) → ClauseOk sigs (o .from) (o .to) c) → ¬ Recursion i o → Breach i o f n
+      → IsoFault sigs i o f n
+  inSides : {f : Refusal} {n : ℕ} → ((c : Clause) → List·Memᴰ c (o .clauses) → ClauseOk sigs (o .from) (o .to) c) → Recursion i o → SideFault o f
+      → n ≡ o .line → IsoFault sigs i o f n
+
+-- the first faulty iso, numbered from i on
+pub data FirstIso (sigs : Sigs) : ℕ → List Iso → Refusal → ℕ → Type 0 where
+  here : {i : ℕ} {o : Iso} {os : List Iso} {f : Refusal} {n : ℕ} → IsoFault sigs i o f n → FirstIso sigs i (o ∷ os) f n
+  later : {i : ℕ} {o : Iso} {os : List Iso} {f : Refusal} {n : ℕ} → IsoOk sigs i o → FirstIso sigs (suc i) os f n → FirstIso sigs i (o ∷ os) f n
 
 -- "every value of the to-type is reached from exactly one value of the from-type": w is what `source` reduces to, and no other closed value does
 pub record ReachedOnce (os : List Iso) (i : ℕ) (o : Iso) (w : Val) : Type 0 where
@@ -44,3 +56,10 @@ pub record ReachedOnce (os : List Iso) (i : ℕ) (o : Iso) (w : Val) : Type 0 wh
   pub count : ℕ
   pub reduces : Steps os (eapp i (valTerm source)) (valTerm w) count
   pub one : (v : Val) (k : ℕ) → Of v (o .from) → Steps os (eapp i (valTerm v)) (valTerm w) k → v ≡ source
+
+-- "the reduction that way ends": the steps of Table 3, without ceilings, lead to a closed value of the to-type
+pub record Ends (os : List Iso) (i : ℕ) (o : Iso) (v : Val) : Type 0 where
+  pub result : Val
+  pub count : ℕ
+  pub reduces : Steps os (eapp i (valTerm v)) (valTerm result) count
+  pub typed : Of result (o .to)

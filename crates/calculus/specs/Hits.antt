@@ -3,20 +3,20 @@ use Prim.Native.Nat.{ℕ, _*_}
 use mathlib.Core.Bool.{cond}
 use mathlib.Core.List.{List, map}
 use Rattle.calculus.specs.Tools.{total}
-use Rattle.calculus.specs.Trees.{Pat, punit, pvar, pinj, ppair, Val, vunit, vinj, vpair, sameTag}
+use Rattle.calculus.specs.Trees.{Pat, pvar, pleaf, pinj, pnode, Val, vleaf, vinj, vnode, sameLeaf, sameTag, sameNode}
 
 -- 1 where the pattern, its variables taken for blanks, matches; 0 elsewhere
 abbrev pub hit : Pat → Val → ℕ
-hit punit vunit = 1
-hit punit (vinj t v) = 0
-hit punit (vpair v w) = 0
 hit (pvar n) v = 1
-hit (pinj s p) vunit = 0
+hit (pleaf l) (vleaf k) = cond (sameLeaf l k) 1 0
+hit (pleaf l) (vinj t v) = 0
+hit (pleaf l) (vnode k v w) = 0
+hit (pinj s p) (vleaf k) = 0
 hit (pinj s p) (vinj t v) = cond (sameTag s t) (hit p v) 0
-hit (pinj s p) (vpair v w) = 0
-hit (ppair p q) vunit = 0
-hit (ppair p q) (vinj t v) = 0
-hit (ppair p q) (vpair v w) = hit p v * hit q w
+hit (pinj s p) (vnode k v w) = 0
+hit (pnode m p q) (vleaf k) = 0
+hit (pnode m p q) (vinj t v) = 0
+hit (pnode m p q) (vnode k v w) = cond (sameNode m k) (hit p v * hit q w) 0
 
 -- how many patterns match
 abbrev pub hits : List Pat → Val → ℕ

@@ -3,9 +3,11 @@ pub mod Trees
 pub mod Slots
 pub mod Refusals
 pub mod Clauses
-pub mod Reduction
 pub mod Letters
+pub mod Reduction
 pub mod Paper
+pub mod Lists
+pub mod Shapes
 pub mod Hits
 pub mod Terms
 pub mod Next

@@ -1,6 +1,6 @@
--- The refusals of document 01 and of requests 02 (18, 19), 07 (20), 11 (21) and 12 (22), each with its number. A case holds the kind of
--- the faulty line: any for 4 to 7, a C line for 8 to 10, an I line for 11 to 14, a T or P line for 21. Refusal 3 has none to hold, its line being of none of the
--- five forms, and the others name no line.
+-- The refusals of document 01 and of requests 02 (18, 19), 07 (20), 11 (21), 12 (22) and 14 (23, 24), each with its number. A case holds
+-- the kind of the faulty line: any for 4 to 7, a C line for 8 to 10, an I line for 11 to 14, a T or P line for 21, a C or I line for 23.
+-- Refusal 3 has none to hold, its line being of none of the five forms, and the others name no line.
 use Prim.Native.Nat.{ℕ}
 use Rattle.calculus.specs.Trees.{Tag, left, right}
 
@@ -18,6 +18,8 @@ pub data Refusal : Type 0 where
   badList : Refusal
   idle : Kind → Refusal
   badScript : Refusal
+  recursion : Kind → Refusal
+  tooLarge : Refusal
 
 -- the column "number" of document 01's table
 abbrev pub number : Refusal → ℕ
@@ -43,3 +45,5 @@ number tooHigh = 19
 number badList = 20
 number (idle k) = 21
 number badScript = 22
+number (recursion k) = 23
+number tooLarge = 24

@@ -7,28 +7,28 @@ use mathlib.Core.Option.{Option, none, some}
 use mathlib.Core.List.{List, [], _∷_, List·Memᴰ}
 use lib.Dec.{eqb}
 use lib.ListN.{getElem?}
-use Rattle.calculus.specs.Trees.{Tag, Pat, punit, pvar, pinj, ppair, Val, vunit, vinj, vpair, Let, Clause, Iso, vars}
+use Rattle.calculus.specs.Trees.{Tag, Pat, pvar, pinj, Val, vinj, Let, Clause, Iso, vars, Leaf, unitLeaf, Node, pleaf, pnode, vleaf, vnode}
 use Rattle.calculus.specs.Paper.{Valuation, Matches}
 
--- t ::= () | x | inj t | ⟨t₁, t₂⟩ | ω t | let p = t₁ in t₂
+-- t ::= () | x | inj t | ⟨t₁, t₂⟩ | ω t | let p = t₁ in t₂, and [] | t₁ : t₂
 pub data Term : Type 0 where
-  eunit : Term
   evar : ℕ → Term
+  eleaf : Leaf → Term
   einj : Tag → Term → Term
-  epair : Term → Term → Term
+  enode : Node → Term → Term → Term
   eapp : ℕ → Term → Term
   elet : Pat → Term → Term → Term
 
 abbrev pub patTerm : Pat → Term
-patTerm punit = eunit
 patTerm (pvar n) = evar n
+patTerm (pleaf l) = eleaf l
 patTerm (pinj t p) = einj t (patTerm p)
-patTerm (ppair p q) = epair (patTerm p) (patTerm q)
+patTerm (pnode k p q) = enode k (patTerm p) (patTerm q)
 
 abbrev pub valTerm : Val → Term
-valTerm vunit = eunit
+valTerm (vleaf l) = eleaf l
 valTerm (vinj t v) = einj t (valTerm v)
-valTerm (vpair v w) = epair (valTerm v) (valTerm w)
+valTerm (vnode k v w) = enode k (valTerm v) (valTerm w)
 
 -- a clause's right side: let p₁ = ω₁ q₁ in … in v
 abbrev pub chain : List Let → Pat → Term
@@ -52,15 +52,15 @@ without (m ∷ ms) f n = cond (eqb n m) none (without ms f n)
 -- σ(t): "the variables … have been replaced with the corresponding values". What stands behind a let under a number of its p is that let's
 -- binding, another one than σ's (request 03: a number may be used again), and is not replaced. Values are closed, so no let captures what is put in.
 abbrev pub replace : (ℕ → Option Val) → Term → Term
-replace f eunit = eunit
 replace f (evar n) = orVar n (f n)
+replace f (eleaf l) = eleaf l
 replace f (einj t u) = einj t (replace f u)
-replace f (epair t u) = epair (replace f t) (replace f u)
+replace f (enode k t u) = enode k (replace f t) (replace f u)
 replace f (eapp i t) = eapp i (replace f t)
 replace f (elet p t u) = elet p (replace f t) (replace (without (vars p) f) u)
 
 -- let x = ω x in x: the x that ω gets is replaced, the x behind the let is not
-used-again : replace (look ((0, vunit) ∷ [])) (elet (pvar 0) (eapp 0 (evar 0)) (evar 0)) ≡ elet (pvar 0) (eapp 0 eunit) (evar 0)
+used-again : replace (look ((0, vleaf unitLeaf) ∷ [])) (elet (pvar 0) (eapp 0 (evar 0)) (evar 0)) ≡ elet (pvar 0) (eapp 0 (eleaf unitLeaf)) (evar 0)
 used-again = refl
 
 -- Table 3. The number is 1 for IsoApp and 0 for LetE; "the value given is matched", not the right side. The other rules are Cong, one
@@ -70,8 +70,8 @@ pub data Step (os : List Iso) : Term → Term → ℕ → Type 0 where
       → t ≡ valTerm v → Matches σ (c .lhs) v → u ≡ replace (look σ) (chain (c .lets) (c .rhs)) → Step os (eapp i t) u 1
   letE : {p : Pat} {t u u′ : Term} (v : Val) (σ : Valuation) → t ≡ valTerm v → Matches σ p v → u′ ≡ replace (look σ) u → Step os (elet p t u) u′ 0
   inInj : {s : Tag} {t t′ : Term} {k : ℕ} → Step os t t′ k → Step os (einj s t) (einj s t′) k
-  inFst : {t t′ u : Term} {k : ℕ} (w : Val) → u ≡ valTerm w → Step os t t′ k → Step os (epair t u) (epair t′ u) k
-  inSnd : {t u u′ : Term} {k : ℕ} (v : Val) → t ≡ valTerm v → Step os u u′ k → Step os (epair t u) (epair t u′) k
+  inFst : {m : Node} {t t′ u : Term} {k : ℕ} (w : Val) → u ≡ valTerm w → Step os t t′ k → Step os (enode m t u) (enode m t′ u) k
+  inSnd : {m : Node} {t u u′ : Term} {k : ℕ} (v : Val) → t ≡ valTerm v → Step os u u′ k → Step os (enode m t u) (enode m t u′) k
   inApp : {i : ℕ} {t t′ : Term} {k : ℕ} → Step os t t′ k → Step os (eapp i t) (eapp i t′) k
   inLet : {p : Pat} {t t′ u : Term} {k : ℕ} → Step os t t′ k → Step os (elet p t u) (elet p t′ u) k
 

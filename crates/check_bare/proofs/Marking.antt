@@ -11,7 +11,7 @@ use lib.ListN.{length, getD, set, length-set}
 use lib.Seq.{getD-set-same, getD-set-other}
 use borrow.Author.Tests.{ltb-true, lt-ltb, le-ltb, eqb-true}
 use Rattle.limits.specs.Limits.{maxLines}
-use Rattle.calculus.specs.Trees.{Ty, tunit, tprod, Pat, punit, ppair}
+use Rattle.calculus.specs.Trees.{Ty, tunit, tprod, Pat, pleaf, unitLeaf, pnode, pairNode}
 use Rattle.table_trees.specs.Unfolding.{cellOf, smallerOf, typeOf, patternOf}
 use Rattle.table_trees.proofs.Unfolding.{type-unit, pattern-unit}
 use Rattle.table_trees.proofs.Lines.{line-product, is-pair}
@@ -111,7 +111,7 @@ suits-none t p c e = absurd (omega arith)
 
 pub suits-unit : (t : List ℕ) (base j : ℕ) {k r : ℕ} → k ≡ cellOf t (base + j) 1 → k ≡ 0 → Stands t r tunit → Suits t r (patternOf t base j)
 suits-unit t base j e z h c f =
-    subst (λ p. Bare p (typeOf t c)) (sym (pattern-unit t base j (sym e ∙ z))) (subst (Bare punit) (sym (h c f)) unit)
+    subst (λ p. Bare p (typeOf t c)) (sym (pattern-unit t base j (sym e ∙ z))) (subst (Bare (pleaf unitLeaf)) (sym (h c f)) unit)
 
 pub suits-pair : (t : List ℕ) (base : ℕ) (g : List ℕ) (j : ℕ) {k a b x y r : ℕ} → Patterns t base g j → k ≡ cellOf t (base + j) 1 → k ≡ 4
     → a ≡ cellOf t (base + j) 2 → x ≡ cond (ltb a j) (getD g (base + a) 0) 0 → b ≡ cellOf t (base + j) 3 → y ≡ cond (ltb b j) (getD g (base + b) 0) 0
@@ -120,7 +120,7 @@ suits-pair t base g j {a = a} {b = b} {x = o₁} {y = o₂} w e z p q u v l m h 
     let x = positive o₁ l in
     let y = positive o₂ m in
     subst (λ o. Bare o (typeOf t c)) (sym (is-pair t base j e z (ap (λ n. smallerOf n j) p) (ap (λ n. smallerOf n j) u)))
-    (subst (Bare (ppair (patternOf t base (smallerOf a j)) (patternOf t base (smallerOf b j)))) (sym (h c f (x .0) (y .0) (x .1) (y .1)))
+    (subst (Bare (pnode pairNode (patternOf t base (smallerOf a j)) (patternOf t base (smallerOf b j)))) (sym (h c f (x .0) (y .0) (x .1) (y .1)))
     (pair (named-pattern t base g j a w q (x .0) (x .1)) (named-pattern t base g j b w v (y .0) (y .1))))
 
 -- ---- the loops

@@ -4,13 +4,13 @@ use mathlib.Core.Path.{_≡_}
 use mathlib.Core.Bool.{Bool, true}
 use mathlib.Core.List.{List}
 use lib.ListN.{length, getD}
-use Rattle.calculus.specs.Trees.{Ty, tunit, tprod, Pat, punit, ppair}
+use Rattle.calculus.specs.Trees.{Ty, tunit, tprod, Pat, pleaf, unitLeaf, pnode, pairNode}
 use Rattle.table_trees.specs.Unfolding.{typeOf, patternOf}
 
 -- a pattern of units and pairs, and its type
 pub data Bare : Pat → Ty → Type 0 where
-  unit : Bare punit tunit
-  pair : {p q : Pat} {a b : Ty} → Bare p a → Bare q b → Bare (ppair p q) (tprod a b)
+  unit : Bare (pleaf unitLeaf) tunit
+  pair : {p q : Pat} {a b : Ty} → Bare p a → Bare q b → Bare (pnode pairNode p q) (tprod a b)
 
 -- a number that is not 0 stands for a T line, one less, with this type
 abbrev pub Stands : List ℕ → ℕ → Ty → Type 0

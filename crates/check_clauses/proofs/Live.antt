@@ -8,7 +8,7 @@ use lib.Dec.{eqb}
 use lib.ListN.{getD, set, getElem?, replicate}
 use Rattle.limits.specs.Limits.{variables}
 use Rattle.calculus.specs.Tools.{_>>=_, guard, all}
-use Rattle.calculus.specs.Trees.{Ty, tunit, tsum, tprod, Pat, punit, pvar, pinj, ppair, Let, Clause, sameType, part, vars}
+use Rattle.calculus.specs.Trees.{Ty, Pat, pvar, pleaf, pinj, pnode, Let, Clause, sameType, leafFits, beneath, parts, vars}
 use Rattle.calculus.specs.Slots.{Slots, put, get, allEmpty}
 use Rattle.calculus.specs.Clauses.{Deed, binds, uses, Event, deeds, letEvents, events, learn, spend, Sigs, used}
 use Rattle.calculus.proofs.Basic.{bind-some, none≢some, some-inj}
@@ -67,36 +67,26 @@ all-all d (n ∷ ns) ks m = all-all d ns ks (markOne d n m) ∙ ap (markAll d ns
 -- ---- a pattern
 
 learn-marks : (p : Pat) (a : Ty) (e : Slots Ty) {d : Slots Ty} → learn p a e ≡ some d → markAll binds (vars p) (states e) ≡ states d
-learn-marks punit tunit e h = ap states (some-inj h)
-learn-marks punit (tsum a b) e h = absurd (none≢some h)
-learn-marks punit (tprod a b) e h = absurd (none≢some h)
 learn-marks (pvar n) a e h = put-marks n a e h
-learn-marks (pinj t p) tunit e h = absurd (none≢some h)
-learn-marks (pinj t p) (tsum a b) e h = learn-marks p (part t a b) e h
-learn-marks (pinj t p) (tprod a b) e h = absurd (none≢some h)
-learn-marks (ppair p q) tunit e h = absurd (none≢some h)
-learn-marks (ppair p q) (tsum a b) e h = absurd (none≢some h)
-learn-marks (ppair p q) (tprod a b) e h =
-    let r = bind-some (learn p a e) (λ x. learn q b x) h in
-    all-append binds (vars p) (vars q) (states e) ∙ ap (markAll binds (vars q)) (learn-marks p a e (r .1)) ∙ learn-marks q b (r .0) (r .2)
+learn-marks (pleaf l) a e h = let r = bind-some (guard (leafFits l a)) (λ _. some e) h in ap states (some-inj (r .2))
+learn-marks (pinj t p) a e h = let r = bind-some (beneath t a) (λ b. learn p b e) h in learn-marks p (r .0) e (r .2)
+learn-marks (pnode k p q) a e h =
+    let c = bind-some (parts k a) (λ s. learn p (s .0) e >>= λ x. learn q (s .1) x) h in
+    let r = bind-some (learn p (c .0 .0) e) (λ x. learn q (c .0 .1) x) (c .2) in
+    all-append binds (vars p) (vars q) (states e) ∙ ap (markAll binds (vars q)) (learn-marks p (c .0 .0) e (r .1)) ∙ learn-marks q (c .0 .1) (r .0) (r .2)
 
 spend-marks : (p : Pat) (a : Ty) (e : Slots Ty) {d : Slots Ty} → spend p a e ≡ some d → markAll uses (vars p) (states e) ≡ states d
-spend-marks punit tunit e h = ap states (some-inj h)
-spend-marks punit (tsum a b) e h = absurd (none≢some h)
-spend-marks punit (tprod a b) e h = absurd (none≢some h)
 spend-marks (pvar n) a e h =
     let r = bind-some (get n e) (λ x. guard (sameType (x .0) a) >>= λ _. some (x .1)) h in
     let g = bind-some (guard (sameType (r .0 .0) a)) (λ _. some (r .0 .1)) (r .2) in
     get-marks n e (r .1) ∙ ap states (some-inj (g .2))
-spend-marks (pinj t p) tunit e h = absurd (none≢some h)
-spend-marks (pinj t p) (tsum a b) e h = spend-marks p (part t a b) e h
-spend-marks (pinj t p) (tprod a b) e h = absurd (none≢some h)
-spend-marks (ppair p q) tunit e h = absurd (none≢some h)
-spend-marks (ppair p q) (tsum a b) e h = absurd (none≢some h)
-spend-marks (ppair p q) (tprod a b) e h =
-    let r = bind-some (spend q b e) (λ x. spend p a x) h in
+spend-marks (pleaf l) a e h = let r = bind-some (guard (leafFits l a)) (λ _. some e) h in ap states (some-inj (r .2))
+spend-marks (pinj t p) a e h = let r = bind-some (beneath t a) (λ b. spend p b e) h in spend-marks p (r .0) e (r .2)
+spend-marks (pnode k p q) a e h =
+    let c = bind-some (parts k a) (λ s. spend q (s .1) e >>= λ x. spend p (s .0) x) h in
+    let r = bind-some (spend q (c .0 .1) e) (λ x. spend p (c .0 .0) x) (c .2) in
     all-append uses (vars p) (vars q) (states e) ∙ all-all uses (vars p) (vars q) (states e)
-    ∙ ap (markAll uses (vars p)) (spend-marks q b e (r .1)) ∙ spend-marks p a (r .0) (r .2)
+    ∙ ap (markAll uses (vars p)) (spend-marks q (c .0 .1) e (r .1)) ∙ spend-marks p (c .0 .0) (r .0) (r .2)
 
 -- ---- L lines, and the clause
 

@@ -4,12 +4,14 @@ use mathlib.Core.Path.{_≡_}
 use mathlib.Core.List.{List}
 use lib.ListN.{length, getD}
 use Rattle.limits.specs.Limits.{manyTags, maxTypes, maxPatterns}
-use Rattle.calculus.specs.Trees.{Ty, tunit, tsum, tprod, tags}
+use Rattle.calculus.specs.Trees.{Ty, tunit, tlist, tsum, tprod, tags}
 use Rattle.table_trees.specs.Unfolding.{typeOf, patternOf}
 
--- how many places a type has at which a pattern of it may hold a left or a right: those below a left are the same as those below a right
+-- how many places a type has at which a pattern of it may hold a left or a right: those below a left are the same as those below a right.
+-- No line of a table unfolds to a list; a list has none.
 abbrev pub width : Ty → ℕ
 width tunit = 0
+width (tlist a) = 0
 width (tsum a b) = suc (max (width a) (width b))
 width (tprod a b) = width a + width b
 

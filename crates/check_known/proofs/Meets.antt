@@ -8,7 +8,7 @@ use mathlib.Core.List.{List, [], _∷_}
 use lib.ListN.{length, getD, replicate, length-replicate}
 use Rattle.limits.specs.Limits.{variables}
 use Rattle.calculus.specs.Tools.{_>>=_, guard}
-use Rattle.calculus.specs.Trees.{Ty, tunit, tsum, tprod, Pat, punit, pvar, pinj, ppair, part, sameType}
+use Rattle.calculus.specs.Trees.{Ty, Pat, pvar, pleaf, pinj, pnode, sameType, leafFits, beneath, parts}
 use Rattle.calculus.specs.Slots.{Slots, put, get}
 use Rattle.calculus.specs.Clauses.{learn, spend}
 use Rattle.calculus.proofs.Basic.{bind-assoc, same-bind, bind-some, some-inj, none≢some}
@@ -24,6 +24,10 @@ bind-none (some a) = refl
 bind-same : {A B : Type 0} (x : Option A) (f g : A → Option B) → ((a : A) → x ≡ some a → f a ≡ g a) → (x >>= f) ≡ (x >>= g)
 bind-same none f g h = refl
 bind-same (some a) f g h = h a refl
+
+bind-each : {A B C : Type 0} (x : Option A) (f : A → Option B) (g : A → Option C) (k : C → Option B) → ((a : A) → f a ≡ (g a >>= k)) → (x >>= f) ≡ ((x >>= g) >>= k)
+bind-each none f g k h = refl
+bind-each (some a) f g k h = h a
 
 -- ---- lists taken together
 
@@ -162,58 +166,55 @@ put-long (suc n) a (x ∷ e) d q =
     ap length (sym (some-inj (o .2))) ∙ ap suc (put-long n a e (o .0) (o .1))
 
 learn-long : (p : Pat) (a : Ty) (e d : Slots Ty) → learn p a e ≡ some d → length d ≡ length e
-learn-long punit tunit e d q = ap length (sym (some-inj q))
-learn-long punit (tsum a b) e d q = absurd (none≢some q)
-learn-long punit (tprod a b) e d q = absurd (none≢some q)
 learn-long (pvar n) a e d q = put-long n a e d q
-learn-long (pinj t p) tunit e d q = absurd (none≢some q)
-learn-long (pinj t p) (tsum a b) e d q = learn-long p (part t a b) e d q
-learn-long (pinj t p) (tprod a b) e d q = absurd (none≢some q)
-learn-long (ppair p r) tunit e d q = absurd (none≢some q)
-learn-long (ppair p r) (tsum a b) e d q = absurd (none≢some q)
-learn-long (ppair p r) (tprod a b) e d q =
-    let o = bind-some (learn p a e) (λ d. learn r b d) q in
-    learn-long r b (o .0) d (o .2) ∙ learn-long p a e (o .0) (o .1)
+learn-long (pleaf l) a e d q = let o = bind-some (guard (leafFits l a)) (λ _. some e) q in ap length (sym (some-inj (o .2)))
+learn-long (pinj t p) a e d q = let o = bind-some (beneath t a) (λ b. learn p b e) q in learn-long p (o .0) e d (o .2)
+learn-long (pnode k p r) a e d q =
+    let c = bind-some (parts k a) (λ s. learn p (s .0) e >>= λ d. learn r (s .1) d) q in
+    let o = bind-some (learn p (c .0 .0) e) (λ d. learn r (c .0 .1) d) (c .2) in
+    learn-long r (c .0 .1) (o .0) d (o .2) ∙ learn-long p (c .0 .0) e (o .0) (o .1)
 
 freshly-long : (m : ℕ) (p : Pat) (a : Ty) (w : Slots Ty) → freshly m p a ≡ some w → length w ≡ m
 freshly-long m p a w q = learn-long p a (replicate m none) w q ∙ length-replicate {A = Option Ty} m none
 
 learn-meets : (p : Pat) (a : Ty) (s : Slots Ty) (m : ℕ) → length s ≡ m → learn p a s ≡ (freshly m p a >>= λ w. meetAll true s w)
-learn-meets punit tunit s m h = sym (meet-fresh true s m h)
-learn-meets punit (tsum a b) s m h = refl
-learn-meets punit (tprod a b) s m h = refl
 learn-meets (pvar n) a s m h = put-meets n a s m h
-learn-meets (pinj t p) tunit s m h = refl
-learn-meets (pinj t p) (tsum a b) s m h = learn-meets p (part t a b) s m h
-learn-meets (pinj t p) (tprod a b) s m h = refl
-learn-meets (ppair p q) tunit s m h = refl
-learn-meets (ppair p q) (tsum a b) s m h = refl
-learn-meets (ppair p q) (tprod a b) s m h =
-    bind-same (learn p a s) (λ d. learn q b d) (λ d. freshly m q b >>= λ w. meetAll true d w) (λ d e. learn-meets q b d m (learn-long p a s d e ∙ h))
-    ∙ ap (λ o. o >>= λ d. freshly m q b >>= λ w. meetAll true d w) (learn-meets p a s m h)
-    ∙ both-bound s m h (freshly m p a) (freshly m q b) (freshly-long m p a) (freshly-long m q b)
+learn-meets (pleaf l) a s m h =
+    bind-each (guard (leafFits l a)) (λ _. some s) (λ _. some (replicate m none)) (λ w. meetAll true s w) (λ _. sym (meet-fresh true s m h))
+learn-meets (pinj t p) a s m h =
+    bind-each (beneath t a) (λ b. learn p b s) (λ b. freshly m p b) (λ w. meetAll true s w) (λ b. learn-meets p b s m h)
+learn-meets (pnode k p q) a s m h =
+    bind-each (parts k a) (λ c. learn p (c .0) s >>= λ d. learn q (c .1) d) (λ c. freshly m p (c .0) >>= λ d. learn q (c .1) d) (λ w. meetAll true s w)
+    (λ c.
+    bind-same (learn p (c .0) s) (λ d. learn q (c .1) d) (λ d. freshly m q (c .1) >>= λ w. meetAll true d w)
+    (λ d e. learn-meets q (c .1) d m (learn-long p (c .0) s d e ∙ h))
+    ∙ ap (λ o. o >>= λ d. freshly m q (c .1) >>= λ w. meetAll true d w) (learn-meets p (c .0) s m h)
+    ∙ both-bound s m h (freshly m p (c .0)) (freshly m q (c .1)) (freshly-long m p (c .0)) (freshly-long m q (c .1))
     ∙ ap (λ o. o >>= λ w. meetAll true s w)
-    (sym (bind-same (freshly m p a) (λ d. learn q b d) (λ d. freshly m q b >>= λ w. meetAll true d w) (λ d e. learn-meets q b d m (freshly-long m p a d e))))
+    (sym
+    (bind-same (freshly m p (c .0)) (λ d. learn q (c .1) d) (λ d. freshly m q (c .1) >>= λ w. meetAll true d w)
+    (λ d e. learn-meets q (c .1) d m (freshly-long m p (c .0) d e)))))
 
 spend-meets : (p : Pat) (a : Ty) (s : Slots Ty) (m : ℕ) → length s ≡ m → spend p a s ≡ (freshly m p a >>= λ w. meetAll false s w)
-spend-meets punit tunit s m h = sym (meet-fresh false s m h)
-spend-meets punit (tsum a b) s m h = refl
-spend-meets punit (tprod a b) s m h = refl
 spend-meets (pvar n) a s m h = get-meets n a s m h
-spend-meets (pinj t p) tunit s m h = refl
-spend-meets (pinj t p) (tsum a b) s m h = spend-meets p (part t a b) s m h
-spend-meets (pinj t p) (tprod a b) s m h = refl
-spend-meets (ppair p q) tunit s m h = refl
-spend-meets (ppair p q) (tsum a b) s m h = refl
-spend-meets (ppair p q) (tprod a b) s m h =
-    ap (λ o. o >>= λ d. spend p a d) (spend-meets q b s m h)
-    ∙ bind-same (freshly m q b >>= λ w. meetAll false s w) (λ d. spend p a d) (λ d. freshly m p a >>= λ w. meetAll false d w) (λ d e. spend-meets p a d m (used-long d e))
-    ∙ both-used s m h (freshly m p a) (freshly m q b) (freshly-long m p a) (freshly-long m q b)
+spend-meets (pleaf l) a s m h =
+    bind-each (guard (leafFits l a)) (λ _. some s) (λ _. some (replicate m none)) (λ w. meetAll false s w) (λ _. sym (meet-fresh false s m h))
+spend-meets (pinj t p) a s m h =
+    bind-each (beneath t a) (λ b. spend p b s) (λ b. freshly m p b) (λ w. meetAll false s w) (λ b. spend-meets p b s m h)
+spend-meets (pnode k p q) a s m h =
+    bind-each (parts k a) (λ c. spend q (c .1) s >>= λ d. spend p (c .0) d) (λ c. freshly m p (c .0) >>= λ d. learn q (c .1) d) (λ w. meetAll false s w)
+    (λ c.
+    ap (λ o. o >>= λ d. spend p (c .0) d) (spend-meets q (c .1) s m h)
+    ∙ bind-same (freshly m q (c .1) >>= λ w. meetAll false s w) (λ d. spend p (c .0) d) (λ d. freshly m p (c .0) >>= λ w. meetAll false d w)
+    (λ d e. spend-meets p (c .0) d m (used-long (c .1) d e))
+    ∙ both-used s m h (freshly m p (c .0)) (freshly m q (c .1)) (freshly-long m p (c .0)) (freshly-long m q (c .1))
     ∙ ap (λ o. o >>= λ w. meetAll false s w)
-    (sym (bind-same (freshly m p a) (λ d. learn q b d) (λ d. freshly m q b >>= λ w. meetAll true d w) (λ d e. learn-meets q b d m (freshly-long m p a d e))))
+    (sym
+    (bind-same (freshly m p (c .0)) (λ d. learn q (c .1) d) (λ d. freshly m q (c .1) >>= λ w. meetAll true d w)
+    (λ d e. learn-meets q (c .1) d m (freshly-long m p (c .0) d e)))))
   where
-    used-long : (d : Slots Ty) → (freshly m q b >>= λ w. meetAll false s w) ≡ some d → length d ≡ m
-    used-long d e = let o = bind-some (freshly m q b) (λ w. meetAll false s w) e in zip-long (meet false) s (o .0) d (o .2) ∙ h
+    used-long : (b : Ty) (d : Slots Ty) → (freshly m q b >>= λ w. meetAll false s w) ≡ some d → length d ≡ m
+    used-long b d e = let o = bind-some (freshly m q b) (λ w. meetAll false s w) e in zip-long (meet false) s (o .0) d (o .2) ∙ h
 
 -- a pattern bound, or used, with some variables live: as it fits with none live, slot by slot
 pub fitting-meets : (c : Bool) (p : Pat) (a : Ty) (s : Slots Ty) → length s ≡ variables → fitting c p a s ≡ (found p a >>= λ w. meetAll c s w)

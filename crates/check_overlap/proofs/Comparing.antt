@@ -7,11 +7,11 @@ use mathlib.Core.Path.{_≡_, refl, sym, ap, ap₂, _∙_, subst}
 use mathlib.Core.Bool.{Bool, true, false, cond, _||_, true≢false}
 use mathlib.Core.List.{List, [], _∷_, _++_}
 use lib.ListN.{length}
-use Rattle.calculus.specs.Trees.{Pat, punit, pvar, pinj, ppair, left, right, nodes}
-use Rattle.calculus.specs.Clauses.{clash}
+use Rattle.calculus.specs.Trees.{Pat, pvar, pleaf, pinj, pnode, left, right, pairNode, elementNode, nodes}
+use Rattle.calculus.specs.Clauses.{clash, clashLeaf}
 use Rattle.calculus.specs.Paper.{Orth}
 use Rattle.calculus.proofs.Checking.{clash-orth, orth-clash}
-use Rattle.check_overlap.specs.Comparison.{Compared, met, andThen, compare, laid, clashes, any, upTo}
+use Rattle.check_overlap.specs.Comparison.{Compared, met, clashed, andThen, compare, laid, clashes, any, upTo}
 
 -- ---- one comparison and the next
 
@@ -27,22 +27,51 @@ then-pairs : (x : Bool) (n : ℕ) (b : Compared) → andThen (record { clash = x
 then-pairs true n b = refl
 then-pairs false n b = refl
 
+-- ---- two nodes of which the first decides
+
+once-clash : (b : Bool) → cond b clashed met .clash ≡ b
+once-clash true = refl
+once-clash false = refl
+
+once-any : (b : Bool) → cond b clashed met .clash ≡ (b || false)
+once-any true = refl
+once-any false = refl
+
+once-least : (b : Bool) → 1 ≤ cond b clashed met .pairs
+once-least true = omega arith
+once-least false = omega arith
+
+once-most : (b : Bool) (n : ℕ) → 1 ≤ n → cond b clashed met .pairs ≤ n
+once-most true n h = h
+once-most false n h = h
+
+once-laid : {A : Type 0} (b : Bool) (x : A) → cond b clashed met .pairs ≡ length (cond b (x ∷ []) (x ∷ []))
+once-laid true x = refl
+once-laid false x = refl
+
 -- ---- it is the orthogonality of section 2.2
 
 pub compare-clash : (p q : Pat) → compare p q .clash ≡ clash p q
-compare-clash punit q = refl
 compare-clash (pvar n) q = refl
-compare-clash (pinj s p) punit = refl
+compare-clash (pleaf l) (pvar m) = refl
+compare-clash (pleaf l) (pleaf k) = refl
+compare-clash (pleaf l) (pinj t q) = refl
+compare-clash (pleaf l) (pnode k q q′) = once-clash (clashLeaf l k)
 compare-clash (pinj s p) (pvar m) = refl
+compare-clash (pinj s p) (pleaf k) = refl
 compare-clash (pinj left p) (pinj left q) = compare-clash p q
 compare-clash (pinj left p) (pinj right q) = refl
 compare-clash (pinj right p) (pinj left q) = refl
 compare-clash (pinj right p) (pinj right q) = compare-clash p q
-compare-clash (pinj s p) (ppair q r) = refl
-compare-clash (ppair p p′) punit = refl
-compare-clash (ppair p p′) (pvar m) = refl
-compare-clash (ppair p p′) (pinj t q) = refl
-compare-clash (ppair p p′) (ppair q q′) =
+compare-clash (pinj s p) (pnode k q q′) = refl
+compare-clash (pnode k p p′) (pvar m) = refl
+compare-clash (pnode k p p′) (pleaf l) = once-clash (clashLeaf l k)
+compare-clash (pnode k p p′) (pinj t q) = refl
+compare-clash (pnode pairNode p p′) (pnode pairNode q q′) =
+    then-clash (compare p q .clash) (compare p q .pairs) (compare p′ q′) ∙ ap₂ (λ x y. x || y) (compare-clash p q) (compare-clash p′ q′)
+compare-clash (pnode pairNode p p′) (pnode elementNode q q′) = refl
+compare-clash (pnode elementNode p p′) (pnode pairNode q q′) = refl
+compare-clash (pnode elementNode p p′) (pnode elementNode q q′) =
     then-clash (compare p q .clash) (compare p q .pairs) (compare p′ q′) ∙ ap₂ (λ x y. x || y) (compare-clash p q) (compare-clash p′ q′)
 
 pub compare-orth : (p q : Pat) → (compare p q .clash ≡ true → Orth p q) × (Orth p q → compare p q .clash ≡ true)
@@ -51,57 +80,73 @@ compare-orth p q = (λ e. clash-orth p q (sym (compare-clash p q) ∙ e), λ o. 
 -- ---- the same with the patterns exchanged
 
 pub compare-sym : (p q : Pat) → compare p q ≡ compare q p
-compare-sym punit punit = refl
-compare-sym punit (pvar m) = refl
-compare-sym punit (pinj t q) = refl
-compare-sym punit (ppair q q′) = refl
-compare-sym (pvar n) punit = refl
 compare-sym (pvar n) (pvar m) = refl
+compare-sym (pvar n) (pleaf k) = refl
 compare-sym (pvar n) (pinj t q) = refl
-compare-sym (pvar n) (ppair q q′) = refl
-compare-sym (pinj s p) punit = refl
+compare-sym (pvar n) (pnode k q q′) = refl
+compare-sym (pleaf l) (pvar m) = refl
+compare-sym (pleaf l) (pleaf k) = refl
+compare-sym (pleaf l) (pinj t q) = refl
+compare-sym (pleaf l) (pnode k q q′) = refl
 compare-sym (pinj s p) (pvar m) = refl
+compare-sym (pinj s p) (pleaf k) = refl
 compare-sym (pinj left p) (pinj left q) = ap (andThen met) (compare-sym p q)
 compare-sym (pinj left p) (pinj right q) = refl
 compare-sym (pinj right p) (pinj left q) = refl
 compare-sym (pinj right p) (pinj right q) = ap (andThen met) (compare-sym p q)
-compare-sym (pinj s p) (ppair q q′) = refl
-compare-sym (ppair p p′) punit = refl
-compare-sym (ppair p p′) (pvar m) = refl
-compare-sym (ppair p p′) (pinj t q) = refl
-compare-sym (ppair p p′) (ppair q q′) = ap₂ (λ x y. andThen met (andThen x y)) (compare-sym p q) (compare-sym p′ q′)
+compare-sym (pinj s p) (pnode k q q′) = refl
+compare-sym (pnode k p p′) (pvar m) = refl
+compare-sym (pnode k p p′) (pleaf l) = refl
+compare-sym (pnode k p p′) (pinj t q) = refl
+compare-sym (pnode pairNode p p′) (pnode pairNode q q′) = ap₂ (λ x y. andThen met (andThen x y)) (compare-sym p q) (compare-sym p′ q′)
+compare-sym (pnode pairNode p p′) (pnode elementNode q q′) = refl
+compare-sym (pnode elementNode p p′) (pnode pairNode q q′) = refl
+compare-sym (pnode elementNode p p′) (pnode elementNode q q′) = ap₂ (λ x y. andThen met (andThen x y)) (compare-sym p q) (compare-sym p′ q′)
 
 -- ---- how many
 
 pub compare-least : (p q : Pat) → 1 ≤ compare p q .pairs
-compare-least punit q = omega arith
 compare-least (pvar n) q = omega arith
-compare-least (pinj s p) punit = omega arith
+compare-least (pleaf l) (pvar m) = omega arith
+compare-least (pleaf l) (pleaf k) = omega arith
+compare-least (pleaf l) (pinj t q) = omega arith
+compare-least (pleaf l) (pnode k q q′) = once-least (clashLeaf l k)
 compare-least (pinj s p) (pvar m) = omega arith
+compare-least (pinj s p) (pleaf k) = omega arith
 compare-least (pinj left p) (pinj left q) = omega arith
 compare-least (pinj left p) (pinj right q) = omega arith
 compare-least (pinj right p) (pinj left q) = omega arith
 compare-least (pinj right p) (pinj right q) = omega arith
-compare-least (pinj s p) (ppair q q′) = omega arith
-compare-least (ppair p p′) punit = omega arith
-compare-least (ppair p p′) (pvar m) = omega arith
-compare-least (ppair p p′) (pinj t q) = omega arith
-compare-least (ppair p p′) (ppair q q′) = omega arith
+compare-least (pinj s p) (pnode k q q′) = omega arith
+compare-least (pnode k p p′) (pvar m) = omega arith
+compare-least (pnode k p p′) (pleaf l) = once-least (clashLeaf l k)
+compare-least (pnode k p p′) (pinj t q) = omega arith
+compare-least (pnode pairNode p p′) (pnode pairNode q q′) = omega arith
+compare-least (pnode pairNode p p′) (pnode elementNode q q′) = omega arith
+compare-least (pnode elementNode p p′) (pnode pairNode q q′) = omega arith
+compare-least (pnode elementNode p p′) (pnode elementNode q q′) = omega arith
 
 most-left : (p q : Pat) → compare p q .pairs ≤ nodes p
-most-left punit q = omega arith
 most-left (pvar n) q = omega arith
-most-left (pinj s p) punit = omega arith
+most-left (pleaf l) (pvar m) = omega arith
+most-left (pleaf l) (pleaf k) = omega arith
+most-left (pleaf l) (pinj t q) = omega arith
+most-left (pleaf l) (pnode k q q′) = once-most (clashLeaf l k) 1 (omega arith)
 most-left (pinj s p) (pvar m) = omega arith
+most-left (pinj s p) (pleaf k) = omega arith
 most-left (pinj left p) (pinj left q) = omega (arith, most-left p q)
 most-left (pinj left p) (pinj right q) = omega arith
 most-left (pinj right p) (pinj left q) = omega arith
 most-left (pinj right p) (pinj right q) = omega (arith, most-left p q)
-most-left (pinj s p) (ppair q q′) = omega arith
-most-left (ppair p p′) punit = omega arith
-most-left (ppair p p′) (pvar m) = omega arith
-most-left (ppair p p′) (pinj t q) = omega arith
-most-left (ppair p p′) (ppair q q′) =
+most-left (pinj s p) (pnode k q q′) = omega arith
+most-left (pnode k p p′) (pvar m) = omega arith
+most-left (pnode k p p′) (pleaf l) = once-most (clashLeaf l k) (nodes (pnode k p p′)) (omega arith)
+most-left (pnode k p p′) (pinj t q) = omega arith
+most-left (pnode pairNode p p′) (pnode pairNode q q′) =
+    omega (arith, then-most (compare p q .clash) (compare p q .pairs) (compare p′ q′), most-left p q, most-left p′ q′)
+most-left (pnode pairNode p p′) (pnode elementNode q q′) = omega arith
+most-left (pnode elementNode p p′) (pnode pairNode q q′) = omega arith
+most-left (pnode elementNode p p′) (pnode elementNode q q′) =
     omega (arith, then-most (compare p q .clash) (compare p q .pairs) (compare p′ q′), most-left p q, most-left p′ q′)
 
 pub compare-most : (p q : Pat) → (compare p q .pairs ≤ nodes p) × (compare p q .pairs ≤ nodes q)
@@ -144,37 +189,60 @@ abbrev cut : List (Pat × Pat) → Compared
 cut l = record { clash = any clashes l; pairs = length (upTo clashes l) }
 
 clash-laid : (p q : Pat) → compare p q .clash ≡ any clashes (laid p q)
-clash-laid punit q = refl
 clash-laid (pvar n) q = refl
-clash-laid (pinj s p) punit = refl
+clash-laid (pleaf l) (pvar m) = refl
+clash-laid (pleaf l) (pleaf k) = refl
+clash-laid (pleaf l) (pinj t q) = refl
+clash-laid (pleaf l) (pnode k q q′) = once-any (clashLeaf l k)
 clash-laid (pinj s p) (pvar m) = refl
+clash-laid (pinj s p) (pleaf k) = refl
 clash-laid (pinj left p) (pinj left q) = clash-laid p q
 clash-laid (pinj left p) (pinj right q) = refl
 clash-laid (pinj right p) (pinj left q) = refl
 clash-laid (pinj right p) (pinj right q) = clash-laid p q
-clash-laid (pinj s p) (ppair q r) = refl
-clash-laid (ppair p p′) punit = refl
-clash-laid (ppair p p′) (pvar m) = refl
-clash-laid (ppair p p′) (pinj t q) = refl
-clash-laid (ppair p p′) (ppair q q′) =
+clash-laid (pinj s p) (pnode k q q′) = refl
+clash-laid (pnode k p p′) (pvar m) = refl
+clash-laid (pnode k p p′) (pleaf l) = once-any (clashLeaf l k)
+clash-laid (pnode k p p′) (pinj t q) = refl
+clash-laid (pnode pairNode p p′) (pnode pairNode q q′) =
+    then-clash (compare p q .clash) (compare p q .pairs) (compare p′ q′)
+    ∙ ap₂ (λ x y. x || y) (clash-laid p q) (clash-laid p′ q′)
+    ∙ sym (any-append clashes (laid p q) (laid p′ q′))
+clash-laid (pnode pairNode p p′) (pnode elementNode q q′) = refl
+clash-laid (pnode elementNode p p′) (pnode pairNode q q′) = refl
+clash-laid (pnode elementNode p p′) (pnode elementNode q q′) =
     then-clash (compare p q .clash) (compare p q .pairs) (compare p′ q′)
     ∙ ap₂ (λ x y. x || y) (clash-laid p q) (clash-laid p′ q′)
     ∙ sym (any-append clashes (laid p q) (laid p′ q′))
 
 pairs-laid : (p q : Pat) → compare p q .pairs ≡ length (upTo clashes (laid p q))
-pairs-laid punit q = refl
 pairs-laid (pvar n) q = refl
-pairs-laid (pinj s p) punit = refl
+pairs-laid (pleaf l) (pvar m) = refl
+pairs-laid (pleaf l) (pleaf k) = refl
+pairs-laid (pleaf l) (pinj t q) = refl
+pairs-laid (pleaf l) (pnode k q q′) = once-laid (clashLeaf l k) (pleaf l, pnode k q q′)
 pairs-laid (pinj s p) (pvar m) = refl
+pairs-laid (pinj s p) (pleaf k) = refl
 pairs-laid (pinj left p) (pinj left q) = omega (arith, pairs-laid p q)
 pairs-laid (pinj left p) (pinj right q) = refl
 pairs-laid (pinj right p) (pinj left q) = refl
 pairs-laid (pinj right p) (pinj right q) = omega (arith, pairs-laid p q)
-pairs-laid (pinj s p) (ppair q r) = refl
-pairs-laid (ppair p p′) punit = refl
-pairs-laid (ppair p p′) (pvar m) = refl
-pairs-laid (ppair p p′) (pinj t q) = refl
-pairs-laid (ppair p p′) (ppair q q′) =
+pairs-laid (pinj s p) (pnode k q q′) = refl
+pairs-laid (pnode k p p′) (pvar m) = refl
+pairs-laid (pnode k p p′) (pleaf l) = once-laid (clashLeaf l k) (pnode k p p′, pleaf l)
+pairs-laid (pnode k p p′) (pinj t q) = refl
+pairs-laid (pnode pairNode p p′) (pnode pairNode q q′) =
+    let both : andThen (compare p q) (compare p′ q′) .pairs ≡ andThen (cut (laid p q)) (cut (laid p′ q′)) .pairs =
+    λ i. andThen (record { clash = clash-laid p q i; pairs = pairs-laid p q i }) (record { clash = clash-laid p′ q′ i; pairs = pairs-laid p′ q′ i }) .pairs in
+    omega (
+      arith,
+      both
+          ∙ then-pairs (any clashes (laid p q)) (length (upTo clashes (laid p q))) (cut (laid p′ q′))
+          ∙ sym (upTo-append clashes (laid p q) (laid p′ q′)),
+    )
+pairs-laid (pnode pairNode p p′) (pnode elementNode q q′) = refl
+pairs-laid (pnode elementNode p p′) (pnode pairNode q q′) = refl
+pairs-laid (pnode elementNode p p′) (pnode elementNode q q′) =
     let both : andThen (compare p q) (compare p′ q′) .pairs ≡ andThen (cut (laid p q)) (cut (laid p′ q′)) .pairs =
     λ i. andThen (record { clash = clash-laid p q i; pairs = pairs-laid p q i }) (record { clash = clash-laid p′ q′ i; pairs = pairs-laid p′ q′ i }) .pairs in
     omega (

@@ -8,7 +8,7 @@ use mathlib.Core.Option.{Option, none, some}
 use mathlib.Core.List.{List, [], _∷_, _++_}
 use lib.ListN.{length, getD, getElem?}
 use Rattle.limits.specs.Limits.{maxNodes}
-use Rattle.calculus.specs.Trees.{Pat, punit, nodes}
+use Rattle.calculus.specs.Trees.{Pat, pleaf, unitLeaf, nodes}
 use Rattle.calculus.specs.Refusals.{Kind, typeLine, patternLine, isoLine, clauseLine, letLine, number}
 use Rattle.format.specs.Lines.{Row}
 use Rattle.format.specs.Judge.{Seen, start, patternTree, afterKind, afterAll}
@@ -23,7 +23,7 @@ use Rattle.check_overlap.proofs.Comparing.{compare-orth, compare-sym, c
 -- ---- P lines have few nodes
 
 abbrev AllSmall : List Pat → Type 0
-AllSmall ps = (i : ℕ) → nodes (getD ps i punit) ≤ maxNodes
+AllSmall ps = (i : ℕ) → nodes (getD ps i (pleaf unitLeaf)) ≤ maxNodes
 
 snoc-small : (ps : List Pat) (p : Pat) → AllSmall ps → nodes p ≤ maxNodes → AllSmall (ps ++ (p ∷ []))
 snoc-small [] p h f zero = f

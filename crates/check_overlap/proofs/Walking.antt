@@ -9,7 +9,7 @@ use mathlib.Core.List.{List}
 use lib.Dec.{eqb}
 use lib.ListN.{length, getD}
 use Rattle.limits.specs.Limits.{maxLines, rowWidth, tableLength}
-use Rattle.calculus.specs.Trees.{Pat, punit}
+use Rattle.calculus.specs.Trees.{Pat, pvar, pleaf, pinj, pnode, unitLeaf}
 use Rattle.format.specs.Judge.{patternNode}
 use Rattle.calculus.proofs.Basic.{eq-eqb, not-eqb}
 use Rattle.table_trees.specs.Unfolding.{cellOf, smallerOf, patternOf}
@@ -29,10 +29,17 @@ then-assoc false n b = ap (λ k. record { clash = b .clash; pairs = k }) (sym (a
 abbrev Like : ℕ → ℕ → ℕ → Type 0
 Like k j m = (a b : ℕ) (p q u v : Pat) → compare (patternNode k a p q) (patternNode j b u v) ≡ onward m p q u v
 
+-- nothing clashes with a unit
+unit-meet : (q : Pat) → compare (pleaf unitLeaf) q ≡ met
+unit-meet (pvar m) = refl
+unit-meet (pleaf k) = refl
+unit-meet (pinj t q) = refl
+unit-meet (pnode k q q′) = refl
+
 leaf-meet : {k : ℕ} (j : ℕ) → Leaf k → Like k j 0
-leaf-meet j unit a b p q u v = refl
+leaf-meet j unit a b p q u v = unit-meet (patternNode j b u v)
 leaf-meet j var a b p q u v = refl
-leaf-meet j (other k) a b p q u v = refl
+leaf-meet j (other k) a b p q u v = unit-meet (patternNode j b u v)
 
 pair-meet : Like 4 4 3
 pair-meet a b p q u v = then-assoc (compare p u .clash) (compare p u .pairs) (compare q v)
@@ -113,16 +120,16 @@ module _ (t : List ℕ) (base p k : ℕ) {a : ℕ} (e : a ≡ cellOf t (base + p
   part-named : a < p → partOf t base p k ≡ patternOf t base a
   part-named h = ap (λ x. patternOf t base (smallerOf x p)) (sym e) ∙ ap (patternOf t base) (smaller-less a p h)
 
-  part-unit : p ≤ a → partOf t base p k ≡ punit
+  part-unit : p ≤ a → partOf t base p k ≡ pleaf unitLeaf
   part-unit h =
       ap (λ x. patternOf t base (smallerOf x p)) (sym e) ∙ ap (patternOf t base) (smaller-not a p h) ∙ pattern-past t base maxLines (omega arith)
 
 -- two parts, of which one is not there
 parts-unit : (t : List ℕ) (base p q k : ℕ) {a b : ℕ} → a ≡ cellOf t (base + p) k → b ≡ cellOf t (base + q) k → (p ≤ a) ⊎ (q ≤ b)
     → compare (partOf t base p k) (partOf t base q k) ≡ met
-parts-unit t base p q k e f (inl h) = ap (λ x. compare x (partOf t base q k)) (part-unit t base p k e h)
+parts-unit t base p q k e f (inl h) = ap (λ x. compare x (partOf t base q k)) (part-unit t base p k e h) ∙ unit-meet (partOf t base q k)
 parts-unit t base p q k e f (inr h) =
-    ap (λ x. compare (partOf t base p k) x) (part-unit t base q k f h) ∙ compare-sym (partOf t base p k) punit
+    ap (λ x. compare (partOf t base p k) x) (part-unit t base q k f h) ∙ compare-sym (partOf t base p k) (pleaf unitLeaf) ∙ unit-meet (partOf t base p k)
 
 parts-named : (t : List ℕ) (base p q k : ℕ) {a b : ℕ} → a ≡ cellOf t (base + p) k → b ≡ cellOf t (base + q) k → a < p → b < q
     → compare (partOf t base p k) (partOf t base q k) ≡ compare (patternOf t base a) (patternOf t base b)
@@ -238,7 +245,8 @@ module _ (t : List ℕ) (base p q : ℕ) {m : ℕ} (meets : Meets (cellOf t (bas
 
 -- a line that is no row of the table
 pub line-past : (t : List ℕ) (base p q : ℕ) → maxLines ≤ base + p → 2 ≡ counted 0 (compare (patternOf t base p) (patternOf t base q))
-line-past t base p q h = sym (ap (λ x. counted 0 (compare x (patternOf t base q))) (pattern-past t base p h))
+line-past t base p q h =
+    sym (ap (λ x. counted 0 (compare x (patternOf t base q))) (pattern-past t base p h) ∙ ap (counted 0) (unit-meet (patternOf t base q)))
 
 pub other-line-past : (t : List ℕ) (base p q : ℕ) → maxLines ≤ base + q → 2 ≡ counted 0 (compare (patternOf t base p) (patternOf t base q))
 other-line-past t base p q h = line-past t base q p h ∙ ap (counted 0) (compare-sym (patternOf t base q) (patternOf t base p))

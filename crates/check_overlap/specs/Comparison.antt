@@ -2,14 +2,15 @@
 use Prim.Native.Nat.{ℕ, _+_}
 use mathlib.Core.Bool.{Bool, true, false, cond, not, _||_}
 use mathlib.Core.List.{List, [], _∷_, _++_}
-use Rattle.calculus.specs.Trees.{Pat, punit, pvar, pinj, ppair, sameTag}
+use Rattle.calculus.specs.Trees.{Pat, pvar, pleaf, pinj, pnode, Node, pairNode, elementNode, sameTag, sameNode}
+use Rattle.calculus.specs.Clauses.{clashLeaf}
 
 -- whether two patterns clash, and "the number of node pairs compared, the clash included"
 pub record Compared : Type 0 where
   pub clash : Bool
   pub pairs : ℕ
 
--- two nodes laid on each other, and "a left against a right"
+-- two nodes laid on each other, and "a left against a right", or with request 14 empty against an element
 abbrev pub met : Compared
 met = record { clash = false; pairs = 1 }
 
@@ -23,41 +24,50 @@ andThen a b = cond (a .clash) a (record { clash = b .clash; pairs = a .pairs + b
 -- "It compares node with node in prefix order, nothing below a variable". Nodes of different shape that neither clash nor hold a variable fit
 -- no common type: nothing below them is compared.
 abbrev pub compare : Pat → Pat → Compared
-compare punit q = met
 compare (pvar n) q = met
-compare (pinj s p) punit = met
+compare (pleaf l) (pvar m) = met
+compare (pleaf l) (pleaf k) = met
+compare (pleaf l) (pinj t q) = met
+compare (pleaf l) (pnode k q q′) = cond (clashLeaf l k) clashed met
 compare (pinj s p) (pvar m) = met
+compare (pinj s p) (pleaf k) = met
 compare (pinj s p) (pinj t q) = cond (sameTag s t) (andThen met (compare p q)) clashed
-compare (pinj s p) (ppair q r) = met
-compare (ppair p p′) punit = met
-compare (ppair p p′) (pvar m) = met
-compare (ppair p p′) (pinj t q) = met
-compare (ppair p p′) (ppair q q′) = andThen met (andThen (compare p q) (compare p′ q′))
+compare (pinj s p) (pnode k q q′) = met
+compare (pnode k p p′) (pvar m) = met
+compare (pnode k p p′) (pleaf l) = cond (clashLeaf l k) clashed met
+compare (pnode k p p′) (pinj t q) = met
+compare (pnode k p p′) (pnode m q q′) = cond (sameNode k m) (andThen met (andThen (compare p q) (compare p′ q′))) met
 
 -- ---- the same, as a list that is cut off
 
 -- the nodes laid on each other, in prefix order: each with all that is below it
 abbrev pub laid : Pat → Pat → List (Pat × Pat)
-laid punit q = (punit, q) ∷ []
 laid (pvar n) q = (pvar n, q) ∷ []
-laid (pinj s p) punit = (pinj s p, punit) ∷ []
+laid (pleaf l) q = (pleaf l, q) ∷ []
 laid (pinj s p) (pvar m) = (pinj s p, pvar m) ∷ []
+laid (pinj s p) (pleaf k) = (pinj s p, pleaf k) ∷ []
 laid (pinj s p) (pinj t q) = (pinj s p, pinj t q) ∷ laid p q
-laid (pinj s p) (ppair q r) = (pinj s p, ppair q r) ∷ []
-laid (ppair p p′) punit = (ppair p p′, punit) ∷ []
-laid (ppair p p′) (pvar m) = (ppair p p′, pvar m) ∷ []
-laid (ppair p p′) (pinj t q) = (ppair p p′, pinj t q) ∷ []
-laid (ppair p p′) (ppair q q′) = (ppair p p′, ppair q q′) ∷ (laid p q ++ laid p′ q′)
+laid (pinj s p) (pnode k q q′) = (pinj s p, pnode k q q′) ∷ []
+laid (pnode k p p′) (pvar m) = (pnode k p p′, pvar m) ∷ []
+laid (pnode k p p′) (pleaf l) = (pnode k p p′, pleaf l) ∷ []
+laid (pnode k p p′) (pinj t q) = (pnode k p p′, pinj t q) ∷ []
+laid (pnode k p p′) (pnode m q q′) = (pnode k p p′, pnode m q q′) ∷ cond (sameNode k m) (laid p q ++ laid p′ q′) []
 
--- a left against a right
+-- a left against a right, empty against an element
 abbrev pub opposed : Pat → Pat → Bool
-opposed punit q = false
 opposed (pvar n) q = false
-opposed (pinj s p) punit = false
+opposed (pleaf l) (pvar m) = false
+opposed (pleaf l) (pleaf k) = false
+opposed (pleaf l) (pinj t q) = false
+opposed (pleaf l) (pnode k q q′) = clashLeaf l k
 opposed (pinj s p) (pvar m) = false
+opposed (pinj s p) (pleaf k) = false
 opposed (pinj s p) (pinj t q) = not (sameTag s t)
-opposed (pinj s p) (ppair q r) = false
-opposed (ppair p p′) q = false
+opposed (pinj s p) (pnode k q q′) = false
+opposed (pnode k p p′) (pvar m) = false
+opposed (pnode k p p′) (pleaf l) = clashLeaf l k
+opposed (pnode k p p′) (pinj t q) = false
+opposed (pnode k p p′) (pnode m q q′) = false
 
 abbrev pub clashes : Pat × Pat → Bool
 clashes x = opposed (x .0) (x .1)

@@ -8,7 +8,7 @@ use mathlib.Core.Bool.{Bool, true, false, _&&_, _||_, true≢false}
 use mathlib.Core.List.{List, [], _∷_, _++_}
 use lib.Dec.{eqb}
 use borrow.Author.Tests.{eqb-true, eq-eqb, ne-eqb}
-use Rattle.calculus.specs.Trees.{Ty, tunit, tsum, tprod, Tag, left, right, Pat, punit, pvar, pinj, ppair, sameTag, part, tags}
+use Rattle.calculus.specs.Trees.{Ty, tunit, tlist, tsum, tprod, unitLeaf, emptyLeaf, Tag, left, right, pairNode, elementNode, Pat, pvar, pleaf, pinj, pnode, sameTag, part, tags}
 use Rattle.calculus.specs.Clauses.{clash}
 use Rattle.check_facts.specs.Facts.{width}
 use Rattle.check_places.specs.Places.{flip, Mark, marks, shaped, member, meets}
@@ -65,16 +65,19 @@ part-width left a b = omega arith
 part-width right a b = omega arith
 
 pub marks-between : (p : Pat) (a : Ty) (n : ℕ) → Between n (n + width a) (marks p a n)
-marks-between punit a n = none
+marks-between (pleaf l) a n = none
 marks-between (pvar m) a n = none
 marks-between (pinj t p) tunit n = none
+marks-between (pinj t p) (tlist a) n = none
 marks-between (pinj t p) (tsum a b) n =
     more (le-refl n) (omega arith) (wider (omega arith) (omega (arith, part-width t a b)) (marks-between p (part t a b) (suc n)))
 marks-between (pinj t p) (tprod a b) n = none
-marks-between (ppair p q) tunit n = none
-marks-between (ppair p q) (tsum a b) n = none
-marks-between (ppair p q) (tprod a b) n =
+marks-between (pnode pairNode p q) tunit n = none
+marks-between (pnode pairNode p q) (tlist a) n = none
+marks-between (pnode pairNode p q) (tsum a b) n = none
+marks-between (pnode pairNode p q) (tprod a b) n =
     joined (wider (le-refl n) (omega arith) (marks-between p a n)) (wider (omega arith) (omega arith) (marks-between q b (n + width a)))
+marks-between (pnode elementNode p q) a n = none
 
 -- a place that is not among them
 below-not : {lo hi m : ℕ} (t : Tag) {xs : List Mark} → m < lo → Between lo hi xs → member m t xs ≡ false
@@ -121,34 +124,47 @@ high-low {ys = ys} (more {n = n} {t = t} {xs = xs} x y w) v = ap (λ b. b || mee
 
 -- ---- a pattern without left and right
 
-both-none : (m n : ℕ) → eqb (m + n) 0 ≡ true → (m ≡ 0) × (n ≡ 0)
-both-none m n h = let e : m + n ≡ 0 = eqb-true (m + n) 0 h in (omega arith, omega arith)
+-- nothing clashes with a unit
+unit-clash : (q : Pat) → clash (pleaf unitLeaf) q ≡ false
+unit-clash (pvar m) = refl
+unit-clash (pleaf l) = refl
+unit-clash (pinj t q) = refl
+unit-clash (pnode k q q′) = refl
 
 no-clash : (p q : Pat) → tags p ≡ 0 → clash p q ≡ false
-no-clash punit q h = refl
+no-clash (pleaf unitLeaf) q h = unit-clash q
+no-clash (pleaf emptyLeaf) q h = absurd (omega arith)
 no-clash (pvar n) q h = refl
 no-clash (pinj t p) q h = absurd (omega arith)
-no-clash (ppair p p′) punit h = refl
-no-clash (ppair p p′) (pvar m) h = refl
-no-clash (ppair p p′) (pinj t q) h = refl
-no-clash (ppair p p′) (ppair q q′) h = ap₂ (λ a b. a || b) (no-clash p q (omega arith)) (no-clash p′ q′ (omega arith))
+no-clash (pnode pairNode p p′) (pleaf unitLeaf) h = refl
+no-clash (pnode pairNode p p′) (pleaf emptyLeaf) h = refl
+no-clash (pnode pairNode p p′) (pvar m) h = refl
+no-clash (pnode pairNode p p′) (pinj t q) h = refl
+no-clash (pnode pairNode p p′) (pnode pairNode q q′) h = ap₂ (λ a b. a || b) (no-clash p q (omega arith)) (no-clash p′ q′ (omega arith))
+no-clash (pnode pairNode p p′) (pnode elementNode q q′) h = refl
+no-clash (pnode elementNode p p′) q h = absurd (omega arith)
 
 pub tagless-shaped : (p : Pat) (a : Ty) → tags p ≡ 0 → shaped p a ≡ true
-tagless-shaped punit a h = refl
+tagless-shaped (pleaf unitLeaf) a h = refl
+tagless-shaped (pleaf emptyLeaf) a h = absurd (omega arith)
 tagless-shaped (pvar m) a h = refl
 tagless-shaped (pinj t p) a h = absurd (omega arith)
-tagless-shaped (ppair p q) tunit h = eq-eqb (tags (ppair p q)) 0 h
-tagless-shaped (ppair p q) (tsum a b) h = eq-eqb (tags (ppair p q)) 0 h
-tagless-shaped (ppair p q) (tprod a b) h = ap₂ (λ x y. x && y) (tagless-shaped p a (omega arith)) (tagless-shaped q b (omega arith))
+tagless-shaped (pnode pairNode p q) tunit h = eq-eqb (tags (pnode pairNode p q)) 0 h
+tagless-shaped (pnode pairNode p q) (tlist a) h = eq-eqb (tags (pnode pairNode p q)) 0 h
+tagless-shaped (pnode pairNode p q) (tsum a b) h = eq-eqb (tags (pnode pairNode p q)) 0 h
+tagless-shaped (pnode pairNode p q) (tprod a b) h = ap₂ (λ x y. x && y) (tagless-shaped p a (omega arith)) (tagless-shaped q b (omega arith))
+tagless-shaped (pnode elementNode p q) a h = absurd (omega arith)
 
 pub tagless-marks : (p : Pat) (a : Ty) (n : ℕ) → tags p ≡ 0 → marks p a n ≡ []
-tagless-marks punit a n h = refl
+tagless-marks (pleaf l) a n h = refl
 tagless-marks (pvar m) a n h = refl
 tagless-marks (pinj t p) a n h = absurd (omega arith)
-tagless-marks (ppair p q) tunit n h = refl
-tagless-marks (ppair p q) (tsum a b) n h = refl
-tagless-marks (ppair p q) (tprod a b) n h =
+tagless-marks (pnode pairNode p q) tunit n h = refl
+tagless-marks (pnode pairNode p q) (tlist a) n h = refl
+tagless-marks (pnode pairNode p q) (tsum a b) n h = refl
+tagless-marks (pnode pairNode p q) (tprod a b) n h =
     ap₂ (λ x y. x ++ y) (tagless-marks p a n (omega arith)) (tagless-marks q b (n + width a) (omega arith))
+tagless-marks (pnode elementNode p q) a n h = refl
 
 -- ---- the law
 
@@ -171,11 +187,13 @@ other-first n t s xs ys f =
     ap₂ (λ a b. ((a && b) || member n (flip t) ys) || meets xs ((n, s) ∷ ys)) (eqb-self n) f
 
 pub clash-places : (p q : Pat) (a : Ty) (n : ℕ) → shaped p a ≡ true → shaped q a ≡ true → clash p q ≡ meets (marks p a n) (marks q a n)
-clash-places punit q a n f g = refl
+clash-places (pleaf unitLeaf) q a n f g = unit-clash q
+clash-places (pleaf emptyLeaf) q a n f g = absurd (true≢false (sym f))
 clash-places (pvar m) q a n f g = refl
-clash-places (pinj s p) punit a n f g = sym (meets-none (marks (pinj s p) a n))
+clash-places (pinj s p) (pleaf l) a n f g = sym (meets-none (marks (pinj s p) a n))
 clash-places (pinj s p) (pvar m) a n f g = sym (meets-none (marks (pinj s p) a n))
 clash-places (pinj s p) (pinj t q) tunit n f g = absurd (true≢false (sym f))
+clash-places (pinj s p) (pinj t q) (tlist a) n f g = absurd (true≢false (sym f))
 clash-places (pinj left p) (pinj left q) (tsum a b) n f g =
     clash-places p q a (suc n) f g ∙ sym (same-first left refl (marks-between p a (suc n)) (marks-between q a (suc n)))
 clash-places (pinj left p) (pinj right q) (tsum a b) n f g = sym (other-first n left right (marks p a (suc n)) (marks q b (suc n)) refl)
@@ -183,17 +201,22 @@ clash-places (pinj right p) (pinj left q) (tsum a b) n f g = sym (other-first n 
 clash-places (pinj right p) (pinj right q) (tsum a b) n f g =
     clash-places p q b (suc n) f g ∙ sym (same-first right refl (marks-between p b (suc n)) (marks-between q b (suc n)))
 clash-places (pinj s p) (pinj t q) (tprod a b) n f g = absurd (true≢false (sym f))
-clash-places (pinj s p) (ppair q q′) tunit n f g = refl
-clash-places (pinj s p) (ppair q q′) (tsum a b) n f g = sym (meets-none (marks (pinj s p) (tsum a b) n))
-clash-places (pinj s p) (ppair q q′) (tprod a b) n f g = absurd (true≢false (sym f))
-clash-places (ppair p p′) punit a n f g = sym (meets-none (marks (ppair p p′) a n))
-clash-places (ppair p p′) (pvar m) a n f g = sym (meets-none (marks (ppair p p′) a n))
-clash-places (ppair p p′) (pinj t q) tunit n f g = refl
-clash-places (ppair p p′) (pinj t q) (tsum a b) n f g = refl
-clash-places (ppair p p′) (pinj t q) (tprod a b) n f g = absurd (true≢false (sym g))
-clash-places (ppair p p′) (ppair q q′) tunit n f g = no-clash (ppair p p′) (ppair q q′) (let z = both-none (tags p) (tags p′) f in omega (arith, z .0, z .1))
-clash-places (ppair p p′) (ppair q q′) (tsum a b) n f g = no-clash (ppair p p′) (ppair q q′) (let z = both-none (tags p) (tags p′) f in omega (arith, z .0, z .1))
-clash-places (ppair p p′) (ppair q q′) (tprod a b) n f g =
+clash-places (pinj s p) (pnode pairNode q q′) tunit n f g = refl
+clash-places (pinj s p) (pnode pairNode q q′) (tlist a) n f g = refl
+clash-places (pinj s p) (pnode pairNode q q′) (tsum a b) n f g = sym (meets-none (marks (pinj s p) (tsum a b) n))
+clash-places (pinj s p) (pnode pairNode q q′) (tprod a b) n f g = absurd (true≢false (sym f))
+clash-places (pinj s p) (pnode elementNode q q′) a n f g = absurd (true≢false (sym g))
+clash-places (pnode pairNode p p′) (pleaf unitLeaf) a n f g = sym (meets-none (marks (pnode pairNode p p′) a n))
+clash-places (pnode pairNode p p′) (pleaf emptyLeaf) a n f g = absurd (true≢false (sym g))
+clash-places (pnode pairNode p p′) (pvar m) a n f g = sym (meets-none (marks (pnode pairNode p p′) a n))
+clash-places (pnode pairNode p p′) (pinj t q) tunit n f g = refl
+clash-places (pnode pairNode p p′) (pinj t q) (tlist a) n f g = refl
+clash-places (pnode pairNode p p′) (pinj t q) (tsum a b) n f g = refl
+clash-places (pnode pairNode p p′) (pinj t q) (tprod a b) n f g = absurd (true≢false (sym g))
+clash-places (pnode pairNode p p′) (pnode pairNode q q′) tunit n f g = no-clash (pnode pairNode p p′) (pnode pairNode q q′) (eqb-true (tags (pnode pairNode p p′)) 0 f)
+clash-places (pnode pairNode p p′) (pnode pairNode q q′) (tlist a) n f g = no-clash (pnode pairNode p p′) (pnode pairNode q q′) (eqb-true (tags (pnode pairNode p p′)) 0 f)
+clash-places (pnode pairNode p p′) (pnode pairNode q q′) (tsum a b) n f g = no-clash (pnode pairNode p p′) (pnode pairNode q q′) (eqb-true (tags (pnode pairNode p p′)) 0 f)
+clash-places (pnode pairNode p p′) (pnode pairNode q q′) (tprod a b) n f g =
     ap₂ (λ x y. x || y)
     (clash-places p q a n (and-left (shaped p a) (shaped p′ b) f) (and-left (shaped q a) (shaped q′ b) g))
     (clash-places p′ q′ b (n + width a) (and-right (shaped p a) (shaped p′ b) f) (and-right (shaped q a) (shaped q′ b) g))
@@ -206,3 +229,5 @@ clash-places (ppair p p′) (ppair q q′) (tprod a b) n f g =
         ∙ ap₂ (λ x y. x || y) (meets-right xs ys ys′) (meets-right xs′ ys ys′)
         ∙ ap₂ (λ x y. (meets xs ys || x) || (y || meets xs′ ys′)) (low-high v w′) (high-low v′ w)
         ∙ ap (λ x. x || meets xs′ ys′) (or-false (meets xs ys))
+clash-places (pnode pairNode p p′) (pnode elementNode q q′) a n f g = absurd (true≢false (sym g))
+clash-places (pnode elementNode p p′) q a n f g = absurd (true≢false (sym f))

@@ -9,7 +9,7 @@ use mathlib.Core.List.{List, [], _∷_, map}
 use lib.ListN.{length, getD, replicate, length-replicate, List·getD-map, length-map}
 use Rattle.limits.specs.Limits.{tableLength, maxLines}
 use Rattle.calculus.specs.Tools.{all}
-use Rattle.calculus.specs.Trees.{Ty, Tag, left, right, Pat, punit, pvar, pinj, ppair, sameTag}
+use Rattle.calculus.specs.Trees.{Ty, Tag, left, right, Pat, pleaf, unitLeaf, pvar, pinj, pnode, pairNode, sameTag}
 use Rattle.calculus.specs.Clauses.{clash, apart}
 use Rattle.calculus.proofs.Orthogonal.{clash-sym}
 use Rattle.table_trees.specs.Unfolding.{cellOf, typeOf, patternOf}

@@ -9,7 +9,7 @@ use lib.Dec.{eqb}
 use lib.ListN.{length, getD}
 use borrow.Author.Tests.{eqb-true, eqb-false, eq-eqb, ne-eqb, lt-ltb}
 use Rattle.limits.specs.Limits.{tableLength, maxLines, rowWidth, manyTags}
-use Rattle.calculus.specs.Trees.{Ty, tsum, tprod, Tag, left, right, Pat, pinj, ppair, sameTag, part, tags}
+use Rattle.calculus.specs.Trees.{Ty, tsum, tprod, Tag, left, right, Pat, pinj, pnode, pairNode, sameTag, part, tags}
 use Rattle.table_trees.specs.Unfolding.{cellOf, smallerOf, typeOf, patternOf}
 use Rattle.table_trees.proofs.Unfolding.{cell-within}
 use Rattle.table_trees.proofs.Cases.{Injects, lefts, rights}
@@ -156,7 +156,7 @@ rest-between q b m h = wider (le-refl m) h (marks-between q b m)
 -- a pair
 module _ {t f : List ℕ} {base p a n i : ℕ} {s : List ℕ} (w : Ready t f base p a n i s) {k o : ℕ} (ek : k ≡ cellOf t (base + p) 1) (eo : o ≡ cellOf t a 1)
     (zk : k ≡ 4) (zo : o ≡ 2) {x y : Bool} {q b r c : ℕ} (one : Named t base p a 2 2 x q b) (two : Named t base p a 3 3 y r c) (hx : x ≡ true) (hy : y ≡ true) where
-  pair-pattern : patternOf t base p ≡ ppair (patternOf t base q) (patternOf t base r)
+  pair-pattern : patternOf t base p ≡ pnode pairNode (patternOf t base q) (patternOf t base r)
   pair-pattern = is-pair t base p ek zk (one .pattern hx) (two .pattern hy)
 
   pair-type : typeOf t a ≡ tprod (typeOf t b) (typeOf t c)

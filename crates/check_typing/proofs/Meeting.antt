@@ -9,7 +9,7 @@ use mathlib.Core.Option.{Option, none, some}
 use mathlib.Core.List.{List, [], _∷_, map}
 use lib.ListN.{length, length-map, length-set, getD, set, List·getD-map}
 use Rattle.calculus.specs.Tools.{_>>=_, guard}
-use Rattle.calculus.specs.Trees.{Ty, tunit, tsum, tprod, Pat, punit, pvar, ppair, sameType}
+use Rattle.calculus.specs.Trees.{Ty, tunit, tsum, tprod, Pat, pleaf, unitLeaf, pvar, pnode, pairNode, sameType}
 use Rattle.calculus.specs.Slots.{Slots, put, get, allEmpty}
 use Rattle.format.specs.Judge.{typeNode, patternNode}
 use Rattle.calculus.specs.Clauses.{learn, spend, used}
@@ -169,12 +169,12 @@ parts-no-unit ofLeft e = absurd (omega arith)
 parts-no-unit ofRight e = absurd (omega arith)
 parts-no-unit ofPair e = absurd (omega arith)
 
-leaf-is-unit : {k : ℕ} → Leaf k → (k ≡ 1 → ⊥) → (n : ℕ) (p q : Pat) → punit ≡ patternNode k n p q
+leaf-is-unit : {k : ℕ} → Leaf k → (k ≡ 1 → ⊥) → (n : ℕ) (p q : Pat) → (pleaf unitLeaf) ≡ patternNode k n p q
 leaf-is-unit unit h n p q = refl
 leaf-is-unit var h n p q = absurd (h refl)
 leaf-is-unit (other k) h n p q = refl
 
-unit-misfit : (c : Bool) {k : ℕ} (a b : Ty) → Parted k → (e : Slots Ty) → fitting c punit (typeNode k a b) e ≡ none
+unit-misfit : (c : Bool) {k : ℕ} (a b : Ty) → Parted k → (e : Slots Ty) → fitting c (pleaf unitLeaf) (typeNode k a b) e ≡ none
 unit-misfit true a b sums e = refl
 unit-misfit true a b products e = refl
 unit-misfit false a b sums e = refl
@@ -201,7 +201,7 @@ tag-fit true rights n p q f x = refl
 tag-fit false lefts n p q f x = refl
 tag-fit false rights n p q f x = refl
 
-pair-misfit : (c : Bool) (p q : Pat) (k : ℕ) (a b : Ty) → (k ≡ 2 → ⊥) → (e : Slots Ty) → fitting c (ppair p q) (typeNode k a b) e ≡ none
+pair-misfit : (c : Bool) (p q : Pat) (k : ℕ) (a b : Ty) → (k ≡ 2 → ⊥) → (e : Slots Ty) → fitting c (pnode pairNode p q) (typeNode k a b) e ≡ none
 pair-misfit c p q (suc (suc zero)) a b h e = absurd (h refl)
 pair-misfit true p q zero a b h e = refl
 pair-misfit true p q (suc zero) a b h e = refl
@@ -211,10 +211,10 @@ pair-misfit false p q (suc zero) a b h e = refl
 pair-misfit false p q (suc (suc (suc k))) a b h e = refl
 
 -- the parts one after the other, in the order of the deed
-pair-bind : (p q : Pat) (a b : Ty) (x : Option (Slots Ty)) → fitAll true q b (fitAll true p a x) ≡ fitAll true (ppair p q) (tprod a b) x
+pair-bind : (p q : Pat) (a b : Ty) (x : Option (Slots Ty)) → fitAll true q b (fitAll true p a x) ≡ fitAll true (pnode pairNode p q) (tprod a b) x
 pair-bind p q a b x = bind-assoc x (learn p a) (learn q b)
 
-pair-use : (p q : Pat) (a b : Ty) (x : Option (Slots Ty)) → fitAll false p a (fitAll false q b x) ≡ fitAll false (ppair p q) (tprod a b) x
+pair-use : (p q : Pat) (a b : Ty) (x : Option (Slots Ty)) → fitAll false p a (fitAll false q b x) ≡ fitAll false (pnode pairNode p q) (tprod a b) x
 pair-use p q a b x = bind-assoc x (spend q b) (spend p a)
 
 none-fits : (c : Bool) (P : Pat) (A : Ty) (x : Option (Slots Ty)) → ((e : Slots Ty) → fitting c P A e ≡ none) → none ≡ fitAll c P A x
@@ -233,13 +233,13 @@ module _ (t : List ℕ) (base p a : ℕ) (c : Bool) (x : Option (Slots Ty)) {j k
     fit-unit z =
         same c ∙ ap₂ (λ q b. fitAll c q b x) (leaf-is-unit h y _ _ _ ∙ opened t base p u) (sym (node-whole _ _ z) ∙ kind)
       where
-        same : (c : Bool) → x ≡ fitAll c punit tunit x
+        same : (c : Bool) → x ≡ fitAll c (pleaf unitLeaf) tunit x
         same true = same-bind x
         same false = same-bind x
 
     pub fit-unit-not : {r : Option (Slots Ty)} → r ≡ none → Parted k → r ≡ fitAll c (patternOf t base p) (typeOf t a) x
     fit-unit-not e z =
-        e ∙ none-fits c punit _ x (unit-misfit c _ _ z) ∙ ap₂ (λ q b. fitAll c q b x) (leaf-is-unit h y _ _ _ ∙ opened t base p u) kind
+        e ∙ none-fits c (pleaf unitLeaf) _ x (unit-misfit c _ _ z) ∙ ap₂ (λ q b. fitAll c q b x) (leaf-is-unit h y _ _ _ ∙ opened t base p u) kind
 
   pub fit-var : {n : ℕ} {r : Option (Slots Ty)} → j ≡ 1 → n ≡ cellOf t (base + p) 2 → r ≡ fitAll c (pvar n) (typeOf t a) x
       → r ≡ fitAll c (patternOf t base p) (typeOf t a) x
@@ -269,7 +269,7 @@ module _ (t : List ℕ) (base p a : ℕ) (c : Bool) (x : Option (Slots Ty)) {j k
   in-turn h l = go c ∙ ap₂ (λ q b. fitAll c q b x) (sym (pattern-pair t base p (sym u ∙ h))) (sym (type-prod t a (sym v ∙ l)))
     where
       go : (c : Bool) → fitField c (cond c 3 2) (fitField c (cond c 2 3) x)
-          ≡ fitAll c (ppair (patternOf t base (smallerOf (cellOf t (base + p) 2) p)) (patternOf t base (smallerOf (cellOf t (base + p) 3) p)))
+          ≡ fitAll c (pnode pairNode (patternOf t base (smallerOf (cellOf t (base + p) 2) p)) (patternOf t base (smallerOf (cellOf t (base + p) 3) p)))
           (tprod (typeOf t (smallerOf (cellOf t a 2) a)) (typeOf t (smallerOf (cellOf t a 3) a))) x
       go true = pair-bind (patternOf t base (smallerOf (cellOf t (base + p) 2) p)) (patternOf t base (smallerOf (cellOf t (base + p) 3) p)) (typeOf t (smallerOf (cellOf t a 2) a))
           (typeOf t (smallerOf (cellOf t a 3) a)) x

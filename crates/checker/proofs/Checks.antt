@@ -13,13 +13,14 @@ use Rattle.limits.specs.Limits.{maxBytes, maxLines, tableLength, workLength, ro
 use Rattle.calculus.specs.Tools.{isSome, firstFailing, firstOf, orElse, stages}
 use Rattle.calculus.specs.Trees.{left, right, Ty, Pat, Clause, Iso}
 use Rattle.calculus.specs.Refusals.{Kind, typeLine, patternLine, isoLine, clauseLine, letLine, Refusal, number, shortArea, tooLong, misplaced, badField}
-use Rattle.calculus.specs.Refusals.{badName, ceiling, variable, letShape, badType, overlap, gap, idle}
+use Rattle.calculus.specs.Refusals.{badName, ceiling, variable, letShape, badType, overlap, gap, idle, recursion}
 use Rattle.format.specs.Lines.{Row, lines, rowOf}
 use Rattle.format.specs.Table.{tableOf}
 use Rattle.format.specs.Judge.{Seen, start, afterAll, judge, inOrder, fieldsFit, named, withinCeilings, after, Reading, rows, faulty, withRow, onRow, onJudged, readFrom}
 use Rattle.format.specs.Unfold.{Tail, place, tailFrom, isosOf}
 use Rattle.format.specs.Idle.{typeLines, reach, isRoot, member, Reach, reachFrom, idleFault}
-use Rattle.calculus.specs.Clauses.{Sigs, clauseFault, variablesRule, letShapes, typed, sideFault, apart, fullWeight, lefts, rights, at, isoFault, fault, sigsOf}
+use Rattle.calculus.specs.Clauses.{Sigs, clauseFault, variablesRule, letShapes, typed, sideFault, apart, fullWeight, lefts, rights, at, zoned, clauseRule}
+use Rattle.calculus.specs.Clauses.{atBreach, recursionRule, recursionFault, isoFault, faultFrom, fault, sigsOf}
 use Rattle.model.specs.Services.{Verdict, accepted, refused, judged, fileTests, afterReading, over, verdict, filled, tableAfter, workAfter, short, unless, answerOf, refusalBy, check}
 use Rattle.format.specs.Code.{refusalView, numbered}
 use Rattle.format.specs.declared.Answer as A
@@ -122,13 +123,30 @@ side-number o f =
     failing-number (apart (lefts o)) (apart (rights o)) (fullWeight (lefts o)) (fullWeight (rights o))
     (overlap isoLine left) (overlap isoLine right) (gap isoLine left) (gap isoLine right) f (lit≤ tt) (lit≤ tt) (lit≤ tt) (lit≤ tt)
 
-iso-number : (sigs : Sigs) (o : Iso) → FaultAtLeast3 (isoFault sigs o)
+recursion-number : (i : ℕ) (o : Iso) → FaultAtLeast3 (recursionFault i o)
+unfolding recursionFault
+recursion-number i o = go (recursionRule i o) (zoned (o .from)) (first-number (atBreach i) (o .clauses) (λ c. one (clauseRule i c) (c .line)))
+  where
+    one : (b : Bool) (n : ℕ) → FaultAtLeast3 (cond b none (some (recursion clauseLine, n)))
+    one true n = tt
+    one false n = lit≤ tt
+
+    go : (r z : Bool) → FaultAtLeast3 (firstOf (atBreach i) (o .clauses)) → FaultAtLeast3 (cond r none (cond z (firstOf (atBreach i) (o .clauses)) (some (recursion isoLine, o .line))))
+    go true z h = tt
+    go false true h = h
+    go false false h = lit≤ tt
+
+iso-number : (sigs : Sigs) (i : ℕ) (o : Iso) → FaultAtLeast3 (isoFault sigs i o)
 unfolding isoFault
-iso-number sigs o =
-    or-number (firstOf (λ c. at (c .line) (clauseFault sigs (o .from) (o .to) c)) (o .clauses)) (at (o .line) (sideFault o))
+iso-number sigs i o =
+    or-number (firstOf (λ c. at (c .line) (clauseFault sigs (o .from) (o .to) c)) (o .clauses)) (orElse (recursionFault i o) (at (o .line) (sideFault o)))
     (first-number (λ c. at (c .line) (clauseFault sigs (o .from) (o .to) c)) (o .clauses)
     (λ c. at-number (c .line) (clauseFault sigs (o .from) (o .to) c) (clause-number sigs o c)))
-    (at-number (o .line) (sideFault o) (side-number o))
+    (or-number (recursionFault i o) (at (o .line) (sideFault o)) (recursion-number i o) (at-number (o .line) (sideFault o) (side-number o)))
+
+isos-number : (sigs : Sigs) (i : ℕ) (os : List Iso) → FaultAtLeast3 (faultFrom sigs i os)
+isos-number sigs i [] = tt
+isos-number sigs i (o ∷ os) = or-number (isoFault sigs i o) (faultFrom sigs (suc i) os) (iso-number sigs i o) (isos-number sigs (suc i) os)
 
 -- an idle line is 21
 idle-from : (ts n : ℕ) (rs : List Row) → FaultAtLeast3 (reachFrom ts n rs .found)
@@ -148,7 +166,7 @@ stage-number : (rs : List Row) (f : Refusal) (n : ℕ) → stages fileTests rs �
 unfolding fault idleFault
 stage-number rs f n e =
     subst FaultAtLeast3 e
-    (or-number (idleFault rs) (fault (isosOf rs)) (idle-from (typeLines rs) 0 rs) (first-number (isoFault (sigsOf (isosOf rs))) (isosOf rs) (iso-number (sigsOf (isosOf rs)))))
+    (or-number (idleFault rs) (fault (isosOf rs)) (idle-from (typeLines rs) 0 rs) (isos-number (sigsOf (isosOf rs)) 0 (isosOf rs)))
 
 -- the refusal of an idle line, or else that of an iso
 pub lines-idle : (a : A.Answer) (b : Bool) (rs : List Row) → asFault a ≡ idleFault rs → b ≡ isSome (refusalView (a .refusal)) → b ≡ true

@@ -19,17 +19,17 @@ use Rattle.format.specs.Unfold.{isosOf}
 use Rattle.format.specs.Idle.{FirstIdle, idleFault}
 use Rattle.format.proofs.Idling.{idle-some}
 use Rattle.model.specs.Services.{Verdict, accepted, refused, judged, afterReading, over, verdict, short, unless, Answer, answerOf, check, turn, Ran, runOn, runOf, run, answerOfRun, runService}
-use Rattle.calculus.specs.Faulty.{ClauseFault, variables, shapes, SideFault, overlapLeft, overlapRight, gapLeft, gapRight, FirstClause, IsoFault, inClause, inSides, FirstIso}
-use Rattle.model.specs.Answers.{RunIs, absent, strange, passed, done}
+use Rattle.calculus.specs.Faulty.{ClauseFault, variables, shapes, SideFault, overlapLeft, overlapRight, gapLeft, gapRight, FirstClause, Breach, IsoFault, FirstIso}
+use Rattle.model.specs.Answers.{RunIs, absent, strange, passed, large, done}
 use Rattle.calculus.proofs.Basic.{none≢some, some-inj, bool-cases, neither, ltb-lt, lt-ltb, ltb-false, not-ltb, or-true, true-or-left, true-or-right}
 use Rattle.format.proofs.Passing.{Passes, Passes.done, Passes.next, judge-fit, fit-judge}
 use Rattle.model.proofs.Files.{passes, refused-iff, passes-read, verdict-read, ReadCases, read-cases}
 use Rattle.model.proofs.Outcomes.{turn-answer, refused-first}
 use Rattle.model.proofs.Runs.{run-iff}
-use Rattle.demands.specs.Words.{Areas}
+use Rattle.demands.specs.Words.{Areas, OfFile}
 use Rattle.demands.proofs.Serving.{check-says, turn-says, run-shows}
 use Rattle.demands.proofs.Leaving.{says-tells}
-use Rattle.demands.specs.Faults.{UpTo, NumberedAnswers, IdleExactly, ShortExactly, TurnShortExactly, RunShortExactly, LongExactly, TurnAsCheck}
+use Rattle.demands.specs.Faults.{Checks, Runs, NumberedAnswers, IdleExactly, ShortExactly, TurnShortExactly, RunShortExactly, LongExactly, TurnAsCheck}
 use Rattle.demands.specs.Faults.{RunAsCheck, LinesExactly, LineFault, LinePasses, FirstLine, here, later, Place, types, patterns, clauses, lets, Stand}
 use Rattle.demands.specs.Faults.{type, noType, pattern, noPattern, iso, clause, noClause, let-step, noLet, end, RowsInOrder}
 use Rattle.law_reordering.proofs.Unmoved.{withRow-faulty}
@@ -196,25 +196,36 @@ in-clauses : {sigs : Sigs} {a b : Ty} {cs : List Clause} {f : Refusal} {n : ℕ}
 in-clauses (FirstClause.here x e) = clause-number x
 in-clauses (FirstClause.later y x) = in-clauses x
 
-in-iso : {sigs : Sigs} {o : Iso} {f : Refusal} {n : ℕ} → IsoFault sigs o f n → (8 ≤ number f) × (number f ≤ 14)
-in-iso (inClause x) = in-clauses x
-in-iso (inSides y x e) = side-number x
+-- the number of an iso's fault: 8 to 14, or 23
+abbrev IsoNumber : ℕ → Type 0
+IsoNumber n = ((8 ≤ n) × (n ≤ 14)) ⊎ (n ≡ 23)
 
-in-isos : {sigs : Sigs} {os : List Iso} {f : Refusal} {n : ℕ} → FirstIso sigs os f n → (8 ≤ number f) × (number f ≤ 14)
+breach-number : {i : ℕ} {o : Iso} {f : Refusal} {n : ℕ} → Breach i o f n → number f ≡ 23
+breach-number (Breach.inType x e) = refl
+breach-number (Breach.inClause x y) = refl
+
+in-iso : {sigs : Sigs} {i : ℕ} {o : Iso} {f : Refusal} {n : ℕ} → IsoFault sigs i o f n → IsoNumber (number f)
+in-iso (IsoFault.inClause x) = inl (in-clauses x)
+in-iso (IsoFault.inRecursion y z x) = inr (breach-number x)
+in-iso (IsoFault.inSides y z x e) = inl (side-number x)
+
+in-isos : {sigs : Sigs} {i : ℕ} {os : List Iso} {f : Refusal} {n : ℕ} → FirstIso sigs i os f n → IsoNumber (number f)
 in-isos (FirstIso.here x) = in-iso x
 in-isos (FirstIso.later y x) = in-isos x
 
--- what a file that is not too long is refused for: its first line at fault, or an idle line, or an iso
+-- what a file that is not too long is refused for: its first line at fault, or an iso, or an idle line
 abbrev Later : ℕ → Type 0
-Later n = ((8 ≤ n) × (n ≤ 14)) ⊎ (n ≡ 21)
+Later n = IsoNumber n ⊎ (n ≡ 21)
 
 later-high : (n : ℕ) → Later n → 8 ≤ n
-later-high n (inl h) = h .0
+later-high n (inl (inl h)) = h .0
+later-high n (inl (inr h)) = omega arith
 later-high n (inr h) = omega arith
 
-later-most : (n : ℕ) → Later n → UpTo 14 n
-later-most n (inl h) = inl (h .1)
-later-most n (inr h) = inr h
+later-file : (n : ℕ) → Later n → OfFile n
+later-file n (inl (inl (h, k))) = inl (omega arith, k)
+later-file n (inl (inr h)) = inr (inr h)
+later-file n (inr h) = inr (inl h)
 
 refused-for : (file : List ℕ) {f : Refusal} {m : ℕ} → over file ≡ false → verdict file ≡ refused f m → FirstLine start 1 (lines file) f m ⊎ Later (number f)
 unfolding verdict
@@ -258,25 +269,31 @@ over-iff file = (
 )
 
 -- a verdict is refused with 2, a line's number or an iso's
-verdict-high : (file : List ℕ) {f : Refusal} {m : ℕ} → verdict file ≡ refused f m → ((over file ≡ true) × (f ≡ tooLong) × (m ≡ 0)) ⊎ ((over file ≡ false) × (3 ≤ number f) × UpTo 14 (number f))
+verdict-high : (file : List ℕ) {f : Refusal} {m : ℕ} → verdict file ≡ refused f m → ((over file ≡ true) × (f ≡ tooLong) × (m ≡ 0)) ⊎ ((over file ≡ false) × OfFile (number f))
 verdict-high file {f} {m} e = go (bool-cases (over file))
   where
-    low : FirstLine start 1 (lines file) f m ⊎ Later (number f) → (3 ≤ number f) × UpTo 14 (number f)
-    low (inl x) = let (h, k) = first-number x in (h, inl (omega arith))
-    low (inr x) = (omega (arith, later-high (number f) x), later-most (number f) x)
+    low : FirstLine start 1 (lines file) f m ⊎ Later (number f) → OfFile (number f)
+    low (inl x) = let (h, k) = first-number x in inl (h, omega arith)
+    low (inr x) = later-file (number f) x
 
-    go : (over file ≡ true) ⊎ (over file ≡ false) → ((over file ≡ true) × (f ≡ tooLong) × (m ≡ 0)) ⊎ ((over file ≡ false) × (3 ≤ number f) × UpTo 14 (number f))
+    go : (over file ≡ true) ⊎ (over file ≡ false) → ((over file ≡ true) × (f ≡ tooLong) × (m ≡ 0)) ⊎ ((over file ≡ false) × OfFile (number f))
     go (inl t) =
         let h = sym (too-long file t) ∙ e in
         let refusal : tooLong ≡ f = cc in
         let line : 0 ≡ m = cc in
         inl (t, sym refusal, sym line)
-    go (inr t) = let (h, k) = low (refused-for file t e) in inr (t, h, k)
+    go (inr t) = inr (t, low (refused-for file t e))
+
+-- such a number is above 2
+above-two : (n : ℕ) → OfFile n → 3 ≤ n
+above-two n (inl x) = x .0
+above-two n (inr (inl x)) = omega arith
+above-two n (inr (inr x)) = omega arith
 
 -- no file is refused with 1
 pub no-one : (file : List ℕ) (v : Verdict) → verdict file ≡ v → answerOf v .number ≡ 1 → ⊥
 no-one file (accepted rs) e z = omega arith
-no-one file (refused f m) e z = ⊎-elim (λ (o, p, q). let y = ap number p in omega arith) (λ (o, p, q). omega arith) (verdict-high file e)
+no-one file (refused f m) e z = ⊎-elim (λ (o, p, q). let y = ap number p in omega arith) (λ (o, p). let y = above-two (number f) p in omega arith) (verdict-high file e)
 
 long-areas : (t w : List ℕ) → short t w ≡ false → Areas t w
 long-areas t w b =
@@ -306,15 +323,22 @@ pub run-short-exactly : RunShortExactly
 unfolding runService run
 run-short-exactly file t w i back budget value o = (
   (λ e (a, h). no-run (verdict file) refl (sym (ap (λ x. x .number) (run-shows file o i back budget value a h)) ∙ e)),
-  (λ h. ⊎-elim (λ b. ap (λ x. answerOfRun (runOf (unless x (verdict file)) i back budget value) .number) b) (λ b. absurd (h (all-long t w o 127 b)))
-      (bool-cases (short t w || ltb (length o) 127))),
+  (λ h. one h (bool-cases (short t w || ltb (length o) 127))),
 )
   where
+    at : (x : Bool) → x ≡ true → answerOfRun (runOf (unless x (verdict file)) i back budget value) .number ≡ 1
+    at x e = ap (λ x. answerOfRun (runOf (unless x (verdict file)) i back budget value) .number) e
+
+    one : (Areas t w × (127 ≤ length o) → ⊥) → ((short t w || ltb (length o) 127) ≡ true) ⊎ ((short t w || ltb (length o) 127) ≡ false)
+        → answerOfRun (runOf (unless (short t w || ltb (length o) 127) (verdict file)) i back budget value) .number ≡ 1
+    one h (inl b) = at (short t w || ltb (length o) 127) b
+    one h (inr b) = absurd (h (all-long t w o 127 b))
+
     no-run : (v : Verdict) → verdict file ≡ v → answerOfRun (runOf v i back budget value) .number ≡ 1 → ⊥
     no-run (refused f m) e z = no-one file (refused f m) e z
     no-run (accepted rs) e z =
         let says = run-iff file rs e i back budget value (runOf (accepted rs) i back budget value) .0 (ap (λ v. runOf v i back budget value) e) in
-        ⊎-elim (λ p. omega arith) (λ p. omega arith) (says-tells says)
+        ⊎-elim (λ p. omega arith) (λ (p, q, r). omega arith) (says-tells says)
 
 pub long-exactly : LongExactly
 long-exactly file t w a = (
@@ -326,7 +350,11 @@ long-exactly file t w a = (
     two (accepted rs) e h = let z = ap (λ x. x .number) h in absurd (omega arith)
     two (refused f m) e h =
         let z = ap (λ x. x .number) h in
-        ⊎-elim (λ (o, p, q). o) (λ (o, p, q). absurd (omega arith)) (verdict-high file e)
+        ⊎-elim (λ (o, p, q). o) (λ (o, p). let y = above-two (number f) p in absurd (omega arith)) (verdict-high file e)
+
+above-seven : (n : ℕ) → IsoNumber n → n ≤ 7 → ⊥
+above-seven n (inl x) h = let y = x .0 in omega arith
+above-seven n (inr x) h = omega arith
 
 pub turn-as-check : TurnAsCheck
 turn-as-check file t w output a h = turn-says file output a h ∙ sym (check-says file a)
@@ -371,19 +399,23 @@ idle-exactly file t w a few-bytes few-lines m = (
     go (accepted rs) e h = let z = ap (λ x. x .number) h in absurd (omega arith)
     go (refused f k) e h = on (readFrom start 1 (lines file)) refl
       where
-        high : 21 ≤ number f
-        high = let z = ap (λ x. x .number) h in omega arith
+        idly : number f ≡ 21
+        idly = ap (λ x. x .number) h
+
+        no-iso : IsoNumber (number f) → ⊥
+        no-iso (inl x) = omega (arith, idly, x .1)
+        no-iso (inr x) = omega (arith, idly)
 
         on : (r : Reading) → readFrom start 1 (lines file) ≡ r → (rs : List Row) × (readFrom start 1 (lines file) ≡ rows rs) × (f : Refusal) × FirstIdle rs f m
         on (faulty g j) r =
             let z = sym (at-a-line file fits (read-first start 1 (lines file) r)) ∙ e in
             let same : g ≡ f = cc in
             let low = first-number (read-first start 1 (lines file) r) .1 in
-            absurd (omega (arith, ap number same, high))
+            absurd (omega (arith, ap number same, idly))
         on (rows rs) r = read (read-cases file rs fits r)
           where
             read : ReadCases file rs → (qs : List Row) × (readFrom start 1 (lines file) ≡ rows qs) × (g : Refusal) × FirstIdle qs g m
-            read (ReadCases.inForm i) = let b = in-isos (refused-iff file rs i f k .0 e) .1 in absurd (omega (arith, high))
+            read (ReadCases.inForm i) = absurd (no-iso (in-isos (refused-iff file rs i f k .0 e)))
             read (ReadCases.idleAt κ n i v) =
                 let z = sym v ∙ e in
                 let line : n ≡ k = cc in
@@ -392,41 +424,51 @@ idle-exactly file t w a few-bytes few-lines m = (
 
 -- ---- numbered answers
 
-verdict-most : (file : List ℕ) (v : Verdict) → verdict file ≡ v → UpTo 14 (answerOf v .number)
-verdict-most file (accepted rs) e = inl (omega arith)
-verdict-most file (refused f m) e = ⊎-elim (λ (o, p, q). let y = ap number p in inl (omega arith)) (λ (o, p, q). q) (verdict-high file e)
+file-checks : (n : ℕ) → OfFile n → Checks n
+file-checks n (inl x) = inl (x .1)
+file-checks n (inr x) = inr x
 
-unless-most : (file : List ℕ) (b : Bool) → UpTo 14 (answerOf (unless b (verdict file)) .number)
+verdict-most : (file : List ℕ) (v : Verdict) → verdict file ≡ v → Checks (answerOf v .number)
+verdict-most file (accepted rs) e = inl (omega arith)
+verdict-most file (refused f m) e = ⊎-elim (λ (o, p, q). let y = ap number p in inl (omega arith)) (λ (o, p). file-checks (number f) p) (verdict-high file e)
+
+unless-most : (file : List ℕ) (b : Bool) → Checks (answerOf (unless b (verdict file)) .number)
 unless-most file true = inl (omega arith)
 unless-most file false = verdict-most file (verdict file) refl
 
-says-most : {os : List Iso} {i budget : ℕ} {bs : List ℕ} {r : Ran} → RunIs os i budget bs r → answerOfRun r .number ≤ 17
-says-most (absent e) = omega arith
-says-most (strange o e h) = omega arith
-says-most (passed o v w k e x h s l) = omega arith
-says-most (done o v w k e x h s l) = omega arith
+says-most : {os : List Iso} {i budget : ℕ} {bs : List ℕ} {r : Ran} → RunIs os i budget bs r → Runs (answerOfRun r .number)
+says-most (absent e) = inl (omega arith)
+says-most (strange o e h) = inl (omega arith)
+says-most (passed o v w k e x h s l) = inl (omega arith)
+says-most (large o v k e x h s l) = inr (inr (inr refl))
+says-most (done o v w k e x h s l) = inl (omega arith)
 
-run-most : (file : List ℕ) (i : ℕ) (back : Bool) (budget : ℕ) (value : List ℕ) (v : Verdict) → verdict file ≡ v → UpTo 17 (answerOfRun (runOf v i back budget value) .number)
+checks-run : (n : ℕ) → Checks n → Runs n
+checks-run n (inl x) = inl (omega arith)
+checks-run n (inr (inl x)) = inr (inl x)
+checks-run n (inr (inr x)) = inr (inr (inl x))
+
+run-most : (file : List ℕ) (i : ℕ) (back : Bool) (budget : ℕ) (value : List ℕ) (v : Verdict) → verdict file ≡ v → Runs (answerOfRun (runOf v i back budget value) .number)
 unfolding run
-run-most file i back budget value (refused f m) e = ⊎-elim (λ h. inl (omega arith)) inr (verdict-most file (refused f m) e)
+run-most file i back budget value (refused f m) e = checks-run (number f) (verdict-most file (refused f m) e)
 run-most file i back budget value (accepted rs) e =
-    inl (says-most (run-iff file rs e i back budget value (runOf (accepted rs) i back budget value) .0 (ap (λ v. runOf v i back budget value) e)))
+    says-most (run-iff file rs e i back budget value (runOf (accepted rs) i back budget value) .0 (ap (λ v. runOf v i back budget value) e))
 
 unless-run-most : (file : List ℕ) (i : ℕ) (back : Bool) (budget : ℕ) (value : List ℕ) (b : Bool)
-    → UpTo 17 (answerOfRun (runOf (unless b (verdict file)) i back budget value) .number)
+    → Runs (answerOfRun (runOf (unless b (verdict file)) i back budget value) .number)
 unless-run-most file i back budget value true = inl (omega arith)
 unless-run-most file i back budget value false = run-most file i back budget value (verdict file) refl
 
-check-most : (file t w : List ℕ) → UpTo 14 (check file t w .answer .number)
+check-most : (file t w : List ℕ) → Checks (check file t w .answer .number)
 unfolding check
 check-most file t w = unless-most file (short t w)
 
-turn-most : (file t w o : List ℕ) → UpTo 14 (turn file t w o .answer .number)
+turn-most : (file t w o : List ℕ) → Checks (turn file t w o .answer .number)
 unfolding turn
 turn-most file t w o =
-    subst (λ (a : Answer). UpTo 14 (a .number)) (sym (turn-answer file t w o)) (unless-most file (short t w || ltb (length o) (length file)))
+    subst (λ a. Checks (a .number)) (sym (turn-answer file t w o)) (unless-most file (short t w || ltb (length o) (length file)))
 
-service-most : (file t w : List ℕ) (i : ℕ) (back : Bool) (budget : ℕ) (value o : List ℕ) → UpTo 17 (runService file t w i back budget value o .number)
+service-most : (file t w : List ℕ) (i : ℕ) (back : Bool) (budget : ℕ) (value o : List ℕ) → Runs (runService file t w i back budget value o .number)
 unfolding runService
 service-most file t w i back budget value o = unless-run-most file i back budget value (short t w || ltb (length o) 127)
 

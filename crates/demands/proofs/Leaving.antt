@@ -16,7 +16,7 @@ use Rattle.format.specs.Table.{tableOf}
 use Rattle.format.specs.Judge.{start}
 use Rattle.model.specs.Services.{Verdict, accepted, refused, over, verdict, filled, written, tableAfter, workAfter, short, unless, answerOf, check, turnedOf}
 use Rattle.model.specs.Services.{turn, Ran, gives, fails, runOf, run, RunAnswer, answerOfRun, runService}
-use Rattle.model.specs.Answers.{RunIs, absent, strange, passed, done}
+use Rattle.model.specs.Answers.{RunIs, absent, strange, passed, large, done}
 use Rattle.calculus.proofs.Basic.{neither, ltb-false, leb-le, leb-false, bool-cases}
 use Rattle.format.proofs.Printing.{read-count}
 use Rattle.format.proofs.Tables.{length-table}
@@ -25,7 +25,8 @@ use Rattle.model.proofs.Outcomes.{turn-answer}
 use Rattle.model.proofs.Runs.{run-iff}
 use Rattle.model.proofs.Sizes.{short-result}
 use Rattle.model.proofs.Sheets.{written-length}
-use Rattle.demands.specs.Demands.{OneOrTwo, OfFile, Left, Written, CheckLeaves, TurnLeaves, RunLeaves}
+use Rattle.demands.specs.Words.{OfFile}
+use Rattle.demands.specs.Demands.{OneOrTwo, Left, Written, CheckLeaves, TurnLeaves, RunLeaves}
 
 -- ---- an area whose front is filled
 
@@ -69,7 +70,7 @@ rows-fit file rs f =
 
 -- a number that a call may answer where the verdict is v
 abbrev Tells : ℕ → Verdict → Type 0
-Tells n (accepted rs) = (n ≡ 0) ⊎ ((15 ≤ n) × (n ≤ 17))
+Tells n (accepted rs) = (n ≡ 0) ⊎ ((15 ≤ n) × (n ≡ 21 → ⊥) × (n ≡ 23 → ⊥))
 Tells n (refused f m) = n ≡ number f
 
 one-or-two : (n : ℕ) → 0 < n → n ≤ 2 → OneOrTwo n
@@ -83,19 +84,21 @@ not-low : (n : ℕ) → 3 ≤ n → OneOrTwo n → ⊥
 not-low n h (inl x) = omega arith
 not-low n h (inr x) = omega arith
 
-not-low′ : (n : ℕ) → (n ≡ 0) ⊎ ((15 ≤ n) × (n ≤ 17)) → OneOrTwo n → ⊥
+not-low′ : (n : ℕ) → (n ≡ 0) ⊎ ((15 ≤ n) × (n ≡ 21 → ⊥) × (n ≡ 23 → ⊥)) → OneOrTwo n → ⊥
 not-low′ n (inl z) (inl x) = omega arith
 not-low′ n (inl z) (inr x) = omega arith
 not-low′ n (inr z) x = not-low n (omega (arith, z .0)) x
 
 not-file : (n : ℕ) → n ≤ 2 → OfFile n → ⊥
 not-file n h (inl x) = omega (arith, x .0)
-not-file n h (inr x) = omega arith
+not-file n h (inr (inl x)) = omega arith
+not-file n h (inr (inr x)) = omega arith
 
-not-of-file : (n : ℕ) → (n ≡ 0) ⊎ ((15 ≤ n) × (n ≤ 17)) → OfFile n → ⊥
+not-of-file : (n : ℕ) → (n ≡ 0) ⊎ ((15 ≤ n) × (n ≡ 21 → ⊥) × (n ≡ 23 → ⊥)) → OfFile n → ⊥
 not-of-file n (inl z) x = not-file n (omega arith) x
 not-of-file n (inr z) (inl x) = omega (arith, z .0, x .1)
-not-of-file n (inr z) (inr x) = omega (arith, z .1)
+not-of-file n (inr z) (inr (inl x)) = z .1 x
+not-of-file n (inr z) (inr (inr x)) = z .2 x
 
 -- the verdict by which a call goes, where `narrow` says that some area is short
 module _ (file t w : List ℕ) (narrow : Bool) (room : narrow ≡ false → (tableLength ≤ length t) × (workLength ≤ length w)) where
@@ -229,10 +232,12 @@ turn-leaves file t w o =
     (left file t w (narrow t w o (length file)) (wide-enough t w o (length file)) (answerOf v .number) v refl (answer-tells v), turn-written file t w o v refl)
 
 -- the number that Run answers for an accepted file
-pub says-tells : {os : List Iso} {i budget : ℕ} {bs : List ℕ} {r : Ran} → RunIs os i budget bs r → (answerOfRun r .number ≡ 0) ⊎ ((15 ≤ answerOfRun r .number) × (answerOfRun r .number ≤ 17))
-says-tells (absent e) = inr (omega arith, omega arith)
-says-tells (strange o e h) = inr (omega arith, omega arith)
-says-tells (passed o v w k e x h s l) = inr (omega arith, omega arith)
+pub says-tells : {os : List Iso} {i budget : ℕ} {bs : List ℕ} {r : Ran} → RunIs os i budget bs r
+    → (answerOfRun r .number ≡ 0) ⊎ ((15 ≤ answerOfRun r .number) × (answerOfRun r .number ≡ 21 → ⊥) × (answerOfRun r .number ≡ 23 → ⊥))
+says-tells (absent e) = inr (omega arith, (λ z. omega arith), (λ z. omega arith))
+says-tells (strange o e h) = inr (omega arith, (λ z. omega arith), (λ z. omega arith))
+says-tells (passed o v w k e x h s l) = inr (omega arith, (λ z. omega arith), (λ z. omega arith))
+says-tells (large o v k e x h s l) = inr (omega arith, (λ z. omega arith), (λ z. omega arith))
 says-tells (done o v w k e x h s l) = inl refl
 
 -- a run that is refused has no letters and the count 0

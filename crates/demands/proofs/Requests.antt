@@ -3,14 +3,19 @@ use Prim.Native.Nat.{ℕ, _+_, _*_, _-_, _≤_, _<_}
 use native.Mathlib.Omega.{arith}
 use mathlib.Core.Path.{_≡_, refl, sym, ap, ap₂, _∙_, subst}
 use mathlib.Core.Logic.{_⊎_, inl, inr}
-use mathlib.Core.Bool.{Bool, false, cond, not, _||_, or-false}
+use mathlib.Core.Bool.{Bool, true, false, cond, not, _||_, or-false}
+use mathlib.Core.Option.{some}
 use mathlib.Core.List.{List, [], _∷_, _++_}
 use lib.Dec.{ltb}
-use lib.ListN.{length, take, drop, replicate, getD}
+use lib.ListN.{length, take, drop, replicate, getD, getElem?}
 use lib.Seq.{take-append-seam}
 use borrow.Author.Tests.{le-ltb}
-use Rattle.limits.specs.Limits.{tableLength, resultLength, maxQueries}
-use Rattle.calculus.specs.Refusals.{Refusal, number, tooLong}
+use Rattle.limits.specs.Limits.{tableLength, resultLength, maxQueries, maxValues, maxPairs, exportLength, importLength}
+use Rattle.calculus.specs.Trees.{Ty, Iso}
+use Rattle.calculus.specs.Lists.{Finite, listFree, isFree}
+use Rattle.calculus.specs.Refusals.{Refusal, number, tooLong, tooMany}
+use Rattle.calculus.proofs.Basic.{is-false}
+use Rattle.calculus.proofs.Lists.{free-finite}
 use Rattle.format.specs.Lines.{Row, lines, withoutReturns}
 use Rattle.format.specs.Judge.{start, Passes}
 use Rattle.format.specs.Table.{tableOf}
@@ -19,7 +24,8 @@ use Rattle.calculus.specs.Paper.{FileOk}
 use Rattle.format.proofs.Printing.{read-rows}
 use Rattle.format.proofs.Sizes.{type-size-at, pattern-size-at, no-size-at}
 use Rattle.model.specs.Answers.{InForm}
-use Rattle.model.specs.Services.{refused, verdict, written, tableAfter, short, unless, Answer, check, turn, turned, runOf, run, RunAnswer, answerOfRun, RunResult, runService, Output}
+use Rattle.model.specs.Services.{Verdict, accepted, refused, verdict, written, tableAfter, short, unless, Answer, check, turn, turned, runOf, run, RunAnswer}
+use Rattle.model.specs.Services.{answerOfRun, RunResult, runService, fails, serve, answerFrom, Output}
 use Rattle.model.specs.Sheet.{three, sheet}
 use Rattle.model.proofs.Files.{accepted-iff, turned-twice, turned-fits}
 use Rattle.model.proofs.Sheets.{block, Room, as-check, each-query}
@@ -27,11 +33,18 @@ use Rattle.calculus.proofs.Basic.{eq-eqb, not-ltb, le-or-lt}
 use Rattle.law_ranking.specs.Answers.{LineFault}
 use Rattle.law_ranking.proofs.Services.{number-areas, setting-areas}
 use Rattle.law_costs.specs.Bounds.{boundsService}
-use Rattle.law_costs.proofs.Served.{turned-same, as-check as bounds-areas}
+use Rattle.law_costs.proofs.Served.{turned-same, list-iso, as-check as bounds-areas}
+use Rattle.model.proofs.Runs.{accepted-good}
+use Rattle.model.proofs.Sizes.{free-rows}
+use Rattle.law_ranking.specs.Numbering.{count, typesOf}
+use Rattle.law_ranking.specs.Answers.{LineFault, NumberIs, SettingIs}
+use Rattle.law_ranking.proofs.Numbering.{list-many}
+use Rattle.law_ranking.proofs.Services.{number-answers, setting-answers}
 use Rattle.law_endings.proofs.Feeds.{turned-returnless}
-use Rattle.law_witnesses.proofs.Served.{as-check as as-shown, served-shows, served-silent}
-use Rattle.law_pairlists.specs.PairLists.{exportService}
+use Rattle.law_witnesses.proofs.Served.{as-check as as-shown, served-shows, served-silent, served-large}
+use Rattle.law_pairlists.specs.PairLists.{exportRows, exportService, importRows, importService}
 use Rattle.law_pairlists.proofs.Services.{import-areas, import-checks, import-exports, export-areas}
+use Rattle.law_pairlists.proofs.Runs.{import-many, export-lists}
 use Rattle.law_units.specs.Units.{Units, Holds, Tally, nothingYet, Play, playService}
 use Rattle.law_units.specs.Backward.{Alike}
 use Rattle.law_units.specs.Faults.{UnitFault, FirstUnit, Room as PlayRoom, PlayFault}
@@ -46,11 +59,12 @@ use Rattle.law_reordering.proofs.Files.{reordered-sym}
 use Rattle.law_reordering.proofs.Services.{check-both, run-same, turned-same as turned-order}
 use Rattle.demands.specs.Words.{Areas, yes, Accepted, turnedBytes}
 use Rattle.demands.specs.Requests.{SheetOfLoneRuns, BoundsOfTurned, TurnedWithFeeds, TurnedTwice, importedBytes, ImportAccepted, ExportOfImport}
-use Rattle.demands.specs.Requests.{ShowsAsCheck, ShowsFault, BothAccepted, AnswerAlike, TurnedAlike, Sizes, SizesLeft, TablesLeft, PlayOfCalls}
+use Rattle.demands.specs.Requests.{ShowsAsCheck, ShowsFault, ShowsLarge, ListTypesRefused, ListImportRefused, ListIsosRefused, BothAccepted, AnswerAlike, TurnedAlike}
+use Rattle.demands.specs.Requests.{Sizes, SizesLeft, TablesLeft, PlayOfCalls}
 use Rattle.demands.specs.Requests.{PlayCounts, PlayGood, PlayRestores, PlayRefused, PlayRefusedExactly, PlayShortExactly, PlayLongExactly, UnitAtFault}
 use Rattle.demands.specs.Requests.{UnitExactly, BadScript, BadScriptExactly, PlaysExchange}
-use Rattle.demands.proofs.Serving.{not-short, not-tight, check-says, accepted-rows, same-rows, turn-writes, gives-run, run-gives, zero-says}
-use Rattle.demands.specs.Faults.{UpTo}
+use Rattle.demands.proofs.Serving.{not-short, not-tight, check-says, accepted-as, accepted-rows, same-rows, turn-writes, gives-run, run-gives, zero-says}
+use Rattle.demands.specs.Faults.{Checks}
 use Rattle.demands.proofs.Faults.{no-one, long-exactly, numbered-answers}
 use Rattle.demands.proofs.Demands.{accepted-anywhere}
 
@@ -126,6 +140,45 @@ shows-as-check file t w result room = as-shown file t w result (le-ltb (length r
 
 pub shows-fault : ShowsFault
 shows-fault file t w result = (served-shows file t w result, served-silent file t w result)
+
+-- ---- request 14
+
+pub shows-large : ShowsLarge
+shows-large file t w result areas room e = served-large file t w result (not-tight result 127 areas room) e
+
+-- a type that holds a list has more values than are numbered
+many : (a : Ty) → (Finite a → ⊥) → maxValues < count a
+many a h = list-many a (is-false (listFree a) (λ e. h (free-finite a e)))
+
+pub list-types-refused : ListTypesRefused
+list-types-refused file a rs f i x there h t w value result n areas room =
+    let e = accepted-as a rs f in
+    let fault : LineFault rs i tooMany = LineFault.many x there (many x h) in (
+      ap (λ r. r .number) (number-answers file t w i value (areas .long) (areas .wide) rs e (fails tooMany) (NumberIs.faulty tooMany fault)),
+      ap (λ r. r .number) (setting-answers file t w i n result room (areas .long) (areas .wide) rs e (fails tooMany) (SettingIs.faulty tooMany fault)),
+    )
+
+pub list-import-refused : ListImportRefused
+unfolding importService
+list-import-refused file acc rs f i j a b p q h t w list output areas room =
+    ap (λ c. answerFrom (serve c (verdict file) (λ rs. importRows rs i j list) t w) .number) (not-tight output importLength areas room)
+    ∙ ap (λ v. answerFrom (serve false v (λ rs. importRows rs i j list) t w) .number) (accepted-as acc rs f)
+    ∙ ap (λ x. answerFrom (serve false (accepted rs) (λ _. x) t w) .number) (import-many rs i j list a b p q (over h))
+  where
+    over : ((Finite a → ⊥) ⊎ (Finite b → ⊥)) → (maxPairs < count a) ⊎ (maxPairs < count b)
+    over (inl x) = inl (let m = many a x in omega (arith, m))
+    over (inr x) = inr (let m = many b x in omega (arith, m))
+
+pub list-isos-refused : ListIsosRefused
+unfolding exportService
+list-isos-refused file acc rs f i o known h t w output budget areas room =
+    let e = accepted-as acc rs f in
+    let n = is-false (isFree (isosOf rs) i) (λ x. h (free-rows rs (accepted-good file rs e) i o known x)) in (
+      ap (λ r. r .number) (list-iso file t w i rs o e (ap (λ x. x .number) (accepted-anywhere file acc t w areas)) known n),
+      ap (λ c. answerFrom (serve c (verdict file) (λ rs. exportRows rs i budget) t w) .number) (not-tight output exportLength areas room)
+          ∙ ap (λ v. answerFrom (serve false v (λ rs. exportRows rs i budget) t w) .number) e
+          ∙ ap (λ x. answerFrom (serve false (accepted rs) (λ _. x) t w) .number) (export-lists rs i budget o known n),
+    )
 
 -- ---- request 08
 
@@ -263,12 +316,13 @@ first-number (FirstUnit.here u) = unit-number u
 first-number (FirstUnit.later h u) = first-number u
 
 -- a number that is no answer of Check
-not-checked : (file t w : List ℕ) (n : ℕ) → 15 ≤ n → (n ≡ 21 → ⊥) → check file t w .answer .number ≡ n → ⊥
-not-checked file t w n h k e = go (numbered-answers file t w .0)
+not-checked : (file t w : List ℕ) (n : ℕ) → 15 ≤ n → (n ≡ 21 → ⊥) → (n ≡ 23 → ⊥) → check file t w .answer .number ≡ n → ⊥
+not-checked file t w n h k l e = go (numbered-answers file t w .0)
   where
-    go : UpTo 14 (check file t w .answer .number) → ⊥
+    go : Checks (check file t w .answer .number) → ⊥
     go (inl m) = absurd (omega (arith, h, e, m))
-    go (inr m) = k (sym e ∙ m)
+    go (inr (inl m)) = k (sym e ∙ m)
+    go (inr (inr m)) = l (sym e ∙ m)
 
 module _ (file t w : List ℕ) (us : Units) (script : List ℕ) where
   areas-of : PlayRoom t w us → Areas t w
@@ -306,7 +360,7 @@ module _ (file t w : List ℕ) (us : Units) (script : List ℕ) where
   fault-unit : {n m : ℕ} → PlayFault file t w us script n m → 15 ≤ n → n ≤ 19 → UnitAtFault file t w us script n
   fault-unit (PlayFault.area h) a b = absurd (omega (arith, a))
   fault-unit (PlayFault.long r h) a b = absurd (omega (arith, a))
-  fault-unit (PlayFault.file n m r s h says) a b = absurd (not-checked file t w n a (λ q. absurd (omega (arith, b, q))) (ap (λ (x : Answer). x .number) says))
+  fault-unit (PlayFault.file n m r s h says) a b = absurd (not-checked file t w n a (λ q. absurd (omega (arith, b, q))) (λ q. absurd (omega (arith, b, q))) (ap (λ (x : Answer). x .number) says))
   fault-unit (PlayFault.unit rs f r s form ok u) a b =
       record {
         areas = areas-of r;
@@ -327,7 +381,7 @@ module _ (file t w : List ℕ) (us : Units) (script : List ℕ) where
   fault-script (PlayFault.area h) e = absurd (omega (arith, e))
   fault-script (PlayFault.long r h) e = absurd (omega (arith, e))
   fault-script (PlayFault.file n m r s h says) e =
-      absurd (not-checked file t w 22 (omega arith) (λ q. absurd (omega (arith, q))) (ap (λ (a : Answer). a .number) says ∙ e))
+      absurd (not-checked file t w 22 (omega arith) (λ q. absurd (omega (arith, q))) (λ q. absurd (omega (arith, q))) (ap (λ (a : Answer). a .number) says ∙ e))
   fault-script (PlayFault.unit rs f r s form ok u) e = let b = first-number u in absurd (omega (arith, e, b .1))
   fault-script (PlayFault.script rs l r s form ok holds at bad) e =
       record {

@@ -16,11 +16,12 @@ use Rattle.calculus.specs.Clauses.{sigsOf}
 use Rattle.format.specs.Unfold.{isosOf}
 use Rattle.calculus.specs.Letters.{letters}
 use Rattle.model.specs.Services.{check, turn, Ran, RunAnswer, answerOfRun, RunResult, runService, toward}
-use Rattle.calculus.specs.Paper.{Of, FileOk, ExactlyOne}
+use Rattle.calculus.specs.Paper.{Of, FileOk, ExactlyOne, Ending}
+use Rattle.calculus.specs.Lists.{ListFree}
 use Rattle.calculus.specs.Terms.{Term, eapp, valTerm, Steps}
-use Rattle.calculus.specs.Faulty.{FirstIso}
+use Rattle.calculus.specs.Faulty.{FirstIso, Ends}
 use Rattle.model.specs.Answers.{InForm, RunIs}
-use Rattle.demands.specs.Words.{Areas, yes, Accepted, turnedBytes, shown, Gives}
+use Rattle.demands.specs.Words.{Areas, yes, Accepted, OfFile, turnedBytes, shown, Gives}
 use Rattle.calculus.specs.Next.{Next}
 
 -- ---- demand 1: "Any caller, any bytes, numbers and lent areas: an answer or a numbered refusal, the call ends, and document 01 says what every lent area
@@ -30,14 +31,10 @@ use Rattle.calculus.specs.Next.{Next}
 abbrev pub OneOrTwo : ℕ → Type 0
 OneOrTwo n = (n ≡ 1) ⊎ (n ≡ 2)
 
--- a refusal of the file, in areas that are long enough and for a file that is not too long: 3 to 14, and request 11's 21
-abbrev pub OfFile : ℕ → Type 0
-OfFile n = ((3 ≤ n) × (n ≤ 14)) ⊎ (n ≡ 21)
-
 -- What a call that answers n for a file leaves of a table t and a work area w: "After a call the table holds, if the file is accepted, four numbers a line …; zeros
 -- fill the rest of the first 16,384. On refusals 3 to 14 those are all zero. The first 65,536 bytes of the work area are zero. Refusals 1 and 2 change nothing. Bytes
 -- beyond these lengths … keep their contents." Request 10: "A table line becomes five numbers …, in an area of 20,480. … what 01 says of 16,384 holds for 20,480."
--- Request 11: 21 "with the table all zero".
+-- Request 11: 21 "with the table all zero"; so with request 14's 23.
 pub record Left (n : ℕ) (file t w t′ w′ : List ℕ) : Type 0 where
   pub rows : (OneOrTwo n → ⊥) → (rs : List Row) → InForm file rs → FileOk (isosOf rs)
       → take 20480 t′ ≡ tableOf rs ++ replicate (20480 - length (tableOf rs)) 0
@@ -82,11 +79,11 @@ AcceptedExactly = (file t w : List ℕ) → Areas t w → (check file t w .answe
 abbrev pub AcceptedAnywhere : Type 0
 AcceptedAnywhere = (file : List ℕ) → Accepted file → (t w : List ℕ) → Areas t w → check file t w .answer ≡ yes
 
--- A file in form that is not accepted: each of 8 to 14 at its line, exactly when its condition is the first that fails.
+-- A file in form that is not accepted: each of 8 to 14 and 23 at its line, exactly when its condition is the first that fails.
 abbrev pub RefusedExactly : Type 0
 RefusedExactly =
     (file : List ℕ) (rs : List Row) → InForm file rs → (t w : List ℕ) → Areas t w → (n m : ℕ) → 0 < n
-    → (check file t w .answer ≡ record { number = n; line = m }) ↔ ((f : Refusal) × (number f ≡ n) × FirstIso (sigsOf (isosOf rs)) (isosOf rs) f m)
+    → (check file t w .answer ≡ record { number = n; line = m }) ↔ ((f : Refusal) × (number f ≡ n) × FirstIso (sigsOf (isosOf rs)) 0 (isosOf rs) f m)
 
 -- "a run is refused exactly where document 01 says, and otherwise gives the value and the application count of the paper's reduction": what a
 -- call to Run shows, refusal, number, count and letters, is what the judgement says, and nothing else. "A run back is a run forward of the turned file."
@@ -149,3 +146,21 @@ abbrev pub ReachedOnce : Type 0
 ReachedOnce =
     (file : List ℕ) → Accepted file → (rs : List Row) → InForm file rs → (back : Bool) (i : ℕ) (o : Iso) → getElem? (isosOf (toward back rs)) i ≡ some o
     → (w : Val) → Of w (o .to) → ReachedFrom file rs back i o w
+
+-- ---- request 14, of the three services: "Where an iso and all it reaches meet the rule in one direction (those that never call themselves meet it in both), the
+-- reduction that way ends; elsewhere it may be 17 or 24 under every budget." The reading refuses lists and calls of itself as yet, so that these two hold of every file.
+
+-- the steps of Table 3 lead to a closed value of the to-type; and a call to Run with a budget that holds their number gives it, or is 24
+abbrev pub EndsThatWay : Type 0
+EndsThatWay =
+    (file : List ℕ) → Accepted file → (rs : List Row) → InForm file rs → (back : Bool) (i : ℕ) (o : Iso) → getElem? (isosOf (toward back rs)) i ≡ some o
+    → Ending (isosOf (toward back rs)) i → (v : Val) → Of v (o .from)
+    → (e : Ends (isosOf (toward back rs)) i o v)
+    × ((table work result : List ℕ) (budget : ℕ) → Areas table work → 127 ≤ length result → e .count ≤ budget
+    → Gives (runService file table work i back budget (letters v) result) (e .count) (letters (e .result)) ⊎ (runService file table work i back budget (letters v) result .number ≡ 24))
+
+-- where no type of an iso, and none of one that it reaches, holds a list, no call is 24: such isos answer as before the request
+abbrev pub NeverLarge : Type 0
+NeverLarge =
+    (file : List ℕ) → Accepted file → (rs : List Row) → InForm file rs → (back : Bool) (i : ℕ) → ListFree (isosOf (toward back rs)) i
+    → (table work value result : List ℕ) (budget : ℕ) → runService file table work i back budget value result .number ≡ 24 → ⊥

@@ -1,4 +1,4 @@
--- Refusals 1 to 7, exactly where document 01 has them, and request 11's 21: `Demands.RefusedExactly` has 8 to 14. And the order in which the lines of a file in form stand.
+-- Refusals 1 to 7, exactly where document 01 has them, and request 11's 21: `Demands.RefusedExactly` has 8 to 14 and 23. And the order in which the lines of a file in form stand.
 use Prim.Native.Nat.{ℕ, suc, _≤_, _<_}
 use mathlib.Core.Path.{_≡_}
 use mathlib.Core.Logic.{_↔_, _⊎_}
@@ -14,16 +14,19 @@ use Rattle.model.specs.Services.{check, turn, runService}
 use Rattle.model.specs.Answers.{InForm}
 use Rattle.demands.specs.Words.{Areas}
 
--- "an answer or a numbered refusal": Check and Turn answer 0, one of 1 to 14 or 21, Run 0, one of 1 to 17 or 21
-abbrev pub UpTo : ℕ → ℕ → Type 0
-UpTo k n = (n ≤ k) ⊎ (n ≡ 21)
+-- "an answer or a numbered refusal": Check and Turn answer 0 or one of 1 to 14, 21 and 23, Run 0 or one of 1 to 17, 21, 23 and 24
+abbrev pub Checks : ℕ → Type 0
+Checks n = (n ≤ 14) ⊎ ((n ≡ 21) ⊎ (n ≡ 23))
+
+abbrev pub Runs : ℕ → Type 0
+Runs n = (n ≤ 17) ⊎ ((n ≡ 21) ⊎ ((n ≡ 23) ⊎ (n ≡ 24)))
 
 abbrev pub NumberedAnswers : Type 0
 NumberedAnswers =
     (file t w : List ℕ)
-    → UpTo 14 (check file t w .answer .number)
-    × ((output : List ℕ) → UpTo 14 (turn file t w output .answer .number))
-    × ((i : ℕ) (back : Bool) (budget : ℕ) (value result : List ℕ) → UpTo 17 (runService file t w i back budget value result .number))
+    → Checks (check file t w .answer .number)
+    × ((output : List ℕ) → Checks (turn file t w output .answer .number))
+    × ((i : ℕ) (back : Bool) (budget : ℕ) (value result : List ℕ) → Runs (runService file t w i back budget value result .number))
 
 -- 1, "a lent area is shorter than stated": for Check the table or the work area, for Turn also its output area, which "must be as long as the file", for Run its result area, which
 -- "must have 127 bytes"

@@ -9,10 +9,12 @@ use lib.Dec.{ltb}
 use lib.ListN.{length, replicate, take}
 use Rattle.limits.specs.Limits.{maxBytes, maxLines, maxTypes, maxPatterns, maxIsos, maxClauses, maxLets, maxNodes, maxTags, variables, fieldBound, budgetBound}
 use Rattle.limits.specs.Limits.{rowWidth, tableLength, workLength, resultLength, queryLength, maxQueries, maxValues, maxPairs, exportLength, importLength, maxUnits, letterS}
+use Rattle.limits.specs.Limits.{maxDepth, maxLetters}
 use Rattle.calculus.specs.Tools.{isSome}
-use Rattle.calculus.specs.Trees.{Ty, tunit, tsum, tprod, left, right, Pat, punit, pvar, pinj, ppair, vunit, vinj, vpair, typeNodes, nodes}
+use Rattle.calculus.specs.Trees.{Ty, tunit, tsum, tprod, left, right, Pat, pleaf, unitLeaf, emptyLeaf, pvar, pinj, pnode, pairNode, elementNode, vleaf, vinj, vnode, typeNodes, nodes}
 use Rattle.calculus.specs.Refusals.{Kind, typeLine, patternLine, isoLine, clauseLine, letLine, number, shortArea, tooLong, badLine, misplaced, badField}
 use Rattle.calculus.specs.Refusals.{badName, ceiling, variable, letShape, badType, overlap, gap, noIso, noValue, spent, tooMany, tooHigh, badList, idle, badScript}
+use Rattle.calculus.specs.Refusals.{recursion, tooLarge}
 use Rattle.format.specs.Lines.{Row, lines, rowOf, decimal}
 use Rattle.format.specs.Table.{sizeOf, numbers, tableOf}
 use Rattle.format.specs.Unfold.{exchange, turnRows}
@@ -23,7 +25,7 @@ use Rattle.model.specs.Desk.{queryOf, desk}
 use Rattle.model.specs.Sheet.{sheetVerdict}
 use Rattle.model.specs.Cases.{bytes}
 use Rattle.law_ranking.specs.Numbering.{numberRows, settingRows, numberedBy, numberService, Lettered, letteredBy, settingService}
-use Rattle.law_witnesses.specs.Showing.{setting, shownBy, lettersOf?, showService}
+use Rattle.law_witnesses.specs.Showing.{setting, shownBy, lettersOf?, showing, measured, showService}
 use Rattle.law_witnesses.specs.Seeking.{leastIn, alone, gapIn, gapWord}
 use Rattle.law_pairlists.specs.PairLists.{exportRows, importRows, exportService, importService}
 use Rattle.law_endings.specs.Resaved.{feedsAlone, withEnding, resave, fits}
@@ -32,18 +34,22 @@ use Rattle.law_units.specs.Calls.{Lent, settingCall, runCall, numberCall}
 use Rattle.law_reordering.specs.Reordered.{isClause, isLet, isBlock, isWhole, bare}
 use Rattle.law_reordering.specs.Answers.{beginsQueries, stays}
 
--- the column "number" of the table of refusals, request 02's two, 07's, 11's and 12's
+-- the column "number" of the table of refusals, request 02's two, 07's, 11's, 12's and 14's two
 numbered : (k : Kind)
     → map number
     (shortArea ∷ tooLong ∷ badLine ∷ misplaced k ∷ badField k ∷ badName k ∷ ceiling k ∷ variable k ∷ letShape k ∷ badType k ∷ overlap k left ∷ overlap k right
-    ∷ gap k left ∷ gap k right ∷ noIso ∷ noValue ∷ spent ∷ tooMany ∷ tooHigh ∷ badList ∷ idle k ∷ badScript ∷ [])
-    ≡ 1 ∷ 2 ∷ 3 ∷ 4 ∷ 5 ∷ 6 ∷ 7 ∷ 8 ∷ 9 ∷ 10 ∷ 11 ∷ 12 ∷ 13 ∷ 14 ∷ 15 ∷ 16 ∷ 17 ∷ 18 ∷ 19 ∷ 20 ∷ 21 ∷ 22 ∷ []
+    ∷ gap k left ∷ gap k right ∷ noIso ∷ noValue ∷ spent ∷ tooMany ∷ tooHigh ∷ badList ∷ idle k ∷ badScript ∷ recursion k ∷ tooLarge ∷ [])
+    ≡ 1 ∷ 2 ∷ 3 ∷ 4 ∷ 5 ∷ 6 ∷ 7 ∷ 8 ∷ 9 ∷ 10 ∷ 11 ∷ 12 ∷ 13 ∷ 14 ∷ 15 ∷ 16 ∷ 17 ∷ 18 ∷ 19 ∷ 20 ∷ 21 ∷ 22 ∷ 23 ∷ 24 ∷ []
 numbered k = refl
 
 -- "Ceilings: 65,536 bytes; 4,096 lines; 256 T; 1,024 P; 32 I; 32 C in an iso (128 since request 13); 8 L in a clause; 127 nodes in an unfolded T or P; 40 left and right nodes in an unfolded P."
 ceilings : maxBytes ∷ maxLines ∷ maxTypes ∷ maxPatterns ∷ maxIsos ∷ maxClauses ∷ maxLets ∷ maxNodes ∷ maxTags ∷ []
     ≡ 65536 ∷ 4096 ∷ 256 ∷ 1024 ∷ 32 ∷ 128 ∷ 8 ∷ 127 ∷ 40 ∷ []
 ceilings = refl
+
+-- request 14: "An argument or result of over 127 letters, or calls nested deeper than 40"
+deep-and-long : maxDepth ∷ maxLetters ∷ [] ≡ 40 ∷ 127 ∷ []
+deep-and-long = refl
 
 -- variables 0 to 31, fields 0 to 65,535, budgets 0 to 4,294,967,295, five numbers a line, the areas, a query's 200 bytes; of the requests 600 queries, 4,294,967,295
 -- values, 4,096 pairs, areas of 40,960 and 65,536 bytes for lists and their files, 1,000 units, and the letter S of a script
@@ -124,7 +130,7 @@ pattern-fields = refl
 
 -- so many lines above, each a unit
 abbrev above : ℕ → ℕ → ℕ → ℕ → ℕ → Seen
-above t p i c l = record { above = none; types = replicate t tunit; patterns = replicate p punit; isos = i; clauses = c; lets = l }
+above t p i c l = record { above = none; types = replicate t tunit; patterns = replicate p (pleaf unitLeaf); isos = i; clauses = c; lets = l }
 
 -- "A T or P line names only earlier lines of its own letter. An L line names an iso earlier than its own": lines 0 and 1 are there, and of the isos 0 and, being open, 1
 names : map (λ r. named (above 2 2 2 0 0) (r .kind) r)
@@ -164,8 +170,9 @@ lets-anew : map (λ s. withinCeilings s letLine (row letLine 0 0 0)) (after (abo
 lets-anew = refl
 
 -- "nodes in an unfolded T or P": each unit, variable, left, right, sum, product and pair is one
-node-counts : typeNodes tunit ∷ typeNodes (tsum tunit tunit) ∷ typeNodes (tprod tunit tunit) ∷ nodes punit ∷ nodes (pvar 0) ∷ nodes (pinj left punit) ∷ nodes (pinj right punit) ∷ nodes
-    (ppair punit punit) ∷ []
+node-counts : typeNodes tunit ∷ typeNodes (tsum tunit tunit) ∷ typeNodes (tprod tunit tunit) ∷ nodes (pleaf unitLeaf) ∷ nodes (pvar 0) ∷ nodes (pinj left (pleaf unitLeaf)) ∷ nodes
+    (pinj right (pleaf unitLeaf)) ∷ nodes
+    (pnode pairNode (pleaf unitLeaf) (pleaf unitLeaf)) ∷ []
     ≡ 1 ∷ 3 ∷ 3 ∷ 1 ∷ 1 ∷ 2 ∷ 2 ∷ 3 ∷ []
 node-counts = refl
 
@@ -220,7 +227,7 @@ first-lets = refl
 
 -- n left nodes
 abbrev lefts : ℕ → Pat
-lefts zero = punit
+lefts zero = pleaf unitLeaf
 lefts (suc n) = pinj left (lefts n)
 
 abbrev seen : Pat → Seen
@@ -232,8 +239,8 @@ tags = refl
 
 -- n pairs: 2n + 1 nodes
 abbrev pairs : ℕ → Pat
-pairs zero = punit
-pairs (suc n) = ppair punit (pairs n)
+pairs zero = pleaf unitLeaf
+pairs (suc n) = pnode pairNode (pleaf unitLeaf) (pairs n)
 
 -- 127 nodes of a P pass, 128 do not
 pattern-nodes : withinCeilings (seen (pairs 31)) patternLine (row patternLine 4 0 0) ∷ withinCeilings (seen (pairs 63)) patternLine (row patternLine 2 0 0) ∷ [] ≡ true ∷ false ∷ []
@@ -241,8 +248,8 @@ pattern-nodes = refl
 
 -- ---- values, queries and sheets
 
--- "the letters U (unit), L, R, P (pair)"
-value-letters : letters (vpair (vinj left vunit) (vinj right vunit)) ≡ bytes "PLURU"
+-- "the letters U (unit), L, R, P (pair)", and of lists N (empty) and K (an element in front)
+value-letters : letters (vnode pairNode (vinj left (vleaf unitLeaf)) (vnode elementNode (vinj right (vleaf unitLeaf)) (vleaf emptyLeaf))) ≡ bytes "PLUKRUN"
 value-letters = refl
 
 -- "its iso is 0 to 65,535, its direction 0 or 1, its budget as above, all written as the file's numbers are"
@@ -290,7 +297,7 @@ abbrev bit : Ty
 bit = tsum tunit tunit
 
 -- request 09: the least value that a pair matches, each part in its place
-least-pair : letters (leastIn (ppair (pinj right (pvar 0)) (pinj left (pvar 1))) (tprod bit bit)) ≡ bytes "PRULU"
+least-pair : letters (leastIn (pnode pairNode (pinj right (pvar 0)) (pinj left (pvar 1))) (tprod bit bit)) ≡ bytes "PRULU"
 least-pair = refl
 
 -- a pair whose first part is a sum of unlike parts: each right first is matched, and a left first with a left behind it
@@ -298,14 +305,15 @@ abbrev unlike : Ty
 unlike = tprod (tsum (tsum tunit (tprod tunit tunit)) tunit) (tsum tunit bit)
 
 abbrev matching : List Pat
-matching = ppair (pinj right (pvar 0)) (pvar 1) ∷ ppair (pinj left (pvar 0)) (pinj left (pvar 1)) ∷ []
+matching = pnode pairNode (pinj right (pvar 0)) (pvar 1) ∷ pnode pairNode (pinj left (pvar 0)) (pinj left (pvar 1)) ∷ []
 
 -- the first gap: after a letter the values that follow it stand before the rest
 gap-in-pair : (gapIn unlike matching ≡ some (bytes "PLLURLU")) × (gapWord 7 (unlike ∷ []) (alone matching) ≡ bytes "PLLURLU")
 gap-in-pair = (refl, refl)
 
 -- "for the iso and side refused": 13 of an iso from 1 + 1 to 1 is shown by a value of the from-type
-gap-of-left : lettersOf? (shownBy 13 (record { line = 1; from = bit; to = tunit; clauses = record { line = 2; lhs = pinj left punit; lets = []; rhs = punit } ∷ [] })) ≡ bytes "RU"
+gap-of-left : lettersOf? (shownBy 13 (record { line = 1; from = bit; to = tunit; clauses = record { line = 2; lhs = pinj left (pleaf unitLeaf); lets = []; rhs = (pleaf unitLeaf) } ∷ [] })) ≡
+    bytes "RU"
 unfolding setting
 gap-of-left = refl
 
@@ -394,7 +402,7 @@ unfolding importService
 import-call file t w list o i j = refl
 
 -- request 09: "it goes into 127 lent bytes"; request 12: "Unit areas of unequal length are 1"
-show-call : (file t w r : List ℕ) → showService file t w r .answer ≡ answerOf (unless (short t w || ltb (length r) 127) (verdict file))
+show-call : (file t w r : List ℕ) → showService file t w r .answer ≡ answerOf (unless (short t w || ltb (length r) 127) (measured (verdict file) (showing file)))
 unfolding showService
 show-call file t w r = refl
 

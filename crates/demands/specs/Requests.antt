@@ -7,7 +7,8 @@ use mathlib.Core.Bool.{Bool, true, false}
 use mathlib.Core.Option.{some}
 use mathlib.Core.List.{List, [], _∷_, _++_, List·Memᴰ}
 use lib.ListN.{length, take, drop, getD, getElem?}
-use Rattle.calculus.specs.Trees.{tunit, typeNodes, punit, nodes}
+use Rattle.calculus.specs.Trees.{Ty, tunit, typeNodes, Iso, pleaf, unitLeaf, nodes}
+use Rattle.calculus.specs.Lists.{Finite, ListFree}
 use Rattle.calculus.specs.Refusals.{Refusal, number, typeLine, patternLine}
 use Rattle.calculus.specs.Paper.{FileOk}
 use Rattle.format.specs.Lines.{Row, lines, withoutReturns}
@@ -20,7 +21,8 @@ use Rattle.model.specs.Sheet.{sheet}
 use Rattle.law_costs.specs.Bounds.{boundsService}
 use Rattle.law_ranking.specs.Numbering.{numberService, settingService}
 use Rattle.law_witnesses.specs.Showing.{showService}
-use Rattle.law_witnesses.specs.Served.{sideAnswer, Given}
+use Rattle.law_ranking.specs.Numbering.{typesOf, numberService, settingService}
+use Rattle.law_witnesses.specs.Served.{sideAnswer, Given, Unseen}
 use Rattle.law_pairlists.specs.PairLists.{importService, exportService}
 use Rattle.law_units.specs.Units.{Units, Holds, Tally, nothingYet, Play, playService}
 use Rattle.law_units.specs.Backward.{Backward, Alike}
@@ -78,11 +80,13 @@ ExportOfImport =
     → (exportService (importedBytes r) t₂ w₂ 0 budget output₂ .answer ≡ yes)
     × (importedBytes (exportService (importedBytes r) t₂ w₂ 0 budget output₂) ≡ withoutReturns list)
 
--- Request 09: "A service of its own answers as Check does", in the same areas; with a short result area it is 1.
+-- Request 09: "A service of its own answers as Check does", in the same areas; with a short result area it is 1. Request 14: where Check answers with a side (11 to
+-- 14), and the value to give has over 127 letters, it is 24 with the line 0.
 abbrev pub ShowsAsCheck : Type 0
 ShowsAsCheck =
     (file t w result : List ℕ) → 127 ≤ length result
-    → (showService file t w result .answer ≡ check file t w .answer) × (showService file t w result .table ≡ check file t w .table)
+    → ((showService file t w result .answer ≡ check file t w .answer)
+    ⊎ ((showService file t w result .answer ≡ record { number = 24; line = 0 }) × (sideAnswer (check file t w .answer) ≡ true))) × (showService file t w result .table ≡ check file t w .table)
     × (showService file t w result .work ≡ check file t w .work)
 
 -- "and gives, for the iso and side refused, the value …, with the fewest letters, the first in byte order among those. Its length is given, and it
@@ -93,6 +97,32 @@ ShowsFault =
     → (sideAnswer (showService file t w result .answer) ≡ true → Given file result (showService file t w result))
     × (sideAnswer (showService file t w result .answer) ≡ false
     → (showService file t w result .length ≡ 0) × (showService file t w result .result ≡ result))
+
+-- Request 14: "09's value may have over 127 letters: 24". It is 24 only there.
+abbrev pub ShowsLarge : Type 0
+ShowsLarge =
+    (file t w result : List ℕ) → Areas t w → 127 ≤ length result → showService file t w result .answer ≡ record { number = 24; line = 0 } → Unseen file t w
+
+-- Request 14: "02, 05, 07 and 12 refuse 18 where a type they are given, or a type of the iso or of one it reaches, holds a list": a T line of an accepted file …
+abbrev pub ListTypesRefused : Type 0
+ListTypesRefused =
+    (file : List ℕ) → Accepted file → (rs : List Row) → InForm file rs → (i : ℕ) (a : Ty) → getElem? (typesOf rs) i ≡ some a → (Finite a → ⊥)
+    → (t w value result : List ℕ) (n : ℕ) → Areas t w → 127 ≤ length result
+    → (numberService file t w i value .number ≡ 18) × (settingService file t w i n result .number ≡ 18)
+
+-- … two of them …
+abbrev pub ListImportRefused : Type 0
+ListImportRefused =
+    (file : List ℕ) → Accepted file → (rs : List Row) → InForm file rs → (i j : ℕ) (a b : Ty) → getElem? (typesOf rs) i ≡ some a → getElem? (typesOf rs) j ≡ some b
+    → ((Finite a → ⊥) ⊎ (Finite b → ⊥)) → (t w list output : List ℕ) → Areas t w → 65536 ≤ length output
+    → importService file t w i j list output .answer .number ≡ 18
+
+-- … and an iso
+abbrev pub ListIsosRefused : Type 0
+ListIsosRefused =
+    (file : List ℕ) → Accepted file → (rs : List Row) → InForm file rs → (i : ℕ) (o : Iso) → getElem? (isosOf rs) i ≡ some o → (ListFree (isosOf rs) i → ⊥)
+    → (t w output : List ℕ) (budget : ℕ) → Areas t w → 40960 ≤ length output
+    → (boundsService file t w i .bounds .number ≡ 18) × (exportService file t w i budget output .answer .number ≡ 18)
 
 -- Request 08: "Two files that differ only in the order of clauses within isos … are both accepted or both refused, and if accepted answer every query alike": one gives y
 -- for x with a count exactly when the other does; and so it is with the turned files.
@@ -116,7 +146,7 @@ TurnedAlike =
 pub record Sizes (rs : List Row) (t : List ℕ) : Type 0 where
   pub types : (i : ℕ) → i < length (afterAll start rs .types) → getD t (i * 5 + 4) 0 ≡ typeNodes (getD (afterAll start rs .types) i tunit)
   pub patterns : (j : ℕ) → j < length (afterAll start rs .patterns)
-      → getD t ((length (afterAll start rs .types) + j) * 5 + 4) 0 ≡ nodes (getD (afterAll start rs .patterns) j punit)
+      → getD t ((length (afterAll start rs .types) + j) * 5 + 4) 0 ≡ nodes (getD (afterAll start rs .patterns) j (pleaf unitLeaf))
   pub others : (k : ℕ) (r : Row) → getElem? rs k ≡ some r → (r .kind ≡ typeLine → ⊥) → (r .kind ≡ patternLine → ⊥) → getD t (k * 5 + 4) 0 ≡ 0
 
 -- "Every service keeps it": after Check, Turn and Run with an accepted file, whatever a run answers

@@ -1,6 +1,7 @@
 -- The words of the demands, as document 01 has them: areas, accepted, turned, and what a run gives.
 use Prim.Native.Nat.{ℕ, _≤_}
 use mathlib.Core.Path.{_≡_}
+use mathlib.Core.Logic.{_⊎_}
 use mathlib.Core.List.{List}
 use lib.ListN.{length, take}
 use Rattle.model.specs.Services.{Answer, check, turn, RunResult, RunAnswer}
@@ -10,6 +11,10 @@ use Rattle.model.specs.Services.{Answer, check, turn, RunResult, RunAnswer}
 pub record Areas (table work : List ℕ) : Type 0 where
   pub long : 20480 ≤ length table
   pub wide : 65536 ≤ length work
+
+-- a refusal of the file, in areas that are long enough and for a file that is not too long: 3 to 14, request 11's 21 and request 14's 23
+abbrev pub OfFile : ℕ → Type 0
+OfFile n = ((3 ≤ n) × (n ≤ 14)) ⊎ ((n ≡ 21) ⊎ (n ≡ 23))
 
 -- "`0,0` when accepted"
 abbrev pub yes : Answer

@@ -11,12 +11,12 @@ use lib.ListN.{length, length-append}
 use Rattle.limits.specs.Limits.{maxBytes, maxLines, digitZero, comma, lineFeed, numeralBound}
 use Rattle.calculus.specs.Tools.{orElse, firstOf, stages}
 use Rattle.calculus.specs.Trees.{Ty, Pat, Clause, Iso}
-use Rattle.calculus.specs.Refusals.{Kind, typeLine, patternLine, isoLine, clauseLine, letLine, Refusal, idle}
+use Rattle.calculus.specs.Refusals.{Kind, typeLine, patternLine, isoLine, clauseLine, letLine, Refusal, idle, recursion}
 use Rattle.format.specs.Lines.{Row, lines, rowOf, decimalOf, decimal}
 use Rattle.format.specs.Judge.{Seen, start, judge, after, afterAll, Reading, rows, faulty, withRow, onRow, onJudged, readFrom}
 use Rattle.format.specs.Unfold.{Tail, place, tailFrom, isosOf}
 use Rattle.format.specs.Idle.{typeLines, reach, isRoot, member, Reach, reachFrom, idleFault}
-use Rattle.calculus.specs.Clauses.{Sigs, at, clauseFault, sideFault, isoFault, sigsOf, fault}
+use Rattle.calculus.specs.Clauses.{Sigs, at, clauseFault, sideFault, zoned, clauseRule, recursionRule, atBreach, breach, recursionFault, isoFault, sigsOf, faultFrom, fault}
 use Rattle.model.specs.Services.{Verdict, accepted, refused, judged, fileTests, afterReading, over, verdict, Answer, answerOf, RunAnswer}
 use Rattle.model.specs.Desk.{queryLine, fileLine}
 use Rattle.calculus.proofs.Basic.{bool-cases, each-nil, each-cons, ltb-false, true-or-right, not-both}
@@ -99,23 +99,45 @@ at-bounded : (b n : ℕ) (x : Option Refusal) → n < b → Bounded b (at n x)
 at-bounded b n none h = tt
 at-bounded b n (some f) h = h
 
--- an iso's refusal stands at its line or a clause's
-iso-bounded : (b : ℕ) (sigs : Sigs) (o : Iso) → IsoBelow b o → Bounded b (isoFault sigs o)
+-- one that a test decides on
+test-bounded : (b : ℕ) (t : Bool) (x y : Option (Refusal × ℕ)) → Bounded b x → Bounded b y → Bounded b (cond t x y)
+test-bounded b true x y h k = h
+test-bounded b false x y h k = k
+
+-- 23 stands at the iso's line or a clause's
+recursion-bounded : (b i : ℕ) (o : Iso) → IsoBelow b o → Bounded b (recursionFault i o)
+unfolding recursionFault
+recursion-bounded b i o h =
+    test-bounded b (recursionRule i o) none (breach i o) tt
+    (test-bounded b (zoned (o .from)) (firstOf (atBreach i) (o .clauses)) (some (recursion isoLine, o .line))
+    (first-bounded b (atBreach i) (o .clauses)
+    (λ c m. test-bounded b (clauseRule i c) none (some (recursion clauseLine, c .line)) tt (h .clauses c m)))
+    (h .line))
+
+-- and so does an iso's refusal
+iso-bounded : (b : ℕ) (sigs : Sigs) (i : ℕ) (o : Iso) → IsoBelow b o → Bounded b (isoFault sigs i o)
 unfolding isoFault
-iso-bounded b sigs o h =
+iso-bounded b sigs i o h =
     or-bounded b
     (firstOf (λ c. at (c .line) (clauseFault sigs (o .from) (o .to) c)) (o .clauses))
-    (at (o .line) (sideFault o))
+    (orElse (recursionFault i o) (at (o .line) (sideFault o)))
     (first-bounded b (λ c. at (c .line) (clauseFault sigs (o .from) (o .to) c)) (o .clauses)
     (λ c m. at-bounded b (c .line) (clauseFault sigs (o .from) (o .to) c) (h .clauses c m)))
-    (at-bounded b (o .line) (sideFault o) (h .line))
+    (or-bounded b (recursionFault i o) (at (o .line) (sideFault o)) (recursion-bounded b i o h) (at-bounded b (o .line) (sideFault o) (h .line)))
+
+-- the first of some isos
+from-bounded : (b : ℕ) (sigs : Sigs) (i : ℕ) (os : List Iso) → ((o : Iso) → List·Memᴰ o os → IsoBelow b o) → Bounded b (faultFrom sigs i os)
+from-bounded b sigs i [] h = tt
+from-bounded b sigs i (o ∷ os) h =
+    or-bounded b (isoFault sigs i o) (faultFrom sigs (suc i) os) (iso-bounded b sigs i o (h o (List·Memᴰ·head refl)))
+    (from-bounded b sigs (suc i) os (λ p m. h p (List·Memᴰ·tail m)))
 
 -- and so that of a file's isos
 fault-bounded : (b : ℕ) (rs : List Row) → 1 + length rs ≤ b → Bounded b (fault (isosOf rs))
 unfolding fault isosOf
 fault-bounded b rs h =
-    first-bounded b (isoFault (sigsOf (isosOf rs))) (isosOf rs)
-    (λ o m. iso-bounded b (sigsOf (isosOf rs)) o (tail-below (afterAll start rs .types) (afterAll start rs .patterns) b 1 rs h .isos o m))
+    from-bounded b (sigsOf (isosOf rs)) 0 (isosOf rs)
+    (tail-below (afterAll start rs .types) (afterAll start rs .patterns) b 1 rs h .isos)
 
 -- an idle line is one of the file's
 idle-bounded : (b ts n : ℕ) (rs : List Row) → suc n + length rs ≤ b → Bounded b (reachFrom ts n rs .found)

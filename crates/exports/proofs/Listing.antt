@@ -2,8 +2,8 @@
 use Prim.Native.Nat.{ℕ, _+_, _≤_, _<_, min}
 use native.Mathlib.Nat.{zero-add}
 use native.Mathlib.Omega.{arith}
-use mathlib.Core.Path.{_≡_, sym, ap, _∙_}
-use mathlib.Core.Bool.{Bool, true, false, cond}
+use mathlib.Core.Path.{_≡_, sym, ap, ap₂, _∙_}
+use mathlib.Core.Bool.{Bool, true, false, cond, not, _||_}
 use mathlib.Core.Option.{Option, none, some}
 use mathlib.Core.List.{List, _++_}
 use lib.Dec.{ltb}
@@ -17,7 +17,7 @@ use Rattle.format.specs.Unfold.{isosOf}
 use Rattle.model.specs.Services.{written, Outcome, fails, refusalOf, bytesFrom}
 use Rattle.format.specs.Code.{refusalView}
 use Rattle.calculus.proofs.Basic.{lt-ltb, not-ltb}
-use Rattle.model.proofs.Runs.{good, good-invert}
+use Rattle.model.specs.Answers.{GoodRows}
 use Rattle.law_ranking.specs.Numbering.{count}
 use Rattle.law_pairlists.specs.PairLists.{pairLines, toFrom, upwards, onPairs, onExported, exportRows}
 use Rattle.law_pairlists.proofs.List.{pairs-room}
@@ -30,7 +30,7 @@ use Rattle.number_values.specs.Numbers.{Counts}
 use Rattle.run_reduction.proofs.Laying.{inside}
 use Rattle.runner.specs.RunSays.{Prepared}
 use Rattle.list_targets.specs.Targets.{Runnable, Found}
-use Rattle.list_targets.proofs.Sending.{from-type}
+use Rattle.list_targets.proofs.Sending.{list-free, from-type}
 use Rattle.exports.specs.ExportSays.{ListedAs}
 use Rattle.exports.specs.declared.Listed as L
 
@@ -40,12 +40,12 @@ on-none : (rs : List Row) (i budget : ℕ) → getElem? (isosOf rs) i ≡ none �
 unfolding exportRows
 on-none rs i budget e = ap (onExported (isosOf rs) i budget) e
 
-on-some : (rs : List Row) (i budget : ℕ) {o : Iso} → getElem? (isosOf rs) i ≡ some o → (b : Bool) → ltb maxPairs (count (o .from)) ≡ b
+on-some : (rs : List Row) → GoodRows rs → (i budget : ℕ) {o : Iso} → getElem? (isosOf rs) i ≡ some o → (b : Bool) → ltb maxPairs (count (o .from)) ≡ b
     → exportRows rs i budget ≡ cond b (fails tooMany) (onPairs (upwards (toFrom (isosOf rs) i o budget) 0 (count (o .from))))
 unfolding exportRows
-on-some rs i budget {o} e b h =
+on-some rs g i budget {o} e b h =
     ap (onExported (isosOf rs) i budget) e
-    ∙ ap (λ c. cond c (fails tooMany) (onPairs (upwards (toFrom (isosOf rs) i o budget) 0 (count (o .from))))) h
+    ∙ ap₂ (λ f c. cond (not f || c) (fails tooMany) (onPairs (upwards (toFrom (isosOf rs) i o budget) 0 (count (o .from))))) (list-free rs g i o e) h
 
 -- ---- refusals
 
@@ -77,7 +77,7 @@ module _ {t : List ℕ} {base : ℕ} {index : List ℕ} {isos : ℕ} {rs : List 
     too-many h f k =
         let m = counted in
         let over : maxPairs < count (there .0 .from) = omega (arith, m) in
-        listed-refused x r (on-some rs i budget (there .1) true (lt-ltb over)) f k
+        listed-refused x r (on-some rs (p .good) i budget (there .1) true (lt-ltb over)) f k
 
     module _ (h : n ≤ 4096) where
       few : count (there .0 .from) ≤ maxPairs
@@ -88,7 +88,7 @@ module _ {t : List ℕ} {base : ℕ} {index : List ℕ} {isos : ℕ} {rs : List 
 
       outcome : (ts : Option (List ℕ)) → upwards (toFrom (isosOf rs) i (there .0) budget) 0 n ≡ ts → exportRows rs i budget ≡ onPairs ts
       outcome ts u =
-          on-some rs i budget (there .1) false (not-ltb few)
+          on-some rs (p .good) i budget (there .1) false (not-ltb few)
           ∙ ap onPairs (ap (upwards (toFrom (isosOf rs) i (there .0) budget) 0) (sym same) ∙ u)
 
       module _ {b : Bool} {l : List ℕ}
@@ -108,7 +108,7 @@ module _ {t : List ℕ} {base : ℕ} {index : List ℕ} {isos : ℕ} {rs : List 
             let ts : List ℕ = take n l in
             let u : upwards (toFrom (isosOf rs) i (there .0) budget) 0 n ≡ some ts = found ∙ ap (λ z. cond z (some ts) none) y in
             let s = outcome (some ts) u in
-            let taken = tos-taken (isosOf rs) (good rs (p .good)) (good-invert rs (p .good)) i (there .0) (there .1) budget ts
+            let taken = tos-taken rs (p .good) i (there .0) (there .1) (list-free rs (p .good) i (there .0) (there .1)) budget ts
             (ap (upwards (toFrom (isosOf rs) i (there .0) budget) 0) (sym same) ∙ u) in
             let a = taken .froms in
             let d = taken .tos in

@@ -15,7 +15,7 @@ use Rattle.law_witnesses.specs.Showing.{letterOn, never, setting}
 use Rattle.law_witnesses.specs.Shapes.{Side}
 use Rattle.law_witnesses.specs.Seeking.{howMany, ways, orZero, keep, alone, lacks, pick, gapWord}
 use Rattle.law_witnesses.proofs.Gaps.{Once}
-use Rattle.law_witnesses.proofs.Descent.{allChoices}
+use Rattle.law_witnesses.proofs.Descent.{allChoices, AllFinite}
 use Rattle.fault_tallies.specs.Tallies.{modulus, Holds}
 use Rattle.fault_stacks.specs.Stacks.{Shapes, typesAlong, rowAlong}
 use Rattle.table_trees.specs.Unfolding.{typeOf, patternOf}
@@ -52,10 +52,11 @@ typesAt a w = typesAlong w (a ∷ [])
 abbrev pub rowsAt : List Pat → List ℕ → List (List Pat)
 rowsAt ps w = keep (rowAlong w) (alone ps)
 
--- no value is matched twice, the rows fit, and the counts are small
+-- no value is matched twice, the rows fit, no type still to come holds a list, and the counts are small
 pub record Good (a : Ty) (ps : List Pat) (w : List ℕ) : Type 0 where
   pub once : Once (typesAt a w) (rowsAt ps w)
   pub fits : (p : Pat) → List·Memᴰ p ps → Fitting (rowAlong w (p ∷ [])) (typesAt a w)
+  pub finite : AllFinite (typesAt a w)
   pub small : allChoices (typesAt a w) ≤ 63
 
 -- the letter that a gap with n letters more goes on with, after letters v, the next value being of type b; w is v and an L

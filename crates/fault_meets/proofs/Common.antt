@@ -6,10 +6,10 @@ use mathlib.Core.Option.{some}
 use mathlib.Core.List.{List, [], _∷_}
 use Rattle.limits.specs.Limits.{maxNodes}
 use Rattle.calculus.specs.Tools.{_>>=_}
-use Rattle.calculus.specs.Trees.{Ty, left, right, Pat, punit, pvar, pinj, ppair, typeNodes}
+use Rattle.calculus.specs.Trees.{Ty, unitLeaf, emptyLeaf, left, right, pairNode, Pat, pvar, pleaf, pinj, pnode, typeNodes}
 use Rattle.calculus.specs.Letters.{letters}
 use Rattle.format.specs.Judge.{patternNode}
-use Rattle.law_witnesses.specs.Shapes.{Shape}
+use Rattle.calculus.specs.Shapes.{Shape}
 use Rattle.law_witnesses.specs.Seeking.{leastIn, meet}
 use Rattle.calculus.proofs.Basic.{bind-some, none≢some, some-inj}
 use Rattle.area_cells.specs.Areas.{Writes}
@@ -38,14 +38,15 @@ module _ {x z : Pat} {a : Ty} {l : List ℕ} {at : ℕ} where
       go (suc (suc (suc (suc zero)))) v = refl
       go (suc (suc (suc (suc (suc k))))) v = refl
 
-  pub both-unit : {l′ : List ℕ} {end : ℕ} → x ≡ punit → Writes l l′ at end (85 ∷ []) → SpellsBoth x z a l l′ at end
+  pub both-unit : {l′ : List ℕ} {end : ℕ} → x ≡ pleaf unitLeaf → Writes l l′ at end (85 ∷ []) → SpellsBoth x z a l l′ at end
   both-unit {l′} {end} e w = subst (λ u. SpellsBoth u z a l l′ at end) (sym e) (record { by = λ r s s′ q h. subst (λ u. Writes l l′ at end (letters (leastIn u a))) (go z q) w })
     where
-      go : {r : Pat} (z : Pat) → meet punit z ≡ some r → punit ≡ r
-      go punit q = some-inj q
+      go : {r : Pat} (z : Pat) → meet (pleaf unitLeaf) z ≡ some r → pleaf unitLeaf ≡ r
       go (pvar m) q = some-inj q
+      go (pleaf unitLeaf) q = some-inj q
+      go (pleaf emptyLeaf) q = absurd (none≢some q)
       go (pinj t u) q = absurd (none≢some q)
-      go (ppair u u′) q = absurd (none≢some q)
+      go (pnode k u u′) q = absurd (none≢some q)
 
   module _ (k n : ℕ) (c d : Pat) {y : Pat} (f : z ≡ patternNode k n c d) (v : k ≡ 1 → ⊥) {l₁ l₂ : List ℕ} {next middle : ℕ} where
     pub both-left : {b : Ty} → x ≡ pinj left y → b ≡ partOf left a → Writes l l₁ at next (76 ∷ []) → SpellsBoth y c b l₁ l₂ next middle → SpellsBoth x z a l l₂ at middle
@@ -80,13 +81,14 @@ module _ {x z : Pat} {a : Ty} {l : List ℕ} {at : ℕ} where
         go (suc (suc (suc (suc zero)))) v s s′ q h i = absurd (none≢some q)
         go (suc (suc (suc (suc (suc k))))) v s s′ q h i = absurd (none≢some q)
 
-    pub both-pair : {y′ : Pat} {b b′ : Ty} {l₃ : List ℕ} {end : ℕ} → x ≡ ppair y y′ → b ≡ partOf left a → b′ ≡ partOf right a → Writes l l₁ at next (80 ∷ [])
+    pub both-pair : {y′ : Pat} {b b′ : Ty} {l₃ : List ℕ} {end : ℕ} → x ≡ pnode pairNode y y′ → b ≡ partOf left a → b′ ≡ partOf right a → Writes l l₁ at next (80 ∷ [])
         → SpellsBoth y c b l₁ l₂ next middle → SpellsBoth y′ d b′ l₂ l₃ middle end → SpellsBoth x z a l l₃ at end
     both-pair {y′} {b} {b′} {l₃} {end} e g g′ w j j′ =
-        subst (λ u. SpellsBoth u z a l l₃ at end) (sym e) (subst (λ u. SpellsBoth (ppair y y′) u a l l₃ at end) (sym f)
+        subst (λ u. SpellsBoth u z a l l₃ at end) (sym e) (subst (λ u. SpellsBoth (pnode pairNode y y′) u a l l₃ at end) (sym f)
         (record { by = λ r s s′ q h. go k v s s′ q h (subst (λ u. SpellsBoth y c u l₁ l₂ next middle) g j) (subst (λ u. SpellsBoth y′ d u l₂ l₃ middle end) g′ j′) }))
       where
-        go : {r : Pat} {t : Ty} (k : ℕ) → (k ≡ 1 → ⊥) → Shape (ppair y y′) t → Shape (patternNode k n c d) t → meet (ppair y y′) (patternNode k n c d) ≡ some r → typeNodes t ≤ maxNodes
+        go : {r : Pat} {t : Ty} (k : ℕ) → (k ≡ 1 → ⊥) → Shape (pnode pairNode y y′) t → Shape (patternNode k n c d) t → meet (pnode pairNode y y′) (patternNode k n c d) ≡ some r → typeNodes
+            t ≤ maxNodes
             → SpellsBoth y c (partOf left t) l₁ l₂ next middle → SpellsBoth y′ d (partOf right t) l₂ l₃ middle end → Writes l l₃ at end (letters (leastIn r t))
         go zero v s s′ q h i i′ = absurd (none≢some q)
         go (suc zero) v s s′ q h i i′ = absurd (v refl)
@@ -94,8 +96,8 @@ module _ {x z : Pat} {a : Ty} {l : List ℕ} {at : ℕ} where
         go (suc (suc (suc zero))) v s s′ q h i i′ = absurd (none≢some q)
         go (suc (suc (suc (suc (suc k))))) v s s′ q h i i′ = absurd (none≢some q)
         go {t = t} (suc (suc (suc (suc zero)))) v (Shape.pair s u) (Shape.pair s′ u′) q h i i′ =
-            let o = bind-some (meet y c) (λ m. meet y′ d >>= λ m′. some (ppair m m′)) q in
-            let o′ = bind-some (meet y′ d) (λ m′. some (ppair (o .0) m′)) (o .2) in
+            let o = bind-some (meet y c) (λ m. meet y′ d >>= λ m′. some (pnode pairNode m m′)) q in
+            let o′ = bind-some (meet y′ d) (λ m′. some (pnode pairNode (o .0) m′)) (o .2) in
             subst (λ m. Writes l l₃ at end (letters (leastIn m t))) (some-inj (o′ .2))
             (writes-both w (writes-both (i .by (o .0) s s′ (o .1) (omega arith)) (i′ .by (o′ .0) u u′ (o′ .1) (omega arith))))
 

@@ -7,12 +7,10 @@ use mathlib.Core.List.{List, [], _∷_}
 use lib.Dec.{leb}
 use lib.ListN.{length, length-append}
 use Rattle.limits.specs.Limits.{maxNodes}
-use Rattle.calculus.specs.Trees.{Ty, tunit, tsum, tprod, left, right, vinj, typeNodes}
+use Rattle.calculus.specs.Trees.{Ty, tunit, tlist, tsum, tprod, left, right, vinj, typeNodes}
 use Rattle.calculus.specs.Letters.{letters}
 use Rattle.law_witnesses.specs.Seeking.{least}
 use Rattle.calculus.proofs.Basic.{leb-le, leb-false, le-leb, not-leb}
-use Rattle.model.proofs.Sizes.{of-small}
-use Rattle.law_witnesses.proofs.Overlaps.{least-of}
 use Rattle.area_cells.specs.Areas.{Writes}
 use Rattle.area_cells.proofs.Writing.{writes-both, writes-as}
 use Rattle.fault_meets.specs.Spelled.{SpellsLeast}
@@ -29,6 +27,13 @@ size-sum x y = go (leb (size x) (size y)) refl
 
 size-pair : (x y : Ty) → size (tprod x y) ≡ 1 + size x + size y
 size-pair x y = let e = length-append (letters (least x)) (letters (least y)) in omega arith
+
+-- the least value of a type has at most as many letters as the type has nodes
+size-small : (a : Ty) → size a ≤ typeNodes a
+size-small tunit = omega arith
+size-small (tlist a) = omega arith
+size-small (tsum x y) = let h = size-small x in let k = size-small y in let e = size-sum x y in omega arith
+size-small (tprod x y) = let h = size-small x in let k = size-small y in let e = size-pair x y in omega arith
 
 pub length-unit : {a : Ty} → a ≡ tunit → 1 ≡ min 128 (size a)
 length-unit e = sym (ap (λ z. min 128 (size z)) e)
@@ -60,8 +65,8 @@ module _ {a x y : Ty} {l l₁ l₂ : List ℕ} {at next end : ℕ} where
   pub spells-left : {m n : ℕ} → a ≡ tsum x y → m ≡ min 128 (size x) → n ≡ min 128 (size y) → m ≤ n → Writes l l₁ at next (76 ∷ []) → SpellsLeast x l₁ l₂ next end → SpellsLeast a l l₂ at end
   spells-left {m} {n} e p q h w s = subst (λ z. SpellsLeast z l l₂ at end) (sym e) (record {
     by = λ k.
-        let sx = of-small (least-of x) in
-        let sy = of-small (least-of y) in
+        let sx = size-small x in
+        let sy = size-small y in
         let t : leb (size x) (size y) ≡ true = le-leb (test k sx sy) in
         writes-as (ap (λ b. letters (cond b (vinj left (least x)) (vinj right (least y)))) (sym t)) (writes-both w (s .by (part k)));
   })
@@ -75,8 +80,8 @@ module _ {a x y : Ty} {l l₁ l₂ : List ℕ} {at next end : ℕ} where
   pub spells-right : {m n : ℕ} → a ≡ tsum x y → m ≡ min 128 (size x) → n ≡ min 128 (size y) → n < m → Writes l l₁ at next (82 ∷ []) → SpellsLeast y l₁ l₂ next end → SpellsLeast a l l₂ at end
   spells-right {m} {n} e p q h w s = subst (λ z. SpellsLeast z l l₂ at end) (sym e) (record {
     by = λ k.
-        let sx = of-small (least-of x) in
-        let sy = of-small (least-of y) in
+        let sx = size-small x in
+        let sy = size-small y in
         let t : leb (size x) (size y) ≡ false = not-leb (test k sx sy) in
         writes-as (ap (λ b. letters (cond b (vinj left (least x)) (vinj right (least y)))) (sym t)) (writes-both w (s .by (part k)));
   })

@@ -6,7 +6,7 @@ use mathlib.Core.List.{List}
 use Rattle.limits.specs.Limits.{maxNodes}
 use Rattle.calculus.specs.Trees.{Ty, Pat, typeNodes}
 use Rattle.calculus.specs.Letters.{letters}
-use Rattle.law_witnesses.specs.Shapes.{Shape}
+use Rattle.calculus.specs.Shapes.{Shape}
 use Rattle.law_witnesses.specs.Seeking.{least, leastIn, meet}
 use Rattle.area_cells.specs.Areas.{Writes}
 

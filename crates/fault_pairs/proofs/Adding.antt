@@ -4,17 +4,18 @@ use native.Mathlib.Nat.{le-trans}
 use native.Mathlib.Omega.{arith}
 use mathlib.Core.Path.{_≡_, refl, sym, ap, ap₂, _∙_, subst}
 use mathlib.Core.Logic.{_⊎_, inl, inr}
-use mathlib.Core.Bool.{true, false, cond, false≢true}
+use mathlib.Core.Bool.{true, false, cond, _&&_, _||_, false≢true}
 use mathlib.Core.Option.{Option, none, some}
 use mathlib.Core.List.{List}
 use lib.ListN.{length, take, drop}
 use lib.Seq.{sets-eq, take-append-seam}
 use Rattle.limits.specs.Limits.{maxNodes}
 use Rattle.calculus.specs.Tools.{_>>=_}
-use Rattle.calculus.specs.Trees.{Ty, left, right, Pat, punit, pvar, pinj, ppair, Val, typeNodes}
+use Rattle.calculus.specs.Trees.{Ty, left, right, Node, pairNode, elementNode, Pat, pvar, pleaf, pinj, pnode, Val, sameNode, typeNodes}
 use Rattle.calculus.specs.Letters.{letters}
 use Rattle.calculus.specs.Clauses.{clash}
-use Rattle.law_witnesses.specs.Shapes.{Shape}
+use Rattle.calculus.specs.Shapes.{Shape}
+use Rattle.calculus.specs.Lists.{Finite}
 use Rattle.calculus.specs.Paper.{Of}
 use Rattle.law_witnesses.specs.Showing.{sooner}
 use Rattle.law_witnesses.specs.Seeking.{leastIn, meet, better, inBoth}
@@ -29,28 +30,38 @@ use Rattle.calculus.proofs.Letters.{letters-some}
 
 -- patterns that clash have no meet
 clash-none : (p q : Pat) → clash p q ≡ true → meet p q ≡ none
-clash-none punit q e = absurd (false≢true e)
 clash-none (pvar n) q e = absurd (false≢true e)
-clash-none (pinj s p) punit e = absurd (false≢true e)
+clash-none (pleaf l) (pvar m) e = absurd (false≢true e)
+clash-none (pleaf l) (pleaf k) e = absurd (false≢true e)
+clash-none (pleaf l) (pinj t q) e = refl
+clash-none (pleaf l) (pnode k q q′) e = refl
 clash-none (pinj s p) (pvar m) e = absurd (false≢true e)
+clash-none (pinj s p) (pleaf k) e = refl
 clash-none (pinj left p) (pinj left q) e = ap (λ x. x >>= λ r. some (pinj left r)) (clash-none p q e)
 clash-none (pinj left p) (pinj right q) e = refl
 clash-none (pinj right p) (pinj left q) e = refl
 clash-none (pinj right p) (pinj right q) e = ap (λ x. x >>= λ r. some (pinj right r)) (clash-none p q e)
-clash-none (pinj s p) (ppair q r) e = absurd (false≢true e)
-clash-none (ppair p p′) punit e = absurd (false≢true e)
-clash-none (ppair p p′) (pvar m) e = absurd (false≢true e)
-clash-none (ppair p p′) (pinj t q) e = absurd (false≢true e)
-clash-none (ppair p p′) (ppair q q′) e = go (or-true (clash p q) (clash p′ q′) e) (clash-none p q) (clash-none p′ q′)
+clash-none (pinj s p) (pnode k q r) e = refl
+clash-none (pnode m p p′) (pvar n) e = absurd (false≢true e)
+clash-none (pnode m p p′) (pleaf l) e = refl
+clash-none (pnode m p p′) (pinj t q) e = refl
+clash-none (pnode m p p′) (pnode k q q′) e = node m k e (clash-none p q) (clash-none p′ q′)
   where
-    second : (x : Option Pat) → (x >>= λ r. none >>= λ r′. some (ppair r r′)) ≡ none
+    second : (x : Option Pat) → (x >>= λ r. none >>= λ r′. some (pnode m r r′)) ≡ none
     second none = refl
     second (some r) = refl
 
-    go : (clash p q ≡ true) ⊎ (clash p′ q′ ≡ true) → (clash p q ≡ true → meet p q ≡ none) → (clash p′ q′ ≡ true → meet p′ q′ ≡ none)
-        → (meet p q >>= λ r. meet p′ q′ >>= λ r′. some (ppair r r′)) ≡ none
-    go (inl h) f g = ap (λ x. x >>= λ r. meet p′ q′ >>= λ r′. some (ppair r r′)) (f h)
-    go (inr h) f g = ap (λ x. meet p q >>= λ r. x >>= λ r′. some (ppair r r′)) (g h) ∙ second (meet p q)
+    parts : (clash p q ≡ true) ⊎ (clash p′ q′ ≡ true) → (clash p q ≡ true → meet p q ≡ none) → (clash p′ q′ ≡ true → meet p′ q′ ≡ none)
+        → (meet p q >>= λ r. meet p′ q′ >>= λ r′. some (pnode m r r′)) ≡ none
+    parts (inl h) f g = ap (λ x. x >>= λ r. meet p′ q′ >>= λ r′. some (pnode m r r′)) (f h)
+    parts (inr h) f g = ap (λ x. meet p q >>= λ r. x >>= λ r′. some (pnode m r r′)) (g h) ∙ second (meet p q)
+
+    node : (l k : Node) → (sameNode l k && (clash p q || clash p′ q′)) ≡ true → (clash p q ≡ true → meet p q ≡ none) → (clash p′ q′ ≡ true → meet p′ q′ ≡ none)
+        → cond (sameNode l k) (meet p q >>= λ r. meet p′ q′ >>= λ r′. some (pnode m r r′)) none ≡ none
+    node pairNode pairNode h f g = parts (or-true (clash p q) (clash p′ q′) h) f g
+    node pairNode elementNode h f g = refl
+    node elementNode pairNode h f g = refl
+    node elementNode elementNode h f g = parts (or-true (clash p q) (clash p′ q′) h) f g
 
 module _ {a : Ty} {p q : Pat} (out : List ℕ) (best : ℕ) where
   pub adds-clash : compare p q .clash ≡ true → Adds a p q out out best best
@@ -62,8 +73,8 @@ module _ {a : Ty} {p q : Pat} (out : List ℕ) (best : ℕ) where
 pub record Tried (a : Ty) (p q : Pat) (common : List ℕ) (n : ℕ) : Type 0 where
   pub by : Shape p a → Shape q a → typeNodes a ≤ maxNodes → (v : Val) × Of v a × (inBoth a p q ≡ some v) × (n ≡ length (letters v)) × (take n common ≡ letters v) × (n ≤ 127)
 
-pub tried : {a : Ty} {p q : Pat} {blank common : List ℕ} {n : ℕ} → compare p q .clash ≡ false → length blank ≡ 127 → SpellsBoth p q a blank common 0 n → Tried a p q common n
-tried {a} {p} {q} {blank} {common} {n} c e w = record { by = go }
+pub tried : {a : Ty} {p q : Pat} {blank common : List ℕ} {n : ℕ} → Finite a → compare p q .clash ≡ false → length blank ≡ 127 → SpellsBoth p q a blank common 0 n → Tried a p q common n
+tried {a} {p} {q} {blank} {common} {n} f c e w = record { by = go }
   where
     go : Shape p a → Shape q a → typeNodes a ≤ maxNodes → (v : Val) × Of v a × (inBoth a p q ≡ some v) × (n ≡ length (letters v)) × (take n common ≡ letters v) × (n ≤ 127)
     go s s′ h =
@@ -71,7 +82,7 @@ tried {a} {p} {q} {blank} {common} {n} c e w = record { by = go }
         let o = leastIn-of (meet-shape s s′ (m .0) (m .1)) in
         let ws = w .by (m .0) s s′ (m .1) h in
         let v = leastIn (m .0) a in
-        let l = le-trans (of-small o) h in
+        let l = le-trans (of-small f o) h in
         let room : 0 + length (letters v) ≤ length blank = omega arith in
         let n-is : n ≡ length (letters v) = ws .place room ∙ plain (length (letters v)) in (
           v,

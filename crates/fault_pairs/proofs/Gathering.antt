@@ -1,6 +1,6 @@
 -- All pairs, from the last.
 use Prim.Native.Nat.{ℕ, _+_, _-_, _<_, _≤_}
-use native.Mathlib.Nat.{le-refl}
+use native.Mathlib.Nat.{le-refl, le-trans}
 use native.Mathlib.Omega.{arith}
 use mathlib.Core.Path.{_≡_, refl, sym, ap, ap₂, _∙_, subst}
 use mathlib.Core.Logic.{_⊎_, inl, inr}
@@ -9,13 +9,16 @@ use mathlib.Core.Option.{Option, none, some}
 use mathlib.Core.List.{List, [], _∷_, _++_, List·Memᴰ, List·Memᴰ·head, List·Memᴰ·tail}
 use lib.ListN.{length, getD, take, drop, take-append-drop}
 use Rattle.limits.specs.Limits.{maxNodes}
+use Rattle.calculus.specs.Tools.{_>>=_, guard}
 use Rattle.calculus.specs.Trees.{Ty, Pat, Val, typeNodes}
 use Rattle.calculus.specs.Letters.{letters}
 use Rattle.model.specs.Services.{written}
-use Rattle.law_witnesses.specs.Shapes.{Shape}
+use Rattle.calculus.specs.Shapes.{Shape}
+use Rattle.calculus.specs.Lists.{Finite}
 use Rattle.law_witnesses.specs.Showing.{sooner, twice, setting}
-use Rattle.law_witnesses.specs.Seeking.{better, inBoth, overlapWith, overlapIn}
-use Rattle.calculus.proofs.Basic.{not-both, bool-cases}
+use Rattle.law_witnesses.specs.Seeking.{better, inBoth, overlapWith, overlapIn, fitting}
+use Rattle.calculus.proofs.Basic.{not-both, bool-cases, le-leb}
+use Rattle.model.proofs.Sizes.{of-small}
 use Rattle.law_witnesses.proofs.Shortlex.{not-after-trans, not-after-sooner, sooner-not-after, total-order}
 use Rattle.law_witnesses.proofs.Overlaps.{overlap-setting}
 use Rattle.table_trees.specs.Unfolding.{cellOf, patternOf}
@@ -125,17 +128,24 @@ gather-in : (a : Ty) (ps : List Pat) → gatherAll a ps ≡ overlapIn a ps
 gather-in a [] = refl
 gather-in a (p ∷ ps) = gather-with a p ps (gatherAll a ps) ∙ ap (better (overlapWith a p ps)) (gather-in a ps)
 
+-- a value of a type without lists of at most 127 nodes has at most 127 letters
+stored-fitting : {a : Ty} {out : List ℕ} {best : ℕ} → Finite a → typeNodes a ≤ maxNodes → (x : Option Val) → Stored a x out best → Stored a (fitting x) out best
+stored-fitting f h none (nothing z) = nothing z
+stored-fitting {a} {out} {best} f h (some v) (text o l t) =
+    subst (λ b. Stored a (guard b >>= λ _. some v) out best) (sym (le-leb (le-trans (of-small f o) h))) (text o l t)
+
 -- the letters kept are those of the value that request 09 asks for
-pub kept-setting : {a : Ty} {ps : List Pat} {out : List ℕ} {best : ℕ} → Keeps a ps out best → ((p : Pat) → List·Memᴰ p ps → Shape p a) → typeNodes a ≤ maxNodes → Stored a
+pub kept-setting : {a : Ty} → Finite a → {ps : List Pat} {out : List ℕ} {best : ℕ} → Keeps a ps out best → ((p : Pat) → List·Memᴰ p ps → Shape p a) → typeNodes a ≤ maxNodes → Stored a
     (setting a (twice ps)) out best
-kept-setting {a} {ps} {out} {best} k s h = subst (λ x. Stored a x out best) (gather-in a ps ∙ overlap-setting a ps h s) (k .by s h)
+kept-setting {a} f {ps} {out} {best} k s h =
+    subst (λ x. Stored a x out best) (ap fitting (gather-in a ps) ∙ overlap-setting a ps s) (stored-fitting f h (gatherAll a ps) (k .by s h))
 
 -- what is shown: the letters of the setting, then what was there
-pub value-shown : {a : Ty} {ps : List Pat} {kept out out′ : List ℕ} {n : ℕ} → (n ≤ 127) × Keeps a ps kept n → (take n out′ ≡ take n kept) × (drop n out′ ≡ drop n out)
+pub value-shown : {a : Ty} → Finite a → {ps : List Pat} {kept out out′ : List ℕ} {n : ℕ} → (n ≤ 127) × Keeps a ps kept n → (take n out′ ≡ take n kept) × (drop n out′ ≡ drop n out)
     → OverlapValue a ps out out′ n
-value-shown {a} {ps} {kept} {out} {out′} {n} k e = record {
-  given = λ s v h. some-shown v (subst (λ x. Stored a x kept n) h (kept-setting (k .1) (s .shapes) (s .small)));
-  nothing = λ s h. none-shown (subst (λ x. Stored a x kept n) h (kept-setting (k .1) (s .shapes) (s .small)));
+value-shown {a} f {ps} {kept} {out} {out′} {n} k e = record {
+  given = λ s v h. some-shown v (subst (λ x. Stored a x kept n) h (kept-setting f (k .1) (s .shapes) (s .small)));
+  nothing = λ s h. none-shown (subst (λ x. Stored a x kept n) h (kept-setting f (k .1) (s .shapes) (s .small)));
 }
   where
     some-shown : (v : Val) → Stored a (some v) kept n → (n ≡ length (letters v)) × (out′ ≡ written (letters v) out)

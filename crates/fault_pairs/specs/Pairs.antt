@@ -10,7 +10,8 @@ use Rattle.calculus.specs.Letters.{letters}
 use Rattle.model.specs.Services.{written}
 use Rattle.table_trees.specs.Unfolding.{typeOf, patternOf}
 use Rattle.table_walks.specs.InTable.{patternsAt}
-use Rattle.law_witnesses.specs.Shapes.{Shape, Side}
+use Rattle.calculus.specs.Shapes.{Shape}
+use Rattle.law_witnesses.specs.Shapes.{Side}
 use Rattle.law_witnesses.specs.Showing.{twice, setting}
 use Rattle.calculus.specs.Paper.{Of}
 use Rattle.law_witnesses.specs.Seeking.{better, inBoth}

@@ -8,9 +8,10 @@ use mathlib.Core.List.{List, [], _∷_, map}
 use lib.ListN.{length, getD, set, drop, length-set, drop-of-length-le}
 use lib.Seq.{getD-set-same, getD-set-other, drop-cons}
 use Rattle.calculus.specs.Trees.{Ty, Pat}
-use Rattle.law_witnesses.specs.Shapes.{Shape}
+use Rattle.calculus.specs.Shapes.{Shape}
 use Rattle.law_witnesses.specs.Seeking.{howMany, ways}
 use Rattle.table_trees.specs.Unfolding.{typeOf, patternOf}
+use Rattle.table_trees.proofs.Lists.{type-finite}
 use Rattle.fault_tallies.proofs.Counting.{held-as}
 use Rattle.fault_tallies.specs.Tallies.{modulus, Holds, more, moreIn}
 use Rattle.fault_tallies.proofs.Ways.{more-all, more-in}
@@ -63,7 +64,7 @@ module _ (t : List ℕ) (ts : List ℕ) where
       → Holds k (λ n. howMany n (typesFrom t ts (c - 1)))
   types-step c p h g =
       held-as (λ n. howMany n (typesFrom t ts (c - 1)))
-      (λ r. more-all (typeOf t (getD ts (c - 1) 0)) {ts = typesFrom t ts c} (λ n. refl) r ∙ ap (howMany r) (sym (types-line c p h))) g
+      (λ r. more-all (type-finite t (getD ts (c - 1) 0)) {ts = typesFrom t ts c} (λ n. refl) r ∙ ap (howMany r) (sym (types-line c p h))) g
 
 module _ (t : List ℕ) (base : ℕ) (ps ts : List ℕ) where
   pub row-end : (c : ℕ) → length ps ≤ c → rowFrom t base ps c ≡ []
@@ -87,7 +88,7 @@ module _ (t : List ℕ) (base : ℕ) (ps ts : List ℕ) where
       let u = types-line t ts c p g in
       let d = head-tail (subst (λ x. Shapes x (typeOf t (getD ts (c - 1) 0) ∷ typesFrom t ts c)) r (subst (Shapes (rowFrom t base ps (c - 1))) u s)) in
       held-as (λ n. ways n (typesFrom t ts (c - 1)) (rowFrom t base ps (c - 1)))
-      (λ n. more-in (d .0) {ts = typesFrom t ts c} {row = rowFrom t base ps c} (λ m. refl) n ∙ sym (ap₂ (ways n) u r))
+      (λ n. more-in (type-finite t (getD ts (c - 1) 0)) (d .0) {ts = typesFrom t ts c} {row = rowFrom t base ps c} (λ m. refl) n ∙ sym (ap₂ (ways n) u r))
       (f (λ n. ways n (typesFrom t ts c) (rowFrom t base ps c)) (below (d .1)))
 
 -- ---- the loops

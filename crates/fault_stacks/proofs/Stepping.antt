@@ -9,9 +9,9 @@ use mathlib.Core.List.{List, _∷_, map}
 use lib.Dec.{eqb}
 use lib.ListN.{length, getD, set, drop, length-set}
 use lib.Seq.{drop-cons}
-use Rattle.calculus.specs.Trees.{Tag, left, right, Pat}
+use Rattle.calculus.specs.Trees.{unitLeaf, Tag, left, right, pairNode, Pat}
 use Rattle.format.specs.Judge.{patternNode}
-use Rattle.law_witnesses.specs.Showing.{Move, unit, both, tag}
+use Rattle.law_witnesses.specs.Showing.{Move, leaf, tag, node}
 use Rattle.law_witnesses.specs.Seeking.{after}
 use Rattle.calculus.proofs.Basic.{not-eqb, drop-set-same}
 use Rattle.table_trees.specs.Unfolding.{cellOf, smallerOf, typeOf, patternOf}
@@ -30,11 +30,11 @@ pushed s top a b h p =
 
 -- ---- the letter
 
-pub move-P : {c : ℕ} → (c ≡ 85 → ⊥) → (c ≡ 76 → ⊥) → (c ≡ 82 → ⊥) → moveOf c ≡ both
+pub move-P : {c : ℕ} → (c ≡ 85 → ⊥) → (c ≡ 76 → ⊥) → (c ≡ 82 → ⊥) → moveOf c ≡ node pairNode
 move-P {c} u l r =
-    ap (λ b. cond b unit (cond (eqb c 76) (tag left) (cond (eqb c 82) (tag right) both))) (not-eqb u)
-    ∙ ap (λ b. cond b (tag left) (cond (eqb c 82) (tag right) both)) (not-eqb l)
-    ∙ ap (λ b. cond b (tag right) both) (not-eqb r)
+    ap (λ b. cond b (leaf unitLeaf) (cond (eqb c 76) (tag left) (cond (eqb c 82) (tag right) (node pairNode)))) (not-eqb u)
+    ∙ ap (λ b. cond b (tag left) (cond (eqb c 82) (tag right) (node pairNode))) (not-eqb l)
+    ∙ ap (λ b. cond b (tag right) (node pairNode)) (not-eqb r)
 
 pub top-P : {c : ℕ} (top : ℕ) → (c ≡ 85 → ⊥) → (c ≡ 76 → ⊥) → (c ≡ 82 → ⊥) → topAfter c top ≡ top - 1
 top-P {c} top u l r =
@@ -54,7 +54,7 @@ module _ (t s : List ℕ) (top : ℕ) (h : top < length s) where
   pub types-U : {c : ℕ} → c ≡ 85 → TypesStepped t c s s top (top + 1)
   types-U {c} e = (
     ap (λ x. topAfter x top) (sym e),
-    ap (typesFrom t s) (add-one top) ∙ after-next unit ∙ ap (λ m. typesAfter m (typesFrom t s top)) (ap moveOf (sym e)),
+    ap (typesFrom t s) (add-one top) ∙ after-next (leaf unitLeaf) ∙ ap (λ m. typesAfter m (typesFrom t s top)) (ap moveOf (sym e)),
   )
 
   pub types-L : (a : ℕ) {c : ℕ} → c ≡ 76 → typeOf t a ≡ partOf left (typeOf t (getD s top 0)) → TypesStepped t c s (set s top a) top top
@@ -75,7 +75,7 @@ module _ (t s : List ℕ) (top : ℕ) (h : top < length s) where
       → TypesStepped t c s (set (set s top b) (top - 1) a) top (top - 1)
   types-P a b {c} u l r p g f = (
     sym (top-P top u l r),
-    ap (map (typeOf t)) (pushed s top a b h p) ∙ ap₂ (λ x y. x ∷ (y ∷ typesFrom t s (suc top))) f g ∙ after-next both
+    ap (map (typeOf t)) (pushed s top a b h p) ∙ ap₂ (λ x y. x ∷ (y ∷ typesFrom t s (suc top))) f g ∙ after-next (node pairNode)
         ∙ ap (λ m. typesAfter m (typesFrom t s top)) (sym (move-P u l r)),
   )
 
@@ -84,7 +84,7 @@ module _ (t s : List ℕ) (top : ℕ) (h : top < length s) where
 -- by the kind of the P line
 module _ (n : ℕ) (l r : Pat) (rest : List Pat) where
   -- a unit, a variable, or a number that is no kind
-  U-leaf : (k : ℕ) → (k ≡ 2 → ⊥) → (k ≡ 3 → ⊥) → (k ≡ 4 → ⊥) → after unit (patternNode k n l r ∷ rest) ≡ some rest
+  U-leaf : (k : ℕ) → (k ≡ 2 → ⊥) → (k ≡ 3 → ⊥) → (k ≡ 4 → ⊥) → after (leaf unitLeaf) (patternNode k n l r ∷ rest) ≡ some rest
   U-leaf zero a b c = refl
   U-leaf (suc zero) a b c = refl
   U-leaf (suc (suc zero)) a b c = absurd (a refl)
@@ -121,10 +121,10 @@ module _ (n : ℕ) (l r : Pat) (rest : List Pat) where
   R-dead (suc (suc (suc (suc zero)))) v h = refl
   R-dead (suc (suc (suc (suc (suc k))))) v h = refl
 
-  P-var : (k : ℕ) → k ≡ 1 → after both (patternNode k n l r ∷ rest) ≡ some (patternNode k n l r ∷ (patternNode k n l r ∷ rest))
-  P-var k e = ap (λ j. after both (patternNode j n l r ∷ rest)) e ∙ ap (λ j. some (patternNode j n l r ∷ (patternNode j n l r ∷ rest))) (sym e)
+  P-var : (k : ℕ) → k ≡ 1 → after (node pairNode) (patternNode k n l r ∷ rest) ≡ some (patternNode k n l r ∷ (patternNode k n l r ∷ rest))
+  P-var k e = ap (λ j. after (node pairNode) (patternNode j n l r ∷ rest)) e ∙ ap (λ j. some (patternNode j n l r ∷ (patternNode j n l r ∷ rest))) (sym e)
 
-  P-dead : (k : ℕ) → (k ≡ 1 → ⊥) → (k ≡ 4 → ⊥) → after both (patternNode k n l r ∷ rest) ≡ none
+  P-dead : (k : ℕ) → (k ≡ 1 → ⊥) → (k ≡ 4 → ⊥) → after (node pairNode) (patternNode k n l r ∷ rest) ≡ none
   P-dead zero v h = refl
   P-dead (suc zero) v h = absurd (v refl)
   P-dead (suc (suc zero)) v h = refl
@@ -132,8 +132,8 @@ module _ (n : ℕ) (l r : Pat) (rest : List Pat) where
   P-dead (suc (suc (suc (suc zero)))) v h = absurd (h refl)
   P-dead (suc (suc (suc (suc (suc k))))) v h = refl
 
-  P-goes : (k : ℕ) → k ≡ 4 → after both (patternNode k n l r ∷ rest) ≡ some (l ∷ (r ∷ rest))
-  P-goes k e = ap (λ j. after both (patternNode j n l r ∷ rest)) e
+  P-goes : (k : ℕ) → k ≡ 4 → after (node pairNode) (patternNode k n l r ∷ rest) ≡ some (l ∷ (r ∷ rest))
+  P-goes k e = ap (λ j. after (node pairNode) (patternNode j n l r ∷ rest)) e
 
 module _ (t : List ℕ) (base : ℕ) (s : List ℕ) (top c : ℕ) (h : top < length s) where
   abbrev p : ℕ
@@ -145,22 +145,22 @@ module _ (t : List ℕ) (base : ℕ) (s : List ℕ) (top c : ℕ) (h : top < len
   abbrev below : ℕ → Pat
   below j = patternOf t base (smallerOf (cellOf t (base + p) j) p)
 
-  abbrev node : Pat
-  node = patternNode kind (cellOf t (base + p) 2) (below 2) (below 3)
+  abbrev line : Pat
+  line = patternNode kind (cellOf t (base + p) 2) (below 2) (below 3)
 
   abbrev rest : List Pat
   rest = rowFrom t base s (suc top)
 
-  next-row : rowFrom t base s top ≡ node ∷ rest
+  next-row : rowFrom t base s top ≡ line ∷ rest
   next-row = ap (map (patternOf t base)) (drop-cons s top 0 h) ∙ ap (λ z. z ∷ rest) (pattern-node t base p)
 
-  goes : (m : Move) (s′ : List ℕ) (r : ℕ) → moveOf c ≡ m → topAfter c top ≡ r → after m (node ∷ rest) ≡ some (rowFrom t base s′ r) → RowStepped t base c s s′ top true
+  goes : (m : Move) (s′ : List ℕ) (r : ℕ) → moveOf c ≡ m → topAfter c top ≡ r → after m (line ∷ rest) ≡ some (rowFrom t base s′ r) → RowStepped t base c s s′ top true
   goes m s′ r e f d = (λ b. ap₂ after e next-row ∙ d ∙ ap (λ n. some (rowFrom t base s′ n)) (sym f), λ b. absurd (true≢false b))
 
-  stops : (m : Move) (s′ : List ℕ) → moveOf c ≡ m → after m (node ∷ rest) ≡ none → RowStepped t base c s s′ top false
+  stops : (m : Move) (s′ : List ℕ) → moveOf c ≡ m → after m (line ∷ rest) ≡ none → RowStepped t base c s s′ top false
   stops m s′ e d = (λ b. absurd (true≢false (sym b)), λ b. ap₂ after e next-row ∙ d)
 
-  stayed : rowFrom t base s top ≡ node ∷ rest
+  stayed : rowFrom t base s top ≡ line ∷ rest
   stayed = next-row
 
   put-one : (q j : ℕ) → q ≡ smallerOf (cellOf t (base + p) j) p → rowFrom t base (set s top q) top ≡ below j ∷ rest
@@ -170,18 +170,18 @@ module _ (t : List ℕ) (base : ℕ) (s : List ℕ) (top c : ℕ) (h : top < len
       → rowFrom t base (set (set s top r) (top - 1) q) (top - 1) ≡ below 2 ∷ (below 3 ∷ rest)
   put-two q r z e f = ap (map (patternOf t base)) (pushed s top q r h z) ∙ ap₂ (λ x y. patternOf t base x ∷ (patternOf t base y ∷ rest)) e f
 
-  put-same : 0 < top → rowFrom t base (set s (top - 1) p) (top - 1) ≡ node ∷ (node ∷ rest)
+  put-same : 0 < top → rowFrom t base (set s (top - 1) p) (top - 1) ≡ line ∷ (line ∷ rest)
   put-same z =
       let e : suc (top - 1) ≡ top = omega arith in
       ap (map (patternOf t base)) (drop-set-same s (top - 1) p (omega arith) ∙ ap (λ n. p ∷ drop n s) e)
       ∙ ap₂ _∷_ (pattern-node t base p) next-row
 
   pub row-U : {k : ℕ} → k ≡ kind → (k ≡ 2 → ⊥) → (k ≡ 3 → ⊥) → (k ≡ 4 → ⊥) → c ≡ 85 → RowStepped t base c s s top true
-  row-U {k} e x y z u = goes unit s (top + 1) (ap moveOf u) (ap (λ x. topAfter x top) u)
+  row-U {k} e x y z u = goes (leaf unitLeaf) s (top + 1) (ap moveOf u) (ap (λ x. topAfter x top) u)
       (U-leaf _ _ _ rest kind (λ q. x (e ∙ q)) (λ q. y (e ∙ q)) (λ q. z (e ∙ q)) ∙ ap (λ n. some (rowFrom t base s n)) (sym (add-one top)))
 
-  pub row-U-not : {k : ℕ} (j : ℕ) → k ≡ kind → k ≡ j → after unit (patternNode j (cellOf t (base + p) 2) (below 2) (below 3) ∷ rest) ≡ none → c ≡ 85 → RowStepped t base c s s top false
-  row-U-not j e z d u = stops unit s (ap moveOf u) (dead _ _ _ rest unit j kind (sym e ∙ z) d)
+  pub row-U-not : {k : ℕ} (j : ℕ) → k ≡ kind → k ≡ j → after (leaf unitLeaf) (patternNode j (cellOf t (base + p) 2) (below 2) (below 3) ∷ rest) ≡ none → c ≡ 85 → RowStepped t base c s s top false
+  row-U-not j e z d u = stops (leaf unitLeaf) s (ap moveOf u) (dead _ _ _ rest (leaf unitLeaf) j kind (sym e ∙ z) d)
 
   pub row-L-var : {k : ℕ} → k ≡ kind → k ≡ 1 → c ≡ 76 → RowStepped t base c s s top true
   row-L-var e v u = goes (tag left) s top (ap moveOf u) (ap (λ x. topAfter x top) u) (var-stays _ _ _ rest left kind (sym e ∙ v) ∙ ap some (sym stayed))
@@ -203,12 +203,12 @@ module _ (t : List ℕ) (base : ℕ) (s : List ℕ) (top c : ℕ) (h : top < len
 
   module _ (u : c ≡ 85 → ⊥) (l : c ≡ 76 → ⊥) (r : c ≡ 82 → ⊥) where
     pub row-P-var : {k : ℕ} → k ≡ kind → k ≡ 1 → 0 < top → RowStepped t base c s (set s (top - 1) p) top true
-    row-P-var e v z = goes both (set s (top - 1) p) (top - 1) (move-P u l r) (top-P top u l r) (P-var _ _ _ rest kind (sym e ∙ v) ∙ ap some (sym (put-same z)))
+    row-P-var e v z = goes (node pairNode) (set s (top - 1) p) (top - 1) (move-P u l r) (top-P top u l r) (P-var _ _ _ rest kind (sym e ∙ v) ∙ ap some (sym (put-same z)))
 
     pub row-P-not : {k : ℕ} → k ≡ kind → (k ≡ 1 → ⊥) → (k ≡ 4 → ⊥) → RowStepped t base c s s top false
-    row-P-not e v b = stops both s (move-P u l r) (P-dead _ _ _ rest kind (λ z. v (e ∙ z)) (λ z. b (e ∙ z)))
+    row-P-not e v b = stops (node pairNode) s (move-P u l r) (P-dead _ _ _ rest kind (λ z. v (e ∙ z)) (λ z. b (e ∙ z)))
 
     pub row-P : {k : ℕ} (q q′ : ℕ) → k ≡ kind → k ≡ 4 → 0 < top → q ≡ smallerOf (cellOf t (base + p) 2) p → q′ ≡ smallerOf (cellOf t (base + p) 3) p
         → RowStepped t base c s (set (set s top q′) (top - 1) q) top true
     row-P q q′ e b z f g =
-        goes both (set (set s top q′) (top - 1) q) (top - 1) (move-P u l r) (top-P top u l r) (P-goes _ _ _ rest kind (sym e ∙ b) ∙ ap some (sym (put-two q q′ z f g)))
+        goes (node pairNode) (set (set s top q′) (top - 1) q) (top - 1) (move-P u l r) (top-P top u l r) (P-goes _ _ _ rest kind (sym e ∙ b) ∙ ap some (sym (put-two q q′ z f g)))

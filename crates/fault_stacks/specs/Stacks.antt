@@ -8,13 +8,13 @@ use lib.Dec.{eqb}
 use lib.ListN.{drop}
 use Rattle.limits.specs.Limits.{lengths}
 use Rattle.calculus.specs.Tools.{_>>=_}
-use Rattle.calculus.specs.Trees.{Ty, Pat, left, right}
-use Rattle.law_witnesses.specs.Showing.{Move, unit, both, tag}
+use Rattle.calculus.specs.Trees.{Ty, unitLeaf, left, right, pairNode, Pat}
+use Rattle.law_witnesses.specs.Showing.{Move, leaf, tag, node}
 use Rattle.law_witnesses.specs.Seeking.{ways, after}
 use Rattle.fault_tallies.specs.Tallies.{partOf, Holds}
-use Rattle.law_witnesses.specs.Shapes.{Shape}
+use Rattle.calculus.specs.Shapes.{Shape}
 use Rattle.table_trees.specs.Unfolding.{typeOf, patternOf}
-use Rattle.calculus.specs.Letters.{letterU, letterOf}
+use Rattle.calculus.specs.Letters.{leafLetter, letterOf}
 
 abbrev pub typesFrom : List ℕ → List ℕ → ℕ → List Ty
 typesFrom t ts top = map (typeOf t) (drop top ts)
@@ -27,19 +27,19 @@ pub data Shapes : List Pat → List Ty → Type 0 where
   ends : Shapes [] []
   also : {p : Pat} {a : Ty} {ps : List Pat} {ts : List Ty} → Shape p a → Shapes ps ts → Shapes (p ∷ ps) (a ∷ ts)
 
--- what a letter does
+-- what a letter does, of values without lists
 abbrev pub moveOf : ℕ → Move
-moveOf c = cond (eqb c letterU) unit (cond (eqb c (letterOf left)) (tag left) (cond (eqb c (letterOf right)) (tag right) both))
+moveOf c = cond (eqb c (leafLetter unitLeaf)) (leaf unitLeaf) (cond (eqb c (letterOf left)) (tag left) (cond (eqb c (letterOf right)) (tag right) (node pairNode)))
 
 abbrev pub typesAfter : Move → List Ty → List Ty
 typesAfter m [] = []
-typesAfter unit (a ∷ ts) = ts
+typesAfter (leaf l) (a ∷ ts) = ts
 typesAfter (tag s) (a ∷ ts) = partOf s a ∷ ts
-typesAfter both (a ∷ ts) = partOf left a ∷ (partOf right a ∷ ts)
+typesAfter (node k) (a ∷ ts) = partOf left a ∷ (partOf right a ∷ ts)
 
 -- where the next line then stands
 abbrev pub topAfter : ℕ → ℕ → ℕ
-topAfter c top = cond (eqb c letterU) (top + 1) (cond (eqb c (letterOf left)) top (cond (eqb c (letterOf right)) top (top - 1)))
+topAfter c top = cond (eqb c (leafLetter unitLeaf)) (top + 1) (cond (eqb c (letterOf left)) top (cond (eqb c (letterOf right)) top (top - 1)))
 
 -- after several letters
 abbrev pub typesAlong : List ℕ → List Ty → List Ty

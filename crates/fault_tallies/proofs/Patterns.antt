@@ -2,7 +2,7 @@
 use Prim.Native.Nat.{ℕ}
 use mathlib.Core.Path.{_≡_, refl, sym, ap, _∙_, subst}
 use mathlib.Core.List.{List}
-use Rattle.calculus.specs.Trees.{Ty, Tag, left, right, Pat, punit, pvar, pinj, ppair}
+use Rattle.calculus.specs.Trees.{Ty, Tag, left, right, Pat, pleaf, unitLeaf, pvar, pinj, pnode, pairNode}
 use Rattle.table_trees.specs.Unfolding.{cellOf, smallerOf, typeOf}
 use Rattle.fault_tallies.specs.Tallies.{Holds, shifted, more, moreIn, partOf}
 use Rattle.table_trees.proofs.Lines.{line-sum, line-product, line-other}
@@ -29,7 +29,7 @@ module _ (t : List ℕ) (i : ℕ) {k : ℕ} (e : k ≡ cellOf t i 1) where
 -- ---- what an array then holds
 
 module _ (a : Ty) (W : ℕ → ℕ) where
-  pub as-unit : {x : Pat} {l : List ℕ} → x ≡ punit → Holds l (shifted W) → Holds l (moreIn x a W)
+  pub as-unit : {x : Pat} {l : List ℕ} → x ≡ pleaf unitLeaf → Holds l (shifted W) → Holds l (moreIn x a W)
   as-unit {l = l} e h = subst (λ z. Holds l (moreIn z a W)) (sym e) h
 
   pub as-var : {x : Pat} {n : ℕ} {l : List ℕ} → x ≡ pvar n → Holds l (more a W) → Holds l (moreIn x a W)
@@ -38,7 +38,7 @@ module _ (a : Ty) (W : ℕ → ℕ) where
   pub as-tag : (s : Tag) {x y : Pat} {b : Ty} {l : List ℕ} → x ≡ pinj s y → b ≡ partOf s a → Holds l (shifted (moreIn y b W)) → Holds l (moreIn x a W)
   as-tag s {x} {y} {b} {l} e f h = subst (λ z. Holds l (moreIn z a W)) (sym e) (subst (λ c. Holds l (shifted (moreIn y c W))) f h)
 
-  pub as-pair : {x y z : Pat} {b c : Ty} {l : List ℕ} → x ≡ ppair y z → b ≡ partOf left a → c ≡ partOf right a
+  pub as-pair : {x y z : Pat} {b c : Ty} {l : List ℕ} → x ≡ pnode pairNode y z → b ≡ partOf left a → c ≡ partOf right a
       → Holds l (shifted (moreIn y b (moreIn z c W))) → Holds l (moreIn x a W)
   as-pair {x} {y} {z} {b} {c} {l} e f g h =
       subst (λ u. Holds l (moreIn u a W)) (sym e)

@@ -5,7 +5,7 @@ use mathlib.Core.Bool.{Bool, cond}
 use mathlib.Core.List.{List}
 use lib.Dec.{ltb}
 use lib.ListN.{getD}
-use Rattle.calculus.specs.Trees.{Ty, tunit, tsum, tprod, Tag, left, right, Pat, punit, pvar, pinj, ppair}
+use Rattle.calculus.specs.Trees.{Ty, tunit, tlist, tsum, tprod, Tag, left, right, Pat, pvar, pleaf, pinj, pnode}
 use Rattle.limits.specs.Limits.{lengths}
 
 abbrev pub modulus : ℕ
@@ -42,15 +42,17 @@ abbrev pub shifted : (ℕ → ℕ) → ℕ → ℕ
 shifted W zero = 0
 shifted W (suc r) = W r
 
--- the ways to go on with r letters: a value of a type, then as W says
+-- the ways to go on with r letters: a value of a type, then as W says; a list, which no line of a table unfolds to, is counted as a unit
 abbrev pub more : Ty → (ℕ → ℕ) → ℕ → ℕ
 more tunit W = shifted W
+more (tlist a) W = shifted W
 more (tsum a b) W = shifted (λ r. more a W r + more b W r)
 more (tprod a b) W = shifted (more a (more b W))
 
 -- the parts of a type, a unit where there are none
 abbrev pub partOf : Tag → Ty → Ty
 partOf t tunit = tunit
+partOf t (tlist a) = tunit
 partOf left (tsum a b) = a
 partOf right (tsum a b) = b
 partOf left (tprod a b) = a
@@ -58,7 +60,7 @@ partOf right (tprod a b) = b
 
 -- the same for the values of a type that a pattern matches
 abbrev pub moreIn : Pat → Ty → (ℕ → ℕ) → ℕ → ℕ
-moreIn punit a W = shifted W
 moreIn (pvar n) a W = more a W
+moreIn (pleaf l) a W = shifted W
 moreIn (pinj t p) a W = shifted (moreIn p (partOf t a) W)
-moreIn (ppair p q) a W = shifted (moreIn p (partOf left a) (moreIn q (partOf right a) W))
+moreIn (pnode k p q) a W = shifted (moreIn p (partOf left a) (moreIn q (partOf right a) W))

@@ -4,13 +4,15 @@ use native.Mathlib.Omega.{arith}
 use mathlib.Core.Path.{_≡_, refl, sym, ap, _∙_, subst}
 use mathlib.Core.Bool.{true}
 use mathlib.Core.Logic.{_⊎_, ⊎-elim}
-use mathlib.Core.Option.{some}
+use mathlib.Core.Option.{Option, none, some}
 use mathlib.Core.List.{List, map}
 use lib.Dec.{leb}
 use lib.ListN.{length, take, drop, length-drop}
 use lib.Seq.{take-all}
 use Rattle.limits.specs.Limits.{maxClauses}
-use Rattle.calculus.specs.Trees.{Ty, Pat, Iso}
+use Rattle.calculus.specs.Trees.{Ty, Pat, Val, Iso}
+use Rattle.calculus.specs.Lists.{Finite}
+use Rattle.calculus.specs.Paper.{Apart}
 use Rattle.calculus.specs.Refusals.{Refusal, number}
 use Rattle.format.specs.Lines.{Row}
 use Rattle.format.specs.Unfold.{isosOf}
@@ -18,9 +20,12 @@ use Rattle.calculus.specs.Clauses.{lefts, rights, fault}
 use Rattle.model.specs.Services.{written}
 use Rattle.calculus.proofs.Basic.{and-true, leb-le}
 use Rattle.model.proofs.Files.{InForm}
-use Rattle.law_witnesses.specs.Showing.{sided, shown, lettersOf?, showing}
-use Rattle.law_witnesses.proofs.Sides.{Found}
+use Rattle.format.proofs.Listless.{isos-listless}
+use Rattle.law_witnesses.specs.Shapes.{Side}
+use Rattle.law_witnesses.specs.Showing.{Never, setting, twice, never, sided, shown, lettersOf?, showing}
+use Rattle.law_witnesses.proofs.Sides.{Sight, Found}
 use Rattle.law_witnesses.proofs.Showing.{refused-iso, showing-rows}
+use Rattle.law_witnesses.proofs.Listless.{never-large}
 use Rattle.table_trees.specs.Unfolding.{cellOf, typeOf}
 use Rattle.table_walks.specs.InTable.{patternsAt}
 use Rattle.table_walks.specs.Walk.{FileIn, tailAt}
@@ -33,17 +38,28 @@ use Rattle.fault_values.proofs.Heads.{head}
 abbrev Given : List ℕ → List ℕ → ℕ → List ℕ → Type 0
 Given out₀ out r ls = (r ≡ length ls) × (out ≡ written ls out₀)
 
--- the search finds what the definition says
-found-given : {o : Iso} {f : Refusal} {n : ℕ} {out₀ out : List ℕ} {r : ℕ} → Found o f → number f ≡ n → SideShown n (o .from) (o .to) (lefts o) (rights o) out₀ out r
-    → Given out₀ out r (lettersOf? (shown f o))
-found-given {out₀ = out₀} {out} {r} (Found.overlapLeft v side e l) k s =
-    subst (λ x. Given out₀ out r (lettersOf? x)) (sym e) (s .overlapLeft (sym k) .given side v e)
-found-given {out₀ = out₀} {out} {r} (Found.overlapRight v side e l) k s =
-    subst (λ x. Given out₀ out r (lettersOf? x)) (sym e) (s .overlapRight (sym k) .given side v e)
-found-given {out₀ = out₀} {out} {r} (Found.gapLeft v side a e l) k s =
-    subst (λ x. Given out₀ out r (lettersOf? x)) (sym e) (s .gapLeft (sym k) .given side a v e)
-found-given {out₀ = out₀} {out} {r} (Found.gapRight v side a e l) k s =
-    subst (λ x. Given out₀ out r (lettersOf? x)) (sym e) (s .gapRight (sym k) .given side a v e)
+overlapped : {a : Ty} {ps : List Pat} {out₀ out : List ℕ} {r : ℕ} → OverlapValue a ps out₀ out r → Side a ps → Given out₀ out r (lettersOf? (setting a (twice ps)))
+overlapped {a} {ps} {out₀} {out} {r} v side = go (setting a (twice ps)) refl
+  where
+    go : (x : Option Val) → setting a (twice ps) ≡ x → Given out₀ out r (lettersOf? x)
+    go none e = v .nothing side e
+    go (some w) e = v .given side w e
+
+missed : {a : Ty} {ps : List Pat} {out₀ out : List ℕ} {r : ℕ} → Finite a → GapValue a ps out₀ out r → Side a ps → Apart ps → Sight a (Never ps) (setting a (never ps))
+    → Given out₀ out r (lettersOf? (setting a (never ps)))
+missed {a} {ps} {out₀} {out} {r} f v side apart sight = go (setting a (never ps)) refl sight
+  where
+    go : (x : Option Val) → setting a (never ps) ≡ x → Sight a (Never ps) x → Given out₀ out r (lettersOf? x)
+    go none e (Sight.unseen l) = absurd (never-large f (side .small) l)
+    go (some w) e (Sight.seen l h) = v .given side apart w e
+
+-- the search finds what the definition says; a gap of a type without lists has a value of at most 127 letters
+found-given : {o : Iso} {f : Refusal} {n : ℕ} {out₀ out : List ℕ} {r : ℕ} → Finite (o .from) × Finite (o .to) → Found o f → number f ≡ n
+    → SideShown n (o .from) (o .to) (lefts o) (rights o) out₀ out r → Given out₀ out r (lettersOf? (shown f o))
+found-given {o} {out₀ = out₀} {out} {r} free (Found.overlapLeft side x) k s = overlapped (s .overlapLeft (sym k)) side
+found-given {o} {out₀ = out₀} {out} {r} free (Found.overlapRight side x) k s = overlapped (s .overlapRight (sym k)) side
+found-given {o} {out₀ = out₀} {out} {r} free (Found.gapLeft side a x) k s = missed (free .0) (s .gapLeft (sym k)) side a x
+found-given {o} {out₀ = out₀} {out} {r} free (Found.gapRight side a x) k s = missed (free .1) (s .gapRight (sym k)) side a x
 
 -- each of the four searches, x being the T line of the side
 module _ (t : List ℕ) {n x y : ℕ} {b : Ty} {ps qs : List Pat} {out₀ out : List ℕ} {r : ℕ} (e : x ≡ y) where
@@ -99,19 +115,20 @@ module _ (t : List ℕ) (base lines n place : ℕ) (out₀ out : List ℕ) (r : 
   shown-given s rs patterns form file f k e sd shows =
       let q = refused-iso s rs form f place e sd in
       let h = head file (q .iso) (q .mem) in
+      let free = isos-listless rs (q .iso) (q .mem) in
       let at : place ≡ suc (h .row) = q .line ∙ h .line in
       let up : place - 1 ≡ h .row = omega (arith, at) in
       let d = collected rs base patterns file (omega (arith, at, h .within)) in
       let same = h .clauses ∙ ap (λ m. tailAt rs m .clauses) (sym at) in
       subst (Given out₀ out r) (sym (showing-rows s rs form ∙ ap lettersOf? (q .first)))
-      (found-given (q .found) k
+      (found-given (free .from, free .to) (q .found) k
       (sides-same (ap (λ m. typeOf t (cellOf t m 1)) up ∙ sym (h .from)) (ap (λ m. typeOf t (cellOf t m 2)) up ∙ sym (h .to))
       (sym (ap (map (λ x. x .lhs)) same ∙ d .lefts)) (sym (ap (map (λ x. x .rhs)) same ∙ d .rights)) shows))
 
   -- an iso's line is not 0, and its clauses are at most 32
-  never : (s : List ℕ) (rs : List Row) (patterns : ℕ) → InForm s rs → FileIn t base patterns lines rs → (f : Refusal)
+  neither : (s : List ℕ) (rs : List Row) (patterns : ℕ) → InForm s rs → FileIn t base patterns lines rs → (f : Refusal)
       → fault (isosOf rs) ≡ some (f, place) → sided f ≡ true → (place ≡ 0 → ⊥) × (maxClauses < c .first → ⊥)
-  never s rs patterns form file f e sd =
+  neither s rs patterns form file f e sd =
       let q = refused-iso s rs form f place e sd in
       let h = head file (q .iso) (q .mem) in
       let at : place ≡ suc (h .row) = q .line ∙ h .line in
@@ -138,14 +155,14 @@ module _ (t : List ℕ) (base lines n place : ℕ) (out₀ out : List ℕ) (r : 
 
   pub fault-nowhere : 11 ≤ n → n ≤ 14 → place ≡ 0 → FaultShown t base lines n place out₀ out r
   fault-nowhere low high z = record {
-    given = λ s rs patterns form file f k e sd. absurd (never s rs patterns form file f e sd .0 z);
+    given = λ s rs patterns form file f k e sd. absurd (neither s rs patterns form file f e sd .0 z);
     below = λ h. absurd (omega arith);
     above = λ h. absurd (omega arith);
   }
 
   pub fault-many : 11 ≤ n → n ≤ 14 → maxClauses < c .first → FaultShown t base lines n place out₀ out r
   fault-many low high z = record {
-    given = λ s rs patterns form file f k e sd. absurd (never s rs patterns form file f e sd .1 z);
+    given = λ s rs patterns form file f k e sd. absurd (neither s rs patterns form file f e sd .1 z);
     below = λ h. absurd (omega arith);
     above = λ h. absurd (omega arith);
   }

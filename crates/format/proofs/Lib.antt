@@ -9,3 +9,4 @@ pub mod Endings
 pub mod Printing
 pub mod Tables
 pub mod Sizes
+pub mod Listless

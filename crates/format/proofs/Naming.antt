@@ -5,7 +5,7 @@ use mathlib.Core.Path.{_≡_, refl, ap, ap₂}
 use mathlib.Core.Logic.{_⊎_, inl, inr}
 use mathlib.Core.Bool.{true, _&&_, false≢true}
 use lib.Dec.{ltb}
-use Rattle.calculus.specs.Trees.{Ty, tsum, tprod, Pat, pinj, ppair, left, right}
+use Rattle.calculus.specs.Trees.{Ty, tsum, tprod, Pat, pinj, pnode, pairNode, left, right}
 use Rattle.format.specs.Kinds.{TypeKind, unitType, sumType, productType, noType, PatternKind, unitPattern, variablePattern, leftPattern, rightPattern, pairPattern, noPattern}
 use Rattle.format.specs.Judge.{typeNodeOf, patternNodeOf, typeFields, patternFields, typeNamesOf, patternNamesOf}
 use Rattle.calculus.proofs.Basic.{and-true, true-and, ltb-lt, lt-ltb}
@@ -66,5 +66,5 @@ pattern-by-names n unitPattern a b e f g = refl
 pattern-by-names n variablePattern a b e f g = refl
 pattern-by-names n leftPattern a b e f g = ap (pinj left) (f (ltb-lt a n e))
 pattern-by-names n rightPattern a b e f g = ap (pinj right) (f (ltb-lt a n e))
-pattern-by-names n pairPattern a b e f g = let h = both-named n a b e in ap₂ ppair (f (h .0)) (g (h .1))
+pattern-by-names n pairPattern a b e f g = let h = both-named n a b e in ap₂ (pnode pairNode) (f (h .0)) (g (h .1))
 pattern-by-names n noPattern a b e f g = refl

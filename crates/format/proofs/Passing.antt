@@ -9,7 +9,7 @@ use mathlib.Core.List.{List, [], _∷_, _++_, List·Memᴰ, List·Memᴰ·head, 
 use lib.Dec.{leb, ltb, eqb}
 use lib.ListN.{length, getD, getElem?}
 use Rattle.limits.specs.Limits.{maxTypes, maxPatterns, maxIsos, maxClauses, maxLets, maxNodes, maxTags, variables}
-use Rattle.calculus.specs.Trees.{Ty, Pat, punit, Let, Clause, Iso, typeNodes, nodes, tags, vars}
+use Rattle.calculus.specs.Trees.{Ty, Pat, pleaf, unitLeaf, Let, Clause, Iso, typeNodes, nodes, tags, vars}
 use Rattle.calculus.specs.Refusals.{Kind, typeLine, patternLine, isoLine, clauseLine, letLine, misplaced, badField, badName, ceiling}
 use Rattle.format.specs.Lines.{Row}
 use Rattle.format.specs.Judge.{Seen, start, inOrder, fieldsFit, patternFields, named, withinCeilings, judge, typeTree, patternTree, patternNode, afterKind, after, afterAll}
@@ -85,9 +85,9 @@ let-fit s r f =
 
 -- whatever a number names is formed; one that names nothing gives the unit pattern
 abbrev pub AllFormed : List Pat → Type 0
-AllFormed ps = (i : ℕ) → FormedPat (getD ps i punit)
+AllFormed ps = (i : ℕ) → FormedPat (getD ps i (pleaf unitLeaf))
 
-pub formed-unit : FormedPat punit
+pub formed-unit : FormedPat (pleaf unitLeaf)
 formed-unit = record { slots = λ n m. absurd (List·Memᴰ·not-nil m); light = omega arith }
 
 none-formed : AllFormed []
@@ -113,7 +113,7 @@ node-slots (suc (suc (suc (suc (suc k))))) a b p q e f g n m = absurd (false≢t
 pattern-formed : (s : Seen) (r : Row) → AllFormed (s .patterns) → Fit s patternLine r → FormedPat (patternTree (s .patterns) r)
 pattern-formed s r h f =
     record {
-      slots = node-slots (r .x) (r .y) (r .z) (getD (s .patterns) (r .y) punit) (getD (s .patterns) (r .z) punit) (f .fields) (h (r .y)) (h (r .z));
+      slots = node-slots (r .x) (r .y) (r .z) (getD (s .patterns) (r .y) (pleaf unitLeaf)) (getD (s .patterns) (r .z) (pleaf unitLeaf)) (f .fields) (h (r .y)) (h (r .z));
       light = pattern-fit s r f .2;
     }
 
@@ -141,7 +141,7 @@ cons-lets : (ts : List Ty) (ps : List Pat) → AllFormed ps → (s : Seen) (n : 
     → (i : ℕ) → s .isos ≡ suc i → (l : Let) → List·Memᴰ l (place ts ps letLine n r o .lets) → FormedLet i l
 cons-lets ts ps h s n r o f d i e l (List·Memᴰ·head m) = subst (FormedLet i) (sym m) here
   where
-    here : FormedLet i (record { p = getD ps (r .x) punit; iso = r .y; q = getD ps (r .z) punit })
+    here : FormedLet i (record { p = getD ps (r .x) (pleaf unitLeaf); iso = r .y; q = getD ps (r .z) (pleaf unitLeaf) })
     here = record { p = h (r .x); q = h (r .z); earlier = omega (arith, let-fit s r f .2) }
 cons-lets ts ps h s n r o f d i e l (List·Memᴰ·tail m) = d .lets i e l m
 
@@ -150,7 +150,7 @@ cons-clauses : (ts : List Ty) (ps : List Pat) → AllFormed ps → (s : Seen) (n
     → (i : ℕ) → s .isos ≡ suc i → (c : Clause) → List·Memᴰ c (place ts ps clauseLine n r o .clauses) → FormedClause i c
 cons-clauses ts ps h s n r o d i e c (List·Memᴰ·head m) = subst (FormedClause i) (sym m) here
   where
-    here : FormedClause i (record { line = n; lhs = getD ps (r .x) punit; lets = o .lets; rhs = getD ps (r .y) punit })
+    here : FormedClause i (record { line = n; lhs = getD ps (r .x) (pleaf unitLeaf); lets = o .lets; rhs = getD ps (r .y) (pleaf unitLeaf) })
     here = record { lhs = h (r .x); lets = d .lets i e; rhs = h (r .y) }
 cons-clauses ts ps h s n r o d i e c (List·Memᴰ·tail m) = d .clauses i e c m
 

@@ -11,7 +11,7 @@ use Rattle.format.specs.declared.Refusal.the-variants as refusals
 
 -- their places in the declaration
 abbrev pub told : List ℕ
-told = 1 ∷ 2 ∷ 3 ∷ 4 ∷ 5 ∷ 6 ∷ 7 ∷ 8 ∷ 9 ∷ 10 ∷ 11 ∷ 12 ∷ 13 ∷ 14 ∷ 15 ∷ 16 ∷ 17 ∷ 18 ∷ 19 ∷ 20 ∷ []
+told = 1 ∷ 2 ∷ 3 ∷ 4 ∷ 5 ∷ 6 ∷ 7 ∷ 8 ∷ 9 ∷ 10 ∷ 11 ∷ 12 ∷ 13 ∷ 14 ∷ 15 ∷ 16 ∷ 17 ∷ 18 ∷ 19 ∷ 20 ∷ 21 ∷ 22 ∷ []
 
 pub told-some : (tag : R.Refusal → ℕ) → tag refusals.Nothing ≡ 0 → (f : R.Refusal) → OneOf told (tag f) → true ≡ isSome (refusalView f)
 told-some tag e refusals.Nothing k = absurd (miss told 0 tt (subst (OneOf told) e k))
@@ -35,3 +35,5 @@ told-some tag e refusals.TooHigh k = refl
 told-some tag e refusals.BadList k = refl
 told-some tag e (refusals.Idle x) k = refl
 told-some tag e refusals.BadScript k = refl
+told-some tag e (refusals.Recursion x) k = refl
+told-some tag e refusals.TooLarge k = refl

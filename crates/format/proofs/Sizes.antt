@@ -12,7 +12,7 @@ use lib.ListN.{length, getD, getElem?, take, length-append, List·getD-append}
 use lib.Seq.{getD-at, getD-append-add}
 use borrow.Author.Tests.{leb-true}
 use Rattle.limits.specs.Limits.{rowWidth}
-use Rattle.calculus.specs.Trees.{tunit, typeNodes, punit, nodes}
+use Rattle.calculus.specs.Trees.{tunit, typeNodes, pleaf, unitLeaf, nodes}
 use Rattle.calculus.specs.Refusals.{Kind, typeLine, patternLine, isoLine, clauseLine, letLine}
 use Rattle.format.specs.Lines.{Row}
 use Rattle.format.specs.Judge.{Seen, start, stage, inOrder, typeTree, patternTree, judge, afterKind, after, afterAll}
@@ -99,7 +99,7 @@ pub record Sized (s : Seen) (n : ℕ) (l : List ℕ) : Type 0 where
   pub stands : Stands n s
   pub long : length l ≡ n * rowWidth
   pub types : (i : ℕ) → i < length (s .types) → getD l (i * rowWidth + 4) 0 ≡ typeNodes (getD (s .types) i tunit)
-  pub patterns : (j : ℕ) → j < length (s .patterns) → getD l ((length (s .types) + j) * rowWidth + 4) 0 ≡ nodes (getD (s .patterns) j punit)
+  pub patterns : (j : ℕ) → j < length (s .patterns) → getD l ((length (s .types) + j) * rowWidth + 4) 0 ≡ nodes (getD (s .patterns) j (pleaf unitLeaf))
 
 sized-start : Sized start 0 []
 unfolding start
@@ -123,7 +123,7 @@ module _ {s : Seen} {n : ℕ} {l : List ℕ} (d : Sized s n l) (r : Row) where
   kept-types size i b = before n l (numbers r size) (d .long) i (omega (arith, d .stands .behind)) ∙ d .types i b
 
   kept-patterns : (size j : ℕ) → j < length (s .patterns)
-      → getD (l ++ numbers r size) ((length (s .types) + j) * rowWidth + 4) 0 ≡ nodes (getD (s .patterns) j punit)
+      → getD (l ++ numbers r size) ((length (s .types) + j) * rowWidth + 4) 0 ≡ nodes (getD (s .patterns) j (pleaf unitLeaf))
   kept-patterns size j b = before n l (numbers r size) (d .long) (length (s .types) + j) (omega (arith, d .stands .behind)) ∙ d .patterns j b
 
   -- with a row more of a kind
@@ -160,17 +160,17 @@ module _ {s : Seen} {n : ℕ} {l : List ℕ} (d : Sized s n l) (r : Row) where
     where
       go : (j : ℕ) → j < length (s .patterns ++ (patternTree (s .patterns) r ∷ [])) → Dec (j < length (s .patterns))
           → getD (l ++ numbers r (sizeOf patternLine s r)) ((length (s .types) + j) * rowWidth + 4) 0
-          ≡ nodes (getD (s .patterns ++ (patternTree (s .patterns) r ∷ [])) j punit)
+          ≡ nodes (getD (s .patterns ++ (patternTree (s .patterns) r ∷ [])) j (pleaf unitLeaf))
       go j h (yes b) =
           let here = d .stands .no-isos (leb-true (stage (s .above)) 1 (f .order)) in
           before n l (numbers r (sizeOf patternLine s r)) (d .long) (length (s .types) + j) (omega arith)
           ∙ d .patterns j b
-          ∙ ap nodes (sym (List·getD-append (s .patterns) (patternTree (s .patterns) r ∷ []) punit j b))
+          ∙ ap nodes (sym (List·getD-append (s .patterns) (patternTree (s .patterns) r ∷ []) (pleaf unitLeaf) j b))
       go j h (no b) =
           let here = d .stands .no-isos (leb-true (stage (s .above)) 1 (f .order)) in
           let last : j ≡ length (s .patterns) = omega (arith, length-snoc (s .patterns) (patternTree (s .patterns) r)) in
           behind n l (d .long) r (sizeOf patternLine s r) (length (s .types) + j) (omega arith)
-          ∙ ap nodes (sym (getD-at (s .patterns) (patternTree (s .patterns) r) [] punit j (sym last)))
+          ∙ ap nodes (sym (getD-at (s .patterns) (patternTree (s .patterns) r) [] (pleaf unitLeaf) j (sym last)))
   sized-kind isoLine f =
       record { stands = stands-after n s isoLine r (f .order) (d .stands); long = longer 0; types = kept-types 0; patterns = kept-patterns 0 }
   sized-kind clauseLine f =
@@ -203,7 +203,7 @@ module _ {rs : List Row} (p : Passes start rs) (rest : List ℕ) where
   type-size-at i h = let d = sized p in before (length rs) (tableOf rs) rest (d .long) i (omega (arith, d .stands .behind)) ∙ d .types i h
 
   pub pattern-size-at : (j : ℕ) → j < length (afterAll start rs .patterns)
-      → getD (tableOf rs ++ rest) ((length (afterAll start rs .types) + j) * rowWidth + 4) 0 ≡ nodes (getD (afterAll start rs .patterns) j punit)
+      → getD (tableOf rs ++ rest) ((length (afterAll start rs .types) + j) * rowWidth + 4) 0 ≡ nodes (getD (afterAll start rs .patterns) j (pleaf unitLeaf))
   pattern-size-at j h =
       let d = sized p in
       before (length rs) (tableOf rs) rest (d .long) (length (afterAll start rs .types) + j) (omega (arith, d .stands .behind)) ∙ d .patterns j h

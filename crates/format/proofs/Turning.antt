@@ -9,7 +9,7 @@ use mathlib.Core.List.{List, [], _∷_, _++_, map, reverse, append-nil, append-a
 use lib.Dec.{ltb}
 use lib.ListN.{length, getD}
 use Rattle.limits.specs.Limits.{maxLets}
-use Rattle.calculus.specs.Trees.{Ty, Pat, punit, Let, invertLet, invertClause, invert}
+use Rattle.calculus.specs.Trees.{Ty, Pat, pleaf, unitLeaf, Let, invertLet, invertClause, invert}
 use Rattle.calculus.specs.Refusals.{Kind, typeLine, patternLine, isoLine, clauseLine, letLine}
 use Rattle.format.specs.Lines.{Row}
 use Rattle.format.specs.Judge.{Seen, start, stage, judge, afterKind, after, afterAll}
@@ -152,7 +152,7 @@ turnTail o = record { lets = reverse (map invertLet (o .lets)); clauses = map in
 
 module _ (ts : List Ty) (ps : List Pat) where
   abbrev letOf : Row → Let
-  letOf r = record { p = getD ps (r .x) punit; iso = r .y; q = getD ps (r .z) punit }
+  letOf r = record { p = getD ps (r .x) (pleaf unitLeaf); iso = r .y; q = getD ps (r .z) (pleaf unitLeaf) }
 
   abbrev snocLet : Let → Tail → Tail
   snocLet l o = record { lets = o .lets ++ (l ∷ []); clauses = o .clauses; isos = o .isos }

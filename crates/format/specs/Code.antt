@@ -12,7 +12,7 @@ use Rattle.format.specs.declared.Answer as CodeAnswer
 use Rattle.calculus.specs.Trees.{Tag, left, right}
 use Rattle.calculus.specs.Refusals.{Kind, typeLine, patternLine, isoLine, clauseLine, letLine, Refusal, shortArea, tooLong, badLine, misplaced, badField}
 use Rattle.calculus.specs.Refusals.{badName, ceiling, variable, letShape, badType, overlap, gap, noIso, noValue, spent, tooMany, tooHigh, badList, idle}
-use Rattle.calculus.specs.Refusals.{badScript, number}
+use Rattle.calculus.specs.Refusals.{badScript, recursion, tooLarge, number}
 use Rattle.format.specs.Lines.{Row}
 
 abbrev pub kindView : CodeKind.Kind → Kind
@@ -52,6 +52,8 @@ refusalView refusals.TooHigh = some tooHigh
 refusalView refusals.BadList = some badList
 refusalView (refusals.Idle k) = some (idle (kindView k))
 refusalView refusals.BadScript = some badScript
+refusalView (refusals.Recursion k) = some (recursion (kindView k))
+refusalView refusals.TooLarge = some tooLarge
 
 -- document 01's number, 0 where nothing is refused
 abbrev pub numbered : Option Refusal → ℕ

@@ -5,7 +5,7 @@ use mathlib.Core.Bool.{true, false}
 use mathlib.Core.Option.{Option, none, some}
 use mathlib.Core.List.{List, [], _∷_, map}
 use lib.ListN.{replicate}
-use Rattle.calculus.specs.Trees.{Ty, tunit, tsum, tprod, left, right, Pat, punit, pvar, pinj, ppair}
+use Rattle.calculus.specs.Trees.{Ty, tunit, tsum, tprod, left, right, Pat, pleaf, unitLeaf, pvar, pinj, pnode, pairNode}
 use Rattle.calculus.specs.Refusals.{Kind, typeLine, patternLine, isoLine, clauseLine, letLine, shortArea, tooLong, badLine, misplaced, badField, badName}
 use Rattle.calculus.specs.Refusals.{ceiling, variable, letShape, badType, overlap, gap, noIso, noValue, spent, tooMany, tooHigh, badList, idle, badScript}
 use Rattle.format.specs.declared.Kind.the-variants as kinds
@@ -57,11 +57,11 @@ type-nodes : map (λ k. typeNode k bit tunit) (0 ∷ 1 ∷ 2 ∷ 3 ∷ []) ≡ t
 type-nodes = refl
 
 pattern-nodes : map (λ k. patternNode k 7 (pvar 1) (pvar 2)) (0 ∷ 1 ∷ 2 ∷ 3 ∷ 4 ∷ 5 ∷ [])
-    ≡ punit ∷ pvar 7 ∷ pinj left (pvar 1) ∷ pinj right (pvar 1) ∷ ppair (pvar 1) (pvar 2) ∷ punit ∷ []
+    ≡ pleaf unitLeaf ∷ pvar 7 ∷ pinj left (pvar 1) ∷ pinj right (pvar 1) ∷ pnode pairNode (pvar 1) (pvar 2) ∷ pleaf unitLeaf ∷ []
 pattern-nodes = refl
 
 line-trees : (typeTree (bit ∷ tunit ∷ []) (row typeLine 2 0 1) ≡ tprod bit tunit)
-    × (map (patternTree (pvar 8 ∷ pvar 9 ∷ [])) (row patternLine 1 4 0 ∷ row patternLine 2 1 0 ∷ row patternLine 4 0 1 ∷ []) ≡ pvar 4 ∷ pinj left (pvar 9) ∷ ppair (pvar 8) (pvar 9) ∷ [])
+    × (map (patternTree (pvar 8 ∷ pvar 9 ∷ [])) (row patternLine 1 4 0 ∷ row patternLine 2 1 0 ∷ row patternLine 4 0 1 ∷ []) ≡ pvar 4 ∷ pinj left (pvar 9) ∷ pnode pairNode (pvar 8) (pvar 9) ∷ [])
 line-trees = (refl, refl)
 
 -- "All T lines come first, then all P lines, then the isos": how far the lines above have come
@@ -75,7 +75,7 @@ no-kind = refl
 -- "on each the lowest of 3 to 7": below 1,024 P lines a T line of no kind that names no line; P lines of no kind, with an idle field, with an absent name; and one that is
 -- only one too many
 abbrev many : Seen
-many = record { above = some patternLine; types = []; patterns = replicate 1024 punit; isos = 0; clauses = 0; lets = 0 }
+many = record { above = some patternLine; types = []; patterns = replicate 1024 (pleaf unitLeaf); isos = 0; clauses = 0; lets = 0 }
 
 lowest : map (judge many) (row typeLine 9 9 9 ∷ row patternLine 9 9999 9 ∷ row patternLine 2 9999 1 ∷ row patternLine 2 9999 0 ∷ row patternLine 2 1023 0 ∷ [])
     ≡ some (misplaced typeLine) ∷ some (badField patternLine) ∷ some (badField patternLine) ∷ some (badName patternLine) ∷ some (ceiling patternLine) ∷ []

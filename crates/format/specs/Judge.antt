@@ -8,7 +8,7 @@ use lib.Dec.{leb, ltb, eqb}
 use lib.ListN.{getD, length}
 use Rattle.limits.specs.Limits.{maxTypes, maxPatterns, maxIsos, maxClauses, maxLets, maxNodes, maxTags, variables}
 use Rattle.calculus.specs.Tools.{firstFailing}
-use Rattle.calculus.specs.Trees.{Ty, tunit, tsum, tprod, Pat, punit, pvar, pinj, ppair, left, right, typeNodes, nodes, tags}
+use Rattle.calculus.specs.Trees.{Ty, tunit, tsum, tprod, Pat, pleaf, unitLeaf, pvar, pinj, pnode, pairNode, left, right, typeNodes, nodes, tags}
 use Rattle.calculus.specs.Refusals.{Kind, typeLine, patternLine, isoLine, clauseLine, letLine, Refusal, badLine, misplaced, badField, badName, ceiling}
 use Rattle.format.specs.Lines.{Row, rowOf}
 use Rattle.format.specs.Kinds.{TypeKind, unitType, sumType, productType, noType, typeKind, PatternKind, unitPattern, variablePattern, leftPattern}
@@ -42,18 +42,18 @@ abbrev pub typeTree : List Ty → Row → Ty
 typeTree ts r = typeNode (r .x) (getD ts (r .y) tunit) (getD ts (r .z) tunit)
 
 abbrev pub patternNodeOf : PatternKind → ℕ → Pat → Pat → Pat
-patternNodeOf unitPattern n p q = punit
+patternNodeOf unitPattern n p q = pleaf unitLeaf
 patternNodeOf variablePattern n p q = pvar n
 patternNodeOf leftPattern n p q = pinj left p
 patternNodeOf rightPattern n p q = pinj right p
-patternNodeOf pairPattern n p q = ppair p q
-patternNodeOf noPattern n p q = punit
+patternNodeOf pairPattern n p q = pnode pairNode p q
+patternNodeOf noPattern n p q = pleaf unitLeaf
 
 abbrev pub patternNode : ℕ → ℕ → Pat → Pat → Pat
 patternNode k n p q = patternNodeOf (patternKind k) n p q
 
 abbrev pub patternTree : List Pat → Row → Pat
-patternTree ps r = patternNode (r .x) (r .y) (getD ps (r .y) punit) (getD ps (r .z) punit)
+patternTree ps r = patternNode (r .x) (r .y) (getD ps (r .y) (pleaf unitLeaf)) (getD ps (r .z) (pleaf unitLeaf))
 
 -- "All T lines come first, then all P lines, then the isos, each an I line, its C lines, and under each C line its L lines"
 abbrev pub stage : Option Kind → ℕ

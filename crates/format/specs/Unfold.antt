@@ -2,7 +2,7 @@
 use Prim.Native.Nat.{ℕ, suc}
 use mathlib.Core.List.{List, [], _∷_, _++_}
 use lib.ListN.{getD}
-use Rattle.calculus.specs.Trees.{Ty, tunit, Pat, punit, Let, Clause, Iso}
+use Rattle.calculus.specs.Trees.{Ty, tunit, Pat, pleaf, unitLeaf, Let, Clause, Iso}
 use Rattle.calculus.specs.Refusals.{Kind, typeLine, patternLine, isoLine, clauseLine, letLine}
 use Rattle.format.specs.Lines.{Row}
 use Rattle.format.specs.Judge.{Seen, start, afterAll}
@@ -18,7 +18,7 @@ module _ (ts : List Ty) (ps : List Pat) where
   typeAt i = getD ts i tunit
 
   abbrev patternAt : ℕ → Pat
-  patternAt i = getD ps i punit
+  patternAt i = getD ps i (pleaf unitLeaf)
 
   -- the row of line n before what follows it: an L line goes to the clause above, a C line to the iso above
   abbrev pub place : Kind → ℕ → Row → Tail → Tail

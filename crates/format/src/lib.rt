@@ -53,6 +53,8 @@ pub enum Refusal {
     BadList,
     Idle(Kind),
     BadScript,
+    Recursion(Kind),
+    TooLarge,
 }
 
 // A refusal and its line, counted over the file from 1; 0 where no line is named.
@@ -115,5 +117,7 @@ pub fn number_of(r: Refusal) -> u8
         Refusal::BadList => 20,
         Refusal::Idle(_) => 21,
         Refusal::BadScript => 22,
+        Refusal::Recursion(_) => 23,
+        Refusal::TooLarge => 24,
     }
 }

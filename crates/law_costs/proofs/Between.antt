@@ -1,17 +1,22 @@
--- Every count of a reduction lies between the two numbers of its iso, wherever let steps name earlier isos.
+-- Every count of a reduction lies between the two numbers of its iso, where no type of it and of those that it reaches holds a list.
 use Prim.Native.Nat.{ℕ, zero, suc, _+_, _<_, _≤_, min, max}
 use native.Mathlib.Nat.{not-suc-le-zero}
 use native.Mathlib.Omega.{arith}
 use mathlib.Core.Path.{_≡_, refl, sym, ap, ap₂, _∙_, subst}
+use mathlib.Core.Bool.{Bool}
 use mathlib.Core.Option.{some}
 use mathlib.Core.List.{List, [], _∷_, _++_, map, List·Memᴰ, List·Memᴰ·head, List·Memᴰ·tail}
 use lib.ListN.{getD, getElem?, length, length-append}
+use Rattle.limits.specs.Limits.{maxDepth}
 use Rattle.calculus.specs.Tools.{total, select}
 use Rattle.calculus.specs.Trees.{Val, Let, Clause, Iso}
 use Rattle.calculus.specs.Slots.{Slots}
-use Rattle.calculus.specs.Reduction.{Call, runLets, runClause, hits, only, apply, reduceTo, reduce}
-use Rattle.calculus.proofs.Basic.{bind-some, none≢some, some-inj}
-use Rattle.calculus.proofs.Running.{let-run, clause-run, hit-only}
+use Rattle.calculus.specs.Reduction.{Call, runLets, runClause, hits, only, apply, reduceTo, small, reduce}
+use Rattle.calculus.specs.Paper.{FileOk}
+use Rattle.calculus.specs.Lists.{ListFree}
+use Rattle.calculus.proofs.Basic.{none≢some, some-inj}
+use Rattle.calculus.proofs.Running.{given-some, let-run, clause-run, hit-only, application}
+use Rattle.calculus.proofs.Lists.{EarlierOrOwn, free-called, free-earlier}
 use Rattle.calculus.proofs.Inverse.{reduce-unfold}
 use Rattle.law_costs.specs.Costs.{leastOf, greatestOf, letCost, clauseCost, isoCost, costsFrom, leastCosts, greatestCosts}
 
@@ -37,18 +42,18 @@ map-each f g (x ∷ xs) h = ap₂ _∷_ (h x (List·Memᴰ·head refl)) (map-eac
 
 -- ---- a count lies between, where those of its calls do
 
-module _ (lo hi : List ℕ) where
+module _ (lo hi : List ℕ) (P : ℕ → Type 0) where
   -- what a call counts lies between the numbers of its iso
   abbrev pub Between : Call → Type 0
-  Between call = (i : ℕ) (v w : Val) (k : ℕ) → call i v ≡ some (w, k) → (getD lo i 0 ≤ k) × (k ≤ getD hi i 0)
+  Between call = (i : ℕ) → P i → (v w : Val) (k : ℕ) → call i v ≡ (some w, k) → (getD lo i 0 ≤ k) × (k ≤ getD hi i 0)
 
-  lets-between : {call : Call} → Between call → (ls : List Let) (e : Slots Val) {d : Slots Val} {k : ℕ} → runLets call ls e ≡ some (d, k)
-      → (total (map (letCost lo) ls) ≤ k) × (k ≤ total (map (letCost hi) ls))
-  lets-between b [] e {k = k} h = let z : 0 ≡ k = ap (λ x. x .1) (some-inj h) in (omega arith, omega arith)
-  lets-between {call} b (l ∷ ls) e h =
+  lets-between : {call : Call} → Between call → (ls : List Let) → ((l : Let) → List·Memᴰ l ls → P (l .iso)) → (e : Slots Val) {d : Slots Val} {k : ℕ}
+      → runLets call ls e ≡ (some d, k) → (total (map (letCost lo) ls) ≤ k) × (k ≤ total (map (letCost hi) ls))
+  lets-between b [] p e {k = k} h = let z : 0 ≡ k = ap (λ x. x .1) h in (omega arith, omega arith)
+  lets-between {call} b (l ∷ ls) p e h =
       let s = let-run call l ls e h in
-      let a = b (l .iso) (s .given) (s .gives) (s .count) (s .called) in
-      let t = lets-between b ls (s .next) (s .follows) in
+      let a = b (l .iso) (p l (List·Memᴰ·head refl)) (s .given) (s .gives) (s .count) (s .called) in
+      let t = lets-between b ls (λ m i. p m (List·Memᴰ·tail i)) (s .next) (s .follows) in
       let a₀ = a .0 in
       let a₁ = a .1 in
       let t₀ = t .0 in
@@ -56,22 +61,21 @@ module _ (lo hi : List ℕ) where
       let c = s .counts in
       (omega arith, omega arith)
 
-  clause-between : {call : Call} → Between call → (c : Clause) (v w : Val) (k : ℕ) → runClause call c v ≡ some (w, k)
-      → (clauseCost lo c ≤ k) × (k ≤ clauseCost hi c)
-  clause-between {call} b c v w k h =
+  clause-between : {call : Call} → Between call → (c : Clause) → ((l : Let) → List·Memᴰ l (c .lets) → P (l .iso)) → (v w : Val) (k : ℕ)
+      → runClause call c v ≡ (some w, k) → (clauseCost lo c ≤ suc k) × (suc k ≤ clauseCost hi c)
+  clause-between {call} b c p v w k h =
       let s = clause-run call c v h in
-      let t = lets-between b (c .lets) (s .first) (s .lets) in
+      let t = lets-between b (c .lets) p (s .first) (s .lets) in
       let t₀ = t .0 in
       let t₁ = t .1 in
-      let n = s .counts in
       (omega arith, omega arith)
 
-  apply-between : {call : Call} → Between call → (o : Iso) (v w : Val) (k : ℕ) → apply call o v ≡ some (w, k)
-      → (isoCost leastOf lo o ≤ k) × (k ≤ isoCost greatestOf hi o)
-  apply-between {call} b o v w k h =
-      let t = bind-some (only (select (hits v) (o .clauses))) _ h in
-      let m = hit-only (hits v) (o .clauses) (t .1) .0 in
-      let r = clause-between b (t .0) v w k (t .2) in
+  apply-between : {call : Call} → Between call → (o : Iso) → ((c : Clause) → List·Memᴰ c (o .clauses) → (l : Let) → List·Memᴰ l (c .lets) → P (l .iso))
+      → (v w : Val) (k : ℕ) → apply call o v ≡ (some w, k) → (isoCost leastOf lo o ≤ suc k) × (suc k ≤ isoCost greatestOf hi o)
+  apply-between {call} b o p v w k h =
+      let (c, chosen, ran) = given-some (only (select (hits v) (o .clauses))) (λ c. runClause call c v) h in
+      let m = hit-only (hits v) (o .clauses) chosen .0 in
+      let r = clause-between b c (p c m) v w k ran in
       let r₀ = r .0 in
       let r₁ = r .1 in
       let x = least-below (clauseCost lo) (o .clauses) m in
@@ -89,9 +93,9 @@ getD-last : (xs : List ℕ) (x : ℕ) → getD (xs ++ (x ∷ [])) (length xs) 0 
 getD-last [] x = refl
 getD-last (y ∷ xs) x = getD-last xs x
 
--- a let step names an earlier iso
-abbrev pub Earlier : List Iso → Type 0
-Earlier os = (i : ℕ) (o : Iso) → getElem? os i ≡ some o → (c : Clause) → List·Memᴰ c (o .clauses) → (l : Let) → List·Memᴰ l (c .lets) → l .iso < i
+-- the let steps of an iso name earlier isos
+abbrev pub Earlier : ℕ → Iso → Type 0
+Earlier i o = (c : Clause) → List·Memᴰ c (o .clauses) → (l : Let) → List·Memᴰ l (c .lets) → l .iso < i
 
 module _ (pick : List ℕ → ℕ) where
   -- what is known stays
@@ -128,9 +132,9 @@ module _ (pick : List ℕ → ℕ) where
       subst (λ k. Reckoned (costsFrom pick (known ++ (s ∷ [])) os) k o) (omega arith) (reckoned (known ++ (s ∷ [])) os i e)
 
   -- the number of an iso is reckoned from the numbers of all
-  pub cost-at : (os : List Iso) → Earlier os → (i : ℕ) {o : Iso} → getElem? os i ≡ some o
+  pub cost-at : (os : List Iso) (i : ℕ) {o : Iso} → getElem? os i ≡ some o → Earlier i o
       → getD (costsFrom pick [] os) i 0 ≡ isoCost pick (costsFrom pick [] os) o
-  cost-at os h i {o} e =
+  cost-at os i {o} e h =
       let r : Reckoned (costsFrom pick [] os) (0 + i) o = reckoned [] os i e in
       let z : 0 + i ≡ i = omega arith in
       let all : List ℕ = costsFrom pick [] os in
@@ -138,19 +142,25 @@ module _ (pick : List ℕ → ℕ) where
       ∙ r .is
       ∙ ap pick (map-each (clauseCost (r .known)) (clauseCost all) (o .clauses)
       (λ c m. ap (λ ns. suc (total ns)) (map-each (letCost (r .known)) (letCost all) (c .lets)
-      (λ l k. r .earlier (l .iso) (subst (λ j. l .iso < j) (sym z) (h i o e c m l k))))))
+      (λ l k. r .earlier (l .iso) (subst (λ j. l .iso < j) (sym z) (h c m l k))))))
 
 -- ---- every count of a reduction
 
-pub reduceTo-between : (os : List Iso) → Earlier os → (d : ℕ) → Between (costsFrom leastOf [] os) (costsFrom greatestOf [] os) (reduceTo d os)
-reduceTo-between os h zero i v w k e = absurd (none≢some e)
-reduceTo-between os h (suc d) i v w k e =
-    let t = bind-some (getElem? os i) _ e in
-    let r = apply-between (costsFrom leastOf [] os) (costsFrom greatestOf [] os) (reduceTo-between os h d) (t .0) v w k (t .2) in
-    (subst (λ n. n ≤ k) (sym (cost-at leastOf os h i (t .1))) (r .0), subst (λ n. k ≤ n) (sym (cost-at greatestOf os h i (t .1))) (r .1))
+module _ (os : List Iso) (near : EarlierOrOwn os) (ok : FileOk os) where
+  pub reduceTo-between : (fits : Val → Bool) (d : ℕ) → Between (costsFrom leastOf [] os) (costsFrom greatestOf [] os) (ListFree os) (reduceTo fits d os)
+  reduceTo-between fits zero i free v w k e = absurd (none≢some (ap (λ x. x .0) e))
+  reduceTo-between fits (suc d) i free v w k e =
+      let t = application fits d os i v e in
+      let o : Iso = t .iso in
+      let known = t .known in
+      let below = free-earlier os near ok i free o known in
+      let r = apply-between (costsFrom leastOf [] os) (costsFrom greatestOf [] os) (ListFree os) (reduceTo-between fits d) o
+      (λ c m l n. free-called os i free o known c m l n) v w (t .count) (t .applies) in (
+        subst (λ n. n ≤ k) (sym (cost-at leastOf os i known below)) (subst (λ n. isoCost leastOf (costsFrom leastOf [] os) o ≤ n) (t .counts) (r .0)),
+        subst (λ n. k ≤ n) (sym (cost-at greatestOf os i known below)) (subst (λ n. n ≤ isoCost greatestOf (costsFrom greatestOf [] os) o) (t .counts) (r .1)),
+      )
 
--- Every count of a reduction lies between the two numbers of its iso.
-pub counts-between : (os : List Iso) → Earlier os → (i : ℕ) (v w : Val) (k : ℕ) → reduce os i v ≡ some (w, k)
-    → (getD (leastCosts os) i 0 ≤ k) × (k ≤ getD (greatestCosts os) i 0)
-unfolding leastCosts greatestCosts
-counts-between os h i v w k e = reduceTo-between os h (length os) i v w k (sym (ap (λ f. f i v) (reduce-unfold os)) ∙ e)
+  -- Every count of a reduction lies between the two numbers of its iso.
+  pub counts-between : (i : ℕ) → ListFree os i → (v w : Val) (k : ℕ) → reduce os i v ≡ (some w, k) → (getD (leastCosts os) i 0 ≤ k) × (k ≤ getD (greatestCosts os) i 0)
+  unfolding leastCosts greatestCosts
+  counts-between i free v w k e = reduceTo-between small maxDepth i free v w k (sym (ap (λ f. f i v) (reduce-unfold os)) ∙ e)

@@ -3,20 +3,22 @@ use Prim.Native.Nat.{ℕ, _<_, _≤_}
 use native.Mathlib.Nat.{ne-of-gt}
 use native.Mathlib.Omega.{arith}
 use mathlib.Core.Path.{_≡_, refl, sym, ap, _∙_, subst}
-use mathlib.Core.Bool.{Bool, true, false, _||_}
+use mathlib.Core.Bool.{Bool, true, false, cond, _||_}
 use mathlib.Core.Option.{none, some}
 use mathlib.Core.List.{List}
 use lib.Dec.{ltb}
-use lib.ListN.{length, getElem?}
+use lib.ListN.{length, getD, getElem?}
 use Rattle.limits.specs.Limits.{resultLength, maxCount}
 use Rattle.calculus.specs.Trees.{Iso}
-use Rattle.calculus.specs.Refusals.{number, noIso, spent}
+use Rattle.calculus.specs.Refusals.{number, noIso, spent, tooMany}
+use Rattle.calculus.specs.Lists.{freeIsos, isFree}
 use Rattle.format.specs.Lines.{Row}
 use Rattle.format.specs.Unfold.{isosOf}
 use Rattle.model.specs.Services.{Verdict, accepted, refused, verdict, turned, short, unless, answerOf, check, Ran, Outcome, gives, fails, goOn, toward, runOf, run, answerOfRun, runService}
-use Rattle.model.specs.Answers.{RunIs, absent, strange, passed, done}
+use Rattle.model.specs.Answers.{RunIs, absent, strange, passed, large, done}
 use Rattle.model.proofs.Files.{number-positive}
 use Rattle.model.proofs.Runs.{run-iff}
+use Rattle.law_costs.specs.Costs.{leastCosts, greatestCosts}
 use Rattle.law_costs.specs.Bounds.{Bounds, noBounds, told, boundsFrom, onIso, boundsRows, boundsOf, bounds, boundsService}
 use Rattle.law_costs.proofs.Answers.{count-inside, never-spent, least-flagged, bounds-turned}
 use Rattle.law_costs.proofs.Reached.{NoLets, bounds-one, runs-one}
@@ -50,15 +52,29 @@ absent-iso file t w i rs e h a = go (short t w) h
     go true z = absurd (omega arith)
     go false z = ap (λ v. boundsOf v i) e ∙ ap (λ x. boundsFrom (onIso (isosOf rs) i x)) a
 
--- and no others: an iso of an accepted file is answered.
-pub present-iso : (file t w : List ℕ) (i : ℕ) (rs : List Row) (o : Iso) → verdict file ≡ accepted rs → check file t w .answer .number ≡ 0
-    → getElem? (isosOf rs) i ≡ some o → boundsService file t w i .bounds .number ≡ 0
+-- then 18 where a type of the iso, or of one that it reaches, holds a list,
+pub list-iso : (file t w : List ℕ) (i : ℕ) (rs : List Row) (o : Iso) → verdict file ≡ accepted rs → check file t w .answer .number ≡ 0
+    → getElem? (isosOf rs) i ≡ some o → isFree (isosOf rs) i ≡ false → boundsService file t w i .bounds ≡ noBounds tooMany
 unfolding check boundsService
-present-iso file t w i rs o e h a = go (short t w) h
+list-iso file t w i rs o e h a l = go (short t w) h
+  where
+    go : (b : Bool) → answerOf (unless b (verdict file)) .number ≡ 0 → boundsOf (unless b (verdict file)) i ≡ noBounds tooMany
+    go true z = absurd (omega arith)
+    go false z =
+        ap (λ v. boundsOf v i) e ∙ ap (λ x. boundsFrom (onIso (isosOf rs) i x)) a
+        ∙ ap (λ b. boundsFrom (cond b (gives (getD (leastCosts (isosOf rs)) i 0, getD (greatestCosts (isosOf rs)) i 0)) (fails tooMany))) l
+
+-- and no others: any other iso of an accepted file is answered.
+pub present-iso : (file t w : List ℕ) (i : ℕ) (rs : List Row) (o : Iso) → verdict file ≡ accepted rs → check file t w .answer .number ≡ 0
+    → getElem? (isosOf rs) i ≡ some o → isFree (isosOf rs) i ≡ true → boundsService file t w i .bounds .number ≡ 0
+unfolding check boundsService
+present-iso file t w i rs o e h a l = go (short t w) h
   where
     go : (b : Bool) → answerOf (unless b (verdict file)) .number ≡ 0 → boundsOf (unless b (verdict file)) i .number ≡ 0
     go true z = absurd (omega arith)
-    go false z = ap (λ v. boundsOf v i .number) e ∙ ap (λ x. boundsFrom (onIso (isosOf rs) i x) .number) a
+    go false z =
+        ap (λ v. boundsOf v i .number) e ∙ ap (λ x. boundsFrom (onIso (isosOf rs) i x) .number) a
+        ∙ ap (λ b. boundsFrom (cond b (gives (getD (leastCosts (isosOf rs)) i 0, getD (greatestCosts (isosOf rs)) i 0)) (fails tooMany)) .number) l
 
 -- "a refusal gives 0 for both, unflagged"
 pub refused-zero : (file t w : List ℕ) (i : ℕ) → 0 < boundsService file t w i .bounds .number
@@ -113,6 +129,7 @@ spent-run file t w i back budget value o rs e = go (short t w || ltb (length o) 
     on _ (absent a) h = absurd (omega arith)
     on _ (strange p a n) h = absurd (omega arith)
     on _ (passed p v u k f x y s l) h = refl
+    on _ (large p v k f x y s l) h = absurd (omega arith)
     on _ (done p v u k f x y s l) h = absurd (omega arith)
 
     go : (b : Bool) → answerOfRun (runOf (unless b (verdict file)) i back budget value) .number ≡ 17 → runOf (verdict file) i back budget value ≡ fails spent
@@ -130,11 +147,11 @@ module _ (file t w t₂ w₂ : List ℕ) (i : ℕ) (back : Bool) (budget : ℕ) 
   run-inside h =
       let r = ran file t₂ w₂ i back budget value o h in
       let k : ℕ = runService file t₂ w₂ i back budget value o .count in
-      let c = count-inside file i back budget value k (r .0) (r .1) in
-      let s = served file t w i answered .0 in (
-        subst (λ b. b .least ≤ k) (sym s) (c .1),
-        (λ u. subst (λ b. k ≤ b .greatest) (sym s) (c .2 (ap (λ b. b .greatestOver) (sym s) ∙ u))),
-        (λ u. subst (λ b. k ≤ b .greatest) (sym s) (c .3 u)),
+      let s = served file t w i answered .0 in
+      let c = count-inside file i back budget value k (r .0) (ap (λ b. b .number) (sym s) ∙ answered) (r .1) in (
+        subst (λ b. b .least ≤ k) (sym s) (c .0),
+        (λ u. subst (λ b. k ≤ b .greatest) (sym s) (c .1 (ap (λ b. b .greatestOver) (sym s) ∙ u))),
+        (λ u. subst (λ b. k ≤ b .greatest) (sym s) (c .2 u)),
       )
 
   -- "a budget that reaches an unflagged greatest is never refused 17"
@@ -143,7 +160,7 @@ module _ (file t w t₂ w₂ : List ℕ) (i : ℕ) (back : Bool) (budget : ℕ) 
   run-not-spent u h r =
       let a = served file t w i answered in
       let s = a .0 in
-      never-spent file (a .1) (a .2) i back budget value (ap (λ b. b .greatestOver) (sym s) ∙ u) (subst (λ b. b .greatest ≤ budget) s h)
+      never-spent file (a .1) (a .2) i back budget value (ap (λ b. b .number) (sym s) ∙ answered) (ap (λ b. b .greatestOver) (sym s) ∙ u) (subst (λ b. b .greatest ≤ budget) s h)
       (spent-run file t₂ w₂ i back budget value o (a .1) (a .2) r)
 
   -- Where the least is flagged, every run is refused.
@@ -151,7 +168,7 @@ module _ (file t w t₂ w₂ : List ℕ) (i : ℕ) (back : Bool) (budget : ℕ) 
   run-refused u b h =
       let r = ran file t₂ w₂ i back budget value o h in
       let s = served file t w i answered .0 in
-      least-flagged file i back budget value (ap (λ b. b .leastOver) (sym s) ∙ u) b (runService file t₂ w₂ i back budget value o .count) (r .0) (r .1)
+      least-flagged file i back budget value (ap (λ b. b .number) (sym s) ∙ answered) (ap (λ b. b .leastOver) (sym s) ∙ u) b (runService file t₂ w₂ i back budget value o .count) (r .0) (r .1)
 
 -- The bounds of the turned file are the same.
 pub turned-same : (file t w : List ℕ) (i : ℕ) (rs : List Row) → verdict file ≡ accepted rs
@@ -163,16 +180,16 @@ turned-same file t w i rs e = go (short t w)
     go true = refl
     go false = bounds-turned file rs e i
 
--- Each bound is reached, there and back, where no clause of the iso has let steps.
+-- Each bound is reached, there and back, where no clause of the iso has let steps and its types hold no list.
 pub bounds-reached : (file t w : List ℕ) (i : ℕ) (back : Bool) (budget : ℕ) (o : List ℕ) (rs : List Row) (p : Iso) → verdict file ≡ accepted rs
-    → getElem? (isosOf rs) i ≡ some p → NoLets p → short t w ≡ false → ltb (length o) resultLength ≡ false → 1 ≤ budget
+    → getElem? (isosOf rs) i ≡ some p → isFree (isosOf rs) i ≡ true → NoLets p → short t w ≡ false → ltb (length o) resultLength ≡ false → 1 ≤ budget
     → (value : List ℕ) × (runService file t w i back budget value o .number ≡ 0)
     × (runService file t w i back budget value o .count ≡ boundsService file t w i .bounds .least)
     × (runService file t w i back budget value o .count ≡ boundsService file t w i .bounds .greatest)
 unfolding runService run boundsService bounds
-bounds-reached file t w i back budget o rs p e f n long room h =
-    let r = runs-one file rs e i p f n back budget h in
-    let b = bounds-one file rs e i p f n in
+bounds-reached file t w i back budget o rs p e f free n long room h =
+    let r = runs-one file rs e i p f free n back budget h in
+    let b = bounds-one file rs e i p f free n in
     go (short t w) (ltb (length o) resultLength) long room (r .0) (r .1) (r .2) b
   where
     go : (a b : Bool) → a ≡ false → b ≡ false → (value y : List ℕ) → runOf (verdict file) i back budget value ≡ gives (1, y) → boundsOf (verdict file) i ≡ told 1 1

@@ -1,13 +1,14 @@
 -- Request 05: what the service answers for any bytes, areas and iso number, and what every lent area then holds.
 use Prim.Native.Nat.{ℕ, min}
-use mathlib.Core.Bool.{Bool, false}
+use mathlib.Core.Bool.{Bool, false, cond}
 use mathlib.Core.Option.{Option, none, some}
 use mathlib.Core.List.{List}
 use lib.Dec.{ltb}
 use lib.ListN.{getD, getElem?}
 use Rattle.limits.specs.Limits.{maxCount}
 use Rattle.calculus.specs.Trees.{Iso}
-use Rattle.calculus.specs.Refusals.{Refusal, number, noIso}
+use Rattle.calculus.specs.Refusals.{Refusal, number, noIso, tooMany}
+use Rattle.calculus.specs.Lists.{freeIsos, isFree}
 use Rattle.format.specs.Lines.{Row}
 use Rattle.format.specs.Unfold.{isosOf}
 use Rattle.model.specs.Services.{Verdict, verdict, short, Outcome, gives, fails, goOn, refusalOf, Served, serve}
@@ -40,10 +41,10 @@ abbrev pub boundsFrom : Outcome (ℕ × ℕ) → Bounds
 boundsFrom (gives r) = told (r .0) (r .1)
 boundsFrom (fails f) = noBounds f
 
--- "for a given iso (15 if absent)"
+-- "for a given iso (15 if absent)"; 18 where a type of it, or of one that it reaches, holds a list (request 14)
 abbrev pub onIso : List Iso → ℕ → Option Iso → Outcome (ℕ × ℕ)
 onIso os i none = fails noIso
-onIso os i (some o) = gives (getD (leastCosts os) i 0, getD (greatestCosts os) i 0)
+onIso os i (some o) = cond (isFree os i) (gives (getD (leastCosts os) i 0, getD (greatestCosts os) i 0)) (fails tooMany)
 
 abbrev pub boundsRows : ℕ → List Row → Outcome (ℕ × ℕ)
 boundsRows i rs = onIso (isosOf rs) i (getElem? (isosOf rs) i)
@@ -52,7 +53,7 @@ abbrev pub boundsOf : Verdict → ℕ → Bounds
 boundsOf v i = boundsFrom (goOn v (boundsRows i))
 
 unfoldable pub bounds : List ℕ → ℕ → Bounds
-unfolding verdict isosOf leastCosts greatestCosts
+unfolding verdict isosOf leastCosts greatestCosts freeIsos
 bounds file i = boundsOf (verdict file) i
 
 -- the service

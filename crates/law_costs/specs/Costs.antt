@@ -1,5 +1,6 @@
 -- Request 05, "Steps known beforehand": "a lower and an upper bound on the count of any run, without a run", as plain naturals without any cap.
--- The cost of an iso is how many applications a run of it makes.
+-- The cost of an iso is how many applications a run of it makes. An iso that has to do with lists is refused before (`Bounds.onIso`); any other calls
+-- earlier isos only.
 use Prim.Native.Nat.{ℕ, suc, min, max}
 use mathlib.Core.List.{List, [], _∷_, _++_, map}
 use lib.ListN.{getD}

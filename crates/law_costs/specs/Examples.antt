@@ -5,7 +5,8 @@ use mathlib.Core.Bool.{true, false}
 use mathlib.Core.List.{List, [], _∷_, _++_, map}
 use mathlib.Core.Option.{some}
 use lib.ListN.{getElem?}
-use Rattle.calculus.specs.Trees.{tunit, punit, Clause, Iso}
+use Rattle.calculus.specs.Trees.{tunit, pleaf, unitLeaf, Clause, Iso}
+use Rattle.calculus.specs.Lists.{freeIsos}
 use Rattle.model.specs.Cases.{fileS}
 use Rattle.law_costs.specs.Costs.{leastOf, greatestOf, clauseCost, leastCosts, greatestCosts}
 use Rattle.law_costs.specs.Bounds.{Bounds, boundsFrom, onIso, bounds}
@@ -19,7 +20,7 @@ bounds-of-S = (refl, refl, refl)
 
 -- a clause and an iso from unit to unit, whose let steps name these isos
 abbrev calling : List ℕ → Clause
-calling js = record { line = 0; lhs = punit; lets = map (λ j. record { p = punit; iso = j; q = punit }) js; rhs = punit }
+calling js = record { line = 0; lhs = pleaf unitLeaf; lets = map (λ j. record { p = pleaf unitLeaf; iso = j; q = pleaf unitLeaf }) js; rhs = pleaf unitLeaf }
 
 abbrev one : List ℕ → Iso
 one js = record { line = 0; from = tunit; to = tunit; clauses = calling js ∷ [] }
@@ -35,15 +36,15 @@ abbrev asked : List ℕ → Bounds
 asked js = boundsFrom (onIso (doubling 31 ++ (one js ∷ [])) 31 (getElem? (doubling 31 ++ (one js ∷ [])) 31))
 
 one-below : asked (30 ∷ 29 ∷ 29 ∷ []) ≡ record { number = 0; least = 4294967294; greatest = 4294967294; leastOver = false; greatestOver = false }
-unfolding leastCosts greatestCosts
+unfolding leastCosts greatestCosts freeIsos
 one-below = refl
 
 exactly : asked (30 ∷ 30 ∷ []) ≡ record { number = 0; least = 4294967295; greatest = 4294967295; leastOver = false; greatestOver = false }
-unfolding leastCosts greatestCosts
+unfolding leastCosts greatestCosts freeIsos
 exactly = refl
 
 one-above : asked (30 ∷ 30 ∷ 0 ∷ []) ≡ record { number = 0; least = 4294967295; greatest = 4294967295; leastOver = true; greatestOver = true }
-unfolding leastCosts greatestCosts
+unfolding leastCosts greatestCosts freeIsos
 one-above = refl
 
 -- clauses of 1 and of 2 below an iso that calls them twice: 1 + 1 + 1 and 1 + 2 + 2
@@ -52,7 +53,7 @@ two-clauses : boundsFrom (onIso
     2
     (getElem? (one [] ∷ []) 0))
     ≡ record { number = 0; least = 3; greatest = 5; leastOver = false; greatestOver = false }
-unfolding leastCosts greatestCosts
+unfolding leastCosts greatestCosts freeIsos
 two-clauses = refl
 
 -- the least and the greatest of some numbers; "A clause needs 1 plus the sum over its let steps"; 0 stands where there is no number
@@ -62,5 +63,5 @@ of-numbers : (map leastOf ([] ∷ (4 ∷ []) ∷ (4 ∷ 2 ∷ 3 ∷ []) ∷ (2 �
 of-numbers = (refl, refl, refl)
 
 no-number : boundsFrom (onIso [] 0 (some (one []))) ≡ record { number = 0; least = 0; greatest = 0; leastOver = false; greatestOver = false }
-unfolding leastCosts greatestCosts
+unfolding leastCosts greatestCosts freeIsos
 no-number = refl

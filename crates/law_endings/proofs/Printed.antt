@@ -11,12 +11,12 @@ use lib.ListN.{getElem?}
 use Rattle.limits.specs.Limits.{carriageReturn, comma, lineFeed}
 use Rattle.calculus.specs.Tools.{concat}
 use Rattle.calculus.specs.Refusals.{spent}
-use Rattle.calculus.specs.Trees.{left, right, Val, vunit, vinj, vpair, Iso}
+use Rattle.calculus.specs.Trees.{unitLeaf, emptyLeaf, left, right, pairNode, elementNode, Val, vleaf, vinj, vnode, Iso}
 use Rattle.format.specs.Lines.{Row, lines, isDigit, decimal}
 use Rattle.calculus.specs.Letters.{letters}
-use Rattle.calculus.specs.Reduction.{reduce}
+use Rattle.calculus.specs.Reduction.{Counted, reduce}
 use Rattle.format.specs.Unfold.{isosOf}
-use Rattle.model.specs.Services.{Verdict, accepted, refused, verdict, Answer, answerOf, Ran, gives, fails, within, argument, from, onIso, runRows, toward, RunAnswer, answerOfRun}
+use Rattle.model.specs.Services.{Verdict, accepted, refused, verdict, Answer, answerOf, Ran, gives, fails, ended, within, argument, from, onIso, runRows, toward, RunAnswer, answerOfRun}
 use Rattle.model.specs.Desk.{Query, queryOf, answerTo, queryLine, fileLine, fileLines, queryLines, queryAnswers, desk}
 use Rattle.calculus.proofs.Basic.{not-eqb, each-nil, each-cons, each-append, all-mem}
 use Rattle.format.proofs.Numerals.{digit-lower, decimal-digits}
@@ -35,22 +35,24 @@ pub decimal-plain : (n : ℕ) → Returnless (decimal n)
 decimal-plain n b m = let low = digit-lower b (all-mem isDigit (decimal-digits n) m) in not-eqb {m = b} {n = carriageReturn} (ne-of-gt (omega arith))
 
 letters-plain : (v : Val) → Returnless (letters v)
-letters-plain vunit = behind _ refl nothing
+letters-plain (vleaf unitLeaf) = behind _ refl nothing
+letters-plain (vleaf emptyLeaf) = behind _ refl nothing
 letters-plain (vinj left v) = behind _ refl (letters-plain v)
 letters-plain (vinj right v) = behind _ refl (letters-plain v)
-letters-plain (vpair v w) = behind _ refl (joined (letters v) (letters-plain v) (letters-plain w))
+letters-plain (vnode pairNode v w) = behind _ refl (joined (letters v) (letters-plain v) (letters-plain w))
+letters-plain (vnode elementNode v w) = behind _ refl (joined (letters v) (letters-plain v) (letters-plain w))
 
 -- the letters of a run's answer
 abbrev Plain : Ran → Type 0
 Plain r = Returnless (answerOfRun r .letters)
 
-within-plain : (budget : ℕ) (o : Option (Val × ℕ)) → Plain (within budget o)
-within-plain budget none = nothing
-within-plain budget (some r) = go (leb (r .1) budget)
+within-plain : (budget : ℕ) (r : Counted Val) → Plain (within budget r)
+within-plain budget r = go (r .0) (leb (r .1) budget)
   where
-    go : (b : Bool) → Plain (cond b (gives (r .1, letters (r .0))) (fails spent))
-    go true = letters-plain (r .0)
-    go false = nothing
+    go : (x : Option Val) (b : Bool) → Plain (cond b (ended x (r .1)) (fails spent))
+    go none true = nothing
+    go (some w) true = letters-plain w
+    go x false = nothing
 
 from-plain : (os : List Iso) (i budget : ℕ) (o : Option Val) → Plain (from os i budget o)
 from-plain os i budget none = nothing

@@ -9,7 +9,7 @@ use Rattle.limits.specs.Limits.{maxBytes, maxLines, resultLength}
 use Rattle.format.specs.Judge.{start}
 use Rattle.model.specs.Services.{Verdict, over, answerOf, refusalBy, tableAfter, workAfter, short, unless, written}
 use Rattle.calculus.proofs.Basic.{not-ltb}
-use Rattle.law_witnesses.specs.Showing.{Shown, shownOf, showing, showService}
+use Rattle.law_witnesses.specs.Showing.{Shown, shownOf, showing, measured, showService}
 use Rattle.law_endings.specs.Resaved.{Resaved}
 use Rattle.law_endings.proofs.Lines.{read-same, count-same}
 use Rattle.law_endings.proofs.Alike.{verdict-alike}
@@ -27,6 +27,6 @@ witness-alike bs cs table work result h m n = ap₂ served (verdict-alike bs cs 
     served : Verdict → List ℕ → Shown
     served u shown =
         let s : Bool = short table work || ltb (length result) resultLength in
-        let v : Verdict = unless s u in
+        let v : Verdict = unless s (measured u shown) in
         let ls : List ℕ = cond s [] shown in
         record { refusal = refusalBy v; answer = answerOf v; length = length ls; table = tableAfter v table; work = workAfter v work; result = written ls result }

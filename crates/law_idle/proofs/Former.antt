@@ -42,7 +42,7 @@ same-verdict bs h =
 -- and so is the setting that shows a fault
 same-shown-reading : (r : Reading) → ((rs : List Row) → r ≡ rows rs → idleFault rs ≡ none) → shownOf r ≡ shownAfter r
 same-shown-reading (faulty f n) h = refl
-same-shown-reading (rows rs) h = ap (λ o. shownUnless o (lettersOf? (shownFirst (sigsOf (isosOf rs)) (isosOf rs)))) (h rs refl)
+same-shown-reading (rows rs) h = ap (λ o. shownUnless o (lettersOf? (shownFirst (sigsOf (isosOf rs)) 0 (isosOf rs)))) (h rs refl)
 
 pub same-showing : (bs : List ℕ) → WithoutIdle bs → showing bs ≡ formerShowing bs
 unfolding showing formerShowing
@@ -74,7 +74,7 @@ module _ (bs : List ℕ) (rs : List Row) (fits : over bs ≡ false) (reads : rea
   idle-showing =
       ap (λ b. cond b [] (shownOf (readFrom start 1 (lines bs)))) fits
       ∙ ap shownOf reads
-      ∙ ap (λ o. shownUnless o (lettersOf? (shownFirst (sigsOf (isosOf rs)) (isosOf rs)))) (idle-some (passes-read bs rs reads) f n .1 first)
+      ∙ ap (λ o. shownUnless o (lettersOf? (shownFirst (sigsOf (isosOf rs)) 0 (isosOf rs)))) (idle-some (passes-read bs rs reads) f n .1 first)
 
 -- ---- turned files
 

@@ -11,7 +11,7 @@ use Rattle.format.specs.Judge.{rows, start, readFrom}
 use Rattle.format.specs.Idle.{FirstIdle}
 use Rattle.model.specs.Services.{refused, over, verdict}
 use Rattle.model.specs.Desk.{deskBy, filePart, desk}
-use Rattle.law_witnesses.specs.Showing.{showing}
+use Rattle.law_witnesses.specs.Showing.{sided, showing}
 use Rattle.law_pairlists.specs.PairLists.{importRows}
 use Rattle.law_refused.specs.Services.{today, byVerdict, Refuses}
 use Rattle.law_refused.specs.Refused.{deskRefused}
@@ -46,7 +46,7 @@ module _ (bs : List ℕ) (rs : List Row) (fits : over bs ≡ false) (reads : rea
   idle-refuses =
       subst (Refuses f n (length bs))
       (ap₂ (λ v ls. byVerdict v ls (length bs) importRows) (sym idle-found) (sym (idle-showing bs rs fits reads f n first)) ∙ today-by bs)
-      (refuses f n (length bs) importRows high)
+      (refuses f n (length bs) importRows high (ap sided (first .refusal)))
 
 pub idle-desk : (bs : List ℕ) (rs : List Row) → over (filePart bs) ≡ false → readFrom start 1 (lines (filePart bs)) ≡ rows rs → (f : Refusal) (n : ℕ) → FirstIdle rs f n
     → desk bs ≡ deskRefused f n

@@ -23,7 +23,7 @@ former bs = cond (over bs) (refused tooLong 0) (afterReading (readFrom start 1 (
 -- request 09's letters
 abbrev pub shownAfter : Reading → List ℕ
 shownAfter (faulty f n) = []
-shownAfter (rows rs) = lettersOf? (shownFirst (sigsOf (isosOf rs)) (isosOf rs))
+shownAfter (rows rs) = lettersOf? (shownFirst (sigsOf (isosOf rs)) 0 (isosOf rs))
 
 unfoldable pub formerShowing : List ℕ → List ℕ
 unfolding over start judge isosOf isoFault setting

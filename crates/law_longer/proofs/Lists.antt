@@ -9,7 +9,7 @@ use lib.Dec.{ltb}
 use lib.ListN.{length, getElem?}
 use Rattle.limits.specs.Limits.{maxClauses, maxPairs, importLength}
 use Rattle.calculus.specs.Tools.{_>>=_, guard}
-use Rattle.calculus.specs.Trees.{Ty, tunit, tsum, tprod, left, right, Val, vunit, vinj, vpair}
+use Rattle.calculus.specs.Trees.{Ty, tunit, tlist, tsum, tprod, left, right, Val, vleaf, unitLeaf, emptyLeaf, vinj, vnode, pairNode, elementNode}
 use Rattle.calculus.specs.Refusals.{Kind, typeLine, patternLine, isoLine, clauseLine, letLine, ceiling, tooMany}
 use Rattle.format.specs.Lines.{Row, lines, printRows}
 use Rattle.format.specs.Judge.{Seen, start, withinCeilings, afterKind, after, afterAll, rows, readFrom}
@@ -54,6 +54,7 @@ kind-enter {k} r rs e h = go (finding r rs)
 
 type-kinds : (a : Ty) (rs : List Row) → AllKind typeLine rs → AllKind typeLine (writeType a rs .rows)
 type-kinds tunit rs h = kind-enter (typeRow 0 0 0) rs refl h
+type-kinds (tlist a) rs h = let f : Entry = writeType a rs in kind-enter (typeRow 3 (f .number) 0) (f .rows) refl (type-kinds a rs h)
 type-kinds (tsum a b) rs h =
     let f : Entry = writeType a rs in
     let s : Entry = writeType b (f .rows) in
@@ -64,13 +65,18 @@ type-kinds (tprod a b) rs h =
     kind-enter (typeRow 2 (f .number) (s .number)) (s .rows) refl (type-kinds b (f .rows) (type-kinds a rs h))
 
 value-kinds : (v : Val) (rs : List Row) → AllKind patternLine rs → AllKind patternLine (writeValue v rs .rows)
-value-kinds vunit rs h = kind-enter (patternRow 0 0 0) rs refl h
+value-kinds (vleaf unitLeaf) rs h = kind-enter (patternRow 0 0 0) rs refl h
+value-kinds (vleaf emptyLeaf) rs h = kind-enter (patternRow 5 0 0) rs refl h
 value-kinds (vinj left v) rs h = let f : Entry = writeValue v rs in kind-enter (patternRow 2 (f .number) 0) (f .rows) refl (value-kinds v rs h)
 value-kinds (vinj right v) rs h = let f : Entry = writeValue v rs in kind-enter (patternRow 3 (f .number) 0) (f .rows) refl (value-kinds v rs h)
-value-kinds (vpair v w) rs h =
+value-kinds (vnode pairNode v w) rs h =
     let f : Entry = writeValue v rs in
     let s : Entry = writeValue w (f .rows) in
     kind-enter (patternRow 4 (f .number) (s .number)) (s .rows) refl (value-kinds w (f .rows) (value-kinds v rs h))
+value-kinds (vnode elementNode v w) rs h =
+    let f : Entry = writeValue v rs in
+    let s : Entry = writeValue w (f .rows) in
+    kind-enter (patternRow 6 (f .number) (s .number)) (s .rows) refl (value-kinds w (f .rows) (value-kinds v rs h))
 
 pattern-kinds : (cs : List (Val × Val)) (rs : List Row) → AllKind patternLine rs → AllKind patternLine (writePairs cs rs .patterns)
 pattern-kinds [] rs h = h

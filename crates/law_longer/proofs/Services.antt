@@ -2,7 +2,7 @@
 -- refuse 7, at the first C line that is the 33rd of its iso, and give nothing. Import within it: proofs/Lists.antt.
 use Prim.Native.Nat.{ℕ}
 use native.Mathlib.Omega.{arith}
-use mathlib.Core.Path.{_≡_, sym, ap, ap₂, _∙_, subst}
+use mathlib.Core.Path.{_≡_, refl, sym, ap, ap₂, _∙_, subst}
 use mathlib.Core.Bool.{false, cond}
 use mathlib.Core.Option.{some}
 use mathlib.Core.List.{List, []}
@@ -54,7 +54,7 @@ module _ (bs : List ℕ) (rs : List Row) (fits : over bs ≡ false) (reads : rea
   over-refuses =
       subst (Refuses seven n (length bs))
       (ap₂ (λ v ls. byVerdict v ls (length bs) formerImportRows) (sym over-found) (sym (over-showing bs rs fits reads n first)))
-      (refuses seven n (length bs) formerImportRows (omega arith))
+      (refuses seven n (length bs) formerImportRows (omega arith) refl)
 
 pub over-desk : (bs : List ℕ) (rs : List Row) → over (filePart bs) ≡ false → readFrom start 1 (lines (filePart bs)) ≡ rows rs → (n : ℕ) → firstOver rs ≡ some n
     → deskBy (former (filePart bs)) bs ≡ deskRefused seven n

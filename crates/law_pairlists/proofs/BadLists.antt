@@ -12,6 +12,8 @@ use lib.ListN.{length, getElem?}
 use Rattle.limits.specs.Limits.{budgetBound, comma, maxClauses, maxPairs}
 use Rattle.calculus.specs.Tools.{_>>=_, guard, all}
 use Rattle.calculus.specs.Trees.{Ty}
+use Rattle.calculus.specs.Lists.{Finite}
+use Rattle.law_ranking.proofs.Numbering.{few-finite}
 use Rattle.calculus.specs.Paper.{Distinct, nobody, another}
 use Rattle.calculus.specs.Refusals.{clauseLine, patternLine, ceiling, tooMany, badList}
 use Rattle.format.specs.Lines.{Row, lines, text, numeral, decimal, printRows}
@@ -195,12 +197,12 @@ module _ (a b : Ty) (ls : List (List ℕ)) where
           on true q = absurd (none≢some (sym e ∙ some-bind (λ us. guard (pairsUp a b us) >>= λ _. some us) p ∙ some-bind (λ _. some ts) (true-guard q)))
           on false q = tos-bad ts p q
 
-  bad-none : BadList a b ls → listOf a b ls ≡ none
+  bad-none : Finite a → Finite b → BadList a b ls → listOf a b ls ≡ none
   unfolding listOf
-  bad-none h = not-some (listOf a b ls) (λ ts e.
+  bad-none x y h = not-some (listOf a b ls) (λ ts e.
       let f = bind-some (tosOf 0 ls) (λ us. guard (pairsUp a b us) >>= λ _. some us) e in
       let g = bind-some (guard (pairsUp a b (f .0))) (λ _. some (f .0)) (f .2) in
-      go (f .0) (f .1) (pairs-taken a b (f .0) (guard-true (pairsUp a b (f .0)) (g .1))) h)
+      go (f .0) (f .1) (pairs-taken a b x y (f .0) (guard-true (pairsUp a b (f .0)) (g .1))) h)
     where
       go : (ts : List ℕ) → tosOf 0 ls ≡ some ts → Taken a b ts → BadList a b ls → ⊥
       go ts e t (form k l never) =
@@ -213,9 +215,9 @@ module _ (a b : Ty) (ls : List (List ℕ)) where
       go ts e t (high k f u p l) =
           let m = t .below u (index-mem ts k (at-tos ls ts e p .1)) in absurd (not-suc-le-zero {n = 0} (omega arith))
 
-  -- 20, as the request has it
-  pub bad-list-iff : (listOf a b ls ≡ none) ↔ BadList a b ls
-  bad-list-iff = (none-bad, bad-none)
+  -- 20, as the request has it, of types without lists
+  pub bad-list-iff : Finite a → Finite b → (listOf a b ls ≡ none) ↔ BadList a b ls
+  bad-list-iff x y = (none-bad, bad-none x y)
 
 -- ---- import
 
@@ -255,7 +257,8 @@ module _ (rs : List Row) (i j : ℕ) (list : List ℕ) where
 
   rows-bad : BadImport rs i j (lines list) → importRows rs i j list ≡ fails badList
   rows-bad h =
-      import-bad rs i j list (h .from) (h .to) (h .fromThere) (h .toThere) (h .fromFew) (h .toFew) (h .lines) (bad-none (h .from) (h .to) (lines list) (h .bad))
+      import-bad rs i j list (h .from) (h .to) (h .fromThere) (h .toThere) (h .fromFew) (h .toFew) (h .lines)
+      (bad-none (h .from) (h .to) (lines list) (few-finite (h .from) (omega (arith, h .fromFew))) (few-finite (h .to) (omega (arith, h .toFew))) (h .bad))
 
   -- 20, in its place in Import's order
   pub bad-import-iff : (refusalNumber (importRows rs i j list) ≡ 20) ↔ BadImport rs i j (lines list)

@@ -11,7 +11,9 @@ use mathlib.Core.List.{List, [], _∷_, _++_, append-nil, append-assoc, List·Me
 use lib.Dec.{eqb, ltb, leb}
 use lib.ListN.{length, getElem?, getD, List·getD-append, length-append}
 use Rattle.limits.specs.Limits.{variables, fieldBound, maxTypes, maxPatterns, maxIsos, maxClauses, maxNodes, maxTags}
-use Rattle.calculus.specs.Trees.{Ty, tunit, tsum, tprod, left, right, Pat, punit, pinj, ppair, Val, vunit, vinj, vpair, Clause, Iso, typeNodes, nodes, tags}
+use Rattle.calculus.specs.Trees.{Ty, tunit, tlist, tsum, tprod, unitLeaf, emptyLeaf, Tag, left, right, pairNode, elementNode, Pat, pleaf, pinj, pnode, Val, vleaf}
+use Rattle.calculus.specs.Trees.{vinj, vnode, Clause, Iso, typeNodes, nodes, tags}
+use Rattle.calculus.specs.Lists.{Finite}
 use Rattle.calculus.specs.Refusals.{typeLine, patternLine, isoLine, clauseLine}
 use Rattle.format.specs.Lines.{Row, fieldCount}
 use Rattle.format.specs.Judge.{Seen, start, stage, typeFields, typeNames, typeNode, typeTree, patternFields, patternNames, patternTree, withinCeilings, judge, afterKind, after, afterAll}
@@ -23,7 +25,7 @@ use Rattle.calculus.proofs.Basic.{none≢some, leb-le, and-true, true-and, ltb-
 use Rattle.format.proofs.Naming.{type-by-names, type-names-mono, pattern-by-names, pattern-names-mono}
 use Rattle.format.proofs.Passing.{Passes, done, next, Fit, judge-fit, fit-judge, after-append, passes-append}
 use Rattle.format.proofs.Printing.{WellFormed}
-use Rattle.law_pairlists.proofs.Used.{none-idle}
+use Rattle.law_pairlists.proofs.Used.{Unlisted, UnlistedPair, none-idle}
 use Rattle.law_pairlists.proofs.Rows.{Stored, nothing, more, Entered, entered, still, after-others, same-length, ok-at, length-snoc, index-front, index-snoc, enter-length, enter-grows}
 
 -- ---- T rows
@@ -83,11 +85,11 @@ two-written k a b rs fields names f write l =
     after-others typeTree TypeOk SmallType type-keep type-mono f (after-others typeTree TypeOk SmallType type-keep type-mono g h)
 
 -- writing a type gives rows whose unfolding at its number is that type, and changes no tree that was there
-pub type-written : (a : Ty) {rs : List Row} {ts : List Ty} → Types rs ts → typeNodes a ≤ maxNodes → TypeEntered (writeType a rs) ts a
-type-written tunit s l =
+pub type-written : (a : Ty) {rs : List Row} {ts : List Ty} → Finite a → Types rs ts → typeNodes a ≤ maxNodes → TypeEntered (writeType a rs) ts a
+type-written tunit x s l =
     entered typeTree TypeOk SmallType type-keep type-mono (typeRow 0 0 0) s (record { kind = refl; fields = refl; names = refl }) l
-type-written (tsum a b) {rs} s l = two-written 1 a b rs (λ i j. refl) (λ n i j e. e) (type-written a s (omega arith)) (λ t. type-written b t (omega arith)) l
-type-written (tprod a b) {rs} s l = two-written 2 a b rs (λ i j. refl) (λ n i j e. e) (type-written a s (omega arith)) (λ t. type-written b t (omega arith)) l
+type-written (tsum a b) {rs} (Finite.sum x y) s l = two-written 1 a b rs (λ i j. refl) (λ n i j e. e) (type-written a x s (omega arith)) (λ t. type-written b y t (omega arith)) l
+type-written (tprod a b) {rs} (Finite.product x y) s l = two-written 2 a b rs (λ i j. refl) (λ n i j e. e) (type-written a x s (omega arith)) (λ t. type-written b y t (omega arith)) l
 
 -- no more rows than nodes
 two-room : (k : ℕ) (a b : Ty) (rs : List Row) → length (writeType a rs .rows) ≤ length rs + typeNodes a
@@ -96,6 +98,11 @@ two-room k a b rs h i = let l = enter-length (typeRow k (writeType a rs .number)
 
 pub type-room : (a : Ty) (rs : List Row) → length (writeType a rs .rows) ≤ length rs + typeNodes a
 type-room tunit rs = let h = enter-length (typeRow 0 0 0) rs in omega arith
+type-room (tlist a) rs =
+    let f : Entry = writeType a rs in
+    let h = type-room a rs in
+    let l = enter-length (typeRow 3 (f .number) 0) (f .rows) in
+    omega arith
 type-room (tsum a b) rs = two-room 1 a b rs (type-room a rs) (type-room b (writeType a rs .rows))
 type-room (tprod a b) rs = two-room 2 a b rs (type-room a rs) (type-room b (writeType a rs .rows))
 
@@ -106,6 +113,11 @@ two-grows k a b rs h i = let l = enter-grows (typeRow k (writeType a rs .number)
 
 pub type-grows : (a : Ty) (rs : List Row) → length rs ≤ length (writeType a rs .rows)
 type-grows tunit rs = enter-grows (typeRow 0 0 0) rs
+type-grows (tlist a) rs =
+    let f : Entry = writeType a rs in
+    let h = type-grows a rs in
+    let l = enter-grows (typeRow 3 (f .number) 0) (f .rows) in
+    omega arith
 type-grows (tsum a b) rs = two-grows 1 a b rs (type-grows a rs) (type-grows b (writeType a rs .rows))
 type-grows (tprod a b) rs = two-grows 2 a b rs (type-grows a rs) (type-grows b (writeType a rs .rows))
 
@@ -119,8 +131,8 @@ pub record PatternOk (n : ℕ) (r : Row) : Type 0 where
 pub pattern-keep : (ts us : List Pat) (r : Row) → PatternOk (length ts) r → patternTree (ts ++ us) r ≡ patternTree ts r
 pattern-keep ts us r h =
     pattern-by-names (length ts) (patternKind (r .x)) (r .y) (r .z) (h .names)
-    (λ l. List·getD-append ts us punit (r .y) l)
-    (λ l. List·getD-append ts us punit (r .z) l)
+    (λ l. List·getD-append ts us (pleaf unitLeaf) (r .y) l)
+    (λ l. List·getD-append ts us (pleaf unitLeaf) (r .z) l)
 
 pub pattern-mono : (m n : ℕ) (r : Row) → m ≤ n → PatternOk m r → PatternOk n r
 pattern-mono m n r l h = record { kind = h .kind; fields = h .fields; names = pattern-names-mono (patternKind (r .x)) (r .y) (r .z) l (h .names) }
@@ -137,9 +149,9 @@ PatternEntered lim = Entered patternTree PatternOk (SmallPattern lim) pattern-ke
 
 -- a closed value as a pattern
 abbrev pub closed : Val → Pat
-closed vunit = punit
+closed (vleaf l) = pleaf l
 closed (vinj t v) = pinj t (closed v)
-closed (vpair v w) = ppair (closed v) (closed w)
+closed (vnode k v w) = pnode k (closed v) (closed w)
 
 enterP : (lim : ℕ) {rs : List Row} {ts : List Pat} {p : Pat} (r : Row) → Patterns lim rs ts → PatternOk (length ts) r → patternTree ts r ≡ p → SmallPattern lim p
     → PatternEntered lim (entry r rs) ts p
@@ -148,42 +160,50 @@ enterP lim {rs} {ts} r s k e l =
     (entered patternTree PatternOk (SmallPattern lim) pattern-keep pattern-mono r s k (subst (SmallPattern lim) (sym e) l))
 
 -- the same of closed values
-pub value-written : (lim : ℕ) (v : Val) {rs : List Row} {ts : List Pat} → Patterns lim rs ts → nodes (closed v) ≤ maxNodes → tags (closed v) ≤ lim
+pub value-written : (lim : ℕ) (v : Val) {rs : List Row} {ts : List Pat} → Unlisted v → Patterns lim rs ts → nodes (closed v) ≤ maxNodes → tags (closed v) ≤ lim
     → PatternEntered lim (writeValue v rs) ts (closed v)
-value-written lim vunit s l t = enterP lim (patternRow 0 0 0) s (record { kind = refl; fields = refl; names = refl }) refl (l, t)
-value-written lim (vinj left v) s l t =
-    let f = value-written lim v s (omega arith) (omega arith) in
+value-written lim (vleaf unitLeaf) u s l t = enterP lim (patternRow 0 0 0) s (record { kind = refl; fields = refl; names = refl }) refl (l, t)
+value-written lim (vinj left v) (Unlisted.inj u) s l t =
+    let f = value-written lim v u s (omega arith) (omega arith) in
     let h = enterP lim (patternRow 2 _ 0) (f .stored) (record { kind = refl; fields = refl; names = lt-ltb (index-below (f .trees) _ (f .here)) })
-    (ap (pinj left) (index-default (f .trees) _ punit (f .here))) (l, t) in
+    (ap (pinj left) (index-default (f .trees) _ (pleaf unitLeaf) (f .here))) (l, t) in
     after-others patternTree PatternOk (SmallPattern lim) pattern-keep pattern-mono f h
-value-written lim (vinj right v) s l t =
-    let f = value-written lim v s (omega arith) (omega arith) in
+value-written lim (vinj right v) (Unlisted.inj u) s l t =
+    let f = value-written lim v u s (omega arith) (omega arith) in
     let h = enterP lim (patternRow 3 _ 0) (f .stored) (record { kind = refl; fields = refl; names = lt-ltb (index-below (f .trees) _ (f .here)) })
-    (ap (pinj right) (index-default (f .trees) _ punit (f .here))) (l, t) in
+    (ap (pinj right) (index-default (f .trees) _ (pleaf unitLeaf) (f .here))) (l, t) in
     after-others patternTree PatternOk (SmallPattern lim) pattern-keep pattern-mono f h
-value-written lim (vpair v w) s l t =
-    let f = value-written lim v s (omega arith) (omega arith) in
-    let g = value-written lim w (f .stored) (omega arith) (omega arith) in
+value-written lim (vnode pairNode v w) (Unlisted.pair u u′) s l t =
+    let f = value-written lim v u s (omega arith) (omega arith) in
+    let g = value-written lim w u′ (f .stored) (omega arith) (omega arith) in
     let p = still patternTree PatternOk (SmallPattern lim) pattern-keep pattern-mono g _ (f .here) in
     let h = enterP lim (patternRow 4 _ _) (g .stored)
     (record { kind = refl; fields = refl; names = both-below (index-below (g .trees) _ p) (index-below (g .trees) _ (g .here)) })
-    (ap₂ ppair (index-default (g .trees) _ punit p) (index-default (g .trees) _ punit (g .here))) (l, t) in
+    (ap₂ (pnode pairNode) (index-default (g .trees) _ (pleaf unitLeaf) p) (index-default (g .trees) _ (pleaf unitLeaf) (g .here))) (l, t) in
     after-others patternTree PatternOk (SmallPattern lim) pattern-keep pattern-mono f
     (after-others patternTree PatternOk (SmallPattern lim) pattern-keep pattern-mono g h)
 
 -- the rows never become fewer
 pub value-grows : (v : Val) (rs : List Row) → length rs ≤ length (writeValue v rs .rows)
-value-grows vunit rs = enter-grows (patternRow 0 0 0) rs
+value-grows (vleaf unitLeaf) rs = enter-grows (patternRow 0 0 0) rs
+value-grows (vleaf emptyLeaf) rs = enter-grows (patternRow 5 0 0) rs
 value-grows (vinj left v) rs =
     let f : Entry = writeValue v rs in let h = value-grows v rs in let l = enter-grows (patternRow 2 (f .number) 0) (f .rows) in omega arith
 value-grows (vinj right v) rs =
     let f : Entry = writeValue v rs in let h = value-grows v rs in let l = enter-grows (patternRow 3 (f .number) 0) (f .rows) in omega arith
-value-grows (vpair v w) rs =
+value-grows (vnode pairNode v w) rs =
     let f : Entry = writeValue v rs in
     let s : Entry = writeValue w (f .rows) in
     let h = value-grows v rs in
     let k = value-grows w (f .rows) in
     let l = enter-grows (patternRow 4 (f .number) (s .number)) (s .rows) in
+    omega arith
+value-grows (vnode elementNode v w) rs =
+    let f : Entry = writeValue v rs in
+    let s : Entry = writeValue w (f .rows) in
+    let h = value-grows v rs in
+    let k = value-grows w (f .rows) in
+    let l = enter-grows (patternRow 6 (f .number) (s .number)) (s .rows) in
     omega arith
 
 pub pairs-grow : (cs : List (Val × Val)) (rs : List Row) → length rs ≤ length (writePairs cs rs .patterns)
@@ -206,6 +226,7 @@ pub data Named (ps : List Pat) : List Row → List (Val × Val) → Type 0 where
 
 -- values that keep the ceilings
 pub record SmallPair (lim : ℕ) (c : Val × Val) : Type 0 where
+  pub unlisted : UnlistedPair c
   pub lhs : SmallPattern lim (closed (c .0))
   pub rhs : SmallPattern lim (closed (c .1))
 
@@ -221,8 +242,8 @@ pub pairs-written : (lim : ℕ) (cs : List (Val × Val)) {rs : List Row} {ts : L
 pairs-written lim [] {rs} {ts} h s = record { trees = ts; stored = s; added = []; extends = sym (append-nil ts); rows = unnamed }
 pairs-written lim (c ∷ cs) {rs} {ts} h s =
     let k = h c (List·Memᴰ·head refl) in
-    let l = value-written lim (c .0) s (k .lhs .0) (k .lhs .1) in
-    let r = value-written lim (c .1) (l .stored) (k .rhs .0) (k .rhs .1) in
+    let l = value-written lim (c .0) (k .unlisted .from) s (k .lhs .0) (k .lhs .1) in
+    let r = value-written lim (c .1) (k .unlisted .to) (l .stored) (k .rhs .0) (k .rhs .1) in
     let o = pairs-written lim cs (λ d m. h d (List·Memᴰ·tail m)) (r .stored) in
     let p = still patternTree PatternOk (SmallPattern lim) pattern-keep pattern-mono r _ (l .here) in
     record {
@@ -361,10 +382,10 @@ module _ (ts : List Ty) (ps : List Pat) where
   tail-clauses n unnamed = refl
   tail-clauses n (one {rs} {cs} i j c p q h) =
       ap
-      (λ (o : Tail). record { lets = []; clauses = record { line = n; lhs = getD ps i punit; lets = o .lets; rhs = getD ps j punit } ∷ o .clauses; isos = o .isos })
+      (λ (o : Tail). record { lets = []; clauses = record { line = n; lhs = getD ps i (pleaf unitLeaf); lets = o .lets; rhs = getD ps j (pleaf unitLeaf) } ∷ o .clauses; isos = o .isos })
       (tail-clauses (suc n) h)
       ∙ ap₂ (λ (l r : Pat). record { lets = []; clauses = record { line = n; lhs = l; lets = []; rhs = r } ∷ closedClauses (suc n) cs; isos = [] })
-      (index-default ps i punit p) (index-default ps j punit q)
+      (index-default ps i (pleaf unitLeaf) p) (index-default ps j (pleaf unitLeaf) q)
 
   -- T and P rows in front add nothing to the isos
   tail-front : (n : ℕ) (rs qs : List Row) → ((r : Row) → List·Memᴰ r rs → (r .kind ≡ typeLine) ⊎ (r .kind ≡ patternLine))
@@ -444,10 +465,10 @@ pub record FileWritten (a b : Ty) (cs : List (Val × Val)) (rs : List Row) : Typ
   pub few : length rs ≤ 1407
   pub used : NoneIdle rs
 
-pub file-written : (a b : Ty) (cs : List (Val × Val)) → typeNodes a ≤ maxNodes → typeNodes b ≤ maxNodes → ((c : Val × Val) → List·Memᴰ c cs → SmallPair maxTags c)
+pub file-written : (a b : Ty) (cs : List (Val × Val)) → Finite a → Finite b → typeNodes a ≤ maxNodes → typeNodes b ≤ maxNodes → ((c : Val × Val) → List·Memᴰ c cs → SmallPair maxTags c)
     → length cs ≤ maxClauses → length (writePairs cs [] .patterns) ≤ maxPatterns → FileWritten a b cs (fileRows a b cs)
 unfolding fileRows isosOf typeLines
-file-written a b cs ha hb hc lc lp =
+file-written a b cs xa xb ha hb hc lc lp =
     record {
       passes = passes-append (tp .0) (passes-append (pp .0) (next (iso-judged s₂ (g .trees) (o .trees) (f .number) (e .number) (pp .1) fa (g .here)) cp));
       line = 1 + length (e .rows) + length (w .patterns);
@@ -466,7 +487,7 @@ file-written a b cs ha hb hc lc lp =
           let q = length-append (w .patterns) (isoRow (f .number) (e .number) ∷ w .clauses) in
           let r = clauses-length (o .rows) in
           omega (arith, troom);
-      used = none-idle a b cs (ap length ts ∙ sym (same-length typeTree TypeOk SmallType type-keep type-mono (g .stored)));
+      used = none-idle a b cs xa xb (λ c m. hc c m .unlisted) (ap length ts ∙ sym (same-length typeTree TypeOk SmallType type-keep type-mono (g .stored)));
     }
   where
     f : Entry
@@ -479,10 +500,10 @@ file-written a b cs ha hb hc lc lp =
     w = writePairs cs []
 
     h : TypeEntered f [] a
-    h = type-written a nothing ha
+    h = type-written a xa nothing ha
 
     g : TypeEntered e (h .trees) b
-    g = type-written b (h .stored) hb
+    g = type-written b xb (h .stored) hb
 
     fa : getElem? (g .trees) (f .number) ≡ some a
     fa = still typeTree TypeOk SmallType type-keep type-mono g (f .number) (h .here)
@@ -614,10 +635,10 @@ named-pair {ps} (one i j d p q h) c (List·Memᴰ·head e) =
 named-pair (one i j d p q h) c (List·Memᴰ·tail m) = named-pair h c m
 
 -- "another ceiling passed in the writing": it is that of the P lines or of a P line's left and right nodes, and no other
-pub light-pairs : (lim : ℕ) (a b : Ty) (cs : List (Val × Val)) → typeNodes a ≤ maxNodes → typeNodes b ≤ maxNodes → ((c : Val × Val) → List·Memᴰ c cs → SmallPair lim c)
+pub light-pairs : (lim : ℕ) (a b : Ty) (cs : List (Val × Val)) → Finite a → Finite b → typeNodes a ≤ maxNodes → typeNodes b ≤ maxNodes → ((c : Val × Val) → List·Memᴰ c cs → SmallPair lim c)
     → withinAll start (fileRows a b cs) ≡ true → (length (writePairs cs [] .patterns) ≤ maxPatterns) × ((c : Val × Val) → List·Memᴰ c cs → SmallPair maxTags c)
 unfolding fileRows
-light-pairs lim a b cs ha hb hc q = (few, light)
+light-pairs lim a b cs xa xb ha hb hc q = (few, light)
   where
     f : Entry
     f = writeType a []
@@ -629,10 +650,10 @@ light-pairs lim a b cs ha hb hc q = (few, light)
     w = writePairs cs []
 
     h : TypeEntered f [] a
-    h = type-written a nothing ha
+    h = type-written a xa nothing ha
 
     g : TypeEntered e (h .trees) b
-    g = type-written b (h .stored) hb
+    g = type-written b xb (h .stored) hb
 
     o : PairsWritten lim w [] cs
     o = pairs-written lim cs hc nothing
@@ -660,10 +681,11 @@ light-pairs lim a b cs ha hb hc q = (few, light)
         let t = within-trees lim (afterAll start (e .rows)) (tp .patterns) (o .stored) back rest in
         let s = hc c m in
         record {
+          unlisted = s .unlisted;
           lhs = (s .lhs .0, t (n .0 .0) (closed (c .0)) (n .0 .1));
           rhs = (s .rhs .0, t (n .1 .0) (closed (c .1)) (n .1 .1));
         }
 
-pub pairs-within : (a b : Ty) (cs : List (Val × Val)) → typeNodes a ≤ maxNodes → typeNodes b ≤ maxNodes → ((c : Val × Val) → List·Memᴰ c cs → SmallPair maxTags c)
+pub pairs-within : (a b : Ty) (cs : List (Val × Val)) → Finite a → Finite b → typeNodes a ≤ maxNodes → typeNodes b ≤ maxNodes → ((c : Val × Val) → List·Memᴰ c cs → SmallPair maxTags c)
     → length cs ≤ maxClauses → length (writePairs cs [] .patterns) ≤ maxPatterns → withinAll start (fileRows a b cs) ≡ true
-pairs-within a b cs ha hb hc lc h = passes-within (file-written a b cs ha hb hc lc h .passes)
+pairs-within a b cs xa xb ha hb hc lc h = passes-within (file-written a b cs xa xb ha hb hc lc h .passes)

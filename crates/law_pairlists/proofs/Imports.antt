@@ -5,14 +5,14 @@ use native.Mathlib.Nat.{le-trans, add-zero, add-suc, suc-add, zero-add}
 use native.Mathlib.Omega.{arith}
 use mathlib.Core.Path.{_≡_, refl, sym, ap, ap₂, _∙_, subst}
 use mathlib.Core.Logic.{_↔_}
-use mathlib.Core.Bool.{Bool, true, false, cond, _||_}
+use mathlib.Core.Bool.{Bool, true, false, cond, _||_, not}
 use mathlib.Core.Option.{Option, none, some}
 use mathlib.Core.List.{List, [], _∷_, map, List·Memᴰ, List·Memᴰ·head, List·Memᴰ·tail, Memᴰ·map, Memᴰ·of-map}
 use lib.Dec.{ltb, leb}
 use lib.ListN.{length, getElem?, length-map, length-append}
 use Rattle.limits.specs.Limits.{fieldBound, maxBytes, maxLines, maxClauses, maxPatterns, maxNodes, maxTags, maxPairs, importLength}
 use Rattle.calculus.specs.Tools.{_>>=_, guard, total}
-use Rattle.calculus.specs.Trees.{Ty, Val, Iso, typeNodes, tags, mostTags}
+use Rattle.calculus.specs.Trees.{Ty, left, right, Val, Iso, typeNodes, tags, mostTags}
 use Rattle.calculus.specs.Refusals.{Kind, typeLine, patternLine, isoLine, clauseLine, letLine, ceiling, tooMany}
 use Rattle.format.specs.Lines.{Row, lines, withoutReturns, decimal, print, printRows}
 use Rattle.format.specs.Judge.{start}
@@ -20,17 +20,21 @@ use Rattle.format.specs.Unfold.{isosOf}
 use Rattle.calculus.specs.Reduction.{reduce}
 use Rattle.law_ranking.specs.Numbering.{count, rank, unrank, typesOf}
 use Rattle.model.specs.Services.{accepted, verdict, over, gives, fails}
-use Rattle.calculus.specs.Paper.{FileOk}
+use Rattle.calculus.specs.Paper.{Of, FileOk}
 use Rattle.law_pairlists.specs.PairLists.{pairLines, tosOf, pairsUp, listOf, settings, writePairs, fileRows, withinAll, onList, onLines, onTypes}
-use Rattle.law_pairlists.specs.PairLists.{importRows, toFrom, upwards, onPairs, onExported, exportRows, exportOn, importOn}
-use Rattle.calculus.proofs.Basic.{bind-some, some-bind, some-inj, guard-true, true-guard, neither, le-leb, ltb-false, not-ltb, index-mem, each-nil, each-cons}
+use Rattle.law_pairlists.specs.PairLists.{importRows, toIf, toFrom, upwards, onPairs, onExported, exportRows, exportOn, importOn}
+use Rattle.calculus.proofs.Basic.{bind-some, some-bind, some-inj, guard-true, true-guard, neither, le-leb, ltb-false, not-ltb, index-below, index-mem, each-nil, each-cons}
 use Rattle.format.proofs.Printing.{WellFormed, shown, printFields, length-print, length-printRows, lines-print, printed-reading, concat-lines}
+use Rattle.calculus.proofs.Letters.{inhabits-of}
 use Rattle.model.proofs.Files.{accepted-iff}
 use Rattle.model.proofs.Outcomes.{fails≢gives, gives-inj}
 use Rattle.law_ranking.proofs.Outcomes.{small-type}
-use Rattle.law_ranking.proofs.Numbering.{rank-unrank}
+use Rattle.law_ranking.proofs.Numbering.{few-finite, unrank-inhabits, rank-unrank}
+use Rattle.calculus.specs.Lists.{isFree, Finite}
+use Rattle.model.proofs.Sizes.{of-small}
 use Rattle.law_pairlists.proofs.File.{closed, SmallPair, closedIso, FileWritten, file-written, light-pairs, pairs-within}
-use Rattle.law_pairlists.proofs.Iso.{Lists, firsts, seconds, closed-nodes, closed-most, most-value, tags-nodes, closed-ok, closed-run}
+use Rattle.law_pairlists.proofs.Used.{Unlisted, UnlistedPair}
+use Rattle.law_pairlists.proofs.Iso.{Lists, firsts, seconds, closed-nodes, closed-most, most-value, tags-nodes, closed-ok, closed-free, closed-run}
 use Rattle.law_pairlists.proofs.List.{Taken, pairs-taken, lefts-all, rights-all, settings-length, settings-at, tos-printed, tos-length, decimal-few}
 
 -- ---- an import that is not refused
@@ -57,28 +61,28 @@ module _ (rs : List Row) (i j : ℕ) (list out : List ℕ) where
         record { from = a; to = b; first = p; second = q; few = l; tos = ts; reads = r; short = m; taken = t; within = w; bytes = sym (gives-inj e) }
     on-writing l m ts r t false w e = absurd (fails≢gives e)
 
-    on-tos : count a ≤ maxPairs → length (lines list) ≤ maxClauses → (x : Option (List ℕ)) → listOf a b (lines list) ≡ x → onList a b x ≡ gives out
+    on-tos : count a ≤ maxPairs → count b ≤ maxPairs → length (lines list) ≤ maxClauses → (x : Option (List ℕ)) → listOf a b (lines list) ≡ x → onList a b x ≡ gives out
         → Imported rs i j list out
     unfolding listOf
-    on-tos l m none r e = absurd (fails≢gives e)
-    on-tos l m (some ts) r e =
+    on-tos l k m none r e = absurd (fails≢gives e)
+    on-tos l k m (some ts) r e =
         let f = bind-some (tosOf 0 (lines list)) (λ us. guard (pairsUp a b us) >>= λ _. some us) r in
         let g = bind-some (guard (pairsUp a b (f .0))) (λ _. some (f .0)) (f .2) in
         let s = some-inj (g .2) in
-        on-writing l m ts (f .1 ∙ ap some s) (subst (Taken a b) s (pairs-taken a b (f .0) (guard-true (pairsUp a b (f .0)) (g .1))))
+        on-writing l m ts (f .1 ∙ ap some s) (subst (Taken a b) s (pairs-taken a b (few-finite a (omega arith)) (few-finite b (omega arith)) (f .0) (guard-true (pairsUp a b (f .0)) (g .1))))
         (withinAll start (fileRows a b (settings a b 0 ts))) refl e
 
-    on-short : count a ≤ maxPairs → (c : Bool) → ltb maxClauses (length (lines list)) ≡ c
+    on-short : count a ≤ maxPairs → count b ≤ maxPairs → (c : Bool) → ltb maxClauses (length (lines list)) ≡ c
         → cond c (fails (ceiling clauseLine)) (onList a b (listOf a b (lines list))) ≡ gives out → Imported rs i j list out
-    on-short l true r e = absurd (fails≢gives e)
-    on-short l false r e = on-tos l (ltb-false maxClauses (length (lines list)) r) (listOf a b (lines list)) refl e
+    on-short l k true r e = absurd (fails≢gives e)
+    on-short l k false r e = on-tos l k (ltb-false maxClauses (length (lines list)) r) (listOf a b (lines list)) refl e
 
     on-few : (c : Bool) → (ltb maxPairs (count a) || ltb maxPairs (count b)) ≡ c → cond c (fails tooMany) (onLines a b (lines list)) ≡ gives out
         → Imported rs i j list out
     on-few true r e = absurd (fails≢gives e)
     on-few false r e =
         let h = neither (ltb maxPairs (count a)) (ltb maxPairs (count b)) r in
-        on-short (ltb-false maxPairs (count a) (h .0)) (ltb maxClauses (length (lines list))) refl e
+        on-short (ltb-false maxPairs (count a) (h .0)) (ltb-false maxPairs (count b) (h .1)) (ltb maxClauses (length (lines list))) refl e
 
   on-types : (x y : Option Ty) → getElem? (typesOf rs) i ≡ x → getElem? (typesOf rs) j ≡ y → onTypes x y (lines list) ≡ gives out → Imported rs i j list out
   on-types none y p q e = absurd (fails≢gives e)
@@ -128,13 +132,25 @@ not-over rs l h =
 
 -- ---- the imported file
 
+of-unlisted : {v : Val} {a : Ty} → Finite a → Of v a → Unlisted v
+of-unlisted Finite.unit Of.unit = Unlisted.unit
+of-unlisted (Finite.sum x y) (Of.inj {t = left} h) = Unlisted.inj (of-unlisted x h)
+of-unlisted (Finite.sum x y) (Of.inj {t = right} h) = Unlisted.inj (of-unlisted y h)
+of-unlisted (Finite.product x y) (Of.pair h k) = Unlisted.pair (of-unlisted x h) (of-unlisted y k)
+
 -- values of few nodes
 wide-pairs : {a b : Ty} (cs : List (Val × Val)) → typeNodes a ≤ maxNodes → typeNodes b ≤ maxNodes
     → Lists a (firsts cs) → Lists b (seconds cs) → (c : Val × Val) → List·Memᴰ c cs → SmallPair maxNodes c
 wide-pairs {a} {b} cs ha hb h k c m =
-    let p = le-trans (closed-nodes (h .typed (c .0) (Memᴰ·map (λ (d : Val × Val). d .0) m))) ha in
-    let q = le-trans (closed-nodes (k .typed (c .1) (Memᴰ·map (λ (d : Val × Val). d .1) m))) hb in
-    record { lhs = (p, le-trans (tags-nodes (closed (c .0))) p); rhs = (q, le-trans (tags-nodes (closed (c .1))) q) }
+    let x = h .typed (c .0) (Memᴰ·map (λ (d : Val × Val). d .0) m) in
+    let y = k .typed (c .1) (Memᴰ·map (λ (d : Val × Val). d .1) m) in
+    let p = le-trans (closed-nodes (h .finite) x) ha in
+    let q = le-trans (closed-nodes (k .finite) y) hb in
+    record {
+      unlisted = record { from = of-unlisted (h .finite) x; to = of-unlisted (k .finite) y };
+      lhs = (p, le-trans (tags-nodes (closed (c .0))) p);
+      rhs = (q, le-trans (tags-nodes (closed (c .1))) q);
+    }
 
 -- and of types whose values have at most 40 left and right nodes
 pub small-pairs : {a b : Ty} (cs : List (Val × Val)) → typeNodes a ≤ maxNodes → typeNodes b ≤ maxNodes → mostTags a ≤ maxTags → mostTags b ≤ maxTags
@@ -142,7 +158,11 @@ pub small-pairs : {a b : Ty} (cs : List (Val × Val)) → typeNodes a ≤ maxNod
 small-pairs {a} {b} cs ha hb ta tb h k c m =
     let p = h .typed (c .0) (Memᴰ·map (λ (d : Val × Val). d .0) m) in
     let q = k .typed (c .1) (Memᴰ·map (λ (d : Val × Val). d .1) m) in
-    record { lhs = (le-trans (closed-nodes p) ha, le-trans (closed-most p) ta); rhs = (le-trans (closed-nodes q) hb, le-trans (closed-most q) tb) }
+    record {
+      unlisted = record { from = of-unlisted (h .finite) p; to = of-unlisted (k .finite) q };
+      lhs = (le-trans (closed-nodes (h .finite) p) ha, le-trans (closed-most (h .finite) p) ta);
+      rhs = (le-trans (closed-nodes (k .finite) q) hb, le-trans (closed-most (k .finite) q) tb);
+    }
 
 -- what the ceilings of P lines come to: 40 left and right nodes for every value of both types, and 1,024 P lines
 pub record Light (a b : Ty) (ts : List ℕ) : Type 0 where
@@ -159,13 +179,17 @@ module _ (a b : Ty) (ts : List ℕ) (ha : typeNodes a ≤ maxNodes) (hb : typeNo
 
   -- "another ceiling passed in the writing": over 1,024 P lines, or over 40 left and right nodes in one of them
   pub written-ceiling : (withinAll start (fileRows a b (settings a b 0 ts)) ≡ true) ↔ Light a b ts
-  written-ceiling = (there, λ h. pairs-within a b (settings a b 0 ts) ha hb (small-pairs (settings a b 0 ts) ha hb (h .from) (h .to) (lefts-all t) (rights-all t)) few (h .few))
+  written-ceiling = (
+    there,
+    λ h. pairs-within a b (settings a b 0 ts) (lefts-all t .finite) (rights-all t .finite) ha hb
+        (small-pairs (settings a b 0 ts) ha hb (h .from) (h .to) (lefts-all t) (rights-all t)) few (h .few),
+  )
     where
       there : withinAll start (fileRows a b (settings a b 0 ts)) ≡ true → Light a b ts
       there w =
-          let x = light-pairs maxNodes a b (settings a b 0 ts) ha hb wide w in
-          let v = most-value a in
-          let u = most-value b in
+          let x = light-pairs maxNodes a b (settings a b 0 ts) (lefts-all t .finite) (rights-all t .finite) ha hb wide w in
+          let v = most-value a (lefts-all t .finite) in
+          let u = most-value b (rights-all t .finite) in
           let c = Memᴰ·of-map (λ (d : Val × Val). d .0) (settings a b 0 ts) (lefts-all t .whole (v .0) (v .1)) in
           let d = Memᴰ·of-map (λ (d : Val × Val). d .1) (settings a b 0 ts) (rights-all t .whole (u .0) (u .1)) in
           let e = ap (λ z. tags (closed z)) (c .2) ∙ v .2 in
@@ -177,7 +201,7 @@ module _ (a b : Ty) (ts : List ℕ) (ha : typeNodes a ≤ maxNodes) (hb : typeNo
           }
 
   pub whole : Light a b ts → FileWritten a b (settings a b 0 ts) (fileRows a b (settings a b 0 ts))
-  whole h = file-written a b (settings a b 0 ts) ha hb (small-pairs (settings a b 0 ts) ha hb (h .from) (h .to) (lefts-all t) (rights-all t)) few (h .few)
+  whole h = file-written a b (settings a b 0 ts) (lefts-all t .finite) (rights-all t .finite) ha hb (small-pairs (settings a b 0 ts) ha hb (h .from) (h .to) (lefts-all t) (rights-all t)) few (h .few)
 
   -- "into an area of 65,536 bytes"
   pub written-room : Light a b ts → length (printRows (fileRows a b (settings a b 0 ts))) ≤ importLength
@@ -189,6 +213,8 @@ module _ (a b : Ty) (ts : List ℕ) (ha : typeNodes a ≤ maxNodes) (hb : typeNo
       omega arith
 
 pub record Trades (a b : Ty) (ts : List ℕ) (out : List ℕ) : Type 0 where
+  pub smallFrom : typeNodes a ≤ maxNodes
+  pub smallTo : typeNodes b ≤ maxNodes
   pub rows : List Row
   pub accepts : verdict out ≡ accepted rows
   pub line : ℕ
@@ -202,6 +228,8 @@ written-accepted a b ts ha hb l t w =
     let rs : List Row = fileRows a b cs in
     let h = whole a b ts ha hb l t (written-ceiling a b ts ha hb l t .0 w) in
     record {
+      smallFrom = ha;
+      smallTo = hb;
       rows = rs;
       accepts =
           accepted-iff (printRows rs) rs .1 (
@@ -222,10 +250,15 @@ import-accepted file rs e i j list out m =
 
 -- its run of setting k counts 1 and gives setting `to` of line k
 pub traded-run : (a b : Ty) (ts out : List ℕ) → Taken a b ts → (m : Trades a b ts out) → (k t : ℕ) → getElem? ts k ≡ some t
-    → reduce (isosOf (m .rows)) 0 (unrank a k) ≡ some (unrank b t, 1)
+    → reduce (isosOf (m .rows)) 0 (unrank a k) ≡ (some (unrank b t), 1)
 traded-run a b ts out h m k t e =
+    let n = index-below ts k e in
+    let f = h .froms in
+    let x = inhabits-of (unrank a k) a (unrank-inhabits a k (omega arith)) in
+    let y = inhabits-of (unrank b t) b (unrank-inhabits b t (h .below t (index-mem ts k e))) in
     ap (λ os. reduce os 0 (unrank a k)) (m .isos)
     ∙ closed-run (m .line) a b (settings a b 0 ts) (lefts-all h) (unrank a k) (unrank b t)
+    (le-leb (le-trans (of-small (h .finiteFrom) x) (m .smallFrom))) (le-leb (le-trans (of-small (h .finiteTo) y) (m .smallTo)))
     (subst (λ n. List·Memᴰ (unrank a n, unrank b t) (settings a b 0 ts)) (zero-add k) (settings-at a b 0 ts k t e))
 
 -- ---- its export
@@ -244,15 +277,16 @@ traded-export a b ts out h l m budget p =
     let os : List Iso = isosOf (m .rows) in
     let o : Iso = closedIso (m .line) a b (settings a b 0 ts) in
     ap (onExported os 0 budget) (ap (λ (z : List Iso). getElem? z 0) (m .isos))
-    ∙ ap (λ c. cond c (fails tooMany) (onPairs (upwards (toFrom os 0 o budget) 0 (count a)))) (not-ltb l)
+    ∙ ap (λ c. cond c (fails tooMany) (onPairs (upwards (toFrom os 0 o budget) 0 (count a))))
+    (ap₂ (λ x y. not x || y) (ap (λ z. isFree z 0) (m .isos) ∙ closed-free (m .line) a b (settings a b 0 ts) (h .finiteFrom) (h .finiteTo)) (not-ltb l))
     ∙ ap onPairs (ap (upwards (toFrom os 0 o budget) 0) (sym (h .froms)) ∙ upwards-all (toFrom os 0 o budget) 0 ts each)
   where
     each : (i t : ℕ) → getElem? ts i ≡ some t → toFrom (isosOf (m .rows)) 0 (closedIso (m .line) a b (settings a b 0 ts)) budget (0 + i) ≡ some t
     each i t e =
         ap (toFrom (isosOf (m .rows)) 0 (closedIso (m .line) a b (settings a b 0 ts)) budget) (zero-add i)
-        ∙ some-bind (λ r. guard (leb (r .1) budget) >>= λ _. some (rank (r .0) b)) (traded-run a b ts out h m i t e)
+        ∙ ap (toIf budget (closedIso (m .line) a b (settings a b 0 ts))) (traded-run a b ts out h m i t e)
         ∙ some-bind (λ _. some (rank (unrank b t) b)) (true-guard (le-leb p))
-        ∙ ap some (rank-unrank b t (h .below t (index-mem ts i e)))
+        ∙ ap some (rank-unrank b (h .finiteTo) t (h .below t (index-mem ts i e)))
 
 pub import-export : (file : List ℕ) (rs : List Row) → verdict file ≡ accepted rs → (i j : ℕ) (list out : List ℕ) → importOn (verdict file) i j list ≡ gives out
     → (budget : ℕ) → 1 ≤ budget → exportOn (verdict out) 0 budget ≡ gives (withoutReturns list)

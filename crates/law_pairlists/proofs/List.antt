@@ -14,6 +14,7 @@ use Rattle.calculus.specs.Tools.{guard, all, select, concat}
 use Rattle.calculus.specs.Trees.{Ty}
 use Rattle.format.specs.Lines.{lines, text, withoutReturns, isDigit, numeral, skip, ended, decimalOf, decimal}
 use Rattle.law_ranking.specs.Numbering.{count, rank, unrank}
+use Rattle.calculus.specs.Lists.{Finite}
 use Rattle.law_pairlists.specs.PairLists.{pairLine, pairLines, toIn, toOf, tosOf, noneTwice, pairsUp, settings}
 use Rattle.calculus.specs.Paper.{Of, Distinct, nobody, another}
 use Rattle.calculus.proofs.Basic.{bind-some, some-bind, none≢some, some-inj, guard-true, true-guard, and-true, true-and, bool-cases, not-both, not-true, eqb-eq}
@@ -109,23 +110,24 @@ all-there n ts d h l k b = go (elem-or-not k ts)
 
 -- ---- the settings of different numbers
 
-differ-settings : (a : Ty) {ts : List ℕ} → Distinct ts → ((t : ℕ) → List·Memᴰ t ts → t < count a) → Differ (map (unrank a) ts)
-differ-settings a nobody h = alone
-differ-settings a (another {n} {ns} f d) h =
+differ-settings : (a : Ty) → Finite a → {ts : List ℕ} → Distinct ts → ((t : ℕ) → List·Memᴰ t ts → t < count a) → Differ (map (unrank a) ts)
+differ-settings a fin nobody h = alone
+differ-settings a fin (another {n} {ns} f d) h =
     beside
     (λ w m e. let r = Memᴰ·of-map (unrank a) ns m in
-    f (Memᴰ·cast (sym (rank-unrank a n (h n (List·Memᴰ·head refl))) ∙ ap (λ v. rank v a) (e ∙ sym (r .2)) ∙ rank-unrank a (r .0) (h (r .0) (List·Memᴰ·tail (r .1)))) (r .1)))
-    (differ-settings a d (λ t m. h t (List·Memᴰ·tail m)))
+    f (Memᴰ·cast (sym (rank-unrank a fin n (h n (List·Memᴰ·head refl))) ∙ ap (λ v. rank v a) (e ∙ sym (r .2)) ∙ rank-unrank a fin (r .0) (h (r .0) (List·Memᴰ·tail (r .1)))) (r .1)))
+    (differ-settings a fin d (λ t m. h t (List·Memᴰ·tail m)))
 
 -- count many different numbers below the count stand for all values of the type
-pub all-settings : (a : Ty) (ts : List ℕ) → Distinct ts → ((t : ℕ) → List·Memᴰ t ts → t < count a) → length ts ≡ count a → Lists a (map (unrank a) ts)
-all-settings a ts d h l =
+pub all-settings : (a : Ty) → Finite a → (ts : List ℕ) → Distinct ts → ((t : ℕ) → List·Memᴰ t ts → t < count a) → length ts ≡ count a → Lists a (map (unrank a) ts)
+all-settings a fin ts d h l =
     record {
+      finite = fin;
       typed = λ v m. let r = Memᴰ·of-map (unrank a) ts m in subst (λ u. Of u a) (r .2) (inhabits-of (unrank a (r .0)) a (unrank-inhabits a (r .0) (h (r .0) (r .1))));
-      differ = differ-settings a d h;
+      differ = differ-settings a fin d h;
       whole = λ v o.
           let e = of-inhabits o in
-          Memᴰ·cast (sym (unrank-rank v a e)) (Memᴰ·map (unrank a) (all-there (count a) ts d h l (rank v a) (rank-below v a e)));
+          Memᴰ·cast (sym (unrank-rank v a fin e)) (Memᴰ·map (unrank a) (all-there (count a) ts d h l (rank v a) (rank-below v a e)));
     }
 
 -- ---- the froms
@@ -170,17 +172,21 @@ settings-at a b k (u ∷ ts) (suc i) t e =
 -- ---- a list that is taken
 
 pub record Taken (a b : Ty) (ts : List ℕ) : Type 0 where
+  pub finiteFrom : Finite a
+  pub finiteTo : Finite b
   pub froms : length ts ≡ count a
   pub tos : length ts ≡ count b
   pub below : (t : ℕ) → List·Memᴰ t ts → t < count b
   pub once : Distinct ts
 
-pub pairs-taken : (a b : Ty) (ts : List ℕ) → pairsUp a b ts ≡ true → Taken a b ts
-pairs-taken a b ts e =
+pub pairs-taken : (a b : Ty) → Finite a → Finite b → (ts : List ℕ) → pairsUp a b ts ≡ true → Taken a b ts
+pairs-taken a b fa fb ts e =
     let p = and-true (eqb (length ts) (count a)) (eqb (length ts) (count b) && (all (λ t. ltb t (count b)) ts && noneTwice ts)) e in
     let q = and-true (eqb (length ts) (count b)) (all (λ t. ltb t (count b)) ts && noneTwice ts) (p .1) in
     let r = and-true (all (λ t. ltb t (count b)) ts) (noneTwice ts) (q .1) in
     record {
+      finiteFrom = fa;
+      finiteTo = fb;
       froms = eqb-eq (length ts) (count a) (p .0);
       tos = eqb-eq (length ts) (count b) (q .0);
       below = λ t m. ltb-lt t (count b) (all-mem (λ u. ltb u (count b)) (r .0) m);
@@ -190,12 +196,12 @@ pairs-taken a b ts e =
 pub lefts-all : {a b : Ty} {ts : List ℕ} → Taken a b ts → Lists a (firsts (settings a b 0 ts))
 lefts-all {a} {b} {ts} h =
     subst (Lists a) (sym (settings-firsts a b 0 ts))
-    (all-settings a (upFrom 0 (length ts)) (up-distinct 0 (length ts))
+    (all-settings a (h .finiteFrom) (upFrom 0 (length ts)) (up-distinct 0 (length ts))
     (λ t m. let q = up-bounds 0 (length ts) t m .1 in let f = h .froms in omega arith)
     (up-length 0 (length ts) ∙ h .froms))
 
 pub rights-all : {a b : Ty} {ts : List ℕ} → Taken a b ts → Lists b (seconds (settings a b 0 ts))
-rights-all {a} {b} {ts} h = subst (Lists b) (sym (settings-seconds a b 0 ts)) (all-settings b ts (h .once) (h .below) (h .tos))
+rights-all {a} {b} {ts} h = subst (Lists b) (sym (settings-seconds a b 0 ts)) (all-settings b (h .finiteTo) ts (h .once) (h .below) (h .tos))
 
 -- ---- the list as bytes
 

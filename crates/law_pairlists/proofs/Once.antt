@@ -19,7 +19,7 @@ use Rattle.law_pairlists.specs.PairLists.{writeType, writePairs, clauseR
 use Rattle.law_pairlists.proofs.Rows.{nothing, once, ok-at}
 use Rattle.law_pairlists.proofs.File.{TypeOk, type-keep, type-mono, SmallType, type-written, PatternOk, pattern-keep, pattern-mono, SmallPattern, closed, Named, unnamed, one, pairs-written}
 use Rattle.law_pairlists.proofs.Iso.{Differ, beside, firsts, closed-build}
-use Rattle.law_pairlists.proofs.List.{Taken, lefts-all}
+use Rattle.law_pairlists.proofs.List.{Taken, lefts-all, rights-all}
 use Rattle.law_pairlists.proofs.Imports.{wide, Light, whole}
 
 -- each row at one place
@@ -91,8 +91,8 @@ module _ (a b : Ty) (ts : List ℕ) (ha : typeNodes a ≤ maxNodes) (hb : typeNo
 
   types-are : Once types × ((r : Row) → List·Memᴰ r types → r .kind ≡ typeLine)
   types-are =
-      let f = type-written a nothing ha in
-      let g = type-written b (f .stored) hb in (
+      let f = type-written a (lefts-all t .finite) nothing ha in
+      let g = type-written b (rights-all t .finite) (f .stored) hb in (
         once typeTree TypeOk SmallType type-keep type-mono (g .stored),
         λ r m. let i = mem-index m in ok-at typeTree TypeOk SmallType type-keep type-mono (g .stored) (i .0) r (i .1) .kind,
       )

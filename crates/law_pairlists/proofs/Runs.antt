@@ -4,7 +4,7 @@ use native.Mathlib.Nat.{zero-add, add-zero, add-suc, suc-add}
 use native.Mathlib.Omega.{arith}
 use mathlib.Core.Path.{_≡_, refl, sym, ap, ap₂, _∙_, subst}
 use mathlib.Core.Logic.{_⊎_, inl, inr, _↔_}
-use mathlib.Core.Bool.{Bool, true, false, cond, _||_, or-true}
+use mathlib.Core.Bool.{Bool, true, false, not, cond, _||_, or-true}
 use mathlib.Core.Option.{Option, none, some}
 use mathlib.Core.List.{List, [], _∷_}
 use lib.Dec.{ltb, leb}
@@ -12,22 +12,24 @@ use lib.ListN.{length, getElem?}
 use Rattle.limits.specs.Limits.{maxPairs, maxClauses, maxPatterns}
 use Rattle.calculus.specs.Tools.{_>>=_, guard, all}
 use Rattle.calculus.specs.Trees.{Ty, Val, Iso, invert}
-use Rattle.calculus.specs.Refusals.{noIso, noValue, tooMany, ceiling, clauseLine, patternLine, badList, spent}
+use Rattle.calculus.specs.Refusals.{noIso, noValue, tooMany, ceiling, clauseLine, patternLine, badList, spent, tooLarge}
 use Rattle.format.specs.Lines.{Row, lines, printRows}
 use Rattle.format.specs.Judge.{start}
 use Rattle.format.specs.Unfold.{isosOf}
-use Rattle.calculus.specs.Reduction.{reduce}
+use Rattle.calculus.specs.Reduction.{Counted, reduce}
+use Rattle.calculus.specs.Lists.{isFree}
 use Rattle.calculus.specs.Letters.{letters, inhabits}
 use Rattle.law_ranking.specs.Numbering.{count, rank, unrank, typesOf}
-use Rattle.model.specs.Services.{accepted, verdict, gives, fails, Ran, within, from, onIso, runRows, runOf, run, toward}
+use Rattle.model.specs.Services.{accepted, verdict, gives, fails, Ran, ended, within, from, onIso, runRows, runOf, run, toward}
 use Rattle.calculus.specs.Paper.{Of}
 use Rattle.model.specs.Answers.{RunIs, strange, done}
 use Rattle.law_pairlists.specs.PairLists.{upwards, onPairs, onExported, exportRows, tosOf, pairsUp, listOf, settings, writePairs, fileRows, withinAll}
-use Rattle.law_pairlists.specs.PairLists.{toFrom, onList, onLines, onTypes, importRows}
-use Rattle.calculus.proofs.Basic.{bind-some, not-some, guard-true, leb-le, some-bind, some-inj, none≢some, true-guard, true-and, eq-eqb, lt-ltb, not-ltb, mem-all, index-below, index-map}
+use Rattle.law_pairlists.specs.PairLists.{toIf, tooManyPairs, toFrom, onList, onLines, onTypes, importRows}
+use Rattle.calculus.proofs.Basic.{bind-some, counted, not-some, guard-true, leb-le, some-bind, some-inj, none≢some, true-guard, true-and, eq-eqb, lt-ltb, not-ltb, mem-all, index-below, index-map}
 use Rattle.calculus.proofs.Letters.{value-letters, inhabits-of, of-inhabits}
 use Rattle.format.proofs.Turning.{isos-turn}
-use Rattle.model.proofs.Runs.{results, accepted-good, good, preserves, reduces-iff, run-iff, there-and-back, run-back}
+use Rattle.model.proofs.Runs.{accepted-good, good, preserves, halts, halted, run-iff, there-and-back, run-back}
+use Rattle.model.proofs.Sizes.{free-ends}
 use Rattle.law_ranking.proofs.Numbering.{unrank-inhabits, unrank-rank}
 use Rattle.model.proofs.Outcomes.{fails≢gives}
 use Rattle.law_ranking.proofs.Outcomes.{small-type}
@@ -54,10 +56,10 @@ upwards-none f k (suc n) e = go (f k) refl (upwards-none f (suc k) n)
 
 -- a run forward of a value of the from-type
 run-gives : (file : List ℕ) (rs : List Row) → verdict file ≡ accepted rs → (i : ℕ) (o : Iso) → getElem? (isosOf rs) i ≡ some o → (v w : Val) (c budget : ℕ)
-    → Of v (o .from) → reduce (isosOf rs) i v ≡ some (w, c) → c ≤ budget → run file i false budget (letters v) ≡ gives (c, letters w)
+    → Of v (o .from) → reduce (isosOf rs) i v ≡ (some w, c) → c ≤ budget → run file i false budget (letters v) ≡ gives (c, letters w)
 run-gives file rs e i o p v w c budget h r l =
     run-iff file rs e i false budget (letters v) (gives (c, letters w)) .1
-    (done o v w c p refl h (reduces-iff (isosOf rs) (good rs (accepted-good file rs e)) i o p v h w c .1 r) l)
+    (done o v w c p refl h (halts (isosOf rs) (good rs (accepted-good file rs e)) i o p v h (some w) c r) l)
 
 -- the run of setting k of an imported file counts 1 and gives setting `to` of line k
 pub import-run : (a b : Ty) (ts out : List ℕ) → Taken a b ts → (m : Trades a b ts out) → (k t budget : ℕ) → getElem? ts k ≡ some t → 1 ≤ budget
@@ -79,7 +81,7 @@ answers-alike file rs e i budget list x a b out m f g any c p q r =
     go d n t (done o v w k s y h z l) =
         let same : o ≡ x .iso = some-inj (sym s ∙ x .there) in
         let hx : Of v (x .iso .from) = subst (λ (n : Iso). Of v (n .from)) same h in
-        let red = reduces-iff (isosOf rs) (good rs (accepted-good file rs e)) i o s v h w k .0 z in
+        let red = halted (isosOf rs) (good rs (accepted-good file rs e)) i o s v h z in
         ap (run out 0 false 1) y
         ∙ run-gives out (t .rows) (t .accepts) 0 (closedIso (t .line) (m .from) (m .to) (settings (m .from) (m .to) 0 (m .tos)))
         (ap (λ (os : List Iso). getElem? os 0) (t .isos)) v w 1 1 (subst (Of v) (sym f) hx)
@@ -106,10 +108,10 @@ answers-only file rs e i budget list x a b out m f g any c p q r =
     go d n t (done o v w k s y h z l) =
         let same : o ≡ closedIso (t .line) (m .from) (m .to) (settings (m .from) (m .to) 0 (m .tos)) = some-inj (sym s ∙ ap (λ (os : List Iso). getElem? os 0) (t .isos)) in
         let hx : Of v (x .iso .from) = subst (Of v) f (subst (λ (n : Iso). Of v (n .from)) same h) in
-        let u = results (isosOf rs) (good rs (accepted-good file rs e)) i (x .iso) (x .there) v hx in
+        let u = free-ends false rs (accepted-good file rs e) i (x .iso) (x .there) (x .free) v hx in
         let one = export-import file rs e i budget list x a b out m f g t v (u .0) (u .1) hx (u .2) in
-        let two = reduces-iff (isosOf (t .rows)) (good (t .rows) (accepted-good out (t .rows) (t .accepts))) 0 o s v h w k .0 z in
-        let alike : u .0 ≡ w = ap (λ (r : Val × ℕ). r .0) (some-inj (sym one ∙ two)) in (
+        let two = halted (isosOf (t .rows)) (good (t .rows) (accepted-good out (t .rows) (t .accepts))) 0 o s v h z in
+        let alike : u .0 ≡ w = some-inj (ap (λ (r : Counted Val). r .0) (sym one ∙ two)) in (
           u .1,
           ap (run file i false (u .1)) y
               ∙ run-gives file rs e i (x .iso) (x .there) v (u .0) (u .1) (u .1) hx (u .2) (omega arith)
@@ -258,16 +260,21 @@ module _ (rs : List Row) (i budget : ℕ) where
     abbrev sends : Option (List ℕ)
     sends = upwards (toFrom (isosOf rs) i o budget) 0 (count (o .from))
 
-    there : exportRows rs i budget ≡ cond (ltb maxPairs (count (o .from))) (fails tooMany) (onPairs sends)
+    there : exportRows rs i budget ≡ cond (tooManyPairs (isosOf rs) i o) (fails tooMany) (onPairs sends)
     unfolding exportRows
     there = ap (onExported (isosOf rs) i budget) e
 
     -- "Over 4,096 values is 18"
     pub export-many : maxPairs < count (o .from) → exportRows rs i budget ≡ fails tooMany
-    export-many h = there ∙ ap (λ c. cond c (fails tooMany) (onPairs sends)) (lt-ltb h)
+    export-many h =
+        there ∙ ap (λ c. cond c (fails tooMany) (onPairs sends)) (ap (λ c. not (isFree (isosOf rs) i) || c) (lt-ltb h) ∙ or-true (not (isFree (isosOf rs) i)))
 
-    pub export-few : count (o .from) ≤ maxPairs → exportRows rs i budget ≡ onPairs sends
-    export-few h = there ∙ ap (λ c. cond c (fails tooMany) (onPairs sends)) (not-ltb h)
+    -- "or a type of the iso or of one it calls, holds a list"
+    pub export-lists : isFree (isosOf rs) i ≡ false → exportRows rs i budget ≡ fails tooMany
+    export-lists h = there ∙ ap (λ c. cond (not c || ltb maxPairs (count (o .from))) (fails tooMany) (onPairs sends)) h
+
+    pub export-few : isFree (isosOf rs) i ≡ true → count (o .from) ≤ maxPairs → exportRows rs i budget ≡ onPairs sends
+    export-few f h = there ∙ ap (λ c. cond c (fails tooMany) (onPairs sends)) (ap₂ (λ x y. not x || y) f (not-ltb h))
 
 -- what Run answers for the letters of a value of the from-type
 pub run-is : (file : List ℕ) (rs : List Row) → verdict file ≡ accepted rs → (i : ℕ) (o : Iso) → getElem? (isosOf rs) i ≡ some o → (budget : ℕ) (v : Val) → Of v (o .from)
@@ -280,7 +287,8 @@ run-is file rs e i o p budget v h =
     (some-bind (λ u. guard (inhabits u (o .from)) >>= λ _. some u) (value-letters v) ∙ some-bind (λ _. some v) (true-guard (of-inhabits h)))
 
 -- "17 (some pair's run passes the budget)": export's 17 is that of some lone run, and of no other
-module _ (file : List ℕ) (rs : List Row) (e : verdict file ≡ accepted rs) (i budget : ℕ) (o : Iso) (p : getElem? (isosOf rs) i ≡ some o) where
+module _ (file : List ℕ) (rs : List Row) (e : verdict file ≡ accepted rs) (i budget : ℕ) (o : Iso) (p : getElem? (isosOf rs) i ≡ some o)
+    (free : isFree (isosOf rs) i ≡ true) where
   abbrev sent : ℕ → Option ℕ
   sent = toFrom (isosOf rs) i o budget
 
@@ -289,7 +297,7 @@ module _ (file : List ℕ) (rs : List Row) (e : verdict file ≡ accepted rs) (i
 
   -- one pair
   pair-spent : (k : ℕ) → k < count (o .from) → (sent k ≡ none) ↔ (lone k ≡ fails spent)
-  pair-spent k h = go (reduce (isosOf rs) i (unrank (o .from) k)) refl
+  pair-spent k h = go
     where
       typed : Of (unrank (o .from) k) (o .from)
       typed = inhabits-of (unrank (o .from) k) (o .from) (unrank-inhabits (o .from) k h)
@@ -297,27 +305,26 @@ module _ (file : List ℕ) (rs : List Row) (e : verdict file ≡ accepted rs) (i
       is : lone k ≡ within budget (reduce (isosOf rs) i (unrank (o .from) k))
       is = run-is file rs e i o p budget (unrank (o .from) k) typed
 
-      by : (r : Val × ℕ) → reduce (isosOf rs) i (unrank (o .from) k) ≡ some r → (c : Bool) → leb (r .1) budget ≡ c → (sent k ≡ none) ↔ (lone k ≡ fails spent)
-      by r g true c =
-          let s : sent k ≡ some (rank (r .0) (o .to)) = some-bind (λ q. guard (leb (q .1) budget) >>= λ _. some (rank (q .0) (o .to))) g ∙ ap (λ b. guard b >>= λ _. some (rank (r .0) (o .to))) c in
-          let l : lone k ≡ gives (r .1, letters (r .0)) = is ∙ ap (within budget) g ∙ ap (λ b. cond b (gives (r .1, letters (r .0))) (fails spent)) c in
-          (λ n. absurd (none≢some (sym n ∙ s)), λ n. absurd (fails≢gives (sym n ∙ l)))
-      by r g false c =
-          let s : sent k ≡ none = some-bind (λ q. guard (leb (q .1) budget) >>= λ _. some (rank (q .0) (o .to))) g ∙ ap (λ b. guard b >>= λ _. some (rank (r .0) (o .to))) c in
-          let l : lone k ≡ fails spent = is ∙ ap (within budget) g ∙ ap (λ b. cond b (gives (r .1, letters (r .0))) (fails spent)) c in
-          (λ n. l, λ n. s)
+      by : (w : Val) (n : ℕ) → reduce (isosOf rs) i (unrank (o .from) k) ≡ (some w, n) → (c : Bool) → leb n budget ≡ c → (sent k ≡ none) ↔ (lone k ≡ fails spent)
+      by w n g true c =
+          let s : sent k ≡ some (rank w (o .to)) = ap (toIf budget o) g ∙ ap (λ b. guard b >>= λ _. some (rank w (o .to))) c in
+          let l : lone k ≡ gives (n, letters w) = is ∙ ap (within budget) g ∙ ap (λ b. cond b (gives (n, letters w)) (fails spent)) c in
+          (λ x. absurd (none≢some (sym x ∙ s)), λ x. absurd (fails≢gives (sym x ∙ l)))
+      by w n g false c =
+          let s : sent k ≡ none = ap (toIf budget o) g ∙ ap (λ b. guard b >>= λ _. some (rank w (o .to))) c in
+          let l : lone k ≡ fails spent = is ∙ ap (within budget) g ∙ ap (λ b. cond b (gives (n, letters w)) (fails spent)) c in
+          (λ x. l, λ x. s)
 
-      go : (x : Option (Val × ℕ)) → reduce (isosOf rs) i (unrank (o .from) k) ≡ x → (sent k ≡ none) ↔ (lone k ≡ fails spent)
-      go none g = (λ n. is ∙ ap (within budget) g, λ n. ap (λ x. x >>= λ q. guard (leb (q .1) budget) >>= λ _. some (rank (q .0) (o .to))) g)
-      go (some r) g = by r g (leb (r .1) budget) refl
+      go : (sent k ≡ none) ↔ (lone k ≡ fails spent)
+      go = let (w, n, r, t) = free-ends false rs (accepted-good file rs e) i o p free (unrank (o .from) k) typed in by w n r (leb n budget) refl
 
   pub export-spent : count (o .from) ≤ maxPairs → (exportRows rs i budget ≡ fails spent) ↔ ((k : ℕ) × (k < count (o .from)) × (lone k ≡ fails spent))
   export-spent few = (
-    λ x. let u = upwards-none sent 0 (count (o .from)) (pairs-none (upwards sent 0 (count (o .from))) (sym (export-few rs i budget o p few) ∙ x)) in
+    λ x. let u = upwards-none sent 0 (count (o .from)) (pairs-none (upwards sent 0 (count (o .from))) (sym (export-few rs i budget o p free few) ∙ x)) in
         let z = zero-add (u .0) in
         let l : u .0 < count (o .from) = u .1 in
         (u .0, l, pair-spent (u .0) l .0 (ap sent (sym z) ∙ u .2)),
-    λ x. export-few rs i budget o p few ∙ ap onPairs (not-some (upwards sent 0 (count (o .from))) (λ ts g.
+    λ x. export-few rs i budget o p free few ∙ ap onPairs (not-some (upwards sent 0 (count (o .from))) (λ ts g.
         let u = upwards-at sent 0 (count (o .from)) ts g in
         let n = u .0 in
         let k = x .1 in
@@ -338,11 +345,14 @@ export-run file rs e i budget list x k t g =
     let n = index-below (x .tos) k g in
     let l = u .0 in
     let f : toFrom os i (x .iso) budget k ≡ some t = ap (toFrom os i (x .iso) budget) (sym (zero-add k)) ∙ u .1 k t g in
-    let p = bind-some (reduce os i (unrank (x .iso .from) k)) (λ r. guard (leb (r .1) budget) >>= λ _. some (rank (r .0) (x .iso .to))) f in
-    let q = bind-some (guard (leb (p .0 .1) budget)) (λ _. some (rank (p .0 .0) (x .iso .to))) (p .2) in
+    let r : Counted Val = reduce os i (unrank (x .iso .from) k) in
+    let p = bind-some (r .0) (λ w. guard (leb (r .1) budget) >>= λ _. some (rank w (x .iso .to))) f in
+    let q = bind-some (guard (leb (r .1) budget)) (λ _. some (rank (p .0) (x .iso .to))) (p .2) in
+    let s : reduce os i (unrank (x .iso .from) k) ≡ (some (p .0), r .1) = counted (p .1) refl in
     let h = inhabits-of (unrank (x .iso .from) k) (x .iso .from) (unrank-inhabits (x .iso .from) k (omega arith)) in
-    let w = preserves os (good rs (accepted-good file rs e)) i (x .iso) (x .there) (unrank (x .iso .from) k) (p .0 .0) (p .0 .1) h (p .1) in (
-      p .0 .1,
-      run-gives file rs e i (x .iso) (x .there) (unrank (x .iso .from) k) (p .0 .0) (p .0 .1) budget h (p .1) (leb-le (p .0 .1) budget (guard-true (leb (p .0 .1) budget) (q .1)))
-          ∙ ap (λ v. gives (p .0 .1, letters v)) (sym (unrank-rank (p .0 .0) (x .iso .to) (of-inhabits w)) ∙ ap (unrank (x .iso .to)) (some-inj (q .2))),
+    let w = preserves os (good rs (accepted-good file rs e)) i (x .iso) (x .there) (unrank (x .iso .from) k) (p .0) (r .1) h s in
+    let fin = export-taken file rs e i budget list x .finiteTo in (
+      r .1,
+      run-gives file rs e i (x .iso) (x .there) (unrank (x .iso .from) k) (p .0) (r .1) budget h s (leb-le (r .1) budget (guard-true (leb (r .1) budget) (q .1)))
+          ∙ ap (λ v. gives (r .1, letters v)) (sym (unrank-rank (p .0) (x .iso .to) fin (of-inhabits w)) ∙ ap (unrank (x .iso .to)) (some-inj (q .2))),
     )

@@ -11,6 +11,7 @@ use lib.ListN.{length, take, drop, getElem?}
 use lib.Seq.{take-append-seam}
 use Rattle.limits.specs.Limits.{maxPairs, tableLength, workLength, exportLength, importLength, maxClauses}
 use Rattle.calculus.specs.Trees.{Iso}
+use Rattle.calculus.specs.Lists.{isFree}
 use Rattle.calculus.specs.Refusals.{Refusal, number, shortArea, noValue, spent}
 use Rattle.format.specs.Lines.{Row, lines, withoutReturns}
 use Rattle.format.specs.Unfold.{isosOf}
@@ -175,8 +176,8 @@ data Ended : Outcome (List ℕ) → Type 0 where
   given : (bs : List ℕ) → Ended (gives bs)
   over : Ended (fails spent)
 
-only-spent : (rs : List Row) (i budget : ℕ) (x : Iso) → getElem? (isosOf rs) i ≡ some x → count (x .from) ≤ maxPairs → Ended (exportRows rs i budget)
-only-spent rs i budget x p few = subst Ended (sym (export-few rs i budget x p few)) (go (upwards (toFrom (isosOf rs) i x budget) 0 (count (x .from))))
+only-spent : (rs : List Row) (i budget : ℕ) (x : Iso) → getElem? (isosOf rs) i ≡ some x → isFree (isosOf rs) i ≡ true → count (x .from) ≤ maxPairs → Ended (exportRows rs i budget)
+only-spent rs i budget x p free few = subst Ended (sym (export-few rs i budget x p free few)) (go (upwards (toFrom (isosOf rs) i x budget) 0 (count (x .from))))
   where
     go : (y : Option (List ℕ)) → Ended (onPairs y)
     go none = over
@@ -226,17 +227,18 @@ module _ (file t w : List ℕ) (i budget : ℕ) (o : List ℕ) where
       ∙ ap (λ v. outputBy o (served v (exportOn v i budget) t w)) e
       ∙ ap (λ x. outputBy o (served (accepted rs) x t w)) p
 
-  -- export's 17 is that of some lone run, and of no other: of an accepted file with areas of the stated lengths, for an iso that is there and has few values
-  pub export-17 : (rs : List Row) → verdict file ≡ accepted rs → (x : Iso) → getElem? (isosOf rs) i ≡ some x → count (x .from) ≤ maxPairs
+  -- export's 17 is that of some lone run, and of no other: of an accepted file with areas of the stated lengths, for an iso that is there, has to do with no list and
+  -- has few values
+  pub export-17 : (rs : List Row) → verdict file ≡ accepted rs → (x : Iso) → getElem? (isosOf rs) i ≡ some x → isFree (isosOf rs) i ≡ true → count (x .from) ≤ maxPairs
       → tableLength ≤ length t → workLength ≤ length w → exportLength ≤ length o
       → ((exportService file t w i budget o .answer .number ≡ 17) → (k : ℕ) × (k < count (x .from)) × (run file i false budget (letters (unrank (x .from) k)) ≡ fails spent))
       × (((k : ℕ) × (k < count (x .from)) × (run file i false budget (letters (unrank (x .from) k)) ≡ fails spent)) → exportService file t w i budget o .answer .number ≡ 17)
   unfolding exportService
-  export-17 rs e x p few long wide room =
+  export-17 rs e x p free few long wide room =
       let u : exportService file t w i budget o .answer .number ≡ refusalNumber (exportRows rs i budget) =
       ap (λ b. refusalNumber (exportOn (unless b (verdict file)) i budget)) (room-enough t w o exportLength long wide room) ∙ ap (λ v. refusalNumber (exportOn v i budget)) e in
-      let s = export-spent file rs e i budget x p few in
-      (λ n. s .0 (is-spent (exportRows rs i budget) (only-spent rs i budget x p few) (sym u ∙ n)), λ k. u ∙ ap refusalNumber (s .1 k))
+      let s = export-spent file rs e i budget x p free few in
+      (λ n. s .0 (is-spent (exportRows rs i budget) (only-spent rs i budget x p free few) (sym u ∙ n)), λ k. u ∙ ap refusalNumber (s .1 k))
 
   module _ (done : exportService file t w i budget o .answer .number ≡ 0) where
     pub export-of : (rs : List Row) × (verdict file ≡ accepted rs) × Exported rs i budget writtenList

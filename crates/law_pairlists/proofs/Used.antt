@@ -9,7 +9,8 @@ use mathlib.Core.Bool.{true}
 use mathlib.Core.Option.{some}
 use mathlib.Core.List.{List, [], _∷_, _++_, append-assoc, append-nil, List·Memᴰ, List·Memᴰ·head, List·Memᴰ·tail, List·Memᴰ·not-nil, List·Memᴰ·cases-cons}
 use lib.ListN.{length, getElem?, length-append}
-use Rattle.calculus.specs.Trees.{Ty, tunit, tsum, tprod, left, right, Val, vunit, vinj, vpair}
+use Rattle.calculus.specs.Trees.{Ty, tunit, tsum, tprod, Tag, left, right, Val, vleaf, unitLeaf, vinj, vnode, pairNode}
+use Rattle.calculus.specs.Lists.{Finite}
 use Rattle.calculus.specs.Refusals.{Kind, typeLine, patternLine, isoLine, clauseLine}
 use Rattle.format.specs.Lines.{Row}
 use Rattle.format.specs.Kinds.{PatternKind, unitPattern, variablePattern, leftPattern, rightPattern, pairPattern, noPattern, patternKind}
@@ -114,29 +115,35 @@ second = List·Memᴰ·tail (List·Memᴰ·head refl)
 plus : (a : ℕ) → a ≡ 0 + a
 plus a = omega arith
 
-type-grown : (a : Ty) (rs : List Row) → Grown typeLine rs (writeType a rs)
-type-grown tunit rs = grown-leaf typeLine (typeRow 0 0 0) rs
-type-grown (tsum a b) rs =
+type-grown : (a : Ty) → Finite a → (rs : List Row) → Grown typeLine rs (writeType a rs)
+type-grown tunit x rs = grown-leaf typeLine (typeRow 0 0 0) rs
+type-grown (tsum a b) (Finite.sum x y) rs =
     let f : Entry = writeType a rs in
     let s : Entry = writeType b (f .rows) in
-    grown-two typeLine (typeRow 1 (f .number) (s .number)) rs f s (type-grown a rs) (type-grown b (f .rows)) refl first second
-type-grown (tprod a b) rs =
+    grown-two typeLine (typeRow 1 (f .number) (s .number)) rs f s (type-grown a x rs) (type-grown b y (f .rows)) refl first second
+type-grown (tprod a b) (Finite.product x y) rs =
     let f : Entry = writeType a rs in
     let s : Entry = writeType b (f .rows) in
-    grown-two typeLine (typeRow 2 (f .number) (s .number)) rs f s (type-grown a rs) (type-grown b (f .rows)) refl first second
+    grown-two typeLine (typeRow 2 (f .number) (s .number)) rs f s (type-grown a x rs) (type-grown b y (f .rows)) refl first second
 
-value-grown : (v : Val) (rs : List Row) → Grown patternLine rs (writeValue v rs)
-value-grown vunit rs = grown-leaf patternLine (patternRow 0 0 0) rs
-value-grown (vinj left v) rs =
+-- a closed value without lists
+pub data Unlisted : Val → Type 0 where
+  unit : Unlisted (vleaf unitLeaf)
+  inj : {t : Tag} {v : Val} → Unlisted v → Unlisted (vinj t v)
+  pair : {v w : Val} → Unlisted v → Unlisted w → Unlisted (vnode pairNode v w)
+
+value-grown : (v : Val) → Unlisted v → (rs : List Row) → Grown patternLine rs (writeValue v rs)
+value-grown (vleaf unitLeaf) u rs = grown-leaf patternLine (patternRow 0 0 0) rs
+value-grown (vinj left v) (Unlisted.inj u) rs =
     let f : Entry = writeValue v rs in
-    grown-one patternLine (patternRow 2 (f .number) 0) rs f (value-grown v rs) refl (List·Memᴰ·head (plus (f .number)))
-value-grown (vinj right v) rs =
+    grown-one patternLine (patternRow 2 (f .number) 0) rs f (value-grown v u rs) refl (List·Memᴰ·head (plus (f .number)))
+value-grown (vinj right v) (Unlisted.inj u) rs =
     let f : Entry = writeValue v rs in
-    grown-one patternLine (patternRow 3 (f .number) 0) rs f (value-grown v rs) refl (List·Memᴰ·head (plus (f .number)))
-value-grown (vpair v w) rs =
+    grown-one patternLine (patternRow 3 (f .number) 0) rs f (value-grown v u rs) refl (List·Memᴰ·head (plus (f .number)))
+value-grown (vnode pairNode v w) (Unlisted.pair u u′) rs =
     let f : Entry = writeValue v rs in
     let s : Entry = writeValue w (f .rows) in
-    grown-two patternLine (patternRow 4 (f .number) (s .number)) rs f s (value-grown v rs) (value-grown w (f .rows)) refl (List·Memᴰ·head (plus (f .number)))
+    grown-two patternLine (patternRow 4 (f .number) (s .number)) rs f s (value-grown v u rs) (value-grown w u′ (f .rows)) refl (List·Memᴰ·head (plus (f .number)))
     (List·Memᴰ·tail (List·Memᴰ·head (plus (s .number))))
 
 -- ---- the P rows of all pairs
@@ -155,9 +162,13 @@ record PairsGrown (rs : List Row) (w : Written) : Type 0 where
   extends : w .patterns ≡ rs ++ added
   owned : (n : ℕ) → length rs ≤ n → n < length (w .patterns) → Owned w n
 
-pairs-grown : (cs : List (Val × Val)) (rs : List Row) → PairsGrown rs (writePairs cs rs)
-pairs-grown [] rs = record { added = []; extends = sym (append-nil rs); owned = λ n l b. absurd (not-suc-le-zero {n = 0} (omega arith)) }
-pairs-grown (c ∷ cs) rs = go (pairs-grown cs (r .rows))
+pub record UnlistedPair (c : Val × Val) : Type 0 where
+  pub from : Unlisted (c .0)
+  pub to : Unlisted (c .1)
+
+pairs-grown : (cs : List (Val × Val)) → ((c : Val × Val) → List·Memᴰ c cs → UnlistedPair c) → (rs : List Row) → PairsGrown rs (writePairs cs rs)
+pairs-grown [] u rs = record { added = []; extends = sym (append-nil rs); owned = λ n l b. absurd (not-suc-le-zero {n = 0} (omega arith)) }
+pairs-grown (c ∷ cs) u rs = go (pairs-grown cs (λ d m. u d (List·Memᴰ·tail m)) (r .rows))
   where
     l : Entry
     l = writeValue (c .0) rs
@@ -169,10 +180,10 @@ pairs-grown (c ∷ cs) rs = go (pairs-grown cs (r .rows))
     w = writePairs cs (r .rows)
 
     gl : Grown patternLine rs l
-    gl = value-grown (c .0) rs
+    gl = value-grown (c .0) (u c (List·Memᴰ·head refl) .from) rs
 
     gr : Grown patternLine (l .rows) r
-    gr = value-grown (c .1) (l .rows)
+    gr = value-grown (c .1) (u c (List·Memᴰ·head refl) .to) (l .rows)
 
     all : Written
     all = record { patterns = w .patterns; clauses = clauseRow (l .number) (r .number) ∷ w .clauses }
@@ -320,9 +331,10 @@ module _ (T P back : List Row) (counts : typeLines (T ++ (P ++ back)) ≡ length
           on (inl d) = late (n - length T - length P) (omega arith) (omega (arith, whole))
 
 -- where the file's T lines are those that were written for the two types
-pub none-idle : (a b : Ty) (cs : List (Val × Val)) → typeLines (fileRows a b cs) ≡ length (writeType b (writeType a [] .rows) .rows) → NoneIdle (fileRows a b cs)
+pub none-idle : (a b : Ty) (cs : List (Val × Val)) → Finite a → Finite b → ((c : Val × Val) → List·Memᴰ c cs → UnlistedPair c)
+    → typeLines (fileRows a b cs) ≡ length (writeType b (writeType a [] .rows) .rows) → NoneIdle (fileRows a b cs)
 unfolding fileRows
-none-idle a b cs counts = all-reached T P back counts types patterns roots
+none-idle a b cs x y z counts = all-reached T P back counts types patterns roots
   where
     f : Entry
     f = writeType a []
@@ -343,10 +355,10 @@ none-idle a b cs counts = all-reached T P back counts types patterns roots
     back = isoRow (f .number) (e .number) ∷ w .clauses
 
     g : Grown typeLine [] f
-    g = type-grown a []
+    g = type-grown a x []
 
     u : Grown typeLine (f .rows) e
-    u = type-grown b (f .rows)
+    u = type-grown b y (f .rows)
 
     types : (n : ℕ) → n < length T → Reached (T ++ (P ++ back)) n
     types n b = go (le-or-lt (length (f .rows)) n)
@@ -359,7 +371,7 @@ none-idle a b cs counts = all-reached T P back counts types patterns roots
 
     patterns : (n : ℕ) → n < length P → Reached (T ++ (P ++ back)) (length T + n)
     patterns n b =
-        let o = pairs-grown cs [] .owned n (omega arith) b in
+        let o = pairs-grown cs z [] .owned n (omega arith) b in
         down-patterns T P back counts (o .leads) (by-clause T P back counts (o .lhs) (o .rhs) (o .from) (List·Memᴰ·tail (o .owner)) (o .either))
 
     roots : (r : Row) → List·Memᴰ r back → isRoot (r .kind) ≡ true

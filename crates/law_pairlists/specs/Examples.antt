@@ -6,15 +6,16 @@ use mathlib.Core.Option.{none, some}
 use mathlib.Core.List.{List, [], _∷_, map}
 use lib.ListN.{replicate}
 use Rattle.limits.specs.Limits.{lineFeed}
-use Rattle.calculus.specs.Trees.{Ty, tunit, tsum, tprod, left, right, pvar, vunit, vinj, vpair, Iso}
+use Rattle.calculus.specs.Trees.{Ty, tunit, tlist, tsum, tprod, left, right, pvar, vleaf, unitLeaf, emptyLeaf, vinj, vnode, pairNode, elementNode, Iso}
 use Rattle.calculus.specs.Refusals.{Kind, typeLine, patternLine, isoLine, clauseLine, letLine, noIso, spent, ceiling, tooMany, badList}
 use Rattle.calculus.specs.Reduction.{reduce}
+use Rattle.calculus.specs.Lists.{freeIsos}
 use Rattle.format.specs.Lines.{Row, printRows}
 use Rattle.format.specs.Judge.{start}
 use Rattle.model.specs.Services.{Verdict, verdict, gives, fails, refusalOf}
 use Rattle.model.specs.Cases.{bytes, fileS}
 use Rattle.law_pairlists.specs.PairLists.{pairLine, pairLines, toIn, tosOf, noneTwice, pairsUp, sameRow, find, enter, typeRow, patternRow, writeType}
-use Rattle.law_pairlists.specs.PairLists.{writeValue, clauseRow, isoRow, writePairs, settings, listOf, withinAll, writing, onTypes, onExported, exportOn}
+use Rattle.law_pairlists.specs.PairLists.{writeValue, clauseRow, isoRow, writePairs, settings, listOf, withinAll, writing, onTypes, toIf, onExported, exportOn}
 use Rattle.law_pairlists.specs.PairLists.{importOn, exportRows, importRows}
 
 abbrev squares : Verdict
@@ -124,16 +125,17 @@ rows-written = refl
 types-written : writeType (tsum (tprod tunit bit) tunit) [] ≡ record { rows = row typeLine 0 0 0 ∷ row typeLine 1 0 0 ∷ row typeLine 2 0 1 ∷ row typeLine 1 2 0 ∷ []; number = 3 }
 types-written = refl
 
-values-written : writeValue (vpair (vinj right vunit) (vinj left (vinj right vunit))) []
+values-written : writeValue (vnode pairNode (vinj right (vleaf unitLeaf)) (vinj left (vinj right (vleaf unitLeaf)))) []
     ≡ record { rows = row patternLine 0 0 0 ∷ row patternLine 3 0 0 ∷ row patternLine 2 1 0 ∷ row patternLine 4 1 2 ∷ []; number = 3 }
 values-written = refl
 
-pairs-written : writePairs ((vunit, vinj left vunit) ∷ (vinj right vunit, vunit) ∷ []) []
+pairs-written : writePairs ((vleaf unitLeaf, vinj left (vleaf unitLeaf)) ∷ (vinj right (vleaf unitLeaf), (vleaf unitLeaf)) ∷ []) []
     ≡ record { patterns = row patternLine 0 0 0 ∷ row patternLine 2 0 0 ∷ row patternLine 3 0 0 ∷ []; clauses = row clauseLine 0 1 0 ∷ row clauseLine 2 0 0 ∷ [] }
 pairs-written = refl
 
 -- "one clause of closed values a pair": the from by its place, the to by its number
-pair-settings : settings (tsum tunit bit) bit 1 (1 ∷ 0 ∷ []) ≡ (vinj right (vinj left vunit), vinj right vunit) ∷ (vinj right (vinj right vunit), vinj left vunit) ∷ []
+pair-settings : settings (tsum tunit bit) bit 1 (1 ∷ 0 ∷ []) ≡ (vinj right (vinj left (vleaf unitLeaf)), vinj right (vleaf unitLeaf)) ∷
+    (vinj right (vinj right (vleaf unitLeaf)), vinj left (vleaf unitLeaf)) ∷ []
 pair-settings = refl
 
 -- "another ceiling passed in the writing is 7": eight L lines pass, a ninth does not, wherever the rows go on
@@ -159,11 +161,34 @@ through a b = record { line = 1; from = a; to = b; clauses = record { line = 2; 
 export-counts : map (onExported [] 0 0)
     (some (through (wide 12) tunit) ∷ some (through (tsum (wide 12) tunit) tunit) ∷ some (through tunit (tsum (wide 12) tunit)) ∷ none ∷ [])
     ≡ fails spent ∷ fails tooMany ∷ fails spent ∷ fails noIso ∷ []
-unfolding reduce pairLine
+unfolding reduce pairLine freeIsos
 export-counts = refl
 
 -- the pairs are those of the from-type's values, and the to of each is its number in the to-type
 export-froms : onExported (through bit tunit ∷ []) 0 1 (some (through bit tunit)) ∷ exportOn (verdict (bytes "T,0,0,0\nT,1,0,0\nT,2,1,0\nP,1,0,0\nP,0,0,0\nP,4,0,1\nI,1,2\nC,0,2\n")) 0 9 ∷ []
     ≡ gives (bytes "0,0\n1,0\n") ∷ gives (bytes "0,0\n1,1\n") ∷ []
-unfolding reduce pairLine verdict exportRows
+unfolding reduce pairLine verdict exportRows freeIsos
 export-froms = refl
+
+-- request 14: 18 where the iso has to do with lists, as where it has over 4,096 values; 17 behind both
+abbrev units : Ty
+units = tlist tunit
+
+list-exports : map (λ o. onExported (o ∷ []) 0 0 (some o)) (through units tunit ∷ through tunit units ∷ through tunit tunit ∷ []) ≡ fails tooMany ∷ fails tooMany ∷ fails spent ∷ []
+unfolding reduce pairLine freeIsos
+list-exports = refl
+
+list-imports : map (λ a. onTypes (some a) (some tunit) [] ∷ onTypes (some tunit) (some a) [] ∷ []) (units ∷ []) ≡ (fails tooMany ∷ fails tooMany ∷ []) ∷ []
+unfolding listOf
+list-imports = refl
+
+-- the to of a pair: nothing where nothing is given or the count passes the budget
+tos-given : map (toIf 3 (through bit (tsum tunit bit))) ((none, 1) ∷ (some (vinj right (vinj left (vleaf unitLeaf))), 3) ∷ (some (vinj right (vinj left (vleaf unitLeaf))), 4) ∷ [])
+    ≡ none ∷ some 1 ∷ none ∷ []
+tos-given = refl
+
+-- the rows of lists: "T kind 3 (a the element, b 0), P kinds 5 empty (a = b = 0) and 6 an element before a list"
+lists-written : (writeType (tlist bit) [] ≡ record { rows = row typeLine 0 0 0 ∷ row typeLine 1 0 0 ∷ row typeLine 3 1 0 ∷ []; number = 2 })
+    × (writeValue (vnode elementNode (vinj left (vleaf unitLeaf)) (vleaf emptyLeaf)) []
+    ≡ record { rows = row patternLine 0 0 0 ∷ row patternLine 2 0 0 ∷ row patternLine 5 0 0 ∷ row patternLine 6 1 2 ∷ []; number = 3 })
+lists-written = (refl, refl)

@@ -8,12 +8,13 @@ use lib.Dec.{ltb, leb, eqb}
 use lib.ListN.{length, getElem?}
 use Rattle.limits.specs.Limits.{budgetBound, comma, lineFeed, maxClauses, maxPairs, exportLength, importLength}
 use Rattle.calculus.specs.Tools.{_>>=_, guard, all}
-use Rattle.calculus.specs.Trees.{Ty, tunit, tsum, tprod, left, right, Val, vunit, vinj, vpair, Iso}
+use Rattle.calculus.specs.Trees.{Ty, tunit, tlist, tsum, tprod, unitLeaf, emptyLeaf, left, right, pairNode, elementNode, Val, vleaf, vinj, vnode, Iso}
 use Rattle.calculus.specs.Refusals.{Refusal, typeLine, patternLine, isoLine, clauseLine, noIso, spent, ceiling, tooMany, badList}
 use Rattle.format.specs.Lines.{Row, letter, lines, text, numeral, skip, ended, decimal, printRows}
 use Rattle.format.specs.Judge.{Seen, start, withinCeilings, after}
 use Rattle.format.specs.Unfold.{isosOf}
-use Rattle.calculus.specs.Reduction.{reduce}
+use Rattle.calculus.specs.Reduction.{Counted, reduce}
+use Rattle.calculus.specs.Lists.{freeIsos, isFree}
 use Rattle.law_ranking.specs.Numbering.{count, rank, unrank, typesOf}
 use Rattle.model.specs.Services.{Verdict, verdict, Answer, written, short, Outcome, gives, fails, goOn, refusalOf, bytesFrom, Served, serve, answerFrom, Output, outputBy}
 
@@ -90,6 +91,7 @@ patternRow k a b = record { kind = patternLine; x = k; y = a; z = b }
 -- "first part before second, parts before wholes"
 abbrev pub writeType : Ty → List Row → Entry
 writeType tunit rs = entry (typeRow 0 0 0) rs
+writeType (tlist a) rs = let f : Entry = writeType a rs in entry (typeRow 3 (f .number) 0) (f .rows)
 writeType (tsum a b) rs =
     let f : Entry = writeType a rs in
     let s : Entry = writeType b (f .rows) in
@@ -100,13 +102,18 @@ writeType (tprod a b) rs =
     entry (typeRow 2 (f .number) (s .number)) (s .rows)
 
 abbrev pub writeValue : Val → List Row → Entry
-writeValue vunit rs = entry (patternRow 0 0 0) rs
+writeValue (vleaf unitLeaf) rs = entry (patternRow 0 0 0) rs
+writeValue (vleaf emptyLeaf) rs = entry (patternRow 5 0 0) rs
 writeValue (vinj left v) rs = let f : Entry = writeValue v rs in entry (patternRow 2 (f .number) 0) (f .rows)
 writeValue (vinj right v) rs = let f : Entry = writeValue v rs in entry (patternRow 3 (f .number) 0) (f .rows)
-writeValue (vpair v w) rs =
+writeValue (vnode pairNode v w) rs =
     let f : Entry = writeValue v rs in
     let s : Entry = writeValue w (f .rows) in
     entry (patternRow 4 (f .number) (s .number)) (s .rows)
+writeValue (vnode elementNode v w) rs =
+    let f : Entry = writeValue v rs in
+    let s : Entry = writeValue w (f .rows) in
+    entry (patternRow 6 (f .number) (s .number)) (s .rows)
 
 -- "P lines clause by clause, left before right": the P rows, and the C rows that name them
 pub record Written : Type 0 where
@@ -158,7 +165,7 @@ onList a b (some ts) = writing (fileRows a b (settings a b 0 ts))
 abbrev pub onLines : Ty → Ty → List (List ℕ) → Outcome (List ℕ)
 onLines a b ls = cond (ltb maxClauses (length ls)) (fails (ceiling clauseLine)) (onList a b (listOf a b ls))
 
--- "an accepted file's two T lines": 15 for either, then "Over 4,096 values is 18, in import for either type"
+-- "an accepted file's two T lines": 15 for either, then "Over 4,096 values is 18, in import for either type"; a type that holds a list has more (`count`)
 abbrev pub onTypes : Option Ty → Option Ty → List (List ℕ) → Outcome (List ℕ)
 onTypes none y ls = fails noIso
 onTypes (some a) none ls = fails noIso
@@ -171,8 +178,11 @@ importRows rs i j list = onTypes (getElem? (typesOf rs) i) (getElem? (typesOf rs
 -- ---- export
 
 -- the to of pair k: what the run of setting k gives, "with one budget for each pair"
+abbrev pub toIf : ℕ → Iso → Counted Val → Option ℕ
+toIf budget o r = r .0 >>= λ w. guard (leb (r .1) budget) >>= λ _. some (rank w (o .to))
+
 abbrev pub toFrom : List Iso → ℕ → Iso → ℕ → ℕ → Option ℕ
-toFrom os i o budget k = reduce os i (unrank (o .from) k) >>= λ r. guard (leb (r .1) budget) >>= λ _. some (rank (r .0) (o .to))
+toFrom os i o budget k = toIf budget o (reduce os i (unrank (o .from) k))
 
 -- the tos of n pairs, "from 0 upwards"
 abbrev pub upwards : (ℕ → Option ℕ) → ℕ → ℕ → Option (List ℕ)
@@ -183,12 +193,16 @@ abbrev pub onPairs : Option (List ℕ) → Outcome (List ℕ)
 onPairs none = fails spent
 onPairs (some ts) = gives (pairLines 0 ts)
 
+-- 18: over 4,096 values, or a type of the iso or of one that it reaches holds a list (request 14)
+abbrev pub tooManyPairs : List Iso → ℕ → Iso → Bool
+tooManyPairs os i o = not (isFree os i) || ltb maxPairs (count (o .from))
+
 abbrev pub onExported : List Iso → ℕ → ℕ → Option Iso → Outcome (List ℕ)
 onExported os i budget none = fails noIso
-onExported os i budget (some o) = cond (ltb maxPairs (count (o .from))) (fails tooMany) (onPairs (upwards (toFrom os i o budget) 0 (count (o .from))))
+onExported os i budget (some o) = cond (tooManyPairs os i o) (fails tooMany) (onPairs (upwards (toFrom os i o budget) 0 (count (o .from))))
 
 unfoldable pub exportRows : List Row → ℕ → ℕ → Outcome (List ℕ)
-unfolding isosOf reduce pairLine
+unfolding isosOf reduce pairLine freeIsos
 exportRows rs i budget = onExported (isosOf rs) i budget (getElem? (isosOf rs) i)
 
 -- ---- the services

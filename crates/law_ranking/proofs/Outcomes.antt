@@ -24,7 +24,7 @@ use Rattle.model.proofs.Runs.{accepted-good, value-in}
 use Rattle.model.proofs.Sizes.{types-small}
 use Rattle.law_ranking.specs.Numbering.{count, rank, unrank, before, typesOf, onType, numberIn, toNumber, toSetting, numberOn, settingOn}
 use Rattle.law_ranking.specs.Answers.{LineFault, LineOf, NumberIs, SettingIs}
-use Rattle.law_ranking.proofs.Numbering.{rank-below, unrank-rank, unrank-inhabits, rank-unrank, rank-order, letters-bound}
+use Rattle.law_ranking.proofs.Numbering.{few-finite, rank-below, unrank-rank, unrank-inhabits, rank-unrank, rank-order, letters-bound}
 
 -- ---- one type
 
@@ -104,7 +104,7 @@ setting-in rs i n (SettingIs.high a l k) = line-of (toSetting n) l ∙ ap (setti
 setting-in rs i n (SettingIs.setting a v l h e) =
     line-of (toSetting n) l
     ∙ ap (setting-by n a) (lt-ltb (subst (λ m. m < count a) e (rank-below v a (of-inhabits h))))
-    ∙ ap gives (ap letters (ap (unrank a) (sym e) ∙ unrank-rank v a (of-inhabits h)))
+    ∙ ap gives (ap letters (ap (unrank a) (sym e) ∙ unrank-rank v a (few-finite a (l .few)) (of-inhabits h)))
 
 pub setting-case : (rs : List Row) (i n : ℕ) → (x : Outcome (List ℕ)) × SettingIs rs i n x
 setting-case rs i n = go (line-case rs i)
@@ -117,7 +117,7 @@ setting-case rs i n = go (line-case rs i)
         by true e =
             let h = ltb-lt n (count a) e in
             let v = unrank a n in
-            (gives (letters v), SettingIs.setting a v l (inhabits-of v a (unrank-inhabits a n h)) (rank-unrank a n h))
+            (gives (letters v), SettingIs.setting a v l (inhabits-of v a (unrank-inhabits a n h)) (rank-unrank a (few-finite a (l .few)) n h))
         by false e = (fails tooHigh, SettingIs.high a l (ltb-false n (count a) e))
 
 -- 15, 18 and 19 exactly when, and else the letters
@@ -168,7 +168,7 @@ number-order (accepted rs) i ls ms m n d e =
     let same : q .0 ≡ r .0 = some-inj (sym (q .2 .there) ∙ r .2 .there) in
     let h : Of (r .1) (q .0) = subst (Of (r .1)) (sym same) (r .4) in
     ap₂ ltb (sym (q .5)) (sym (r .5) ∙ ap (rank (r .1)) (sym same))
-    ∙ rank-order (q .1) (r .1) (q .0) (of-inhabits (q .4)) (of-inhabits h)
+    ∙ rank-order (q .1) (r .1) (q .0) (few-finite (q .0) (q .2 .few)) (of-inhabits (q .4)) (of-inhabits h)
     ∙ ap₂ before (sym (q .3)) (sym (r .3))
 
 -- ---- room
@@ -187,5 +187,5 @@ setting-room file i n ls = go (verdict file) refl
     go (refused f m) p e = absurd (fails≢gives e)
     go (accepted rs) p e =
         let r = setting-value (setting-iff rs i n (gives ls) .0 e) in
-        let b = letters-bound (r .1) (r .0) (of-inhabits (r .4)) in
+        let b = letters-bound (r .1) (r .0) (few-finite (r .0) (r .2 .few)) (of-inhabits (r .4)) in
         subst (λ l. length l ≤ resultLength) (r .3) (le-trans b (small-type file rs p i (r .0) (r .2 .there)))

@@ -4,7 +4,7 @@ use mathlib.Core.Path.{_≡_, refl}
 use mathlib.Core.Bool.{true, false}
 use mathlib.Core.Option.{none, some}
 use mathlib.Core.List.{List, [], _∷_, map}
-use Rattle.calculus.specs.Trees.{Ty, tunit, tsum, tprod, left, right, Val, vunit, vinj, vpair}
+use Rattle.calculus.specs.Trees.{Ty, tunit, tlist, tsum, tprod, left, right, Val, vleaf, unitLeaf, emptyLeaf, vinj, vnode, pairNode, elementNode}
 use Rattle.calculus.specs.Refusals.{noIso, noValue, tooMany, tooHigh}
 use Rattle.calculus.specs.Letters.{valueOf}
 use Rattle.model.specs.Services.{Verdict, verdict, gives, fails}
@@ -47,8 +47,10 @@ counts = refl
 
 -- "Unit is 0; left keeps its number; right adds the left type's count of values; a pair is first times the second type's count, plus second", and back
 abbrev pairs : List Val
-pairs = vpair (vinj left vunit) (vinj left vunit) ∷ vpair (vinj left vunit) (vinj right (vinj left vunit)) ∷ vpair (vinj left vunit) (vinj right (vinj right vunit))
-    ∷ vpair (vinj right vunit) (vinj left vunit) ∷ vpair (vinj right vunit) (vinj right (vinj left vunit)) ∷ vpair (vinj right vunit) (vinj right (vinj right vunit)) ∷ []
+pairs = vnode pairNode (vinj left (vleaf unitLeaf)) (vinj left (vleaf unitLeaf)) ∷ vnode pairNode (vinj left (vleaf unitLeaf)) (vinj right (vinj left (vleaf unitLeaf))) ∷ vnode pairNode
+    (vinj left (vleaf unitLeaf)) (vinj right (vinj right (vleaf unitLeaf)))
+    ∷ vnode pairNode (vinj right (vleaf unitLeaf)) (vinj left (vleaf unitLeaf)) ∷ vnode pairNode (vinj right (vleaf unitLeaf)) (vinj right (vinj left (vleaf unitLeaf))) ∷ vnode pairNode
+    (vinj right (vleaf unitLeaf)) (vinj right (vinj right (vleaf unitLeaf))) ∷ []
 
 ranks : map (λ v. rank v (tprod bit three)) pairs ≡ 0 ∷ 1 ∷ 2 ∷ 3 ∷ 4 ∷ 5 ∷ []
 ranks = refl
@@ -57,16 +59,17 @@ unranks : map (unrank (tprod bit three)) (0 ∷ 1 ∷ 2 ∷ 3 ∷ 4 ∷ 5 ∷ []
 unranks = refl
 
 sum-ranks : map (λ v. rank v (tsum three bit))
-    (vinj left (vinj left vunit) ∷ vinj left (vinj right (vinj right vunit)) ∷ vinj right (vinj left vunit) ∷ vinj right (vinj right vunit) ∷ [])
+    (vinj left (vinj left (vleaf unitLeaf)) ∷ vinj left (vinj right (vinj right (vleaf unitLeaf))) ∷ vinj right (vinj left (vleaf unitLeaf)) ∷ vinj right (vinj right (vleaf unitLeaf)) ∷ [])
     ≡ 0 ∷ 2 ∷ 3 ∷ 4 ∷ []
 sum-ranks = refl
 
 sum-unranks : map (unrank (tsum three bit)) (0 ∷ 2 ∷ 3 ∷ 4 ∷ [])
-    ≡ vinj left (vinj left vunit) ∷ vinj left (vinj right (vinj right vunit)) ∷ vinj right (vinj left vunit) ∷ vinj right (vinj right vunit) ∷ []
+    ≡ vinj left (vinj left (vleaf unitLeaf)) ∷ vinj left (vinj right (vinj right (vleaf unitLeaf))) ∷ vinj right (vinj left (vleaf unitLeaf)) ∷ vinj right (vinj right (vleaf unitLeaf)) ∷ []
 sum-unranks = refl
 
 -- a value of another type has no number: 0 stands there
-no-ranks : rank vunit bit ∷ rank (vinj right vunit) tunit ∷ rank (vinj right vunit) (tprod bit bit) ∷ rank (vpair vunit vunit) tunit ∷ rank (vpair vunit vunit) bit ∷ [] ≡ 0 ∷ 0 ∷ 0 ∷ 0 ∷ 0 ∷ []
+no-ranks : rank (vleaf unitLeaf) bit ∷ rank (vinj right (vleaf unitLeaf)) tunit ∷ rank (vinj right (vleaf unitLeaf)) (tprod bit bit) ∷ rank (vnode pairNode (vleaf unitLeaf) (vleaf unitLeaf))
+    tunit ∷ rank (vnode pairNode (vleaf unitLeaf) (vleaf unitLeaf)) bit ∷ [] ≡ 0 ∷ 0 ∷ 0 ∷ 0 ∷ 0 ∷ []
 no-ranks = refl
 
 -- "With a refusal the setting number is 0"
@@ -86,3 +89,9 @@ less (suc n) = tsum (less n) (wide (suc n))
 -- "a count above 4,294,967,295": so many values are numbered, and one more is too many
 most-values : onType none gives ∷ onType (some (less 31)) (λ a. gives tunit) ∷ onType (some (wide 32)) (λ a. gives tunit) ∷ [] ≡ fails noIso ∷ gives tunit ∷ fails tooMany ∷ []
 most-values = refl
+
+-- request 14: a list has more values than are numbered, one more than the last number; where a number is asked all the same, 0 and the empty list stand
+list-counts : (map count (tlist tunit ∷ tprod bit (tlist tunit) ∷ []) ≡ 4294967296 ∷ 8589934592 ∷ [])
+    × (map (λ v. rank v (tlist bit)) (vleaf emptyLeaf ∷ vinj right (vleaf unitLeaf) ∷ vnode elementNode (vinj right (vleaf unitLeaf)) (vleaf emptyLeaf) ∷ []) ≡ 0 ∷ 0 ∷ 0 ∷ [])
+    × (map (unrank (tlist bit)) (0 ∷ 1 ∷ []) ≡ vleaf emptyLeaf ∷ vleaf emptyLeaf ∷ [])
+list-counts = (refl, refl, refl)

@@ -1,21 +1,22 @@
 -- Request 02, "Settings as numbers": the closed values of a type numbered from 0, and what the two services answer and leave in every lent area.
-use Prim.Native.Nat.{ℕ, _+_, _-_, _*_, _/_, _%_}
+use Prim.Native.Nat.{ℕ, _+_, _-_, _*_, _/_, _%_, suc}
 use mathlib.Core.Bool.{Bool, true, false, cond, _||_}
 use mathlib.Core.Option.{Option, none, some}
 use mathlib.Core.List.{List, [], _∷_}
 use lib.Dec.{ltb, eqb}
 use lib.ListN.{length, getElem?}
 use Rattle.limits.specs.Limits.{resultLength, maxValues}
-use Rattle.calculus.specs.Trees.{Ty, tunit, tsum, tprod, Tag, left, right, Val, vunit, vinj, vpair, part}
+use Rattle.calculus.specs.Trees.{Ty, tunit, tsum, tprod, Tag, left, right, Val, vinj, part, tlist, unitLeaf, emptyLeaf, pairNode, vleaf, vnode}
 use Rattle.calculus.specs.Refusals.{Refusal, noIso, noValue, tooMany, tooHigh}
 use Rattle.format.specs.Lines.{Row}
 use Rattle.format.specs.Judge.{start, afterAll}
 use Rattle.calculus.specs.Letters.{letters, valueOf}
 use Rattle.model.specs.Services.{Verdict, verdict, valueIn, written, short, Outcome, gives, fails, goOn, refusalOf, refusalNumber, bytesFrom, Served, serve}
 
--- how many closed values a type has
+-- how many closed values a type has; a list has more than are numbered, and so has every type that holds one (request 14)
 abbrev pub count : Ty → ℕ
 count tunit = 1
+count (tlist a) = suc maxValues
 count (tsum a b) = count a + count b
 count (tprod a b) = count a * count b
 
@@ -26,19 +27,22 @@ offset right a = count a
 
 -- "Unit is 0; …; a pair is first times the second type's count, plus second." A value of another type has no number; 0 stands there.
 abbrev pub rank : Val → Ty → ℕ
-rank vunit a = 0
+rank (vleaf l) a = 0
 rank (vinj t v) tunit = 0
+rank (vinj t v) (tlist a) = 0
 rank (vinj t v) (tsum a b) = offset t a + rank v (part t a b)
 rank (vinj t v) (tprod a b) = 0
-rank (vpair v w) tunit = 0
-rank (vpair v w) (tsum a b) = 0
-rank (vpair v w) (tprod a b) = rank v a * count b + rank w b
+rank (vnode k v w) tunit = 0
+rank (vnode k v w) (tlist a) = 0
+rank (vnode k v w) (tsum a b) = 0
+rank (vnode k v w) (tprod a b) = rank v a * count b + rank w b
 
 -- the value of a type that has a number
 abbrev pub unrank : Ty → ℕ → Val
-unrank tunit n = vunit
+unrank tunit n = vleaf unitLeaf
+unrank (tlist a) n = vleaf emptyLeaf
 unrank (tsum a b) n = cond (ltb n (count a)) (vinj left (unrank a n)) (vinj right (unrank b (n - count a)))
-unrank (tprod a b) n = vpair (unrank a (n / count b)) (unrank b (n % count b))
+unrank (tprod a b) n = vnode pairNode (unrank a (n / count b)) (unrank b (n % count b))
 
 -- "in byte order": whether letters stand before others
 abbrev pub before : List ℕ → List ℕ → Bool

@@ -7,7 +7,7 @@ use mathlib.Core.List.{List, [], append-nil}
 use lib.Dec.{ltb, leb}
 use lib.ListN.{length}
 use Rattle.limits.specs.Limits.{tableLength, workLength, resultLength, maxQueries, maxLines, maxUnits}
-use Rattle.calculus.specs.Refusals.{Refusal, number, shortArea, tooLong}
+use Rattle.calculus.specs.Refusals.{Refusal, number, shortArea, tooLong, tooLarge}
 use Rattle.calculus.proofs.Basic.{not-leb, not-ltb, eq-eqb}
 use Rattle.format.specs.Lines.{Row, lines}
 use Rattle.model.specs.Services.{Verdict, refused, answerOf, refusalBy, Checked, RunAnswer, tableAfter, workAfter, short, unless, written, checkBy, Outcome}
@@ -17,7 +17,7 @@ use Rattle.model.specs.Sheet.{Sheet, answersTo, numbersAfter, lettersAfter, she
 use Rattle.model.proofs.Sheets.{long-enough}
 use Rattle.law_ranking.specs.Numbering.{numberRows, settingRows, numberedBy, letteredBy}
 use Rattle.law_costs.specs.Bounds.{boundsRows, boundsBy}
-use Rattle.law_witnesses.specs.Showing.{Shown}
+use Rattle.law_witnesses.specs.Showing.{sided, Shown}
 use Rattle.law_units.specs.Units.{Units, Tally, playRows, playBy, unequal}
 use Rattle.check_overlap.specs.Overlap.{overlapRows, overlappedBy}
 use Rattle.law_refused.specs.ByVerdict.{numberWith, settingWith, overlapWith, boundsWith, outputWith, showWith, playWith}
@@ -110,9 +110,10 @@ module _ (f : Refusal) (n : ℕ) (high : 3 ≤ number f) (table work : List ℕ)
       → outputWith m asked (refused f n) table work output ≡ outputRefused f n table work output
   refused-output m asked output l = ap (outputBy output) (refused-served asked (short table work || ltb (length output) m) (both l))
 
-  pub refused-show : (result : List ℕ) → resultLength ≤ length result → showWith (refused f n) [] table work result ≡ showRefused f n table work result
-  refused-show result l =
-      ap (λ b. showOf (unless b (refused f n)) (cond b [] [])) (both {m = resultLength} {k = length result} l)
+  -- of a side there is a value to show
+  pub refused-show : sided f ≡ false → (result : List ℕ) → resultLength ≤ length result → showWith (refused f n) [] table work result ≡ showRefused f n table work result
+  refused-show unseen result l =
+      ap₂ (λ b c. showOf (unless b (cond c (refused tooLarge 0) (refused f n))) (cond b [] [])) (both {m = resultLength} {k = length result} l) unseen
       ∙ ap₂ {C = Shown} (λ t w. record { refusal = some f; answer = refusedAt f n; length = 0; table = t; work = w; result = result }) no-table no-work
     where
       showOf : Verdict → List ℕ → Shown

@@ -1,6 +1,7 @@
 -- All services at once: by the file's verdict they are those of today, and by that of a refused file they refuse.
 use Prim.Native.Nat.{ℕ, _≤_}
 use mathlib.Core.Path.{_≡_, refl, ap₂, _∙_}
+use mathlib.Core.Bool.{false}
 use mathlib.Core.List.{List, []}
 use lib.ListN.{length}
 use Rattle.limits.specs.Limits.{exportLength, importLength}
@@ -10,7 +11,7 @@ use Rattle.model.specs.Services.{Verdict, refused, verdict, check, turn, runSer
 use Rattle.model.specs.Sheet.{sheet}
 use Rattle.law_ranking.specs.Numbering.{numberService, settingService}
 use Rattle.law_costs.specs.Bounds.{boundsService}
-use Rattle.law_witnesses.specs.Showing.{showing, showService}
+use Rattle.law_witnesses.specs.Showing.{sided, showing, showService}
 use Rattle.law_pairlists.specs.PairLists.{exportRows, importRows, exportService, importService}
 use Rattle.law_units.specs.Units.{playService}
 use Rattle.check_overlap.specs.Overlap.{overlapService}
@@ -27,9 +28,9 @@ pub same-services : (file : List ℕ) (v : Verdict) (shown : List ℕ) → v ≡
     → byVerdict v shown (length file) importRows ≡ today file
 same-services file v shown e s = ap₂ (λ x ls. byVerdict x ls (length file) importRows) e s ∙ today-by file
 
-pub refuses : (f : Refusal) (n size : ℕ) (asked : List Row → ℕ → ℕ → List ℕ → Outcome (List ℕ)) → 3 ≤ number f
+pub refuses : (f : Refusal) (n size : ℕ) (asked : List Row → ℕ → ℕ → List ℕ → Outcome (List ℕ)) → 3 ≤ number f → sided f ≡ false
     → Refuses f n size (byVerdict (refused f n) [] size asked)
-refuses f n size asked high =
+refuses f n size asked high unseen =
     record {
       checks = λ t w l. refused-check f n high t w (l .long) (l .wide);
       turns = λ t w output l. refused-output f n high t w (l .long) (l .wide) size turnedRows output;
@@ -41,6 +42,6 @@ refuses f n size asked high =
       bounds = λ t w i l. refused-bounds f n high t w (l .long) (l .wide) i;
       exports = λ t w i budget output l. refused-output f n high t w (l .long) (l .wide) exportLength (λ rs. exportRows rs i budget) output;
       imports = λ t w i j list output l. refused-output f n high t w (l .long) (l .wide) importLength (λ rs. asked rs i j list) output;
-      shows = λ t w result l. refused-show f n high t w (l .long) (l .wide) result;
+      shows = λ t w result l. refused-show f n high t w (l .long) (l .wide) unseen result;
       plays = λ t w us script budget r l. refused-play f n high t w (l .long) (l .wide) us script budget r;
     }

@@ -10,7 +10,7 @@ use Rattle.format.specs.Lines.{Row}
 use Rattle.model.specs.Services.{Verdict, answerOf, refusalBy, tableAfter, workAfter, short, unless, written, Outcome, serve, Output, outputBy}
 use Rattle.law_ranking.specs.Numbering.{numberRows, settingRows, Numbered, numberedBy, Lettered, letteredBy}
 use Rattle.law_costs.specs.Bounds.{boundsRows, BoundsResult, boundsBy}
-use Rattle.law_witnesses.specs.Showing.{Shown}
+use Rattle.law_witnesses.specs.Showing.{Shown, measured}
 use Rattle.law_pairlists.specs.PairLists.{exportRows, importRows}
 use Rattle.law_units.specs.Units.{Units, Tally, Play, playBy, playRows, playVerdict, unequal}
 use Rattle.check_overlap.specs.Overlap.{overlapRows, Overlapped, overlappedBy}
@@ -45,7 +45,7 @@ importWith file table work i j list output = outputWith importLength (λ rs. imp
 abbrev pub showWith : Verdict → List ℕ → List ℕ → List ℕ → List ℕ → Shown
 showWith file shown table work result =
     let s : Bool = short table work || ltb (length result) resultLength in
-    let v : Verdict = unless s file in
+    let v : Verdict = unless s (measured file shown) in
     let ls : List ℕ = cond s [] shown in
     record {
       refusal = refusalBy v;

@@ -1,13 +1,17 @@
--- Isos whose clauses are permuted have the same least and greatest counts.
+-- Isos whose clauses are permuted have the same least and greatest counts, and have to do with lists alike.
 use Prim.Native.Nat.{ℕ, min, max}
 use native.Mathlib.Omega.{arith}
 use mathlib.Core.Path.{_≡_, refl, ap, ap₂, _∙_}
 use mathlib.Core.List.{List, [], _∷_, _++_, map}
 use lib.ListN.{length}
+use mathlib.Core.Bool.{Bool, true, _&&_}
+use lib.ListN.{getD}
+use Rattle.calculus.specs.Tools.{all}
 use Rattle.calculus.specs.Trees.{Iso}
+use Rattle.calculus.specs.Lists.{listFree, freeIso, freeFrom, freeIsos}
 use Rattle.law_costs.specs.Costs.{leastOf, greatestOf, clauseCost, isoCost, costsFrom, leastCosts, greatestCosts}
 use Rattle.law_reordering.specs.Reordered.{Permuted, empty, keep, swap, then, AlikeIso, Alike, more}
-use Rattle.law_reordering.proofs.Alike.{swapped, perm-length, alike-map}
+use Rattle.law_reordering.proofs.Alike.{swapped, perm-length, alike-map, alike-all}
 
 least-swap : (x y : ℕ) (ns : List ℕ) → leastOf (x ∷ (y ∷ ns)) ≡ leastOf (y ∷ (x ∷ ns))
 least-swap x y [] = let h : min x y ≡ min y x = omega arith in h
@@ -48,3 +52,16 @@ least-alike h = costs-alike leastOf (λ xs ys p. perm-least p) [] h
 pub greatest-alike : {os ns : List Iso} → Alike os ns → greatestCosts os ≡ greatestCosts ns
 unfolding greatestCosts
 greatest-alike h = costs-alike greatestOf (λ xs ys p. perm-greatest p) [] h
+
+free-iso-alike : (known : List Bool) {o n : Iso} → AlikeIso o n → freeIso known o ≡ freeIso known n
+free-iso-alike known a =
+    ap₂ _&&_ (ap₂ _&&_ (ap listFree (a .from)) (ap listFree (a .to))) (alike-all a (λ c. all (λ l. getD known (l .iso) true) (c .lets)) (λ c. refl))
+
+free-from-alike : (known : List Bool) {os ns : List Iso} → Alike os ns → freeFrom known os ≡ freeFrom known ns
+free-from-alike known Alike.none = refl
+free-from-alike known (more {o} {n} {os} a h) =
+    ap (λ b. freeFrom (known ++ (b ∷ [])) os) (free-iso-alike known a) ∙ free-from-alike (known ++ (freeIso known n ∷ [])) h
+
+pub free-alike : {os ns : List Iso} → Alike os ns → freeIsos os ≡ freeIsos ns
+unfolding freeIsos
+free-alike h = free-from-alike [] h

@@ -6,7 +6,7 @@ use mathlib.Core.Option.{Option, none, some}
 use mathlib.Core.List.{List, [], _∷_, _++_, map, append-nil, append-assoc}
 use lib.ListN.{length, getD}
 use Rattle.limits.specs.Limits.{maxClauses}
-use Rattle.calculus.specs.Trees.{Ty, Pat, punit, Let, Clause}
+use Rattle.calculus.specs.Trees.{Ty, Pat, pleaf, unitLeaf, Let, Clause}
 use Rattle.calculus.specs.Refusals.{Kind, typeLine, patternLine, isoLine, clauseLine, letLine}
 use Rattle.format.specs.Lines.{Row}
 use Rattle.format.specs.Judge.{Seen, start, stage, judge, typeTree, patternTree, afterKind, after, afterAll}
@@ -212,11 +212,11 @@ module _ (ts : List Ty) (ps : List Pat) where
   place-alike clauseLine n r a =
       record {
         lets = refl;
-        clauses = keep (ap (λ ls. record { line = 0; lhs = getD ps (r .x) punit; lets = ls; rhs = getD ps (r .y) punit }) (a .lets)) (a .clauses);
+        clauses = keep (ap (λ ls. record { line = 0; lhs = getD ps (r .x) (pleaf unitLeaf); lets = ls; rhs = getD ps (r .y) (pleaf unitLeaf) }) (a .lets)) (a .clauses);
         isos = a .isos;
       }
   place-alike letLine n r a =
-      record { lets = ap (λ ls. record { p = getD ps (r .x) punit; iso = r .y; q = getD ps (r .z) punit } ∷ ls) (a .lets); clauses = a .clauses; isos = a .isos }
+      record { lets = ap (λ ls. record { p = getD ps (r .x) (pleaf unitLeaf); iso = r .y; q = getD ps (r .z) (pleaf unitLeaf) } ∷ ls) (a .lets); clauses = a .clauses; isos = a .isos }
 
   tail-before : (before xs ys : List Row) → ((m : ℕ) → AlikeTail (tailFrom ts ps m xs) (tailFrom ts ps m ys)) → (m : ℕ)
       → AlikeTail (tailFrom ts ps m (before ++ xs)) (tailFrom ts ps m (before ++ ys))
@@ -224,7 +224,7 @@ module _ (ts : List Ty) (ps : List Pat) where
   tail-before (r ∷ before) xs ys h m = place-alike (r .kind) m r (tail-before before xs ys h (suc m))
 
   abbrev letOf : Row → Let
-  letOf r = record { p = getD ps (r .x) punit; iso = r .y; q = getD ps (r .z) punit }
+  letOf r = record { p = getD ps (r .x) (pleaf unitLeaf); iso = r .y; q = getD ps (r .z) (pleaf unitLeaf) }
 
   tail-lets : (ls : List Row) → AllLets ls → (zs : List Row) (m : ℕ) → let o : Tail = tailFrom ts ps (length ls + m) zs in
       tailFrom ts ps m (ls ++ zs) ≡ record { lets = map letOf ls ++ o .lets; clauses = o .clauses; isos = o .isos }
@@ -237,7 +237,7 @@ module _ (ts : List Ty) (ps : List Pat) where
       ∙ ap (λ i. let o : Tail = tailFrom ts ps i zs in record { lets = letOf l ∷ (map letOf ls ++ o .lets); clauses = o .clauses; isos = o .isos }) z
 
   abbrev clauseOf : ℕ → Row → List Row → Clause
-  clauseOf m c ls = record { line = m; lhs = getD ps (c .x) punit; lets = map letOf ls; rhs = getD ps (c .y) punit }
+  clauseOf m c ls = record { line = m; lhs = getD ps (c .x) (pleaf unitLeaf); lets = map letOf ls; rhs = getD ps (c .y) (pleaf unitLeaf) }
 
   tail-block : (c : Row) (ls : List Row) → c .kind ≡ clauseLine → AllLets ls → (zs : List Row) → ((i : ℕ) → tailFrom ts ps i zs .lets ≡ []) → (m : ℕ)
       → let o : Tail = tailFrom ts ps (length ls + suc m) zs in
@@ -246,7 +246,7 @@ module _ (ts : List Ty) (ps : List Pat) where
       let o : Tail = tailFrom ts ps (length ls + suc m) zs in
       ap (λ k. place ts ps k m c (tailFrom ts ps (suc m) (ls ++ zs))) e
       ∙ ap (place ts ps clauseLine m c) (tail-lets ls u zs (suc m))
-      ∙ ap (λ us. record { lets = []; clauses = record { line = m; lhs = getD ps (c .x) punit; lets = us; rhs = getD ps (c .y) punit } ∷ o .clauses; isos = o .isos })
+      ∙ ap (λ us. record { lets = []; clauses = record { line = m; lhs = getD ps (c .x) (pleaf unitLeaf); lets = us; rhs = getD ps (c .y) (pleaf unitLeaf) } ∷ o .clauses; isos = o .isos })
       (ap (λ us. map letOf ls ++ us) (h (length ls + suc m)) ∙ append-nil (map letOf ls))
 
   block-lets : (c : Row) (xs : List Row) → c .kind ≡ clauseLine → (i : ℕ) → tailFrom ts ps i (c ∷ xs) .lets ≡ []

@@ -15,14 +15,14 @@ use Rattle.law_reordering.specs.Answers.{FaultsAgree}
 use Rattle.law_reordering.proofs.Alike.{Near, fault-near, near-number}
 use Rattle.law_reordering.proofs.Files.{reordered-sym, in-form, accepted-too}
 
--- The lines of both are in form, or of neither: 3 to 7 for the one is 3 to 7 for the other, and so is 8 to 14.
+-- The lines of both are in form, or of neither: 3 to 7 for the one is 3 to 7 for the other, and so is 8 to 14 or 23.
 pub form-both : (file other : List ℕ) → SameButOrder file other → ((rs : List Row) × InForm file rs) ↔ ((rs : List Row) × InForm other rs)
 form-both file other r = (
   (λ h. let (qs, k, t) = in-form file other r (h .0) (h .1) in (qs, k)),
   (λ h. let (qs, k, t) = in-form other file (reordered-sym r) (h .0) (h .1) in (qs, k)),
 )
 
--- In form, the other file is refused with the same number at the same I line, or both with faults of clauses of one iso.
+-- In form, the other file is refused with the same number at the same I line, or both 23 at C lines, or both with faults of clauses of one iso.
 pub refused-too : (file other : List ℕ) → SameButOrder file other → (rs : List Row) → InForm file rs → (f : Refusal) (n : ℕ) → verdict file ≡ refused f n
     → (g : Refusal) × (m : ℕ) × (verdict other ≡ refused g m) × Near (sigsOf (isosOf rs)) (isosOf rs) (f, n) (g, m)
 refused-too file other r rs h f n e =

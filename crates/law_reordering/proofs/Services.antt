@@ -12,11 +12,12 @@ use lib.ListN.{length, getD, getElem?}
 use Rattle.limits.specs.Limits.{resultLength, lineFeed, carriageReturn, letterQ, maxQueries}
 use Rattle.calculus.specs.Tools.{concat}
 use Rattle.calculus.specs.Trees.{Val, Iso, invert}
-use Rattle.calculus.specs.Refusals.{Kind, typeLine, patternLine, isoLine, clauseLine, letLine, tooLong, shortArea}
+use Rattle.calculus.specs.Refusals.{Kind, typeLine, patternLine, isoLine, clauseLine, letLine, tooLong, shortArea, tooMany}
+use Rattle.calculus.specs.Lists.{freeIsos, isFree}
 use Rattle.format.specs.Lines.{Row, ontoFirst, lines, letter, rowOf}
 use Rattle.format.specs.Judge.{start}
 use Rattle.format.specs.Unfold.{isosOf, turnRows}
-use Rattle.model.specs.Services.{Verdict, accepted, refused, verdict, answerOf, Checked, checkBy, check, gives, goOn, refusalBy, served, Output, turned}
+use Rattle.model.specs.Services.{Verdict, accepted, refused, verdict, answerOf, Checked, checkBy, check, gives, fails, goOn, refusalBy, served, Output, turned}
 use Rattle.model.specs.Services.{turnedOf, turnedRows, outputBy, turnBy, turn, onIso, from, within, argument, valueIn, runRows, toward, runOf, run, RunAnswer}
 use Rattle.model.specs.Services.{answerOfRun, RunResult, ranBy, runBy, runService, tableAfter, workAfter, short, unless}
 use Rattle.model.specs.Desk.{isQuery, fileLines, queryLines, Query, queryOf, answerTo, queryLine, fileLine, queryAnswers, desk}
@@ -29,11 +30,12 @@ use Rattle.model.proofs.Files.{accepted-form, number-positive, answer-zero, tur
 use Rattle.model.proofs.Runs.{run-accepted}
 use Rattle.model.proofs.Sheets.{desk-same as answers-printed}
 use Rattle.law_ranking.specs.Numbering.{onType, toNumber, toSetting, numberOn, settingOn, Numbered, numberedBy, Lettered, letteredBy, numberService, settingService}
+use Rattle.law_costs.specs.Costs.{leastCosts, greatestCosts}
 use Rattle.law_costs.specs.Bounds.{onIso as boundsOn, boundsRows, boundsBy, BoundsResult, boundsService}
 use Rattle.law_reordering.specs.Reordered.{SameButOrder, AlikeIso, Alike}
 use Rattle.law_reordering.specs.Answers.{checkedBut, turnedBut, ranBut, sheetBut, numberedBut, letteredBut, boundsBut, beginsQueries}
 use Rattle.law_reordering.proofs.Alike.{alike-invert, index-alike, reduce-alike}
-use Rattle.law_reordering.proofs.Costs.{least-alike, greatest-alike}
+use Rattle.law_reordering.proofs.Costs.{least-alike, greatest-alike, free-alike}
 use Rattle.law_reordering.proofs.Reading.{Rows, read-pass, begins}
 use Rattle.law_reordering.proofs.Files.{Twins, reordered-sym, same-length, accepted-too, turned-too}
 
@@ -64,7 +66,8 @@ bounds-alike {os} {ns} h i = go (index-alike h i)
     go (inl (p, q)) = ap (boundsOn os i) p ∙ sym (ap (boundsOn ns i) q)
     go (inr (o, n, p, q, a)) =
         ap (boundsOn os i) p
-        ∙ ap₂ (λ ls gs. gives (getD ls i 0, getD gs i 0)) (least-alike h) (greatest-alike h)
+        ∙ ap (λ bs. cond (getD bs i true) (gives (getD (leastCosts os) i 0, getD (greatestCosts os) i 0)) (fails tooMany)) (free-alike h)
+        ∙ ap₂ (λ ls gs. cond (isFree ns i) (gives (getD ls i 0, getD gs i 0)) (fails tooMany)) (least-alike h) (greatest-alike h)
         ∙ sym (ap (boundsOn ns i) q)
 
 run-rows-alike : (rs qs : List Row) → Alike (isosOf rs) (isosOf qs) → (i budget : ℕ) (value : List ℕ) → runRows rs i budget value ≡ runRows qs i budget value

@@ -1,5 +1,5 @@
 -- Request 09 for files that differ in the order of their clauses: the setting that shows the fault is the same.
-use Prim.Native.Nat.{ℕ, _+_}
+use Prim.Native.Nat.{ℕ, suc, _+_}
 use mathlib.Core.Path.{_≡_, refl, sym, ap, ap₂, _∙_}
 use mathlib.Core.Bool.{Bool, cond, _||_}
 use mathlib.Core.Option.{Option, none, some}
@@ -9,7 +9,7 @@ use lib.ListN.{length}
 use Rattle.limits.specs.Limits.{resultLength}
 use Rattle.calculus.specs.Tools.{total}
 use Rattle.calculus.specs.Trees.{Ty, Pat, Val, Clause, Iso}
-use Rattle.calculus.specs.Refusals.{Refusal, number}
+use Rattle.calculus.specs.Refusals.{Refusal, number, clauseLine, recursion}
 use Rattle.format.specs.Lines.{Row}
 use Rattle.format.specs.Unfold.{isosOf}
 use Rattle.calculus.specs.Clauses.{Sigs, sigsOf, lefts, rights, clauseFault, isoFault}
@@ -68,20 +68,22 @@ shown-same {o} {n} a k =
 clause-shows : (sigs : Sigs) (a b : Ty) (c : Clause) (f : Refusal) (o : Iso) → clauseFault sigs a b c ≡ some f → shown f o ≡ none
 clause-shows sigs a b c f o e = unshown (number f) o (fault-unsided (clause-fault-iff sigs a b c f .0 e))
 
-first-same : (sigs : Sigs) {os ns : List Iso} → Alike os ns → shownFirst sigs os ≡ shownFirst sigs ns
-first-same sigs Alike.none = refl
-first-same sigs (more {o} {n} {os} {ns} a h) = go (isoFault sigs o) refl (first-same sigs h)
+first-same : (sigs : Sigs) (i : ℕ) {os ns : List Iso} → Alike os ns → shownFirst sigs i os ≡ shownFirst sigs i ns
+first-same sigs i Alike.none = refl
+first-same sigs i (more {o} {n} {os} {ns} a h) = go (isoFault sigs i o) refl (first-same sigs (suc i) h)
   where
     near : (r q : Refusal × ℕ) → Near sigs (o ∷ os) r q → shown (r .0) o ≡ shown (q .0) n
     near r q (Near.sides e) = shown-same a (number (r .0)) ∙ ap (λ x. shown (x .0) n) e
+    near r q (Near.calls e f) = ap (λ x. shown x o) e ∙ sym (ap (λ x. shown x n) f)
     near r q (Near.clauses p m c d i j x y) = clause-shows sigs (p .from) (p .to) c (r .0) o x ∙ sym (clause-shows sigs (p .from) (p .to) d (q .0) n y)
 
-    go : (x : Option (Refusal × ℕ)) → isoFault sigs o ≡ x → shownFirst sigs os ≡ shownFirst sigs ns → shownFirst sigs (o ∷ os) ≡ shownFirst sigs (n ∷ ns)
+    go : (x : Option (Refusal × ℕ)) → isoFault sigs i o ≡ x → shownFirst sigs (suc i) os ≡ shownFirst sigs (suc i) ns
+        → shownFirst sigs i (o ∷ os) ≡ shownFirst sigs i (n ∷ ns)
     go none e below =
-        ap (λ x. shownOr o x (shownFirst sigs os)) e ∙ below ∙ sym (ap (λ x. shownOr n x (shownFirst sigs ns)) (iso-none sigs a e))
+        ap (λ x. shownOr o x (shownFirst sigs (suc i) os)) e ∙ below ∙ sym (ap (λ x. shownOr n x (shownFirst sigs (suc i) ns)) (iso-none sigs i a e))
     go (some r) e below =
-        let (q, y, z) = iso-near sigs a os r e in
-        ap (λ x. shownOr o x (shownFirst sigs os)) e ∙ near r q z ∙ sym (ap (λ x. shownOr n x (shownFirst sigs ns)) y)
+        let (q, y, z) = iso-near sigs i a os r e in
+        ap (λ x. shownOr o x (shownFirst sigs (suc i) os)) e ∙ near r q z ∙ sym (ap (λ x. shownOr n x (shownFirst sigs (suc i) ns)) y)
 
 -- ---- files
 
@@ -89,7 +91,7 @@ in-form-same : (file other : List ℕ) → SameButOrder file other → (rs : Lis
 in-form-same file other r rs h =
     let (qs, k, t) = in-form file other r rs h in
     showing-rows file rs h
-    ∙ ap lettersOf? (ap (λ s. shownFirst s (isosOf rs)) (alike-sigs (t .alike)) ∙ first-same (sigsOf (isosOf qs)) (t .alike))
+    ∙ ap lettersOf? (ap (λ s. shownFirst s 0 (isosOf rs)) (alike-sigs (t .alike)) ∙ first-same (sigsOf (isosOf qs)) 0 (t .alike))
     ∙ sym (showing-rows other qs k)
 
 pub showing-same : (file other : List ℕ) → SameButOrder file other → showing file ≡ showing other
@@ -97,8 +99,8 @@ showing-same file other r = go (cases file) (cases other)
   where
     go : Cases file → Cases other → showing file ≡ showing other
     go (Cases.inForm rs h) k = in-form-same file other r rs h
-    go (Cases.other f n e u d) (Cases.inForm qs k) = sym (in-form-same other file (reordered-sym r) qs k)
-    go (Cases.other f n e u d) (Cases.other g m i j l) = d ∙ sym l
+    go (Cases.other f n e u o d) (Cases.inForm qs k) = sym (in-form-same other file (reordered-sym r) qs k)
+    go (Cases.other f n e u o d) (Cases.other g m i j p l) = d ∙ sym l
 
 -- in any lent areas: the same length and the same result area, whatever is answered
 pub witness-same : (file other table work result : List ℕ) → SameButOrder file other

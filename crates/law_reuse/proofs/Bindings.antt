@@ -9,7 +9,7 @@ use lib.Dec.{eqb}
 use lib.ListN.{length}
 use Rattle.limits.specs.Limits.{variables}
 use Rattle.calculus.specs.Tools.{_>>=_, guard}
-use Rattle.calculus.specs.Trees.{Ty, tunit, Pat, ppair, Let, Clause, sameType, vars}
+use Rattle.calculus.specs.Trees.{Ty, tunit, tlist, Pat, Let, Clause, sameType, vars}
 use Rattle.calculus.specs.Slots.{Slots, get, empty, allEmpty}
 use Rattle.calculus.specs.Refusals.{clauseLine, badType}
 use Rattle.calculus.specs.Clauses.{Deed, binds, uses, deeds, history, Sigs, learn, spend}
@@ -18,7 +18,7 @@ use Rattle.calculus.specs.Faulty.{ClauseFault}
 use Rattle.calculus.proofs.Basic.{some-bind, none≢some, some-inj, not-some, true-guard, bool-cases, eqb-eq, eqb-false, sameType-refl}
 use Rattle.calculus.proofs.Formed.{FormedLet, FormedClause}
 use Rattle.calculus.proofs.Slots.{slot, put-of-get, put-filled, put-empty, slot-allEmpty, slot-empty, length-empty}
-use Rattle.calculus.proofs.Variables.{mark, history-append, history-hit, history-miss, mem-history, Only, only-marks, not-used}
+use Rattle.calculus.proofs.Variables.{mark, marks, history-append, history-hit, history-miss, mem-history, Only, only-marks, not-used}
 use Rattle.calculus.proofs.Typing.{learn-length, spend-length, typed-let, ChainTyped, typed-clause, typed-iff}
 use Rattle.law_reuse.specs.Bindings.{Under, Along, Assigned}
 use Rattle.law_reuse.proofs.Histories.{marks-append, only-comm, after, history-step, JoinAt, neither, first, second, join-at, linear-variables}
@@ -47,9 +47,11 @@ holds-right j h n t q = h n t (join-right t (join-at j n) q)
 
 holds-under : {Γ : ℕ → Ty} {d : Slots Ty} {p : Pat} {a : Ty} → Fits d p a → Holds Γ d → Under Γ p a
 holds-under (Fits.unit e) h = Under.unit
+holds-under (Fits.nil e) h = Under.nil
 holds-under (Fits.var {n = n} {a = a} e z k) h = Under.var (h n a (put-filled n a e k .held))
 holds-under (Fits.inj f) h = Under.inj (holds-under f h)
 holds-under (Fits.pair j f g) h = Under.pair (holds-under f (holds-left j h)) (holds-under g (holds-right j h))
+holds-under (Fits.cons j f g) h = Under.cons (holds-under f (holds-left j h)) (holds-under g (holds-right j h))
 
 -- the types of a context before those of an assignment
 abbrev orGiven : Option Ty → Ty → Ty
@@ -67,22 +69,25 @@ over-join t neither h q = absurd (none≢some q)
 over-join t (first e) h q = h (ap some (sym e) ∙ q)
 over-join t (second e) h q = sym e ∙ some-inj q
 
+-- a full slot of a joined context is one of the first or of the second
+either : {ns ms : List ℕ} {u v w : Option Ty} (n : ℕ) (t : Ty) → JoinAt u v w → u ≡ some t → (v ≡ some t → List·Memᴰ n ns) → (w ≡ some t → List·Memᴰ n ms)
+    → List·Memᴰ n (ns ++ ms)
+either n t neither h l r = absurd (none≢some h)
+either {ms = ms} n t (first i) h l r = Memᴰ·append-left ms (l (ap some (sym i) ∙ h))
+either {ns = ns} n t (second i) h l r = Memᴰ·append-right ns (r (ap some (sym i) ∙ h))
+
 -- a full slot is that of a variable of the pattern
 inside : {d : Slots Ty} {p : Pat} {a : Ty} (n : ℕ) (t : Ty) → Fits d p a → slot d n ≡ some t → List·Memᴰ n (vars p)
 inside {d} n t (Fits.unit e) q = absurd (none≢some (sym (slot-allEmpty d e n) ∙ q))
+inside {d} n t (Fits.nil e) q = absurd (none≢some (sym (slot-allEmpty d e n) ∙ q))
 inside {d} n t (Fits.var {n = m} {a = a} e z k) q = go (bool-cases (eqb n m))
   where
     go : (eqb n m ≡ true) ⊎ (eqb n m ≡ false) → List·Memᴰ n (m ∷ [])
     go (inl i) = List·Memᴰ·head (eqb-eq n m i)
     go (inr i) = absurd (none≢some (sym (put-filled m a e k .same n (eqb-false i) ∙ slot-allEmpty e z n) ∙ q))
 inside n t (Fits.inj f) q = inside n t f q
-inside {d} n t (Fits.pair {e = e} {f = f} {p = p} {q = q} j x y) h = go (join-at j n) h (λ i. inside n t x i) (λ i. inside n t y i)
-  where
-    go : {u v w : Option Ty} → JoinAt u v w → u ≡ some t → (v ≡ some t → List·Memᴰ n (vars p)) → (w ≡ some t → List·Memᴰ n (vars q))
-        → List·Memᴰ n (vars p ++ vars q)
-    go neither h l r = absurd (none≢some h)
-    go (first i) h l r = Memᴰ·append-left (vars q) (l (ap some (sym i) ∙ h))
-    go (second i) h l r = Memᴰ·append-right (vars p) (r (ap some (sym i) ∙ h))
+inside n t (Fits.pair j x y) h = either n t (join-at j n) h (λ i. inside n t x i) (λ i. inside n t y i)
+inside n t (Fits.cons j x y) h = either n t (join-at j n) h (λ i. inside n t x i) (λ i. inside n t y i)
 
 chain-along : {Γ : ℕ → Ty} {sigs : Sigs} {d : Slots Ty} {ls : List Let} {r : Pat} {b : Ty} → Chain sigs d ls r b → Holds Γ d → Along sigs Γ ls r b
 chain-along (Chain.value f) h = Along.value (holds-under f h)
@@ -142,9 +147,20 @@ ready-at {Γ} e h u m r = subst (λ ds. Ready (Γ m) (slot e m) (ds ++ h m)) (hi
 abbrev Learned : (ℕ → Ty) → Pat → Ty → Slots Ty → (ℕ → List Deed) → Type 0
 Learned Γ p a e h = (d : Slots Ty) × (learn p a e ≡ some d) × AllReady Γ d h
 
+binds-split : (p q : Pat) (h : ℕ → List Deed) (n : ℕ)
+    → history n (marks binds (vars p ++ vars q)) ++ h n ≡ history n (deeds binds p) ++ (history n (deeds binds q) ++ h n)
+binds-split p q h n = ap (λ ds. ds ++ h n) (marks-append n binds (vars p) (vars q)) ∙ append-assoc (history n (deeds binds p)) (history n (deeds binds q)) (h n)
+
+uses-split : (p q : Pat) (h : ℕ → List Deed) (n : ℕ)
+    → history n (marks uses (vars p ++ vars q)) ++ h n ≡ history n (deeds uses q) ++ (history n (deeds uses p) ++ h n)
+uses-split p q h n =
+    ap (λ ds. ds ++ h n) (marks-append n uses (vars p) (vars q) ∙ only-comm (only-marks n uses (vars p)) (only-marks n uses (vars q)))
+    ∙ append-assoc (history n (deeds uses q)) (history n (deeds uses p)) (h n)
+
 learned : {Γ : ℕ → Ty} {p : Pat} {a : Ty} (e : Slots Ty) (h : ℕ → List Deed) → Under Γ p a → ((n : ℕ) → List·Memᴰ n (vars p) → n < length e)
     → AllReady Γ e (λ n. history n (deeds binds p) ++ h n) → Learned Γ p a e h
 learned e h Under.unit w r = (e, refl, r)
+learned e h Under.nil w r = (e, refl, r)
 learned {Γ} e h (Under.var {n = m} {a = a} q) w r =
     let x = bound-ready (ready-at e h binds m r) in
     let d = put-empty m a e (w m (List·Memᴰ·head refl)) (x .0) in
@@ -152,12 +168,13 @@ learned {Γ} e h (Under.var {n = m} {a = a} q) w r =
     (d .0, d .1, ready-one (d .0) e h binds m (λ n k. sym (f .same n k)) r (subst (λ s. Ready (Γ m) s (h m)) (sym (f .held)) (x .1 a (sym q))))
 learned e h (Under.inj u) w r = learned e h u w r
 learned {Γ} e h (Under.pair {p = p} {q = q} {a = a} {b = b} u v) w r =
-    let x = learned e (λ n. history n (deeds binds q) ++ h n) u (λ n m. w n (Memᴰ·append-left (vars q) m)) (λ n. subst (Ready (Γ n) (slot e n)) (split n) (r n)) in
+    let x = learned e (λ n. history n (deeds binds q) ++ h n) u (λ n m. w n (Memᴰ·append-left (vars q) m)) (λ n. subst (Ready (Γ n) (slot e n)) (binds-split p q h n) (r n)) in
     let y = learned (x .0) h v (λ n m. subst (λ k. n < k) (sym (learn-length p a e (x .1))) (w n (Memᴰ·append-right (vars p) m))) (x .2) in
     (y .0, some-bind (λ d. learn q b d) (x .1) ∙ y .1, y .2)
-  where
-    split : (n : ℕ) → history n (deeds binds (ppair p q)) ++ h n ≡ history n (deeds binds p) ++ (history n (deeds binds q) ++ h n)
-    split n = ap (λ ds. ds ++ h n) (marks-append n binds (vars p) (vars q)) ∙ append-assoc (history n (deeds binds p)) (history n (deeds binds q)) (h n)
+learned {Γ} e h (Under.cons {p = p} {q = q} {a = a} u v) w r =
+    let x = learned e (λ n. history n (deeds binds q) ++ h n) u (λ n m. w n (Memᴰ·append-left (vars q) m)) (λ n. subst (Ready (Γ n) (slot e n)) (binds-split p q h n) (r n)) in
+    let y = learned (x .0) h v (λ n m. subst (λ k. n < k) (sym (learn-length p a e (x .1))) (w n (Memᴰ·append-right (vars p) m))) (x .2) in
+    (y .0, some-bind (λ d. learn q (tlist a) d) (x .1) ∙ y .1, y .2)
 
 get-held : (n : ℕ) (a : Ty) (e : Slots Ty) → slot e n ≡ some a → (d : Slots Ty) × (get n e ≡ some (a, d))
 get-held n a [] h = absurd (none≢some h)
@@ -168,6 +185,7 @@ get-held (suc n) a (s ∷ e) h = let r = get-held n a e h in (s ∷ r .0, some-b
 spent : {Γ : ℕ → Ty} {p : Pat} {a : Ty} (e : Slots Ty) (h : ℕ → List Deed) → Under Γ p a → AllReady Γ e (λ n. history n (deeds uses p) ++ h n)
     → (d : Slots Ty) × (spend p a e ≡ some d) × AllReady Γ d h
 spent e h Under.unit r = (e, refl, r)
+spent e h Under.nil r = (e, refl, r)
 spent {Γ} e h (Under.var {n = m} {a = a} q) r =
     let x = used-ready (ready-at e h uses m r) in
     let d = get-held m (Γ m) e (x .0) in
@@ -179,14 +197,13 @@ spent {Γ} e h (Under.var {n = m} {a = a} q) r =
     )
 spent e h (Under.inj u) r = spent e h u r
 spent {Γ} e h (Under.pair {p = p} {q = q} {a = a} {b = b} u v) r =
-    let x = spent e (λ n. history n (deeds uses p) ++ h n) v (λ n. subst (Ready (Γ n) (slot e n)) (split n) (r n)) in
+    let x = spent e (λ n. history n (deeds uses p) ++ h n) v (λ n. subst (Ready (Γ n) (slot e n)) (uses-split p q h n) (r n)) in
     let y = spent (x .0) h u (x .2) in
     (y .0, some-bind (λ d. spend p a d) (x .1) ∙ y .1, y .2)
-  where
-    split : (n : ℕ) → history n (deeds uses (ppair p q)) ++ h n ≡ history n (deeds uses q) ++ (history n (deeds uses p) ++ h n)
-    split n =
-        ap (λ ds. ds ++ h n) (marks-append n uses (vars p) (vars q) ∙ only-comm (only-marks n uses (vars p)) (only-marks n uses (vars q)))
-        ∙ append-assoc (history n (deeds uses q)) (history n (deeds uses p)) (h n)
+spent {Γ} e h (Under.cons {p = p} {q = q} {a = a} u v) r =
+    let x = spent e (λ n. history n (deeds uses p) ++ h n) v (λ n. subst (Ready (Γ n) (slot e n)) (uses-split p q h n) (r n)) in
+    let y = spent (x .0) h u (x .2) in
+    (y .0, some-bind (λ d. spend p a d) (x .1) ∙ y .1, y .2)
 
 no-values : (e : Slots Ty) → ((n : ℕ) → slot e n ≡ none) → allEmpty e ≡ true
 no-values [] h = refl

@@ -1,5 +1,7 @@
 -- What the former rule accepts is accepted, and every service answers as it did.
-use Prim.Native.Nat.{ℕ}
+use Prim.Native.Nat.{ℕ, suc, _+_}
+use native.Mathlib.Nat.{zero-add, add-zero}
+use native.Mathlib.Omega.{arith}
 use mathlib.Core.Path.{_≡_, refl, sym, ap, ap₂, _∙_, subst}
 use mathlib.Core.Logic.{_⊎_, inl, inr}
 use mathlib.Core.Bool.{Bool, true, false, cond, not, false≢true}
@@ -8,9 +10,9 @@ use mathlib.Core.List.{List, [], _∷_, _++_, List·Memᴰ, List·Memᴰ·head, 
 use lib.Dec.{eqb}
 use lib.ListN.{getElem?, length}
 use Rattle.calculus.specs.Tools.{all, firstOf, orElse}
-use Rattle.calculus.specs.Trees.{Ty, tunit, tsum, tprod, Pat, punit, pvar, pinj, ppair, Let, Clause, Iso, sameType, part}
+use Rattle.calculus.specs.Trees.{Ty, tunit, tlist, tsum, tprod, Pat, pvar, pleaf, pinj, pnode, unitLeaf, emptyLeaf, pairNode, elementNode, Let, Clause, Iso, sameType, part}
 use Rattle.calculus.specs.Refusals.{Refusal, clauseLine, variable, letShape, badType, tooLong}
-use Rattle.calculus.specs.Clauses.{Deed, binds, uses, events, history, alternate, variablesRule, letShapes, Sigs, sigsOf, sideFault, at}
+use Rattle.calculus.specs.Clauses.{Deed, binds, uses, events, history, alternate, variablesRule, letShapes, Sigs, sigsOf, recursionFault, sideFault, at}
 use Rattle.calculus.specs.Clauses as today
 use Rattle.format.specs.Lines.{Row, lines}
 use Rattle.format.specs.Judge.{Reading, rows, faulty, start, readFrom}
@@ -20,14 +22,14 @@ use Rattle.model.specs.Services.{accepted, refused, judged, over, verdict, chec
 use Rattle.model.specs.Desk.{deskBy, filePart, desk}
 use Rattle.model.specs.Sheet.{sheetBy, sheet}
 use Rattle.calculus.proofs.Basic.{bind-some, none≢some, some-inj, bool-cases, not-true, or-true, eqb-eq, eq-eqb, eqb-false, sameType-eq, none-failing}
-use Rattle.calculus.proofs.Basic.{failing-none, orElse-none, all-mem, mem-all, firstOf-none, none-firstOf, mem-index}
+use Rattle.calculus.proofs.Basic.{failing-none, orElse-none, all-mem, mem-all, firstOf-none, none-firstOf}
 use Rattle.calculus.proofs.Formed.{Formed, FormedClause}
 use Rattle.model.proofs.Files.{refused≢accepted, judged-accepted, InForm, formed-of, verdict-in-form, passes-read}
 use Rattle.format.proofs.Idling.{idle-none}
 use Rattle.calculus.proofs.Variables.{variables-iff}
 use Rattle.calculus.proofs.Typing.{typed-iff}
 use Rattle.law_reuse.specs.Bindings.{Under, Along, Assigned}
-use Rattle.law_reuse.specs.Former.{once, onceRule, Demands, joined, fit, fitLets, demands, alike, agree, agreeing, typedOnce, clauseFault, isoFault, fault, former, afterReading}
+use Rattle.law_reuse.specs.Former.{once, onceRule, Demands, joined, fit, fitLets, demands, alike, agree, agreeing, typedOnce, clauseFault, isoFault, faultFrom, fault, former, afterReading}
 use Rattle.law_reuse.proofs.Bindings.{assigned-linear}
 
 -- ---- 8
@@ -67,17 +69,29 @@ meets-both {Γ} (some ds) (some es) (fs, e, h) =
     ((ds, refl, λ n t m. k n t (Memᴰ·append-left es m)), (es, refl, λ n t m. k n t (Memᴰ·append-right ds m)))
 
 fit-under : {Γ : ℕ → Ty} (p : Pat) (a : Ty) → Meets Γ (fit p a) → Under Γ p a
-fit-under punit tunit m = Under.unit
-fit-under punit (tsum a b) m = absurd (meets-none m)
-fit-under punit (tprod a b) m = absurd (meets-none m)
 fit-under {Γ} (pvar n) a (ds, e, h) = Under.var (subst (Met Γ) (sym (some-inj e)) h n a (List·Memᴰ·head refl))
+fit-under (pleaf unitLeaf) tunit m = Under.unit
+fit-under (pleaf unitLeaf) (tlist a) m = absurd (meets-none m)
+fit-under (pleaf unitLeaf) (tsum a b) m = absurd (meets-none m)
+fit-under (pleaf unitLeaf) (tprod a b) m = absurd (meets-none m)
+fit-under (pleaf emptyLeaf) tunit m = absurd (meets-none m)
+fit-under (pleaf emptyLeaf) (tlist a) m = Under.nil
+fit-under (pleaf emptyLeaf) (tsum a b) m = absurd (meets-none m)
+fit-under (pleaf emptyLeaf) (tprod a b) m = absurd (meets-none m)
 fit-under (pinj t p) tunit m = absurd (meets-none m)
+fit-under (pinj t p) (tlist a) m = absurd (meets-none m)
 fit-under (pinj t p) (tsum a b) m = Under.inj (fit-under p (part t a b) m)
 fit-under (pinj t p) (tprod a b) m = absurd (meets-none m)
-fit-under (ppair p q) tunit m = absurd (meets-none m)
-fit-under (ppair p q) (tsum a b) m = absurd (meets-none m)
-fit-under (ppair p q) (tprod a b) m =
+fit-under (pnode pairNode p q) tunit m = absurd (meets-none m)
+fit-under (pnode pairNode p q) (tlist a) m = absurd (meets-none m)
+fit-under (pnode pairNode p q) (tsum a b) m = absurd (meets-none m)
+fit-under (pnode pairNode p q) (tprod a b) m =
     let h = meets-both (fit p a) (fit q b) m in Under.pair (fit-under p a (h .0)) (fit-under q b (h .1))
+fit-under (pnode elementNode p q) tunit m = absurd (meets-none m)
+fit-under (pnode elementNode p q) (tlist a) m =
+    let h = meets-both (fit p a) (fit q (tlist a)) m in Under.cons (fit-under p a (h .0)) (fit-under q (tlist a) (h .1))
+fit-under (pnode elementNode p q) (tsum a b) m = absurd (meets-none m)
+fit-under (pnode elementNode p q) (tprod a b) m = absurd (meets-none m)
 
 -- one assignment for the whole clause: no binding changes a type
 along : {Γ : ℕ → Ty} (sigs : Sigs) (ls : List Let) (r : Pat) (b : Ty) → Meets Γ (fitLets sigs ls) → Under Γ r b → Along sigs Γ ls r b
@@ -148,22 +162,29 @@ at-kept : (n : ℕ) (x y : Option Refusal) → (x ≡ none → y ≡ none) → a
 at-kept n none y h e = ap (at n) (h refl)
 at-kept n (some f) y h e = absurd (none≢some (sym e))
 
-iso-kept : {i : ℕ} (sigs : Sigs) (o : Iso) → ((c : Clause) → List·Memᴰ c (o .clauses) → FormedClause i c) → isoFault sigs o ≡ none → today.isoFault sigs o ≡ none
+iso-kept : (sigs : Sigs) (i : ℕ) (o : Iso) → ((c : Clause) → List·Memᴰ c (o .clauses) → FormedClause i c) → isoFault sigs i o ≡ none → today.isoFault sigs i o ≡ none
 unfolding isoFault today.isoFault
-iso-kept sigs o f e = ap₂ orElse (none-firstOf _ (o .clauses) (λ c m. each c m (firstOf-none _ (o .clauses) (h .0) c m))) (h .1)
+iso-kept sigs i o f e = ap₂ orElse (none-firstOf _ (o .clauses) (λ c m. each c m (firstOf-none _ (o .clauses) (h .0) c m))) (h .1)
   where
-    h : (firstOf (λ c. at (c .line) (clauseFault sigs (o .from) (o .to) c)) (o .clauses) ≡ none) × (at (o .line) (sideFault o) ≡ none)
-    h = orElse-none _ (at (o .line) (sideFault o)) e
+    h : (firstOf (λ c. at (c .line) (clauseFault sigs (o .from) (o .to) c)) (o .clauses) ≡ none) × (orElse (recursionFault i o) (at (o .line) (sideFault o)) ≡ none)
+    h = orElse-none _ (orElse (recursionFault i o) (at (o .line) (sideFault o))) e
 
     each : (c : Clause) → List·Memᴰ c (o .clauses) → at (c .line) (clauseFault sigs (o .from) (o .to) c) ≡ none
         → at (c .line) (today.clauseFault sigs (o .from) (o .to) c) ≡ none
     each c m = at-kept (c .line) _ _ (clause-kept sigs (o .from) (o .to) c (f c m))
 
+from-kept : (sigs : Sigs) (i : ℕ) (os : List Iso)
+    → ((j : ℕ) (o : Iso) → getElem? os j ≡ some o → (c : Clause) → List·Memᴰ c (o .clauses) → FormedClause (i + j) c)
+    → faultFrom sigs i os ≡ none → today.faultFrom sigs i os ≡ none
+from-kept sigs i [] f e = refl
+from-kept sigs i (o ∷ os) f e =
+    let h = orElse-none (isoFault sigs i o) (faultFrom sigs (suc i) os) e in
+    ap₂ orElse (iso-kept sigs i o (λ c m. subst (λ n. FormedClause n c) (add-zero i) (f 0 o refl c m)) (h .0))
+    (from-kept sigs (suc i) os (λ j p g c m. subst (λ n. FormedClause n c) (omega arith) (f (suc j) p g c m)) (h .1))
+
 pub fault-kept : (os : List Iso) → Formed os → fault os ≡ none → today.fault os ≡ none
 unfolding fault today.fault
-fault-kept os f e =
-    none-firstOf (today.isoFault (sigsOf os)) os
-    λ o m. let r = mem-index m in iso-kept (sigsOf os) o (f (r .0) o (r .1)) (firstOf-none (isoFault (sigsOf os)) os e o m)
+fault-kept os f e = from-kept (sigsOf os) 0 os (λ j o g c m. subst (λ n. FormedClause n c) (sym (zero-add j)) (f j o g c m)) e
 
 -- a file that the former rule accepts is in form, and no refusal was found
 former-form : (bs : List ℕ) (rs : List Row) → former bs ≡ accepted rs → InForm bs rs × (fault (isosOf rs) ≡ none)

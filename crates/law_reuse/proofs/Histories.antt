@@ -71,6 +71,7 @@ times-join d (second e) = refl
 -- the variables of a pattern are those whose slots are full
 fits-history : (u : Deed) (n : ℕ) {d : Slots Ty} {p : Pat} {a : Ty} → Fits d p a → history n (deeds u p) ≡ times u (slot d n)
 fits-history u n {d} (Fits.unit e) = ap (times u) (sym (slot-allEmpty d e n))
+fits-history u n {d} (Fits.nil e) = ap (times u) (sym (slot-allEmpty d e n))
 fits-history u n {d} (Fits.var {n = m} {a = a} e h k) = go (bool-cases (eqb n m))
   where
     go : (eqb n m ≡ true) ⊎ (eqb n m ≡ false) → history n (marks u (m ∷ [])) ≡ times u (slot d n)
@@ -78,6 +79,8 @@ fits-history u n {d} (Fits.var {n = m} {a = a} e h k) = go (bool-cases (eqb n m)
     go (inr q) = history-miss n (mark u m) [] q ∙ ap (times u) (sym (put-filled m a e k .same n (eqb-false q) ∙ slot-allEmpty e h n))
 fits-history u n (Fits.inj f) = fits-history u n f
 fits-history u n (Fits.pair {p = p} {q = q} j f g) =
+    marks-append n u (vars p) (vars q) ∙ ap₂ _++_ (fits-history u n f) (fits-history u n g) ∙ sym (times-join u (join-at j n))
+fits-history u n (Fits.cons {p = p} {q = q} j f g) =
     marks-append n u (vars p) (vars q) ∙ ap₂ _++_ (fits-history u n f) (fits-history u n g) ∙ sym (times-join u (join-at j n))
 
 -- ---- the variables rule

@@ -4,15 +4,17 @@ use mathlib.Core.Path.{_≡_}
 use mathlib.Core.Option.{some}
 use mathlib.Core.List.{List, [], _∷_, List·Memᴰ}
 use lib.ListN.{getElem?}
-use Rattle.calculus.specs.Trees.{Ty, tunit, tsum, tprod, Tag, Pat, punit, pvar, pinj, ppair, Let, Clause, part, vars}
+use Rattle.calculus.specs.Trees.{Ty, tunit, tlist, tsum, tprod, Tag, Pat, pvar, pleaf, pinj, pnode, unitLeaf, emptyLeaf, pairNode, elementNode, Let, Clause, part, vars}
 use Rattle.calculus.specs.Clauses.{Sigs}
 
 -- a pattern fits a type where each number n has the type Γ n
 pub data Under (Γ : ℕ → Ty) : Pat → Ty → Type 0 where
-  unit : Under Γ punit tunit
+  unit : Under Γ (pleaf unitLeaf) tunit
+  nil : {a : Ty} → Under Γ (pleaf emptyLeaf) (tlist a)
   var : {n : ℕ} {a : Ty} → Γ n ≡ a → Under Γ (pvar n) a
   inj : {t : Tag} {p : Pat} {a b : Ty} → Under Γ p (part t a b) → Under Γ (pinj t p) (tsum a b)
-  pair : {p q : Pat} {a b : Ty} → Under Γ p a → Under Γ q b → Under Γ (ppair p q) (tprod a b)
+  pair : {p q : Pat} {a b : Ty} → Under Γ p a → Under Γ q b → Under Γ (pnode pairNode p q) (tprod a b)
+  cons : {p q : Pat} {a : Ty} → Under Γ p a → Under Γ q (tlist a) → Under Γ (pnode elementNode p q) (tlist a)
 
 -- Let steps and the right pattern, where Γ n is the type of the last binding of n: "each q and p" fits "the from- and to-type of its
 -- iso", and Δ, after p is bound, has types of their own for the numbers of p and for every other number the one it had.

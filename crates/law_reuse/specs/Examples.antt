@@ -6,8 +6,8 @@ use mathlib.Core.Bool.{true, false}
 use mathlib.Core.Option.{none, some}
 use mathlib.Core.List.{List, [], _∷_, _++_, map}
 use lib.ListN.{replicate}
-use Rattle.calculus.specs.Trees.{Ty, tunit, tsum, tprod, left, right, Pat, punit, pvar, pinj, ppair}
-use Rattle.calculus.specs.Refusals.{clauseLine, variable, letShape, badType}
+use Rattle.calculus.specs.Trees.{Ty, tunit, tsum, tprod, left, right, Pat, pleaf, unitLeaf, pvar, pinj, pnode, pairNode}
+use Rattle.calculus.specs.Refusals.{clauseLine, isoLine, variable, letShape, badType, recursion}
 use Rattle.calculus.specs.Clauses.{binds, uses}
 use Rattle.model.specs.Services.{answerOf}
 use Rattle.model.specs.Desk.{desk, deskBy, filePart}
@@ -100,7 +100,7 @@ bit = tsum tunit tunit
 
 -- unit, variable, left, right and pair against a unit, a sum and a product: the types that the variables must have
 fits-former : map (λ p. map (fit p) (tunit ∷ tsum tunit bit ∷ tprod tunit bit ∷ []))
-    (punit ∷ pvar 0 ∷ pinj left (pvar 1) ∷ pinj right (pvar 1) ∷ ppair (pvar 2) (pvar 3) ∷ ppair punit punit ∷ [])
+    (pleaf unitLeaf ∷ pvar 0 ∷ pinj left (pvar 1) ∷ pinj right (pvar 1) ∷ pnode pairNode (pvar 2) (pvar 3) ∷ pnode pairNode (pleaf unitLeaf) (pleaf unitLeaf) ∷ [])
     ≡ (some [] ∷ none ∷ none ∷ [])
     ∷ (some ((0, tunit) ∷ []) ∷ some ((0, tsum tunit bit) ∷ []) ∷ some ((0, tprod tunit bit) ∷ []) ∷ [])
     ∷ (none ∷ some ((1, tunit) ∷ []) ∷ none ∷ [])
@@ -118,13 +118,13 @@ agreeing-types = refl
 
 -- left, let steps and right: q at the from-type of its iso, p at the to-type
 demanded : demands ((tunit, bit) ∷ []) (tprod tunit tunit) bit
-    (record { line = 1; lhs = ppair (pvar 0) (pvar 1); lets = record { p = pvar 2; iso = 0; q = pvar 0 } ∷ record { p = pvar 3; iso = 0; q = pvar 1 } ∷ []; rhs = pvar 4 })
+    (record { line = 1; lhs = pnode pairNode (pvar 0) (pvar 1); lets = record { p = pvar 2; iso = 0; q = pvar 0 } ∷ record { p = pvar 3; iso = 0; q = pvar 1 } ∷ []; rhs = pvar 4 })
     ≡ some ((0, tunit) ∷ (1, tunit) ∷ (0, tunit) ∷ (2, bit) ∷ (1, tunit) ∷ (3, bit) ∷ (4, bit) ∷ [])
 demanded = refl
 
 -- "lowest of 8 to 10": 8, 9 and 10; 9 and 10; 10; none
 former-order : map (λ (c : Pat × Pat). Former.clauseFault ((tunit, tunit) ∷ []) tunit tunit (record { line = 0; lhs = pvar 0; lets = record { p = c .0; iso = 0; q = pvar 0 } ∷ []; rhs = c .1 }))
-    ((pinj left (pvar 1), pinj left (pvar 2)) ∷ (pinj left (pvar 1), pvar 1) ∷ (ppair (pvar 1) (pvar 2), ppair (pvar 1) (pvar 2)) ∷ (pvar 1, pvar 1) ∷ [])
+    ((pinj left (pvar 1), pinj left (pvar 2)) ∷ (pinj left (pvar 1), pvar 1) ∷ (pnode pairNode (pvar 1) (pvar 2), pnode pairNode (pvar 1) (pvar 2)) ∷ (pvar 1, pvar 1) ∷ [])
     ≡ some (variable clauseLine) ∷ some (letShape clauseLine) ∷ some (badType clauseLine) ∷ none ∷ []
 unfolding Former.clauseFault
 former-order = refl
@@ -139,3 +139,14 @@ former-files = refl
 former-long : answerOf (former (replicate 4097 10)) ≡ record { number = 2; line = 0 }
 unfolding former
 former-long = refl
+
+-- the isos numbered from 0, so that a call of itself is told: of the second of two isos its own number, and the first's, which is none
+former-calls : map
+    (λ n. Former.fault
+    (record { line = 1; from = tunit; to = tunit; clauses = record { line = 2; lhs = pvar 0; lets = []; rhs = pvar 0 } ∷ [] }
+    ∷ record { line = 3; from = tunit; to = tunit; clauses = record { line = 4; lhs = pvar 0; lets = record { p = pvar 1; iso = n; q = pvar 0 } ∷ []; rhs = pvar 1 } ∷ [] }
+    ∷ []))
+    (0 ∷ 1 ∷ [])
+    ≡ none ∷ some (recursion isoLine, 3) ∷ []
+unfolding Former.fault
+former-calls = refl

@@ -1,15 +1,15 @@
 -- The rule as it stood before request 03: "Within one clause each number is bound once and, after that, used once", and "some assignment
 -- of types to the clause's variables", one for each number.
-use Prim.Native.Nat.{ℕ}
+use Prim.Native.Nat.{ℕ, suc}
 use mathlib.Core.Bool.{Bool, true, false, cond, not, _||_}
 use mathlib.Core.Option.{Option, none, some}
 use mathlib.Core.List.{List, [], _∷_, _++_}
 use lib.Dec.{eqb}
 use lib.ListN.{getElem?}
-use Rattle.calculus.specs.Tools.{_>>=_, all, firstFailing, firstOf, orElse}
-use Rattle.calculus.specs.Trees.{Ty, tunit, tsum, tprod, Pat, punit, pvar, pinj, ppair, Let, Clause, Iso, sameType, part}
+use Rattle.calculus.specs.Tools.{_>>=_, guard, all, firstFailing, firstOf, orElse}
+use Rattle.calculus.specs.Trees.{Ty, Pat, pvar, pleaf, pinj, pnode, Let, Clause, Iso, sameType, leafFits, beneath, parts}
 use Rattle.calculus.specs.Refusals.{Refusal, clauseLine, variable, letShape, badType, tooLong}
-use Rattle.calculus.specs.Clauses.{Deed, binds, uses, events, history, letShapes, Sigs, sigsOf, sideFault, at}
+use Rattle.calculus.specs.Clauses.{Deed, binds, uses, events, history, letShapes, Sigs, sigsOf, recursionFault, sideFault, at}
 use Rattle.format.specs.Lines.{lines}
 use Rattle.format.specs.Judge.{Reading, rows, faulty, start, judge, readFrom}
 use Rattle.format.specs.Unfold.{isosOf}
@@ -36,16 +36,10 @@ abbrev pub joined : Option Demands → Option Demands → Option Demands
 joined a b = a >>= λ xs. b >>= λ ys. some (xs ++ ys)
 
 abbrev pub fit : Pat → Ty → Option Demands
-fit punit tunit = some []
-fit punit (tsum a b) = none
-fit punit (tprod a b) = none
 fit (pvar n) a = some ((n, a) ∷ [])
-fit (pinj t p) tunit = none
-fit (pinj t p) (tsum a b) = fit p (part t a b)
-fit (pinj t p) (tprod a b) = none
-fit (ppair p q) tunit = none
-fit (ppair p q) (tsum a b) = none
-fit (ppair p q) (tprod a b) = joined (fit p a) (fit q b)
+fit (pleaf l) a = guard (leafFits l a) >>= λ _. some []
+fit (pinj t p) a = beneath t a >>= λ b. fit p b
+fit (pnode k p q) a = parts k a >>= λ s. joined (fit p (s .0)) (fit q (s .1))
 
 -- "each q and p the from- and to-type of its iso"
 abbrev pub fitLets : Sigs → List Let → Option Demands
@@ -70,20 +64,24 @@ agreeing (some ds) = agree ds
 unfoldable pub typedOnce : Sigs → Ty → Ty → Clause → Bool
 typedOnce sigs a b c = agreeing (demands sigs a b c)
 
--- the refusals of clauses, isos and files by these tests; 9 and 11 to 14 are those of today
+-- the refusals of clauses, isos and files by these tests; 9, 11 to 14 and 23 are those of today
 unfoldable pub clauseFault : Sigs → Ty → Ty → Clause → Option Refusal
 unfolding onceRule letShapes typedOnce
 clauseFault sigs a b c =
     firstFailing ((onceRule c, variable clauseLine) ∷ (letShapes c, letShape clauseLine) ∷ (typedOnce sigs a b c, badType clauseLine) ∷ [])
 
-unfoldable pub isoFault : Sigs → Iso → Option (Refusal × ℕ)
-unfolding clauseFault sideFault
-isoFault sigs o =
-    orElse (firstOf (λ c. at (c .line) (clauseFault sigs (o .from) (o .to) c)) (o .clauses)) (at (o .line) (sideFault o))
+unfoldable pub isoFault : Sigs → ℕ → Iso → Option (Refusal × ℕ)
+unfolding clauseFault recursionFault sideFault
+isoFault sigs i o =
+    orElse (firstOf (λ c. at (c .line) (clauseFault sigs (o .from) (o .to) c)) (o .clauses)) (orElse (recursionFault i o) (at (o .line) (sideFault o)))
+
+abbrev pub faultFrom : Sigs → ℕ → List Iso → Option (Refusal × ℕ)
+faultFrom sigs i [] = none
+faultFrom sigs i (o ∷ os) = orElse (isoFault sigs i o) (faultFrom sigs (suc i) os)
 
 unfoldable pub fault : List Iso → Option (Refusal × ℕ)
 unfolding isoFault
-fault os = firstOf (isoFault (sigsOf os)) os
+fault os = faultFrom (sigsOf os) 0 os
 
 -- all else is as it is today, idle lines included
 abbrev pub afterReading : Reading → Verdict

@@ -19,10 +19,13 @@ use Rattle.model.specs.Services.{Outcome, gives, fails, refusalOf, within, argu
 use Rattle.model.specs.Answers.{GoodRows}
 use Rattle.calculus.proofs.Basic.{some-bind, none≢some, sameType-refl}
 use Rattle.calculus.proofs.Letters.{value-letters, of-inhabits, inhabits-of}
-use Rattle.model.proofs.Runs.{Good, good, good-invert, good-toward, results}
+use Rattle.format.proofs.Listless.{isos-free}
+use Rattle.calculus.proofs.Lists.{free-iff}
+use Rattle.model.proofs.Runs.{Good, good, good-toward, preserves}
+use Rattle.model.proofs.Sizes.{free-gives, near-of}
 use Rattle.law_ranking.specs.Numbering.{count, rank, unrank, numberRows, settingRows}
 use Rattle.law_ranking.specs.Answers.{LineOf, NumberIs, SettingIs}
-use Rattle.law_ranking.proofs.Numbering.{rank-below, unrank-inhabits, rank-unrank}
+use Rattle.law_ranking.proofs.Numbering.{few-finite, rank-below, unrank-inhabits, rank-unrank}
 use Rattle.law_ranking.proofs.Outcomes.{number-in, setting-in, setting-case}
 use Rattle.law_pairlists.proofs.Exports.{counts-back}
 use Rattle.law_units.specs.Units.{Planned, unitFault, Holds, done, skipped, spent, matches, otherEnd, andThen, sent, cameTo, visitBy, visit}
@@ -48,7 +51,7 @@ module _ {rs : List Row} {i n : ℕ} where
 
     -- number to letters gives the letters of its value
     pub spelled : settingRows i n rs ≡ gives (letters valueOf)
-    spelled = setting-in rs i n (SettingIs.setting (h .type) valueOf (h .line) typed (rank-unrank (h .type) n (h .below)))
+    spelled = setting-in rs i n (SettingIs.setting (h .type) valueOf (h .line) typed (rank-unrank (h .type) (few-finite (h .type) (h .line .few)) n (h .below)))
 
     pub holds-fault : unitFault rs i n ≡ none
     holds-fault = ap refusalOf spelled
@@ -84,13 +87,17 @@ module _ (rs : List Row) (g : GoodRows rs) (budget : ℕ) (p : Planned) {i n : �
     gs = good (toward (p .back) rs) gt
 
     -- what the reduction gives, and with how many applications
-    pub reduced : (w : Val) × (k : ℕ) × (reduce os (p .iso) (valueOf h) ≡ some (w, k)) × Of w (o .to)
-    reduced = results os gs (p .iso) o e (valueOf h) start-typed
+    pub reduced : (w : Val) × (k : ℕ) × (reduce os (p .iso) (valueOf h) ≡ (some w, k)) × Of w (o .to)
+    reduced =
+        let rt : List Row = toward (p .back) rs in
+        let (w, k, r) = free-gives rt gt (p .iso) (isos-free rt (p .iso)) o e (valueOf h) start-typed in
+        (w, k, r, preserves os gs (p .iso) o e (valueOf h) w k start-typed r)
 
     -- an iso is a bijection: the type at the other end has no more values, so its values are numbered too
     pub end-line : LineOf rs end (o .to)
     end-line =
-        let c = counts-back os gs (good-invert (toward (p .back) rs) gt) (p .iso) o e in
+        let rt : List Row = toward (p .back) rs in
+        let c = counts-back rt gt (p .iso) o e (free-iff os (near-of gs) (p .iso) o e .1 (isos-free rt (p .iso))) in
         let f = h .line .few in
         let q : count (h .type) ≡ count (o .from) = ap count same in
         record { there = end-type rs (g .passes) (p .back) (p .iso) e; few = omega (arith, c, f, q) }

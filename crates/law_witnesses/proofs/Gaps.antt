@@ -1,7 +1,7 @@
 -- Request 09, 13 and 14: counting finds the first value that no pattern matches. Orthogonal patterns match no value twice, so what they
 -- match together is the sum of what each matches.
 use Prim.Native.Nat.{ℕ, zero, suc, _+_, _*_, _<_, _≤_}
-use native.Mathlib.Nat.{one-mul, mul-one, zero-mul, mul-assoc, le-trans, eq-or-lt-of-le}
+use native.Mathlib.Nat.{one-mul, mul-one, zero-mul, mul-assoc, eq-or-lt-of-le}
 use native.Mathlib.Omega.{arith}
 use mathlib.Core.Path.{_≡_, refl, sym, ap, ap₂, _∙_, subst}
 use mathlib.Core.Logic.{_⊎_, inl, inr, _↔_}
@@ -9,20 +9,20 @@ use mathlib.Core.Bool.{Bool, true, false, cond, false≢true}
 use mathlib.Core.Option.{Option, none, some}
 use mathlib.Core.List.{List, [], _∷_, _++_, map, List·Memᴰ, List·Memᴰ·head, List·Memᴰ·tail, List·Memᴰ·not-nil, List·Memᴰ·append-cases, Memᴰ·of-map}
 use lib.Dec.{eqb}
-use Rattle.limits.specs.Limits.{maxNodes, maxTags, resultLength}
+use Rattle.limits.specs.Limits.{maxTags, resultLength}
 use Rattle.calculus.specs.Tools.{concat, total, firstOf, orElse}
-use Rattle.calculus.specs.Trees.{Ty, tunit, tsum, tprod, Tag, left, right, Pat, punit, pvar, pinj, ppair, Val, vinj, vpair, sameTag, vars, tags, typeNodes}
+use Rattle.calculus.specs.Trees.{Ty, tunit, tlist, tsum, tprod, Leaf, unitLeaf, emptyLeaf, Tag, left, right, Node, pairNode, elementNode, Pat, pvar, pleaf}
+use Rattle.calculus.specs.Trees.{pinj, pnode, Val, vleaf, vinj, vnode, sameLeaf, sameTag, sameNode, vars, tags}
 use Rattle.calculus.specs.Letters.{letters}
-use Rattle.calculus.specs.Slots.{Slots}
 use Rattle.calculus.specs.Clauses.{fullWeight}
-use Rattle.calculus.specs.Paper.{Of, Fits, Apart, Matched, Distinct}
+use Rattle.calculus.specs.Paper.{Of, Apart, Matched, Distinct}
+use Rattle.calculus.specs.Shapes.{Shape}
 use Rattle.calculus.specs.Hits.{hit, hits}
-use Rattle.law_witnesses.specs.Showing.{Never, Move, unit, both, tag, letterOn, moves, made, spelled, the, valuesWith, find, countUp, never, setting}
+use Rattle.law_witnesses.specs.Showing.{Never, Move, leaf, tag, node, letterOn, moves, made, spelled, the, valuesWith, find, countUp, never, setting}
 use Rattle.law_witnesses.specs.Seeking.{after, orZero, howMany, ways, also, keep, on, lacks, gapFrom, alone, gapIn}
 use Rattle.calculus.proofs.Basic.{none≢some, some-inj, ltb-lt, ltb-false, eqb-eq, eq-eqb, not-eqb, each-nil, each-cons}
-use Rattle.model.proofs.Sizes.{of-small}
 use Rattle.calculus.proofs.Covering.{uncovered, hit-le, matched-hit, hit-matched, hits-le, hit-le-hits}
-use Rattle.law_witnesses.proofs.Spelling.{Ofs, ends, also as with, allLetters, sound, find-map, find-step, firstOf-ext, one-ofs, one-letters, setting-none}
+use Rattle.law_witnesses.proofs.Spelling.{Ofs, ends, also as with, allLetters, sound, find-map, find-step, firstOf-ext, one-ofs, one-letters}
 
 -- ---- values side by side and a row of patterns
 
@@ -39,41 +39,50 @@ hitRows rows vs = total (map (λ r. hitRow r vs) rows)
 abbrev Suits : Move × List Ty → Type 0
 Suits m = (ts : List Ty) (vs : List Val) → Ofs vs (m .1 ++ ts) → (row : List Pat) → hitRow row (made (m .0) vs) ≡ orZero (λ r. hitRow r vs) (after (m .0) row)
 
-unit-suits : Suits (unit, [])
-unit-suits ts vs o [] = refl
-unit-suits ts vs o (punit ∷ ps) = one-mul (hitRow ps vs)
-unit-suits ts vs o (pvar n ∷ ps) = one-mul (hitRow ps vs)
-unit-suits ts vs o (pinj t p ∷ ps) = zero-mul (hitRow ps vs)
-unit-suits ts vs o (ppair p q ∷ ps) = zero-mul (hitRow ps vs)
+leaf-suits : (l : Leaf) → Suits (leaf l, [])
+leaf-suits l ts vs o [] = refl
+leaf-suits l ts vs o (pvar n ∷ ps) = one-mul (hitRow ps vs)
+leaf-suits l ts vs o (pleaf k ∷ ps) = go (sameLeaf k l)
+  where
+    go : (b : Bool) → cond b 1 0 * hitRow ps vs ≡ orZero (λ r. hitRow r vs) (cond b (some ps) none)
+    go true = one-mul (hitRow ps vs)
+    go false = zero-mul (hitRow ps vs)
+leaf-suits l ts vs o (pinj t p ∷ ps) = zero-mul (hitRow ps vs)
+leaf-suits l ts vs o (pnode k p q ∷ ps) = zero-mul (hitRow ps vs)
 
 tag-row : (t : Tag) (v : Val) (vs : List Val) (row : List Pat) → hitRow row (vinj t v ∷ vs) ≡ orZero (λ r. hitRow r (v ∷ vs)) (after (tag t) row)
 tag-row t v vs [] = refl
-tag-row t v vs (punit ∷ ps) = zero-mul (hitRow ps vs)
 tag-row t v vs (pvar n ∷ ps) = refl
+tag-row t v vs (pleaf l ∷ ps) = zero-mul (hitRow ps vs)
 tag-row t v vs (pinj s p ∷ ps) = go (sameTag s t)
   where
     go : (b : Bool) → cond b (hit p v) 0 * hitRow ps vs ≡ orZero (λ r. hitRow r (v ∷ vs)) (cond b (some (p ∷ ps)) none)
     go true = refl
     go false = zero-mul (hitRow ps vs)
-tag-row t v vs (ppair p q ∷ ps) = zero-mul (hitRow ps vs)
+tag-row t v vs (pnode k p q ∷ ps) = zero-mul (hitRow ps vs)
 
 tag-suits : (t : Tag) (a : Ty) → Suits (tag t, a ∷ [])
 tag-suits t a ts us (with {v = v} {vs = vs} h o) row = tag-row t v vs row
 
-pair-row : (v w : Val) (vs : List Val) (row : List Pat) → hitRow row (vpair v w ∷ vs) ≡ orZero (λ r. hitRow r (v ∷ (w ∷ vs))) (after both row)
-pair-row v w vs [] = refl
-pair-row v w vs (punit ∷ ps) = zero-mul (hitRow ps vs)
-pair-row v w vs (pvar n ∷ ps) = sym (one-mul (1 * hitRow ps vs))
-pair-row v w vs (pinj t p ∷ ps) = zero-mul (hitRow ps vs)
-pair-row v w vs (ppair p q ∷ ps) = mul-assoc (hit p v) (hit q w) (hitRow ps vs)
+node-row : (k : Node) (v w : Val) (vs : List Val) (row : List Pat) → hitRow row (vnode k v w ∷ vs) ≡ orZero (λ r. hitRow r (v ∷ (w ∷ vs))) (after (node k) row)
+node-row k v w vs [] = refl
+node-row k v w vs (pvar n ∷ ps) = sym (one-mul (1 * hitRow ps vs))
+node-row k v w vs (pleaf l ∷ ps) = zero-mul (hitRow ps vs)
+node-row k v w vs (pinj t p ∷ ps) = zero-mul (hitRow ps vs)
+node-row k v w vs (pnode m p q ∷ ps) = go (sameNode m k)
+  where
+    go : (b : Bool) → cond b (hit p v * hit q w) 0 * hitRow ps vs ≡ orZero (λ r. hitRow r (v ∷ (w ∷ vs))) (cond b (some (p ∷ (q ∷ ps))) none)
+    go true = mul-assoc (hit p v) (hit q w) (hitRow ps vs)
+    go false = zero-mul (hitRow ps vs)
 
-pair-suits : (a b : Ty) → Suits (both, a ∷ (b ∷ []))
-pair-suits a b ts us (with {v = v} h (with {v = w} {vs = vs} k o)) row = pair-row v w vs row
+node-suits : (k : Node) (a b : Ty) → Suits (node k, a ∷ (b ∷ []))
+node-suits k a b ts us (with {v = v} h (with {v = w} {vs = vs} i o)) row = node-row k v w vs row
 
 suits : (a : Ty) (m : Move × List Ty) → List·Memᴰ m (moves a) → Suits m
-suits tunit = each-cons Suits unit-suits (each-nil Suits)
+suits tunit = each-cons Suits (leaf-suits unitLeaf) (each-nil Suits)
+suits (tlist a) = each-cons Suits (node-suits elementNode a (tlist a)) (each-cons Suits (leaf-suits emptyLeaf) (each-nil Suits))
 suits (tsum a b) = each-cons Suits (tag-suits left a) (each-cons Suits (tag-suits right b) (each-nil Suits))
-suits (tprod a b) = each-cons Suits (pair-suits a b) (each-nil Suits)
+suits (tprod a b) = each-cons Suits (node-suits pairNode a b) (each-nil Suits)
 
 -- the rows that begin with a letter, after it, match what all rows match with it
 rows-after : (a : Ty) (m : Move × List Ty) → List·Memᴰ m (moves a) → (ts : List Ty) (vs : List Val) → Ofs vs (m .1 ++ ts) → (rows : List (List Pat))
@@ -360,17 +369,11 @@ never-iff ps d v = (λ e p m k. to p m k (eqb-eq (hits ps v) 0 e), λ h. eq-eqb 
         at (inr l) k = omega arith
 
 -- where the weights fall short there is one
-pub gap-found : (a : Ty) (ps : List Pat) → typeNodes a ≤ maxNodes
-    → ((p : Pat) → List·Memᴰ p ps → (d : Slots Ty) × Fits d p a)
+pub gap-found : (a : Ty) (ps : List Pat)
+    → ((p : Pat) → List·Memᴰ p ps → Shape p a)
     → ((p : Pat) → List·Memᴰ p ps → Distinct (vars p))
     → ((p : Pat) → List·Memᴰ p ps → tags p ≤ maxTags)
     → Apart ps
     → fullWeight ps ≡ false
-    → (v : Val) × (setting a (never ps) ≡ some v)
-gap-found a ps small fits distinct light apart e =
-    let g = uncovered a ps fits distinct light apart e in
-    go (setting a (never ps)) refl (g .0) (g .1) (never-iff ps distinct (g .0) .1 (g .2))
-  where
-    go : (x : Option Val) → setting a (never ps) ≡ x → (w : Val) → Of w a → never ps w ≡ true → (v : Val) × (x ≡ some v)
-    go (some v) h w o n = (v, refl)
-    go none h w o n = absurd (setting-none a (never ps) h w o (le-trans (of-small o) small) n)
+    → (v : Val) × Of v a × Never ps v
+gap-found a ps fits distinct light apart e = uncovered a ps fits distinct light apart e

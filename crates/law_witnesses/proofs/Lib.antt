@@ -3,6 +3,8 @@ pub mod Spelling
 pub mod Overlaps
 pub mod Gaps
 pub mod Descent
+pub mod Moduli
 pub mod Sides
 pub mod Showing
 pub mod Served
+pub mod Listless

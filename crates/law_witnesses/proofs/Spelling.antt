@@ -11,10 +11,10 @@ use mathlib.Core.List.{List, [], _∷_, _++_, map, append-assoc, append-nil, Lis
 use lib.ListN.{length}
 use Rattle.limits.specs.Limits.{resultLength}
 use Rattle.calculus.specs.Tools.{concat, firstOf, orElse}
-use Rattle.calculus.specs.Trees.{Ty, tunit, tsum, tprod, Tag, left, right, Val, part}
-use Rattle.calculus.specs.Letters.{letterU, letterOf, letterP, letters}
+use Rattle.calculus.specs.Trees.{Ty, tunit, tlist, tsum, tprod, Leaf, unitLeaf, emptyLeaf, Tag, left, right, Node, pairNode, elementNode, Val, vleaf, vnode, part}
+use Rattle.calculus.specs.Letters.{leafLetter, letterOf, nodeLetter, letters}
 use Rattle.calculus.specs.Paper.{Of}
-use Rattle.law_witnesses.specs.Showing.{Move, unit, both, tag, letterOn, moves, made, spelled, the, valuesWith, find, countUp, setting, Least}
+use Rattle.law_witnesses.specs.Showing.{Move, leaf, tag, node, letterOn, moves, made, spelled, the, valuesWith, find, countUp, setting, Least}
 use Rattle.law_witnesses.specs.Seeking.{on}
 use Rattle.calculus.proofs.Basic.{none≢some, some-inj, not-both, each-nil, each-cons}
 use Rattle.calculus.proofs.Letters.{letters-injective}
@@ -36,15 +36,21 @@ Sound a m = (ts : List Ty) (vs : List Val) → Ofs vs (m .1 ++ ts) → Ofs (made
 tag-sound : (t : Tag) (a b : Ty) → Sound (tsum a b) (tag t, part t a b ∷ [])
 tag-sound t a b ts us (also h o) = (also (Of.inj h) o, refl)
 
-pair-sound : (a b : Ty) → Sound (tprod a b) (both, a ∷ (b ∷ []))
-pair-sound a b ts us (also {v = v} h (also {v = w} {vs = vs} k o)) =
-    (also (Of.pair h k) o, ap (λ l. letterP ∷ l) (append-assoc (letters v) (letters w) (allLetters vs)))
+leaf-sound : (l : Leaf) (c : Ty) → Of (vleaf l) c → Sound c (leaf l, [])
+leaf-sound l c h ts vs o = (also h o, refl)
+
+node-sound : (n : Node) (a b c : Ty) → ((v w : Val) → Of v a → Of w b → Of (vnode n v w) c) → Sound c (node n, a ∷ (b ∷ []))
+node-sound n a b c f ts us (also {v = v} h (also {v = w} {vs = vs} k o)) =
+    (also (f v w h k) o, ap (λ l. nodeLetter n ∷ l) (append-assoc (letters v) (letters w) (allLetters vs)))
 
 pub sound : (a : Ty) (m : Move × List Ty) → List·Memᴰ m (moves a) → Sound a m
-sound tunit = each-cons (Sound tunit) (λ ts vs o. (also Of.unit o, refl)) (each-nil (Sound tunit))
+sound tunit = each-cons (Sound tunit) (leaf-sound unitLeaf tunit Of.unit) (each-nil (Sound tunit))
+sound (tlist a) =
+    each-cons (Sound (tlist a)) (node-sound elementNode a (tlist a) (tlist a) (λ v w h k. Of.cons h k))
+    (each-cons (Sound (tlist a)) (leaf-sound emptyLeaf (tlist a) Of.nil) (each-nil (Sound (tlist a))))
 sound (tsum a b) =
     each-cons (Sound (tsum a b)) (tag-sound left a b) (each-cons (Sound (tsum a b)) (tag-sound right a b) (each-nil (Sound (tsum a b))))
-sound (tprod a b) = each-cons (Sound (tprod a b)) (pair-sound a b) (each-nil (Sound (tprod a b)))
+sound (tprod a b) = each-cons (Sound (tprod a b)) (node-sound pairNode a b (tprod a b) (λ v w h k. Of.pair h k)) (each-nil (Sound (tprod a b)))
 
 -- values begin with a letter of a list
 pub record Began (ms : List (Move × List Ty)) (ts : List Ty) (ws : List Val) : Type 0 where
@@ -55,13 +61,16 @@ pub record Began (ms : List (Move × List Ty)) (ts : List Ty) (ws : List Val) : 
   pub of : Ofs rest (move .1 ++ ts)
 
 pub begun : {ws : List Val} {a : Ty} {ts : List Ty} → Ofs ws (a ∷ ts) → Began (moves a) ts ws
-begun (also {vs = vs} Of.unit o) = record { move = (unit, []); mem = List·Memᴰ·head refl; rest = vs; is = refl; of = o }
+begun (also {vs = vs} Of.unit o) = record { move = (leaf unitLeaf, []); mem = List·Memᴰ·head refl; rest = vs; is = refl; of = o }
 begun (also {vs = vs} (Of.inj {t = left} {v} {a} {b} h) o) =
     record { move = (tag left, a ∷ []); mem = List·Memᴰ·head refl; rest = v ∷ vs; is = refl; of = also h o }
 begun (also {vs = vs} (Of.inj {t = right} {v} {a} {b} h) o) =
     record { move = (tag right, b ∷ []); mem = List·Memᴰ·tail (List·Memᴰ·head refl); rest = v ∷ vs; is = refl; of = also h o }
 begun (also {vs = vs} (Of.pair {v} {w} {a} {b} h k) o) =
-    record { move = (both, a ∷ (b ∷ [])); mem = List·Memᴰ·head refl; rest = v ∷ (w ∷ vs); is = refl; of = also h (also k o) }
+    record { move = (node pairNode, a ∷ (b ∷ [])); mem = List·Memᴰ·head refl; rest = v ∷ (w ∷ vs); is = refl; of = also h (also k o) }
+begun (also {vs = vs} (Of.nil) o) = record { move = (leaf emptyLeaf, []); mem = List·Memᴰ·tail (List·Memᴰ·head refl); rest = vs; is = refl; of = o }
+begun (also {vs = vs} (Of.cons {v} {w} {a} h k) o) =
+    record { move = (node elementNode, a ∷ (tlist a ∷ [])); mem = List·Memᴰ·head refl; rest = v ∷ (w ∷ vs); is = refl; of = also h (also k o) }
 
 -- the letters rise
 pub data Rising : List (Move × List Ty) → Type 0 where
@@ -71,12 +80,18 @@ pub data Rising : List (Move × List Ty) → Type 0 where
 left-right : letterOf left < letterOf right
 left-right = omega arith
 
+element-empty : nodeLetter elementNode < leafLetter emptyLeaf
+element-empty = omega arith
+
 pub rising : (a : Ty) → Rising (moves a)
-rising tunit = rise (each-nil (λ k. letterU < letterOn (k .0))) flat
+rising tunit = rise (each-nil (λ k. leafLetter unitLeaf < letterOn (k .0))) flat
+rising (tlist a) =
+    rise (each-cons (λ k. nodeLetter elementNode < letterOn (k .0)) element-empty (each-nil (λ k. nodeLetter elementNode < letterOn (k .0))))
+    (rise (each-nil (λ k. leafLetter emptyLeaf < letterOn (k .0))) flat)
 rising (tsum a b) =
     rise (each-cons (λ k. letterOf left < letterOn (k .0)) left-right (each-nil (λ k. letterOf left < letterOn (k .0))))
     (rise (each-nil (λ k. letterOf right < letterOn (k .0))) flat)
-rising (tprod a b) = rise (each-nil (λ k. letterP < letterOn (k .0))) flat
+rising (tprod a b) = rise (each-nil (λ k. nodeLetter pairNode < letterOn (k .0))) flat
 
 -- ---- the first that passes
 

@@ -7,10 +7,11 @@ use mathlib.Core.List.{List, [], _∷_, _++_, map}
 use lib.Dec.{leb, ltb}
 use lib.ListN.{length}
 use Rattle.limits.specs.Limits.{resultLength}
-use Rattle.calculus.specs.Tools.{_>>=_, total, firstOf}
-use Rattle.calculus.specs.Trees.{Ty, tunit, tsum, tprod, left, right, Pat, punit, pvar, pinj, ppair, Val, vunit, vinj, vpair, sameTag, part}
+use Rattle.calculus.specs.Tools.{_>>=_, guard, total, firstOf}
+use Rattle.calculus.specs.Trees.{Ty, tunit, tlist, tsum, tprod, unitLeaf, emptyLeaf, left, right, pairNode, elementNode, Pat, pvar, pleaf, pinj, pnode, Val}
+use Rattle.calculus.specs.Trees.{vleaf, vinj, vnode, sameLeaf, sameTag, sameNode, part, beneath, parts}
 use Rattle.calculus.specs.Letters.{letters}
-use Rattle.law_witnesses.specs.Showing.{sooner, Move, unit, both, tag, letterOn, moves, countUp}
+use Rattle.law_witnesses.specs.Showing.{sooner, Move, leaf, tag, node, letterOn, moves, countUp}
 
 -- ---- overlap
 
@@ -19,36 +20,41 @@ abbrev pub shorter : Val → Val → Val
 shorter v w = cond (leb (length (letters v)) (length (letters w))) (vinj left v) (vinj right w)
 
 abbrev pub least : Ty → Val
-least tunit = vunit
+least tunit = vleaf unitLeaf
+least (tlist a) = vleaf emptyLeaf
 least (tsum a b) = shorter (least a) (least b)
-least (tprod a b) = vpair (least a) (least b)
+least (tprod a b) = vnode pairNode (least a) (least b)
 
--- the least value that a pattern matches
+-- the least value that a pattern matches; a unit stands where it does not fit the type
+abbrev pub below : Option Ty → (Ty → Val) → Val
+below none f = vleaf unitLeaf
+below (some a) f = f a
+
+abbrev pub both : Option (Ty × Ty) → (Ty → Ty → Val) → Val
+both none f = vleaf unitLeaf
+both (some s) f = f (s .0) (s .1)
+
 abbrev pub leastIn : Pat → Ty → Val
-leastIn punit a = vunit
 leastIn (pvar n) a = least a
-leastIn (pinj t p) tunit = vunit
-leastIn (pinj t p) (tsum a b) = vinj t (leastIn p (part t a b))
-leastIn (pinj t p) (tprod a b) = vunit
-leastIn (ppair p q) tunit = vunit
-leastIn (ppair p q) (tsum a b) = vunit
-leastIn (ppair p q) (tprod a b) = vpair (leastIn p a) (leastIn q b)
+leastIn (pleaf l) a = vleaf l
+leastIn (pinj t p) a = below (beneath t a) (λ b. vinj t (leastIn p b))
+leastIn (pnode k p q) a = both (parts k a) (λ b c. vnode k (leastIn p b) (leastIn q c))
 
 -- the pattern of the values that two patterns match
 abbrev pub meet : Pat → Pat → Option Pat
 meet (pvar n) q = some q
-meet punit punit = some punit
-meet punit (pvar m) = some punit
-meet punit (pinj t q) = none
-meet punit (ppair q q′) = none
-meet (pinj s p) punit = none
+meet (pleaf l) (pvar m) = some (pleaf l)
+meet (pleaf l) (pleaf k) = cond (sameLeaf l k) (some (pleaf l)) none
+meet (pleaf l) (pinj t q) = none
+meet (pleaf l) (pnode k q q′) = none
 meet (pinj s p) (pvar m) = some (pinj s p)
+meet (pinj s p) (pleaf k) = none
 meet (pinj s p) (pinj t q) = cond (sameTag s t) (meet p q >>= λ r. some (pinj s r)) none
-meet (pinj s p) (ppair q q′) = none
-meet (ppair p p′) punit = none
-meet (ppair p p′) (pvar m) = some (ppair p p′)
-meet (ppair p p′) (pinj t q) = none
-meet (ppair p p′) (ppair q q′) = meet p q >>= λ r. meet p′ q′ >>= λ r′. some (ppair r r′)
+meet (pinj s p) (pnode k q q′) = none
+meet (pnode m p p′) (pvar n) = some (pnode m p p′)
+meet (pnode m p p′) (pleaf k) = none
+meet (pnode m p p′) (pinj t q) = none
+meet (pnode m p p′) (pnode k q q′) = cond (sameNode m k) (meet p q >>= λ r. meet p′ q′ >>= λ r′. some (pnode m r r′)) none
 
 -- the sooner of two
 abbrev pub better : Option Val → Option Val → Option Val
@@ -68,23 +74,27 @@ abbrev pub overlapIn : Ty → List Pat → Option Val
 overlapIn a [] = none
 overlapIn a (p ∷ ps) = better (overlapWith a p ps) (overlapIn a ps)
 
+-- "and it goes into 127 lent bytes": a value of more letters is not shown
+abbrev pub fitting : Option Val → Option Val
+fitting x = x >>= λ v. guard (leb (length (letters v)) resultLength) >>= λ _. some v
+
 -- ---- gap
 
 -- what a row of patterns, side by side, asks of the values after a letter; nothing where it does not begin so
 abbrev pub after : Move → List Pat → Option (List Pat)
 after m [] = none
-after unit (punit ∷ ps) = some ps
-after unit (pvar n ∷ ps) = some ps
-after unit (pinj t p ∷ ps) = none
-after unit (ppair p q ∷ ps) = none
-after (tag t) (punit ∷ ps) = none
+after (leaf l) (pvar n ∷ ps) = some ps
+after (leaf l) (pleaf k ∷ ps) = cond (sameLeaf k l) (some ps) none
+after (leaf l) (pinj t p ∷ ps) = none
+after (leaf l) (pnode k p q ∷ ps) = none
 after (tag t) (pvar n ∷ ps) = some (pvar n ∷ ps)
+after (tag t) (pleaf k ∷ ps) = none
 after (tag t) (pinj s p ∷ ps) = cond (sameTag s t) (some (p ∷ ps)) none
-after (tag t) (ppair p q ∷ ps) = none
-after both (punit ∷ ps) = none
-after both (pvar n ∷ ps) = some (pvar n ∷ (pvar n ∷ ps))
-after both (pinj t p ∷ ps) = none
-after both (ppair p q ∷ ps) = some (p ∷ (q ∷ ps))
+after (tag t) (pnode k p q ∷ ps) = none
+after (node k) (pvar n ∷ ps) = some (pvar n ∷ (pvar n ∷ ps))
+after (node k) (pleaf l ∷ ps) = none
+after (node k) (pinj t p ∷ ps) = none
+after (node k) (pnode m p q ∷ ps) = cond (sameNode m k) (some (p ∷ (q ∷ ps))) none
 
 abbrev pub orZero : {A : Type 0} → (A → ℕ) → Option A → ℕ
 orZero f none = 0
@@ -142,11 +152,13 @@ gapIn a ps = firstOf (λ n. cond (lacks n (a ∷ []) (alone ps)) (gapFrom n (a �
 
 -- ---- the same letter by letter, as the code goes
 
--- the letter to go on with: of a sum the left, unless it leaves no gap
+-- the letter to go on with: of a sum the left, and of a list an element, unless it leaves no gap
 abbrev pub pick : ℕ → Ty → List Ty → List (List Pat) → Move × List Ty
-pick n tunit ts rows = (unit, [])
+pick n tunit ts rows = (leaf unitLeaf, [])
+pick n (tlist a) ts rows =
+    cond (lacks n (a ∷ (tlist a ∷ ts)) (keep (after (node elementNode)) rows)) (node elementNode, a ∷ (tlist a ∷ [])) (leaf emptyLeaf, [])
 pick n (tsum a b) ts rows = cond (lacks n (a ∷ ts) (keep (after (tag left)) rows)) (tag left, a ∷ []) (tag right, b ∷ [])
-pick n (tprod a b) ts rows = (both, a ∷ (b ∷ []))
+pick n (tprod a b) ts rows = (node pairNode, a ∷ (b ∷ []))
 
 abbrev pub gapWord : ℕ → List Ty → List (List Pat) → List ℕ
 gapWord zero ts rows = []

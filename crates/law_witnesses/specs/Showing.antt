@@ -1,6 +1,6 @@
 -- Request 09, "A setting that shows the fault": the value with the fewest letters, the first in byte order among those, that two or more
 -- patterns of a side match (11, 12), or none (13, 14); and what the service answers and leaves in every lent area.
-use Prim.Native.Nat.{ℕ, zero, suc, _+_}
+use Prim.Native.Nat.{ℕ, zero, suc, _+_, _<_}
 use mathlib.Core.Path.{_≡_}
 use mathlib.Core.Bool.{Bool, false, cond, _&&_, _||_}
 use mathlib.Core.Option.{Option, none, some}
@@ -9,15 +9,15 @@ use lib.Dec.{leb, ltb, eqb}
 use lib.ListN.{length}
 use Rattle.limits.specs.Limits.{resultLength}
 use Rattle.calculus.specs.Tools.{concat, firstOf}
-use Rattle.calculus.specs.Trees.{Ty, tunit, tsum, tprod, Tag, left, right, Pat, Val, vunit, vinj, vpair, Iso}
-use Rattle.calculus.specs.Refusals.{Refusal, number, isoLine, overlap, gap}
+use Rattle.calculus.specs.Trees.{Ty, tunit, tlist, tsum, tprod, Leaf, unitLeaf, emptyLeaf, Tag, left, right, Node, pairNode, elementNode, Pat, Val, vleaf, vinj, vnode, Iso}
+use Rattle.calculus.specs.Refusals.{Refusal, number, isoLine, overlap, gap, tooLarge}
 use Rattle.format.specs.Lines.{lines}
 use Rattle.format.specs.Judge.{start, judge, Reading, rows, faulty, readFrom}
 use Rattle.format.specs.Unfold.{isosOf}
 use Rattle.format.specs.Idle.{idleFault}
 use Rattle.calculus.specs.Clauses.{Sigs, sigsOf, lefts, rights, isoFault}
-use Rattle.calculus.specs.Letters.{letterU, letterOf, letterP, letters}
-use Rattle.model.specs.Services.{Answer, Verdict, over, verdict, answerOf, refusalBy, tableAfter, workAfter, short, unless, written}
+use Rattle.calculus.specs.Letters.{leafLetter, letterOf, nodeLetter, letters}
+use Rattle.model.specs.Services.{Answer, Verdict, accepted, refused, over, verdict, answerOf, refusalBy, tableAfter, workAfter, short, unless, written}
 use Rattle.law_ranking.specs.Numbering.{before}
 use Rattle.calculus.specs.Paper.{Of, Matched}
 use Rattle.calculus.specs.Hits.{hits}
@@ -50,32 +50,48 @@ pub data Shows (os : List Iso) (n : ℕ) (ls : List ℕ) : Refusal → Type 0 wh
   gapLeft : (o : Iso) (v : Val) → List·Memᴰ o os → n ≡ o .line → Least (o .from) (Never (lefts o)) v → ls ≡ letters v → Shows os n ls (gap isoLine left)
   gapRight : (o : Iso) (v : Val) → List·Memᴰ o os → n ≡ o .line → Least (o .to) (Never (rights o)) v → ls ≡ letters v → Shows os n ls (gap isoLine right)
 
+-- "when the smallest value is over 127 letters": there is one of which F holds, and each has more
+pub record Large (a : Ty) (F : Val → Type 0) : Type 0 where
+  pub value : Val
+  pub of : Of value a
+  pub shows : F value
+  pub longer : (w : Val) → Of w a → F w → resultLength < length (letters w)
+
+-- 24: refusals 11 to 14 of an iso of the file whose fault no value of at most 127 letters shows
+pub data TooLarge (os : List Iso) (n : ℕ) : Refusal → Type 0 where
+  overlapLeft : (o : Iso) → List·Memᴰ o os → n ≡ o .line → Large (o .from) (Twice (lefts o)) → TooLarge os n (overlap isoLine left)
+  overlapRight : (o : Iso) → List·Memᴰ o os → n ≡ o .line → Large (o .to) (Twice (rights o)) → TooLarge os n (overlap isoLine right)
+  gapLeft : (o : Iso) → List·Memᴰ o os → n ≡ o .line → Large (o .from) (Never (lefts o)) → TooLarge os n (gap isoLine left)
+  gapRight : (o : Iso) → List·Memᴰ o os → n ≡ o .line → Large (o .to) (Never (rights o)) → TooLarge os n (gap isoLine right)
+
 -- ---- the same as functions
 
--- What one letter does: it ends a unit, puts a tag before a value, makes a pair of two.
+-- What one letter does: it ends a unit or a list, puts a tag before a value, makes a pair of two or puts one before a list.
 pub data Move : Type 0 where
-  unit both : Move
+  leaf : Leaf → Move
   tag : Tag → Move
+  node : Node → Move
 
 abbrev pub letterOn : Move → ℕ
-letterOn unit = letterU
+letterOn (leaf l) = leafLetter l
 letterOn (tag t) = letterOf t
-letterOn both = letterP
+letterOn (node k) = nodeLetter k
 
 -- the letters that a closed value of a type can begin with, in byte order, each with the types of the values that follow it
 abbrev pub moves : Ty → List (Move × List Ty)
-moves tunit = (unit, []) ∷ []
+moves tunit = (leaf unitLeaf, []) ∷ []
+moves (tlist a) = (node elementNode, a ∷ (tlist a ∷ [])) ∷ ((leaf emptyLeaf, []) ∷ [])
 moves (tsum a b) = (tag left, a ∷ []) ∷ ((tag right, b ∷ []) ∷ [])
-moves (tprod a b) = (both, a ∷ (b ∷ [])) ∷ []
+moves (tprod a b) = (node pairNode, a ∷ (b ∷ [])) ∷ []
 
 -- the values after a letter, with it
 abbrev pub made : Move → List Val → List Val
-made unit vs = vunit ∷ vs
+made (leaf l) vs = vleaf l ∷ vs
 made (tag t) [] = []
 made (tag t) (v ∷ vs) = vinj t v ∷ vs
-made both [] = []
-made both (v ∷ []) = []
-made both (v ∷ (w ∷ vs)) = vpair v w ∷ vs
+made (node k) [] = []
+made (node k) (v ∷ []) = []
+made (node k) (v ∷ (w ∷ vs)) = vnode k v w ∷ vs
 
 -- closed values side by side, one for each type of the list, with n letters in all; in byte order
 abbrev pub spelled : ℕ → List Ty → List (List Val)
@@ -85,7 +101,7 @@ spelled (suc n) [] = []
 spelled (suc n) (a ∷ ts) = concat (map (λ m. map (made (m .0)) (spelled n (m .1 ++ ts))) (moves a))
 
 abbrev pub the : List Val → Val
-the [] = vunit
+the [] = vleaf unitLeaf
 the (v ∷ vs) = v
 
 -- the closed values of a type with n letters, in byte order
@@ -133,9 +149,9 @@ abbrev pub shownOr : Iso → Option (Refusal × ℕ) → Option Val → Option V
 shownOr o none x = x
 shownOr o (some f) x = shown (f .0) o
 
-abbrev pub shownFirst : Sigs → List Iso → Option Val
-shownFirst sigs [] = none
-shownFirst sigs (o ∷ os) = shownOr o (isoFault sigs o) (shownFirst sigs os)
+abbrev pub shownFirst : Sigs → ℕ → List Iso → Option Val
+shownFirst sigs i [] = none
+shownFirst sigs i (o ∷ os) = shownOr o (isoFault sigs i o) (shownFirst sigs (suc i) os)
 
 abbrev pub lettersOf? : Option Val → List ℕ
 lettersOf? none = []
@@ -148,7 +164,7 @@ shownUnless (some f) ls = []
 
 abbrev pub shownOf : Reading → List ℕ
 shownOf (faulty f n) = []
-shownOf (rows rs) = shownUnless (idleFault rs) (lettersOf? (shownFirst (sigsOf (isosOf rs)) (isosOf rs)))
+shownOf (rows rs) = shownUnless (idleFault rs) (lettersOf? (shownFirst (sigsOf (isosOf rs)) 0 (isosOf rs)))
 
 -- the letters that a file's bytes are answered with, none where no value is given
 unfoldable pub showing : List ℕ → List ℕ
@@ -163,12 +179,18 @@ pub record Shown : Type 0 where
   pub work : List ℕ
   pub result : List ℕ
 
+-- 24, "in Req 09 when the smallest value is over 127 letters": a side is refused, and no letters are given
+abbrev pub measured : Verdict → List ℕ → Verdict
+measured (accepted rs) ls = accepted rs
+measured (refused f n) [] = cond (sided f) (refused tooLarge 0) (refused f n)
+measured (refused f n) (l ∷ ls) = refused f n
+
 -- "answers as Check does"; "for other answers no value is given and the bytes stay unchanged"
 unfoldable pub showService : List ℕ → List ℕ → List ℕ → List ℕ → Shown
 unfolding verdict showing
 showService file table work result =
     let s : Bool = short table work || ltb (length result) resultLength in
-    let v : Verdict = unless s (verdict file) in
+    let v : Verdict = unless s (measured (verdict file) (showing file)) in
     let ls : List ℕ = cond s [] (showing file) in
     record {
       refusal = refusalBy v;

@@ -114,6 +114,13 @@ importLength = maxBytes
 abbrev pub maxUnits : ℕ
 maxUnits = 1000
 
+-- request 14: "calls nested deeper than 40 (the outermost is 1)", and the most letters of an argument or a result
+abbrev pub maxDepth : ℕ
+maxDepth = 40
+
+abbrev pub maxLetters : ℕ
+maxLetters = 127
+
 abbrev pub lineFeed : ℕ
 lineFeed = 10
 

@@ -12,6 +12,7 @@ use lib.ListN.{length, take, drop}
 use lib.Seq.{sets-eq, length-take-le}
 use Rattle.limits.specs.Limits.{maxNodes, maxTags, manyTags, maxValues, maxClauses, rowWidth, numeralBound}
 use Rattle.calculus.specs.Trees.{Ty, Val, typeNodes, mostTags}
+use Rattle.calculus.specs.Lists.{Finite}
 use Rattle.calculus.specs.Refusals.{typeLine, patternLine, clauseLine, ceiling}
 use Rattle.format.specs.Lines.{Row, printRows}
 use Rattle.format.specs.Judge.{start}
@@ -82,7 +83,7 @@ file-rows : (a b : Ty) (cs : List (Val × Val)) {ts ps qs : List Row} {m n : ℕ
 unfolding fileRows
 file-rows a b cs et em en ep eq = λ i. et i ++ (ep i ++ (isoRow (em i) (en i) ∷ eq i))
 
-module _ (a b : Ty) (tos : List ℕ) (k : ℕ) (o : List ℕ) (most : k ≤ maxClauses) where
+module _ (a b : Ty) (fa : Finite a) (fb : Finite b) (tos : List ℕ) (k : ℕ) (o : List ℕ) (most : k ≤ maxClauses) where
   abbrev rows : List Row
   rows = fileRows a b (settings a b 0 (take k tos))
 
@@ -101,7 +102,7 @@ module _ (a b : Ty) (tos : List ℕ) (k : ℕ) (o : List ℕ) (most : k ≤ maxC
     file-over h r n l =
         record {
           does = λ ta tb ha hb le up room.
-              let t = pairs-taken a b (take k tos) up in
+              let t = pairs-taken a b fa fb (take k tos) up in
               let c = counts le t in
               let d = pairs .does (c .0) (c .1) le (record { words = wide }) long in
               let no-room : withinAll start rows ≡ false = is-false (withinAll start rows) (λ w. tracks-many (d .0) h (written-ceiling a b (take k tos) ha hb (short-list le) t .0 w .few)) in
@@ -120,7 +121,7 @@ module _ (a b : Ty) (tos : List ℕ) (k : ℕ) (o : List ℕ) (most : k ≤ maxC
     file-made {s} {s₁} {s₂} {m} {d} {n} {e} area f g h {o′} {len} w r j l =
         record {
           does = λ ta tb ha hb le up room.
-              let t = pairs-taken a b (take k tos) up in
+              let t = pairs-taken a b fa fb (take k tos) up in
               let c = counts le t in
               let z = pairs .does (c .0) (c .1) le (record { words = wide }) long in
               let few = tracks-few (z .0) h in
@@ -147,7 +148,7 @@ module _ (a b : Ty) (tos : List ℕ) (k : ℕ) (o : List ℕ) (most : k ≤ maxC
   file-heavy {x} light {n} e over r says =
       record {
         does = λ ha hb le up room.
-            let t = pairs-taken a b (take k tos) up in
+            let t = pairs-taken a b fa fb (take k tos) up in
             let no-room : withinAll start rows ≡ false =
             is-false (withinAll start rows)
             (λ w. let l = written-ceiling a b (take k tos) ha hb (short-list le) t .0 w in let z = light (l .from) (l .to) in absurd (lt-irrefl 40 (omega arith))) in

@@ -11,7 +11,7 @@ use lib.ListN.{length}
 use Rattle.limits.specs.Limits.{maxValues, rowWidth}
 use Rattle.calculus.specs.Refusals.{Kind, typeLine, patternLine}
 use Rattle.format.specs.Lines.{Row}
-use Rattle.calculus.specs.Trees.{Ty, tunit, tsum, tprod, Tag, left, right, Val, vunit, vinj, vpair}
+use Rattle.calculus.specs.Trees.{Ty, tunit, tsum, tprod, Tag, left, right, Val, vleaf, unitLeaf, vinj, vnode, pairNode}
 use Rattle.law_ranking.specs.Numbering.{count, unrank}
 use Rattle.law_pairlists.specs.PairLists.{find, enter, Entry, entry, typeRow, writeType, writeValue}
 use Rattle.calculus.proofs.Basic.{bool-cases, leb-le, leb-false, lt-ltb, not-ltb}
@@ -106,7 +106,7 @@ module _ (a b : Ty) {c : Ty} {s s₁ s₂ s₃ : List ℕ} {to n₁ e₁ n₂ e�
 
 -- ---- a value written
 
-pub unit-value : {s s′ : List ℕ} {to n e : ℕ} → ((k : Kind) (rs : List Row) → Entering k s s′ to 0 0 0 n e rs) → RowsOf vunit s s′ to n e
+pub unit-value : {s s′ : List ℕ} {to n e : ℕ} → ((k : Kind) (rs : List Row) → Entering k s s′ to 0 0 0 n e rs) → RowsOf (vleaf unitLeaf) s s′ to n e
 unit-value h = record { does = λ rs r t. h patternLine rs .does (omega arith) (omega arith) (omega arith) r t }
 
 -- rows that follow a row whose numbers are right where there is room
@@ -150,7 +150,7 @@ tag-value right v f h =
     }
 
 pub pair-value : (v w : Val) {s s₁ s₂ s₃ : List ℕ} {to n₁ e₁ n₂ e₂ n₃ e₃ : ℕ} → RowsOf v s s₁ to n₁ e₁ → RowsOf w s₁ s₂ e₁ n₂ e₂
-    → ((k : Kind) (rs : List Row) → Entering k s₂ s₃ e₂ 4 n₁ n₂ n₃ e₃ rs) → RowsOf (vpair v w) s s₃ to n₃ e₃
+    → ((k : Kind) (rs : List Row) → Entering k s₂ s₃ e₂ 4 n₁ n₂ n₃ e₃ rs) → RowsOf (vnode pairNode v w) s s₃ to n₃ e₃
 pair-value v w f g h =
     record {
       does = λ rs r t.
@@ -199,6 +199,6 @@ module _ (n : ℕ) (a b : Ty) {s s₁ s₂ : List ℕ} {to n₁ e₁ n₂ e₂ :
         does = λ m.
             let few : count a ≤ maxValues = omega (arith, count-first a b) in
             let fewer : count b ≤ maxValues = omega (arith, count-second a b) in
-            subst (λ v. RowsOf v s s₃ to n₃ e₃) (ap (λ z. vpair (unrank a (n / z)) (unrank b (n % z))) (counted b e fewer))
+            subst (λ v. RowsOf v s s₃ to n₃ e₃) (ap (λ z. vnode pairNode (unrank a (n / z)) (unrank b (n % z))) (counted b e fewer))
             (pair-value (unrank a (n / c)) (unrank b (n % c)) (f .does few) (g .does fewer) h);
       }

@@ -14,7 +14,7 @@ use Rattle.limits.specs.Limits.{maxBytes, maxLines}
 use Rattle.calculus.specs.Tools.{stages, orElse}
 use Rattle.calculus.specs.Trees.{left, right}
 use Rattle.calculus.specs.Refusals.{Kind, Refusal, number, shortArea, tooLong, badLine, misplaced, badField, badName, ceiling, variable, letShape, badType}
-use Rattle.calculus.specs.Refusals.{overlap, gap, noIso, noValue, spent, tooMany, tooHigh, badList, idle, badScript}
+use Rattle.calculus.specs.Refusals.{overlap, gap, noIso, noValue, spent, tooMany, tooHigh, badList, idle, badScript, recursion, tooLarge}
 use Rattle.format.specs.Lines.{Row, lines, withoutReturns, print, printRows}
 use Rattle.format.specs.Judge.{start, Reading, rows, faulty, readFrom}
 use Rattle.format.specs.Unfold.{isosOf, turnRows}
@@ -122,9 +122,9 @@ judged-refused rs (some g) f n e =
     let q : g .1 ≡ n = cc in
     some-pair p q
 
--- Each of 8 to 14 is given, at its line, exactly when its condition is the first that fails.
+-- Each of 8 to 14 and 23 is given, at its line, exactly when its condition is the first that fails.
 pub refused-iff : (bs : List ℕ) (rs : List Row) → InForm bs rs → (f : Refusal) (n : ℕ)
-    → (verdict bs ≡ refused f n) ↔ FirstIso (sigsOf (isosOf rs)) (isosOf rs) f n
+    → (verdict bs ≡ refused f n) ↔ FirstIso (sigsOf (isosOf rs)) 0 (isosOf rs) f n
 refused-iff bs rs h f n =
     let k = file-fault (isosOf rs) (formed-of bs rs h) f n in (
       (λ e. k .0 (judged-refused rs (fault (isosOf rs)) f n (sym (verdict-in-form bs rs h) ∙ e))),
@@ -155,6 +155,8 @@ number-positive tooHigh = omega arith
 number-positive badList = omega arith
 number-positive (idle k) = omega arith
 number-positive badScript = omega arith
+number-positive (recursion k) = omega arith
+number-positive tooLarge = omega arith
 
 -- the number of an answer is that of its refusal
 pub number-by : (v : Verdict) → numbered (refusalBy v) ≡ answerOf v .number

@@ -3,7 +3,7 @@ use Prim.Native.Nat.{ℕ}
 use mathlib.Core.Path.{_≡_, refl}
 use mathlib.Core.Option.{none}
 use mathlib.Core.List.{List, [], _∷_, _++_}
-use Rattle.calculus.specs.Trees.{tunit, pvar, vunit, Clause}
+use Rattle.calculus.specs.Trees.{tunit, pvar, Clause, vleaf, unitLeaf}
 use Rattle.calculus.specs.Reduction.{reduce}
 use Rattle.model.specs.Services.{turned}
 use Rattle.model.specs.Desk.{desk}
@@ -13,7 +13,7 @@ abbrev identity : ℕ → Clause
 identity n = record { line = n; lhs = pvar 0; lets = []; rhs = pvar 0 }
 
 -- First match does not win: where several clauses match, nothing is given.
-several-match : reduce (record { line = 1; from = tunit; to = tunit; clauses = identity 2 ∷ (identity 3 ∷ []) } ∷ []) 0 vunit ≡ none
+several-match : reduce (record { line = 1; from = tunit; to = tunit; clauses = identity 2 ∷ (identity 3 ∷ []) } ∷ []) 0 (vleaf unitLeaf) ≡ (none, 1)
 unfolding reduce
 several-match = refl
 

@@ -8,7 +8,7 @@ use lib.ListN.{length, drop, replicate, getElem?}
 use Rattle.limits.specs.Limits.{maxBytes, maxLines, tableLength, workLength, resultLength}
 use Rattle.calculus.specs.Tools.{_>>=_, guard, stages}
 use Rattle.calculus.specs.Trees.{Ty, Val, Iso}
-use Rattle.calculus.specs.Refusals.{Refusal, number, shortArea, tooLong, noIso, noValue, spent}
+use Rattle.calculus.specs.Refusals.{Refusal, number, shortArea, tooLong, noIso, noValue, spent, tooLarge}
 use Rattle.format.specs.Lines.{Row, lines, printRows}
 use Rattle.format.specs.Table.{tableOf}
 use Rattle.format.specs.Judge.{start, judge, Reading, rows, faulty, readFrom}
@@ -16,7 +16,7 @@ use Rattle.format.specs.Unfold.{isosOf, turnRows}
 use Rattle.format.specs.Idle.{idleFault}
 use Rattle.format.specs.Code.{numbered}
 use Rattle.calculus.specs.Clauses.{fault}
-use Rattle.calculus.specs.Reduction.{reduce}
+use Rattle.calculus.specs.Reduction.{reduce, Counted}
 use Rattle.calculus.specs.Letters.{letters, valueOf, inhabits}
 
 -- the file's rows, or its refusal and the line
@@ -194,10 +194,14 @@ turn bs table work output = turnBy (verdict bs) (length bs) table work output
 abbrev pub Ran : Type 0
 Ran = Outcome (ℕ × List ℕ)
 
--- "17: the full count would pass the budget". In an accepted file there is always a result (the law of totality).
-abbrev pub within : ℕ → Option (Val × ℕ) → Ran
-within budget none = fails spent
-within budget (some r) = cond (leb (r .1) budget) (gives (r .1, letters (r .0))) (fails spent)
+-- what a reduction ends in. In an accepted file nothing but a ceiling stops it (the law of progress).
+abbrev pub ended : Option Val → ℕ → Ran
+ended none k = fails tooLarge
+ended (some w) k = gives (k, letters w)
+
+-- "17: the full count would pass the budget"; "24 …, in a run whichever of it and 17 the reduction meets first"
+abbrev pub within : ℕ → Counted Val → Ran
+within budget r = cond (leb (r .1) budget) (ended (r .0) (r .1)) (fails spent)
 
 -- "exactly one closed value" of a type; for a run, "of the starting type"
 abbrev pub valueIn : List ℕ → Ty → Option Val
@@ -214,7 +218,7 @@ abbrev pub onIso : List Iso → ℕ → ℕ → List ℕ → Option Iso → Ran
 onIso os i budget value none = fails noIso
 onIso os i budget value (some o) = from os i budget (argument o value)
 
--- "For a run, 15, 16, 17 follow."
+-- "For a run, 15, 16, 17 follow", and 24.
 unfoldable pub runRows : List Row → ℕ → ℕ → List ℕ → Ran
 unfolding isosOf valueOf reduce
 runRows rs i budget value = onIso (isosOf rs) i budget value (getElem? (isosOf rs) i)

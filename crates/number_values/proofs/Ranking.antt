@@ -5,7 +5,7 @@ use mathlib.Core.Path.{_≡_, refl, sym, ap₂, _∙_, subst}
 use mathlib.Core.List.{List}
 use lib.ListN.{length, getD, length-append}
 use Rattle.limits.specs.Limits.{maxValues}
-use Rattle.calculus.specs.Trees.{Ty, tunit, tsum, tprod, Val, vunit, vinj, vpair, left, right}
+use Rattle.calculus.specs.Trees.{Ty, tunit, tsum, tprod, Val, vleaf, unitLeaf, emptyLeaf, vinj, vnode, pairNode, elementNode, left, right}
 use Rattle.calculus.specs.Letters.{letters, inhabits}
 use Rattle.law_ranking.specs.Numbering.{count}
 use Rattle.calculus.proofs.Basic.{not-both, and-true}
@@ -23,25 +23,30 @@ module _ (s : List ℕ) (at : ℕ) {next : ℕ} (p : at < length s → next ≡ 
 
   -- unit
   pub ranks-unit : Ranks tunit s at 0 next
-  ranks-unit vunit h i c = (refl, p (at-within h))
+  ranks-unit (vleaf unitLeaf) h i c = (refl, p (at-within h))
+  ranks-unit (vleaf emptyLeaf) h i c = absurd (not-both i refl)
   ranks-unit (vinj t v) h i c = absurd (not-both i refl)
-  ranks-unit (vpair v w) h i c = absurd (not-both i refl)
+  ranks-unit (vnode pairNode v w) h i c = absurd (not-both i refl)
+  ranks-unit (vnode elementNode v w) h i c = absurd (not-both i refl)
 
   module _ (a b : Ty) where
     -- left
     pub ranks-left : {x n e : ℕ} → x ≡ getD s at 0 → x ≡ 76 → Ranks a s next n e → Ranks (tsum a b) s at n e
-    ranks-left f z w vunit h i c = absurd (not-both i refl)
+    ranks-left f z w (vleaf unitLeaf) h i c = absurd (not-both i refl)
+    ranks-left f z w (vleaf emptyLeaf) h i c = absurd (not-both i refl)
     ranks-left {n} {e} f z w (vinj left v) h i c =
         let q = p (at-within h) in
         let g = w v (moved (at-within h) (at-inj h)) i (omega (arith, count-left a b)) in
         (omega (arith, g .0), omega (arith, g .1))
     ranks-left f z w (vinj right v) h i c = absurd (omega (arith, at-first h))
-    ranks-left f z w (vpair u v) h i c = absurd (not-both i refl)
+    ranks-left f z w (vnode pairNode u v) h i c = absurd (not-both i refl)
+    ranks-left f z w (vnode elementNode u v) h i c = absurd (not-both i refl)
 
     -- right
     pub ranks-right : {x m n r e : ℕ} → x ≡ getD s at 0 → (x ≡ 76 → ⊥) → Ranks b s next n e → Counts a m → r ≡ min 1 maxValues * min m maxValues + min n maxValues
         → Ranks (tsum a b) s at r e
-    ranks-right f z w k o vunit h i c = absurd (not-both i refl)
+    ranks-right f z w k o (vleaf unitLeaf) h i c = absurd (not-both i refl)
+    ranks-right f z w k o (vleaf emptyLeaf) h i c = absurd (not-both i refl)
     ranks-right f z w k o (vinj left v) h i c = absurd (z (f ∙ at-first h))
     ranks-right {x} {m} {n} {r} {e} f z w k o (vinj right v) h i c =
         let q = p (at-within h) in
@@ -51,13 +56,16 @@ module _ (s : List ℕ) (at : ℕ) {next : ℕ} (p : at < length s → next ≡ 
         let small : (m ≤ maxValues) × (n ≤ maxValues) = (omega (arith, count-left a b), omega (arith, g .0, count-right a b)) in
         let sum = times-plus-is 1 m n (omega arith) (small .0) (small .1) o in
         (omega (arith, g .0), omega (arith, g .1))
-    ranks-right f z w k o (vpair u v) h i c = absurd (not-both i refl)
+    ranks-right f z w k o (vnode pairNode u v) h i c = absurd (not-both i refl)
+    ranks-right f z w k o (vnode elementNode u v) h i c = absurd (not-both i refl)
 
     -- a pair
     pub ranks-pair : {m n j y r e : ℕ} → Ranks a s next n j → Ranks b s j y e → Counts b m → r ≡ min n maxValues * min m maxValues + min y maxValues → Ranks (tprod a b) s at r e
-    ranks-pair w x k o vunit h i c = absurd (not-both i refl)
+    ranks-pair w x k o (vleaf unitLeaf) h i c = absurd (not-both i refl)
+    ranks-pair w x k o (vleaf emptyLeaf) h i c = absurd (not-both i refl)
     ranks-pair w x k o (vinj t v) h i c = absurd (not-both i refl)
-    ranks-pair {m} {n} {j} {y} {r} {e} w x k o (vpair u v) h i c =
+    ranks-pair w x k o (vnode elementNode u v) h i c = absurd (not-both i refl)
+    ranks-pair {m} {n} {j} {y} {r} {e} w x k o (vnode pairNode u v) h i c =
         let q = p (at-within h) in
         let both = and-true (inhabits u a) (inhabits v b) i in
         let few : count a ≤ maxValues = omega (arith, count-first a b) in

@@ -8,7 +8,7 @@ use mathlib.Core.List.{List, [], _∷_}
 use lib.ListN.{length, set}
 use borrow.Author.Tests.{lt-ltb, le-ltb}
 use Rattle.limits.specs.Limits.{maxValues}
-use Rattle.calculus.specs.Trees.{Ty, tunit, tsum, tprod, vinj, vpair, left, right}
+use Rattle.calculus.specs.Trees.{Ty, tunit, tsum, tprod, vinj, vnode, pairNode, left, right}
 use Rattle.calculus.specs.Letters.{letters}
 use Rattle.law_ranking.specs.Numbering.{count, unrank}
 use Rattle.area_cells.specs.Areas.{Writes}
@@ -76,5 +76,5 @@ module _ (n : ℕ) (l : List ℕ) (at : ℕ) (here : at < length l) where
         let first : n / c < count a = div-lt-iff-lt-mul some .1 (subst (λ z. n < count a * z) (sym known) y) in
         let second : n % c < count b = subst (λ z. n % c < z) known (mod-lt n some) in
         writes-as
-        (ap (λ z. letters (vpair (unrank a (n / z)) (unrank b (n % z)))) known)
+        (ap (λ z. letters (vnode pairNode (unrank a (n / z)) (unrank b (n % z)))) known)
         (writes-both (writes-both (letter 80) (spells a (n / c) k f few first)) (spells b (n % c) o g fewer second)))

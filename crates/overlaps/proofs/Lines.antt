@@ -8,7 +8,7 @@ use mathlib.Core.Option.{Option, none, some}
 use mathlib.Core.List.{List}
 use lib.ListN.{getElem?}
 use Rattle.limits.specs.Limits.{maxNodes, budgetBound}
-use Rattle.calculus.specs.Trees.{Pat, punit, nodes}
+use Rattle.calculus.specs.Trees.{Pat, pleaf, unitLeaf, nodes}
 use Rattle.calculus.specs.Refusals.{noIso}
 use Rattle.format.specs.Lines.{Row}
 use Rattle.model.specs.Services.{accepted, gives, fails, refusalOf}
@@ -38,7 +38,7 @@ module _ (t : List ℕ) (types patterns i j : ℕ) (r : O.Overlapped) where
 
     there : (k : ℕ) → k < patterns → getElem? (patternsOf rs) k ≡ some (patternOf t types k)
     unfolding patternsOf
-    there k h = get-row (patternsOf rs) k punit (omega (arith, f .patternCount)) ∙ ap some (sym (f .patternTrees k h))
+    there k h = get-row (patternsOf rs) k (pleaf unitLeaf) (omega (arith, f .patternCount)) ∙ ap some (sym (f .patternTrees k h))
 
     small : (k : ℕ) → k < patterns → nodes (patternOf t types k) ≤ maxNodes
     small k h = subst (λ p. nodes p ≤ maxNodes) (sym (f .patternTrees k h)) (patterns-small (f .passes) k)

@@ -11,7 +11,7 @@ use lib.ListN.{length, getD, set, length-set, length-append, List·getD-append}
 use lib.Seq.{getD-at, getD-set-same, getD-set-other}
 use borrow.Author.Tests.{lt-ltb, le-ltb, le-leb, lt-leb, ltb-true}
 use Rattle.limits.specs.Limits.{maxTypes, maxPatterns, maxIsos, maxClauses, maxLets, maxNodes, maxTags}
-use Rattle.calculus.specs.Trees.{tunit, typeNodes, Pat, punit, nodes, tags}
+use Rattle.calculus.specs.Trees.{tunit, typeNodes, Pat, pleaf, unitLeaf, nodes, tags}
 use Rattle.calculus.specs.Refusals.{typeLine, patternLine}
 use Rattle.format.specs.Judge.{Seen, typeNames, patternNames, named, withinCeilings, afterKind, patternTree}
 use Rattle.format.specs.Table.{sizeOf}
@@ -55,29 +55,29 @@ module _ (t : List ℕ) (k a b : ℕ) where
 
 module _ (t : List ℕ) (base k a b : ℕ) where
   pub next-leaf : Leaf k → PatternReckoned t base k a b 1
-  next-leaf h ps at names = sym (leaf-count a (getD ps a punit) (getD ps b punit) h)
+  next-leaf h ps at names = sym (leaf-count a (getD ps a (pleaf unitLeaf)) (getD ps b (pleaf unitLeaf)) h)
 
   pub next-inj : {m : ℕ} → Injects k → m ≡ cellOf t (base + a) 4 → PatternReckoned t base k a b (1 + m)
   next-inj h p ps at names =
-      ap (λ x. 1 + x) (p ∙ at a (inj-named (length ps) a b h names)) ∙ sym (inj-count a (getD ps a punit) (getD ps b punit) h)
+      ap (λ x. 1 + x) (p ∙ at a (inj-named (length ps) a b h names)) ∙ sym (inj-count a (getD ps a (pleaf unitLeaf)) (getD ps b (pleaf unitLeaf)) h)
 
   pub next-pair : {m n : ℕ} → k ≡ 4 → m ≡ cellOf t (base + a) 4 → n ≡ cellOf t (base + b) 4 → PatternReckoned t base k a b (1 + m + n)
   next-pair h p q ps at names =
       let d = pair-named (length ps) a b h names in
-      ap₂ (λ x y. 1 + x + y) (p ∙ at a (d .0)) (q ∙ at b (d .1)) ∙ sym (pair-count a (getD ps a punit) (getD ps b punit) h)
+      ap₂ (λ x y. 1 + x + y) (p ∙ at a (d .0)) (q ∙ at b (d .1)) ∙ sym (pair-count a (getD ps a (pleaf unitLeaf)) (getD ps b (pleaf unitLeaf)) h)
 
 module _ (g : List ℕ) (k a b : ℕ) where
   pub next-leaf-tags : Leaf k → TagsReckoned g k a b 0
-  next-leaf-tags h ps at names = sym (leaf-tags a (getD ps a punit) (getD ps b punit) h)
+  next-leaf-tags h ps at names = sym (leaf-tags a (getD ps a (pleaf unitLeaf)) (getD ps b (pleaf unitLeaf)) h)
 
   pub next-inj-tags : {m : ℕ} → Injects k → m ≡ getD g a 0 → TagsReckoned g k a b (1 + m)
   next-inj-tags h p ps at names =
-      ap (λ x. 1 + x) (p ∙ at a (inj-named (length ps) a b h names)) ∙ sym (inj-tags a (getD ps a punit) (getD ps b punit) h)
+      ap (λ x. 1 + x) (p ∙ at a (inj-named (length ps) a b h names)) ∙ sym (inj-tags a (getD ps a (pleaf unitLeaf)) (getD ps b (pleaf unitLeaf)) h)
 
   pub next-pair-tags : {m n : ℕ} → k ≡ 4 → m ≡ getD g a 0 → n ≡ getD g b 0 → TagsReckoned g k a b (m + n)
   next-pair-tags h p q ps at names =
       let d = pair-named (length ps) a b h names in
-      ap₂ (λ x y. x + y) (p ∙ at a (d .0)) (q ∙ at b (d .1)) ∙ sym (pair-tags a (getD ps a punit) (getD ps b punit) h)
+      ap₂ (λ x y. x + y) (p ∙ at a (d .0)) (q ∙ at b (d .1)) ∙ sym (pair-tags a (getD ps a (pleaf unitLeaf)) (getD ps b (pleaf unitLeaf)) h)
 
 -- ---- T lines
 
@@ -184,18 +184,18 @@ module _ (t : List ℕ) (c : C.Seen) (r : R.Row) where
 tags-more : (g g′ : List ℕ) (ps : List Pat) (p : Pat) (n : ℕ) → TagsAt g ps → length ps < length g → g′ ≡ set g (length ps) n → n ≡ tags p → TagsAt g′ (ps ++ (p ∷ []))
 tags-more g g′ ps p n at l e f j b = go (decLt j (length ps))
   where
-    go : Dec (j < length ps) → getD g′ j 0 ≡ tags (getD (ps ++ (p ∷ [])) j punit)
+    go : Dec (j < length ps) → getD g′ j 0 ≡ tags (getD (ps ++ (p ∷ [])) j (pleaf unitLeaf))
     go (yes h) =
         ap (λ u. getD u j 0) e
         ∙ getD-set-other g (length ps) j n 0 (λ q. omega arith)
         ∙ at j h
-        ∙ ap tags (sym (List·getD-append ps (p ∷ []) punit j h))
+        ∙ ap tags (sym (List·getD-append ps (p ∷ []) (pleaf unitLeaf) j h))
     go (no h) =
         let last : j ≡ length ps = omega (arith, length-append ps (p ∷ [])) in
         ap₂ (λ u i. getD u i 0) e last
         ∙ getD-set-same g (length ps) n 0 l
         ∙ f
-        ∙ ap tags (sym (getD-at ps p [] punit j (sym last)))
+        ∙ ap tags (sym (getD-at ps p [] (pleaf unitLeaf) j (sym last)))
 
 module _ (g : List ℕ) (c : C.Seen) (r : R.Row) where
   pub tags-pattern : {g′ : List ℕ} {n m : ℕ} → r .kind ≡ kinds.Pattern → TagsReckoned g (r .x) (r .y) (r .z) n → m ≡ n % 256 → g′ ≡ set g (c .patterns) m

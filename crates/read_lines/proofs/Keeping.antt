@@ -11,7 +11,7 @@ use lib.ListN.{length, getD, length-append, List·getD-append}
 use lib.Seq.{sets, getD-at}
 use borrow.Author.Tests.{leb-true}
 use Rattle.limits.specs.Limits.{maxLines, rowWidth}
-use Rattle.calculus.specs.Trees.{Ty, tunit, Pat, punit}
+use Rattle.calculus.specs.Trees.{Ty, tunit, Pat, pleaf, unitLeaf}
 use Rattle.calculus.specs.Refusals.{Kind, typeLine, patternLine, isoLine, clauseLine, letLine}
 use Rattle.format.specs.Lines.{Row}
 use Rattle.format.specs.Table.{numbers}
@@ -121,7 +121,7 @@ module _ (t t′ : List ℕ) (n : ℕ) (r : Row) (size : ℕ) (e : t′ ≡ sets
             ap (typeOf t′) (last ∙ sym here) ∙ type-new ∙ sym (getD-at ts (typeTree ts r) [] tunit i (sym last))
 
   module _ (base : ℕ) (ps : List Pat) (at : PatternsAt t base ps) (here : n ≡ base + length ps) (names : patternNames (length ps) (r .x) (r .y) (r .z) ≡ true) where
-    named-pattern : (a : ℕ) → a < length ps → patternOf t′ base (smallerOf a (length ps)) ≡ getD ps a punit
+    named-pattern : (a : ℕ) → a < length ps → patternOf t′ base (smallerOf a (length ps)) ≡ getD ps a (pleaf unitLeaf)
     named-pattern a l = ap (patternOf t′ base) (smaller-less a (length ps) l) ∙ patterns-kept base ps at (omega arith) a l
 
     stored-here : (k : ℕ) → k < rowWidth → cellOf t′ (base + length ps) k ≡ getD (numbers r size) k 0
@@ -143,11 +143,11 @@ module _ (t t′ : List ℕ) (n : ℕ) (r : Row) (size : ℕ) (e : t′ ≡ sets
     patterns-more : PatternsAt t′ base (ps ++ (patternTree ps r ∷ []))
     patterns-more j b = go (decLt j (length ps))
       where
-        go : Dec (j < length ps) → patternOf t′ base j ≡ getD (ps ++ (patternTree ps r ∷ [])) j punit
-        go (yes l) = patterns-kept base ps at (omega arith) j l ∙ sym (List·getD-append ps (patternTree ps r ∷ []) punit j l)
+        go : Dec (j < length ps) → patternOf t′ base j ≡ getD (ps ++ (patternTree ps r ∷ [])) j (pleaf unitLeaf)
+        go (yes l) = patterns-kept base ps at (omega arith) j l ∙ sym (List·getD-append ps (patternTree ps r ∷ []) (pleaf unitLeaf) j l)
         go (no l) =
             let last : j ≡ length ps = omega (arith, length-snoc ps (patternTree ps r)) in
-            ap (patternOf t′ base) last ∙ pattern-new ∙ sym (getD-at ps (patternTree ps r) [] punit j (sym last))
+            ap (patternOf t′ base) last ∙ pattern-new ∙ sym (getD-at ps (patternTree ps r) [] (pleaf unitLeaf) j (sym last))
 
   -- ---- what the rows tell
 

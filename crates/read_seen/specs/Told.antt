@@ -5,7 +5,7 @@ use mathlib.Core.List.{List}
 use lib.ListN.{length, getD}
 use Rattle.limits.specs.Fields.{sizeField}
 use Rattle.limits.specs.Limits.{fieldBound}
-use Rattle.calculus.specs.Trees.{Ty, tunit, Pat, punit, typeNodes, nodes, tags}
+use Rattle.calculus.specs.Trees.{Ty, tunit, Pat, pleaf, unitLeaf, typeNodes, nodes, tags}
 use Rattle.calculus.specs.Refusals.{Kind, typeLine, patternLine, isoLine, clauseLine, letLine}
 use Rattle.format.specs.Judge.{Seen, stage, typeNode, patternNode}
 use Rattle.table_trees.specs.Unfolding.{cellOf, typeOf, patternOf}
@@ -44,14 +44,14 @@ abbrev pub TypesAt : List ℕ → List Ty → Type 0
 TypesAt t ts = (i : ℕ) → i < length ts → typeOf t i ≡ getD ts i tunit
 
 abbrev pub PatternsAt : List ℕ → ℕ → List Pat → Type 0
-PatternsAt t base ps = (j : ℕ) → j < length ps → patternOf t base j ≡ getD ps j punit
+PatternsAt t base ps = (j : ℕ) → j < length ps → patternOf t base j ≡ getD ps j (pleaf unitLeaf)
 
 -- the tree of a line that stands next, by its fields
 abbrev pub nextType : List Ty → ℕ → ℕ → ℕ → Ty
 nextType ts k a b = typeNode k (getD ts a tunit) (getD ts b tunit)
 
 abbrev pub nextPattern : List Pat → ℕ → ℕ → ℕ → Pat
-nextPattern ps k a b = patternNode k a (getD ps a punit) (getD ps b punit)
+nextPattern ps k a b = patternNode k a (getD ps a (pleaf unitLeaf)) (getD ps b (pleaf unitLeaf))
 
 -- and the table's lines unfold to their trees
 pub record Told (t : List ℕ) (c : C.Seen) (s : Seen) : Type 0 where
@@ -64,10 +64,10 @@ abbrev pub TypeSizes : List ℕ → List Ty → Type 0
 TypeSizes t ts = (i : ℕ) → i < length ts → cellOf t i sizeField ≡ typeNodes (getD ts i tunit)
 
 abbrev pub PatternSizes : List ℕ → ℕ → List Pat → Type 0
-PatternSizes t base ps = (j : ℕ) → j < length ps → cellOf t (base + j) sizeField ≡ nodes (getD ps j punit)
+PatternSizes t base ps = (j : ℕ) → j < length ps → cellOf t (base + j) sizeField ≡ nodes (getD ps j (pleaf unitLeaf))
 
 abbrev pub TagsAt : List ℕ → List Pat → Type 0
-TagsAt g ps = (j : ℕ) → j < length ps → getD g j 0 ≡ tags (getD ps j punit)
+TagsAt g ps = (j : ℕ) → j < length ps → getD g j 0 ≡ tags (getD ps j (pleaf unitLeaf))
 
 -- what a row is judged by: the counts of the rows above, and what their trees weigh
 pub record Weighed (t g : List ℕ) (c : C.Seen) (s : Seen) : Type 0 where

@@ -5,7 +5,7 @@ use mathlib.Core.Path.{_≡_, refl, sym, ap, ap₂, _∙_, subst}
 use mathlib.Core.List.{List, [], _∷_, _++_}
 use lib.ListN.{length, set, take, length-append, length-set}
 use lib.Seq.{sets, take-take, take-set-le}
-use Rattle.calculus.specs.Trees.{Tag, left, right, Pat, punit, pvar, pinj, ppair}
+use Rattle.calculus.specs.Trees.{Tag, left, right, Pat, pleaf, unitLeaf, pvar, pinj, pnode, pairNode}
 use Rattle.calculus.specs.Letters.{letterOf}
 use Rattle.area_cells.proofs.Writing.{sets-append}
 use Rattle.table_trees.specs.Unfolding.{cellOf, smallerOf, patternOf}
@@ -58,7 +58,7 @@ flat-var {n} {v} {at} {r} {code} h e w =
       few = λ z. h;
     }
 
-flat-unit : {at r : ℕ} {code code′ : List ℕ} → NumberPut code code′ at 85 r → Flattened punit code code′ at r
+flat-unit : {at r : ℕ} {code code′ : List ℕ} → NumberPut code code′ at 85 r → Flattened (pleaf unitLeaf) code code′ at r
 flat-unit w = record { before = w .before; area = w .area; place = w .place; fits = w .fits; near = w .near; few = λ z. tt }
 
 -- the first number stands, the rest lies behind it
@@ -84,7 +84,7 @@ flat-inj t p {at} {m} {r} {code} {c₁} {c₂} w z f =
     }
 
 flat-pair : (p q : Pat) {at m n r : ℕ} {code c₁ c₂ c₃ : List ℕ} → NumberPut code c₁ at 80 m → 0 < m → Flattened p c₁ c₂ m n → 0 < n → Flattened q c₂ c₃ n r → length c₂ ≡ length c₁
-    → Flattened (ppair p q) code c₃ at r
+    → Flattened (pnode pairNode p q) code c₃ at r
 flat-pair p q {at} {m} {n} {r} {code} {c₁} {c₂} {c₃} w z f y g same =
     let l = kept-length w z in
     let pl = w .place z in
@@ -145,7 +145,7 @@ module _ (t : List ℕ) (base j : ℕ) {code : List ℕ} {at k : ℕ} (e : k ≡
           → Flattened (patternOf t base c) c₂ c₃ i r → Flattened (patternOf t base j) code c₃ at r
       flatten-pair {c} h u y same v =
           as-line
-          (pattern-pair t base j (sym e ∙ h) ∙ ap₂ (λ x y. ppair (patternOf t base x) (patternOf t base y)) (sym n) (sym u))
+          (pattern-pair t base j (sym e ∙ h) ∙ ap₂ (λ x y. pnode pairNode (patternOf t base x) (patternOf t base y)) (sym n) (sym u))
           (flat-pair (patternOf t base a) (patternOf t base c) (subst (λ v. NumberPut code c₁ at v m) (f ∙ ap letterFor h) w) o g y v same)
 
 pub positive : {n : ℕ} → (n ≡ 0 → ⊥) → 0 < n

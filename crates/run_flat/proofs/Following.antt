@@ -9,9 +9,9 @@ use mathlib.Core.List.{List, [], _∷_, _++_, append-assoc}
 use lib.ListN.{length, getD, drop, length-append, length-drop}
 use lib.Seq.{getD-drop, drop-drop, drop-append-seam}
 use Rattle.limits.specs.Limits.{variables}
-use Rattle.calculus.specs.Trees.{Tag, left, right, Pat, punit, pvar, pinj, ppair, Val, vunit, vinj, vpair}
+use Rattle.calculus.specs.Trees.{unitLeaf, emptyLeaf, Tag, left, right, pairNode, elementNode, Pat, pleaf, pvar, pinj, pnode, Val, vleaf, vinj, vnode}
 use Rattle.calculus.specs.Letters.{letters, letterOf}
-use Rattle.run_values.specs.Texts.{At, alike, putRange, ranges}
+use Rattle.run_values.specs.Texts.{Bare, At, alike, putRange, ranges}
 use Rattle.run_flat.specs.Flat.{flat, Few, stop, Stands}
 
 -- ---- a number at a place
@@ -42,6 +42,10 @@ abbrev pub Fews : Pairs → Type 0
 Fews [] = Unit
 Fews (x ∷ xs) = Few (x .0) × Fews xs
 
+abbrev pub Bares : Pairs → Type 0
+Bares [] = Unit
+Bares (x ∷ xs) = Bare (x .1) × Bares xs
+
 abbrev pub alikes : Pairs → Bool
 alikes [] = true
 alikes (x ∷ xs) = alike (x .0) (x .1) && alikes xs
@@ -60,6 +64,7 @@ pub record Before (code s : List ℕ) (end : ℕ) (hit : Bool) (final : List ℕ
   pub spells : drop at s ≡ texts due ++ more
   pub ends : at + length (texts due) ≡ end
   pub few : Fews due
+  pub bare : Bares due
   pub same : hit ≡ alikes due
   pub final′ : final ≡ left-by due at vars
 
@@ -84,6 +89,7 @@ before-start {code} {s} {k} {at} {end} {q} {v} vars c a e =
       spells = a .spells ∙ sym (append-assoc (letters v) [] (a .rest));
       ends = omega (arith, n, e);
       few = (c .few, tt);
+      bare = (a .bare, tt);
       same = and-true (alike q v);
       final′ = cond-same (alike q v) (ranges q v at vars);
     }
@@ -93,15 +99,17 @@ before-start {code} {s} {k} {at} {end} {q} {v} vars c a e =
 -- behind the last pattern, and only there, stands the stop
 none-due : (code : List ℕ) (k : ℕ) (rest : List ℕ) (xs : Pairs) → Fews xs → drop k code ≡ flats xs ++ (stop ∷ rest) → getD code k 0 ≡ 128 → xs ≡ []
 none-due code k rest [] f c e = refl
-none-due code k rest ((punit, v) ∷ xs) f c e = let n = number-here code k _ _ c in absurd (omega (arith, n, e))
+none-due code k rest ((pleaf unitLeaf, v) ∷ xs) f c e = let n = number-here code k _ _ c in absurd (omega (arith, n, e))
+none-due code k rest ((pleaf emptyLeaf, v) ∷ xs) f c e = let n = number-here code k _ _ c in absurd (omega (arith, n, e))
+none-due code k rest ((pnode elementNode p q, v) ∷ xs) f c e = let n = number-here code k _ _ c in absurd (omega (arith, n, e))
 none-due code k rest ((pvar m, v) ∷ xs) f c e = let n = number-here code k _ _ c in let l = f .0 in absurd (omega (arith, n, e, l))
 none-due code k rest ((pinj left p, v) ∷ xs) f c e = let n = number-here code k _ _ c in absurd (omega (arith, n, e))
 none-due code k rest ((pinj right p, v) ∷ xs) f c e = let n = number-here code k _ _ c in absurd (omega (arith, n, e))
-none-due code k rest ((ppair p q, v) ∷ xs) f c e = let n = number-here code k _ _ c in absurd (omega (arith, n, e))
+none-due code k rest ((pnode pairNode p q, v) ∷ xs) f c e = let n = number-here code k _ _ c in absurd (omega (arith, n, e))
 
 -- the value of the first pair stands at the letter
-first-at : (s : List ℕ) (at : ℕ) (more : List ℕ) (v : Val) (ts : List ℕ) → drop at s ≡ (letters v ++ ts) ++ more → At s at v
-first-at s at more v ts e = record { rest = ts ++ more; spells = e ∙ append-assoc (letters v) ts more }
+first-at : (s : List ℕ) (at : ℕ) (more : List ℕ) (v : Val) (ts : List ℕ) → Bare v → drop at s ≡ (letters v ++ ts) ++ more → At s at v
+first-at s at more v ts free e = record { rest = ts ++ more; spells = e ∙ append-assoc (letters v) ts more; bare = free }
 
 -- ---- the stop
 
@@ -117,10 +125,10 @@ code-within {code} {k = k} b = go (b .due) (b .codes)
   where
     go : (xs : Pairs) → drop k code ≡ flats xs ++ (stop ∷ b .rest) → k < length code
     go [] c = number-within code k _ _ c
-    go ((punit, v) ∷ xs) c = number-within code k _ _ c
+    go ((pleaf l, v) ∷ xs) c = number-within code k _ _ c
     go ((pvar m, v) ∷ xs) c = number-within code k _ _ c
     go ((pinj t p, v) ∷ xs) c = number-within code k _ _ c
-    go ((ppair p q, v) ∷ xs) c = number-within code k _ _ c
+    go ((pnode m p q, v) ∷ xs) c = number-within code k _ _ c
 
 -- ---- a variable
 
@@ -130,23 +138,25 @@ pub var-next : {code s : List ℕ} {end : ℕ} {hit : Bool} {final : List ℕ} {
     → vars′ ≡ putRange vars x at to → Before code s end hit final (k + 1) to vars′
 unfolding first-at
 var-next {code} {s} {end} {hit} {final} {k} {at} {vars} {o} {x} {to} {vars′} b eo small ex ends put =
-    go (b .due) (b .codes) (b .spells) (b .ends) (b .few) (b .same) (b .final′)
+    go (b .due) (b .codes) (b .spells) (b .ends) (b .few) (b .bare) (b .same) (b .final′)
   where
-    go : (xs : Pairs) → drop k code ≡ flats xs ++ (stop ∷ b .rest) → drop at s ≡ texts xs ++ b .more → at + length (texts xs) ≡ end → Fews xs → hit ≡ alikes xs
+    go : (xs : Pairs) → drop k code ≡ flats xs ++ (stop ∷ b .rest) → drop at s ≡ texts xs ++ b .more → at + length (texts xs) ≡ end → Fews xs → Bares xs → hit ≡ alikes xs
         → final ≡ left-by xs at vars → Before code s end hit final (k + 1) to vars′
-    go [] c t e f h l = let n = number-here code k _ _ c in absurd (omega (arith, n, eo))
-    go ((punit, v) ∷ xs) c t e f h l = let n = number-here code k _ _ c in absurd (omega (arith, n, eo))
-    go ((pinj left p, v) ∷ xs) c t e f h l = let n = number-here code k _ _ c in absurd (omega (arith, n, eo))
-    go ((pinj right p, v) ∷ xs) c t e f h l = let n = number-here code k _ _ c in absurd (omega (arith, n, eo))
-    go ((ppair p q, v) ∷ xs) c t e f h l = let n = number-here code k _ _ c in absurd (omega (arith, n, eo))
-    go ((pvar m, v) ∷ xs) c t e f h l =
+    go [] c t e f z h l = let n = number-here code k _ _ c in absurd (omega (arith, n, eo))
+    go ((pleaf unitLeaf, v) ∷ xs) c t e f z h l = let n = number-here code k _ _ c in absurd (omega (arith, n, eo))
+    go ((pleaf emptyLeaf, v) ∷ xs) c t e f z h l = let n = number-here code k _ _ c in absurd (omega (arith, n, eo))
+    go ((pnode elementNode p q, v) ∷ xs) c t e f z h l = let n = number-here code k _ _ c in absurd (omega (arith, n, eo))
+    go ((pinj left p, v) ∷ xs) c t e f z h l = let n = number-here code k _ _ c in absurd (omega (arith, n, eo))
+    go ((pinj right p, v) ∷ xs) c t e f z h l = let n = number-here code k _ _ c in absurd (omega (arith, n, eo))
+    go ((pnode pairNode p q, v) ∷ xs) c t e f z h l = let n = number-here code k _ _ c in absurd (omega (arith, n, eo))
+    go ((pvar m, v) ∷ xs) c t e f z h l =
         let n = number-here code k _ _ c in
         let is : x ≡ m = ex ∙ eo ∙ n in
         let next = behind-number code k _ _ c in
         let both = length-append (letters v) (texts xs) in
-        let a = first-at s at (b .more) v (texts xs) t in
+        let a = first-at s at (b .more) v (texts xs) (z .0) t in
         let last : getD code (k + 1) 0 ≡ 128 → end ≡ at + length (letters v) =
-        λ z. let w = ap (λ ys. length (texts ys)) (none-due code (k + 1) (b .rest) xs (f .1) next z) in omega (arith, both, e, w) in
+        λ y. let w = ap (λ ys. length (texts ys)) (none-due code (k + 1) (b .rest) xs (f .1) next y) in omega (arith, both, e, w) in
         let stops : to ≡ at + length (letters v) = ends v a last in
         record {
           due = xs;
@@ -157,6 +167,7 @@ var-next {code} {s} {end} {hit} {final} {k} {at} {vars} {o} {x} {to} {vars′} b
               ∙ drop-append-seam (letters v) (texts xs ++ b .more);
           ends = omega (arith, both, e, stops);
           few = f .1;
+          bare = z .1;
           same = h;
           final′ = l ∙ sym (ap₂ (left-by xs) stops (put ∙ ap₂ (λ x y. putRange vars x at y) is stops));
         }
@@ -170,9 +181,9 @@ letter-within {code} {s} {k = k} {at = at} {o = o} b eo n = go (b .due) (b .code
   where
     go : (xs : Pairs) → drop k code ≡ flats xs ++ (stop ∷ b .rest) → drop at s ≡ texts xs ++ b .more → at < length s
     go [] c t = absurd (n (eo ∙ number-here code k _ _ c))
-    go ((p, vunit) ∷ xs) c t = number-within s at _ _ t
+    go ((p, vleaf l) ∷ xs) c t = number-within s at _ _ t
     go ((p, vinj g v) ∷ xs) c t = number-within s at _ _ t
-    go ((p, vpair v w) ∷ xs) c t = number-within s at _ _ t
+    go ((p, vnode m v w) ∷ xs) c t = number-within s at _ _ t
 
 -- another letter: it does not match
 pub letter-differs : {code s : List ℕ} {end : ℕ} {hit : Bool} {final : List ℕ} {k at : ℕ} {vars : List ℕ} {o : ℕ} → Before code s end hit final k at vars
@@ -187,18 +198,24 @@ letter-differs {code} {s} {end} {hit} {final} {k} {at} {vars} {o} b eo low n oth
         → (false ≡ hit) × (vars ≡ final)
     go [] c t f h l = absurd (n (eo ∙ number-here code k _ _ c))
     go ((pvar m, v) ∷ xs) c t f h l = let z = number-here code k _ _ c in let y = f .0 in absurd (omega (arith, z, eo, y))
-    go ((punit, vunit) ∷ xs) c t f h l = absurd (same-letter _ _ _ c t)
-    go ((punit, vinj g v) ∷ xs) c t f h l = (sym h, sym l)
-    go ((punit, vpair v w) ∷ xs) c t f h l = (sym h, sym l)
-    go ((pinj g p, vunit) ∷ xs) c t f h l = (sym h, sym l)
+    go ((pleaf unitLeaf, vleaf unitLeaf) ∷ xs) c t f h l = absurd (same-letter _ _ _ c t)
+    go ((pleaf unitLeaf, vleaf emptyLeaf) ∷ xs) c t f h l = (sym h, sym l)
+    go ((pleaf emptyLeaf, vleaf unitLeaf) ∷ xs) c t f h l = (sym h, sym l)
+    go ((pleaf emptyLeaf, vleaf emptyLeaf) ∷ xs) c t f h l = absurd (same-letter _ _ _ c t)
+    go ((pleaf k, vinj g v) ∷ xs) c t f h l = (sym h, sym l)
+    go ((pleaf k, vnode m v w) ∷ xs) c t f h l = (sym h, sym l)
+    go ((pinj g p, vleaf k) ∷ xs) c t f h l = (sym h, sym l)
     go ((pinj left p, vinj left v) ∷ xs) c t f h l = absurd (same-letter _ _ _ c t)
     go ((pinj left p, vinj right v) ∷ xs) c t f h l = (sym h, sym l)
     go ((pinj right p, vinj left v) ∷ xs) c t f h l = (sym h, sym l)
     go ((pinj right p, vinj right v) ∷ xs) c t f h l = absurd (same-letter _ _ _ c t)
-    go ((pinj g p, vpair v w) ∷ xs) c t f h l = (sym h, sym l)
-    go ((ppair p q, vunit) ∷ xs) c t f h l = (sym h, sym l)
-    go ((ppair p q, vinj g v) ∷ xs) c t f h l = (sym h, sym l)
-    go ((ppair p q, vpair v w) ∷ xs) c t f h l = absurd (same-letter _ _ _ c t)
+    go ((pinj g p, vnode m v w) ∷ xs) c t f h l = (sym h, sym l)
+    go ((pnode m p q, vleaf k) ∷ xs) c t f h l = (sym h, sym l)
+    go ((pnode m p q, vinj g v) ∷ xs) c t f h l = (sym h, sym l)
+    go ((pnode pairNode p q, vnode pairNode v w) ∷ xs) c t f h l = absurd (same-letter _ _ _ c t)
+    go ((pnode pairNode p q, vnode elementNode v w) ∷ xs) c t f h l = (sym h, sym l)
+    go ((pnode elementNode p q, vnode pairNode v w) ∷ xs) c t f h l = (sym h, sym l)
+    go ((pnode elementNode p q, vnode elementNode v w) ∷ xs) c t f h l = absurd (same-letter _ _ _ c t)
 
 -- a pair's ranges, then those of the rest
 pair-left : (a b : Bool) (x : List ℕ → List ℕ) (g f : List ℕ) → cond (a && b) (x (cond a g f)) (cond a g f) ≡ cond a (cond b (x g) g) f
@@ -214,16 +231,16 @@ and-assoc false b c = refl
 pub letter-next : {code s : List ℕ} {end : ℕ} {hit : Bool} {final : List ℕ} {k at : ℕ} {vars : List ℕ} {o : ℕ} → Before code s end hit final k at vars
     → o ≡ getD code k 0 → 32 ≤ o → (o ≡ 128 → ⊥) → getD s at 0 ≡ o → Before code s end hit final (k + 1) (at + 1) vars
 letter-next {code} {s} {end} {hit} {final} {k} {at} {vars} {o} b eo low n same′ =
-    go (b .due) (b .codes) (b .spells) (b .ends) (b .few) (b .same) (b .final′)
+    go (b .due) (b .codes) (b .spells) (b .ends) (b .few) (b .bare) (b .same) (b .final′)
   where
     other : {A : Type 0} (x : ℕ) (xs : List ℕ) (y : ℕ) (ys : List ℕ) → drop k code ≡ x ∷ xs → drop at s ≡ y ∷ ys → (x ≡ y → ⊥) → A
     other x xs y ys c t d = absurd (d (sym (number-here code k x xs c) ∙ sym eo ∙ sym same′ ∙ number-here s at y ys t))
 
     below : (p : Pat) (v : Val) (xs : Pairs) → drop (k + 1) code ≡ flats ((p, v) ∷ xs) ++ (stop ∷ b .rest) → drop (at + 1) s ≡ texts ((p, v) ∷ xs) ++ b .more
-        → at + suc (length (letters v ++ texts xs)) ≡ end → Fews ((p, v) ∷ xs) → hit ≡ alike p v && alikes xs
+        → at + suc (length (letters v ++ texts xs)) ≡ end → Fews ((p, v) ∷ xs) → Bares ((p, v) ∷ xs) → hit ≡ alike p v && alikes xs
         → final ≡ cond (alike p v) (left-by xs (at + suc (length (letters v))) (ranges p v (suc at) vars)) (ranges p v (suc at) vars)
         → Before code s end hit final (k + 1) (at + 1) vars
-    below p v xs c t e f h l =
+    below p v xs c t e f z h l =
         let up = add-one at in
         let far : at + suc (length (letters v)) ≡ at + 1 + length (letters v) = omega arith in
         record {
@@ -234,15 +251,30 @@ letter-next {code} {s} {end} {hit} {final} {k} {at} {vars} {o} b eo low n same�
           spells = t;
           ends = omega (arith, e);
           few = f;
+          bare = z;
           same = h;
           final′ = l ∙ ap₂ (λ x y. cond (alike p v) (left-by xs x (ranges p v y vars)) (ranges p v y vars)) far (sym up);
         }
 
-    go : (xs : Pairs) → drop k code ≡ flats xs ++ (stop ∷ b .rest) → drop at s ≡ texts xs ++ b .more → at + length (texts xs) ≡ end → Fews xs → hit ≡ alikes xs
+    go : (xs : Pairs) → drop k code ≡ flats xs ++ (stop ∷ b .rest) → drop at s ≡ texts xs ++ b .more → at + length (texts xs) ≡ end → Fews xs → Bares xs → hit ≡ alikes xs
         → final ≡ left-by xs at vars → Before code s end hit final (k + 1) (at + 1) vars
-    go [] c t e f h l = absurd (n (eo ∙ number-here code k _ _ c))
-    go ((pvar m, v) ∷ xs) c t e f h l = let z = number-here code k _ _ c in let y = f .0 in absurd (omega (arith, z, eo, y))
-    go ((punit, vunit) ∷ xs) c t e f h l =
+    go [] c t e f z h l = absurd (n (eo ∙ number-here code k _ _ c))
+    go ((pvar m, v) ∷ xs) c t e f z h l = let x = number-here code k _ _ c in let y = f .0 in absurd (omega (arith, x, eo, y))
+    go ((pleaf emptyLeaf, vleaf unitLeaf) ∷ xs) c t e f z h l = other _ _ _ _ c t (λ y. absurd (omega (arith, y)))
+    go ((pleaf emptyLeaf, vinj left v) ∷ xs) c t e f z h l = other _ _ _ _ c t (λ y. absurd (omega (arith, y)))
+    go ((pleaf emptyLeaf, vinj right v) ∷ xs) c t e f z h l = other _ _ _ _ c t (λ y. absurd (omega (arith, y)))
+    go ((pleaf emptyLeaf, vnode pairNode v w) ∷ xs) c t e f z h l = other _ _ _ _ c t (λ y. absurd (omega (arith, y)))
+    go ((pnode elementNode p q, vleaf unitLeaf) ∷ xs) c t e f z h l = other _ _ _ _ c t (λ y. absurd (omega (arith, y)))
+    go ((pnode elementNode p q, vinj left v) ∷ xs) c t e f z h l = other _ _ _ _ c t (λ y. absurd (omega (arith, y)))
+    go ((pnode elementNode p q, vinj right v) ∷ xs) c t e f z h l = other _ _ _ _ c t (λ y. absurd (omega (arith, y)))
+    go ((pnode elementNode p q, vnode pairNode v w) ∷ xs) c t e f z h l = other _ _ _ _ c t (λ y. absurd (omega (arith, y)))
+    go ((pleaf k, vleaf emptyLeaf) ∷ xs) c t e f z h l = absurd (z .0)
+    go ((pleaf k, vnode elementNode v w) ∷ xs) c t e f z h l = absurd (z .0)
+    go ((pinj k p, vleaf emptyLeaf) ∷ xs) c t e f z h l = absurd (z .0)
+    go ((pinj k p, vnode elementNode v w) ∷ xs) c t e f z h l = absurd (z .0)
+    go ((pnode k p q, vleaf emptyLeaf) ∷ xs) c t e f z h l = absurd (z .0)
+    go ((pnode k p q, vnode elementNode v w) ∷ xs) c t e f z h l = absurd (z .0)
+    go ((pleaf unitLeaf, vleaf unitLeaf) ∷ xs) c t e f z h l =
         record {
           due = xs;
           rest = b .rest;
@@ -251,24 +283,25 @@ letter-next {code} {s} {end} {hit} {final} {k} {at} {vars} {o} b eo low n same�
           spells = behind-number s at _ _ t;
           ends = omega (arith, e);
           few = f .1;
+          bare = z .1;
           same = h;
           final′ = l;
         }
-    go ((punit, vinj left v) ∷ xs) c t e f h l = other _ _ _ _ c t (λ z. absurd (omega (arith, z)))
-    go ((punit, vinj right v) ∷ xs) c t e f h l = other _ _ _ _ c t (λ z. absurd (omega (arith, z)))
-    go ((punit, vpair v w) ∷ xs) c t e f h l = other _ _ _ _ c t (λ z. absurd (omega (arith, z)))
-    go ((pinj left p, vunit) ∷ xs) c t e f h l = other _ _ _ _ c t (λ z. absurd (omega (arith, z)))
-    go ((pinj right p, vunit) ∷ xs) c t e f h l = other _ _ _ _ c t (λ z. absurd (omega (arith, z)))
-    go ((pinj left p, vinj left v) ∷ xs) c t e f h l = below p v xs (behind-number code k _ _ c) (behind-number s at _ _ t) e f h l
-    go ((pinj left p, vinj right v) ∷ xs) c t e f h l = other _ _ _ _ c t (λ z. absurd (omega (arith, z)))
-    go ((pinj right p, vinj left v) ∷ xs) c t e f h l = other _ _ _ _ c t (λ z. absurd (omega (arith, z)))
-    go ((pinj right p, vinj right v) ∷ xs) c t e f h l = below p v xs (behind-number code k _ _ c) (behind-number s at _ _ t) e f h l
-    go ((pinj left p, vpair v w) ∷ xs) c t e f h l = other _ _ _ _ c t (λ z. absurd (omega (arith, z)))
-    go ((pinj right p, vpair v w) ∷ xs) c t e f h l = other _ _ _ _ c t (λ z. absurd (omega (arith, z)))
-    go ((ppair p q, vunit) ∷ xs) c t e f h l = other _ _ _ _ c t (λ z. absurd (omega (arith, z)))
-    go ((ppair p q, vinj left v) ∷ xs) c t e f h l = other _ _ _ _ c t (λ z. absurd (omega (arith, z)))
-    go ((ppair p q, vinj right v) ∷ xs) c t e f h l = other _ _ _ _ c t (λ z. absurd (omega (arith, z)))
-    go ((ppair p q, vpair v w) ∷ xs) c t e f h l =
+    go ((pleaf unitLeaf, vinj left v) ∷ xs) c t e f z h l = other _ _ _ _ c t (λ y. absurd (omega (arith, y)))
+    go ((pleaf unitLeaf, vinj right v) ∷ xs) c t e f z h l = other _ _ _ _ c t (λ y. absurd (omega (arith, y)))
+    go ((pleaf unitLeaf, vnode pairNode v w) ∷ xs) c t e f z h l = other _ _ _ _ c t (λ y. absurd (omega (arith, y)))
+    go ((pinj left p, vleaf unitLeaf) ∷ xs) c t e f z h l = other _ _ _ _ c t (λ y. absurd (omega (arith, y)))
+    go ((pinj right p, vleaf unitLeaf) ∷ xs) c t e f z h l = other _ _ _ _ c t (λ y. absurd (omega (arith, y)))
+    go ((pinj left p, vinj left v) ∷ xs) c t e f z h l = below p v xs (behind-number code k _ _ c) (behind-number s at _ _ t) e f z h l
+    go ((pinj left p, vinj right v) ∷ xs) c t e f z h l = other _ _ _ _ c t (λ y. absurd (omega (arith, y)))
+    go ((pinj right p, vinj left v) ∷ xs) c t e f z h l = other _ _ _ _ c t (λ y. absurd (omega (arith, y)))
+    go ((pinj right p, vinj right v) ∷ xs) c t e f z h l = below p v xs (behind-number code k _ _ c) (behind-number s at _ _ t) e f z h l
+    go ((pinj left p, vnode pairNode v w) ∷ xs) c t e f z h l = other _ _ _ _ c t (λ y. absurd (omega (arith, y)))
+    go ((pinj right p, vnode pairNode v w) ∷ xs) c t e f z h l = other _ _ _ _ c t (λ y. absurd (omega (arith, y)))
+    go ((pnode pairNode p q, vleaf unitLeaf) ∷ xs) c t e f z h l = other _ _ _ _ c t (λ y. absurd (omega (arith, y)))
+    go ((pnode pairNode p q, vinj left v) ∷ xs) c t e f z h l = other _ _ _ _ c t (λ y. absurd (omega (arith, y)))
+    go ((pnode pairNode p q, vinj right v) ∷ xs) c t e f z h l = other _ _ _ _ c t (λ y. absurd (omega (arith, y)))
+    go ((pnode pairNode p q, vnode pairNode v w) ∷ xs) c t e f z h l =
         let one = length-append (letters v ++ letters w) (texts xs) in
         let two = length-append (letters v) (letters w) in
         let both = length-append (letters v) (letters w ++ texts xs) in
@@ -283,6 +316,7 @@ letter-next {code} {s} {end} {hit} {final} {k} {at} {vars} {o} b eo low n same�
           spells = behind-number s at _ _ t ∙ ap (λ ys. ys ++ b .more) (append-assoc (letters v) (letters w) (texts xs));
           ends = omega (arith, e, one, two, both, rest);
           few = (f .0 .0, (f .0 .1, f .1));
+          bare = (z .0 .0, (z .0 .1, z .1));
           same = h ∙ and-assoc (alike p v) (alike q w) (alikes xs);
           final′ =
               l

@@ -9,8 +9,8 @@ use lib.Dec.{ltb}
 use lib.ListN.{length, getD, set, take, drop, length-append}
 use lib.Seq.{sets}
 use Rattle.limits.specs.Limits.{variables}
-use Rattle.calculus.specs.Trees.{Tag, left, right, Pat, punit, pvar, pinj, ppair}
-use Rattle.calculus.specs.Letters.{letterOf}
+use Rattle.calculus.specs.Trees.{Leaf, unitLeaf, emptyLeaf, Tag, left, right, Node, pairNode, elementNode, Pat, pleaf, pvar, pinj, pnode}
+use Rattle.calculus.specs.Letters.{leafLetter, letterOf, nodeLetter}
 use Rattle.area_cells.specs.Areas.{Writes}
 use Rattle.area_cells.proofs.Writing.{writes-none, writes-one, writes-both, writes-as}
 use Rattle.run_values.specs.Texts.{Below, rangeOf, built}
@@ -57,6 +57,19 @@ written-start {code} {l} {k} {q} top vars from c =
 part-fits : (l : List ℕ) (from : ℕ) (all done more : List ℕ) → all ≡ done ++ more → from + length all ≤ length l → from + length done ≤ length l
 part-fits l from all done more e h = let n = ap length e in let m = length-append done more in omega (arith, n, m)
 
+-- letters lie between the variables and the stop
+leaf-between : (l : Leaf) → (32 ≤ leafLetter l) × (leafLetter l < stop)
+leaf-between unitLeaf = (omega arith, omega arith)
+leaf-between emptyLeaf = (omega arith, omega arith)
+
+tag-between : (t : Tag) → (32 ≤ letterOf t) × (letterOf t < stop)
+tag-between left = (omega arith, omega arith)
+tag-between right = (omega arith, omega arith)
+
+node-between : (k : Node) → (32 ≤ nodeLetter k) × (nodeLetter k < stop)
+node-between pairNode = (omega arith, omega arith)
+node-between elementNode = (omega arith, omega arith)
+
 -- the stop
 pub written-stop : {code l : List ℕ} {top : ℕ} {vars : List ℕ} {from : ℕ} {all : List ℕ} {k : ℕ} {l′ : List ℕ} {at : ℕ} → Written code l top vars from all k l′ at → getD code k 0 ≡ 128
     → from + length all ≤ length l → (l′ ≡ sets l from all) × (at ≡ from + length all)
@@ -67,11 +80,10 @@ written-stop {code} {l} {top} {vars} {from} {all} {k} {l′} {at} w e fits = go 
         let is : all ≡ w .done = h ∙ append-nil (w .done) in
         let ok = part-fits l from all (w .done) [] h fits in
         (w .writes .area ok ∙ ap (sets l from) (sym is), w .writes .place ok ∙ ap (λ bs. from + length bs) (sym is))
-    go (punit ∷ ps) c f h = let n = number-here code k _ _ c in absurd (omega (arith, n, e))
+    go (pleaf l ∷ ps) c f h = let n = number-here code k _ _ c in let y = leaf-between l in absurd (omega (arith, n, e, y))
     go (pvar m ∷ ps) c f h = let n = number-here code k _ _ c in let y = f .0 in absurd (omega (arith, n, e, y))
-    go (pinj left p ∷ ps) c f h = let n = number-here code k _ _ c in absurd (omega (arith, n, e))
-    go (pinj right p ∷ ps) c f h = let n = number-here code k _ _ c in absurd (omega (arith, n, e))
-    go (ppair p q ∷ ps) c f h = let n = number-here code k _ _ c in absurd (omega (arith, n, e))
+    go (pinj t p ∷ ps) c f h = let n = number-here code k _ _ c in let y = tag-between t in absurd (omega (arith, n, e, y))
+    go (pnode m p q ∷ ps) c f h = let n = number-here code k _ _ c in let y = node-between m in absurd (omega (arith, n, e, y))
 
 -- the code does not end before it
 pub written-within : {code l : List ℕ} {top : ℕ} {vars : List ℕ} {from : ℕ} {all : List ℕ} {k : ℕ} {l′ : List ℕ} {at : ℕ} → Written code l top vars from all k l′ at → k < length code
@@ -79,10 +91,10 @@ written-within {code} {k = k} w = go (w .due) (w .codes)
   where
     go : (ps : List Pat) → drop k code ≡ flats ps ++ (stop ∷ w .rest) → k < length code
     go [] c = number-within code k _ _ c
-    go (punit ∷ ps) c = number-within code k _ _ c
+    go (pleaf l ∷ ps) c = number-within code k _ _ c
     go (pvar m ∷ ps) c = number-within code k _ _ c
     go (pinj t p ∷ ps) c = number-within code k _ _ c
-    go (ppair p q ∷ ps) c = number-within code k _ _ c
+    go (pnode m p q ∷ ps) c = number-within code k _ _ c
 
 -- a variable: its letters stand below `top`, which is left alone
 pub written-var : {code l : List ℕ} {top : ℕ} {vars : List ℕ} {from : ℕ} {all : List ℕ} {k : ℕ} {l′ : List ℕ} {at o x : ℕ} {l″ : List ℕ} {next : ℕ} → Written code l top vars from all k l′ at
@@ -92,10 +104,9 @@ written-var {code} {l} {top} {vars} {from} {all} {k} {l′} {at} {o} {x} {l″} 
   where
     go : (ps : List Pat) → drop k code ≡ flats ps ++ (stop ∷ w .rest) → Fews ps → all ≡ w .done ++ builts ps (take top l) vars → Written code l top vars from all (k + 1) l″ next
     go [] c f h = let n = number-here code k _ _ c in absurd (omega (arith, n, eo))
-    go (punit ∷ ps) c f h = let n = number-here code k _ _ c in absurd (omega (arith, n, eo))
-    go (pinj left p ∷ ps) c f h = let n = number-here code k _ _ c in absurd (omega (arith, n, eo))
-    go (pinj right p ∷ ps) c f h = let n = number-here code k _ _ c in absurd (omega (arith, n, eo))
-    go (ppair p q ∷ ps) c f h = let n = number-here code k _ _ c in absurd (omega (arith, n, eo))
+    go (pleaf l ∷ ps) c f h = let n = number-here code k _ _ c in let y = leaf-between l in absurd (omega (arith, n, eo, y))
+    go (pinj t p ∷ ps) c f h = let n = number-here code k _ _ c in let y = tag-between t in absurd (omega (arith, n, eo, y))
+    go (pnode m p q ∷ ps) c f h = let n = number-here code k _ _ c in let y = node-between m in absurd (omega (arith, n, eo, y))
     go (pvar m ∷ ps) c f h =
         let is : x ≡ m = ex ∙ eo ∙ number-here code k _ _ c in
         let ok = part-fits l from all (w .done) _ h fits in
@@ -126,45 +137,35 @@ written-letter {code} {l} {top} {vars} {from} {all} {k} {l′} {at} {o} {b} {l�
     go : (ps : List Pat) → drop k code ≡ flats ps ++ (stop ∷ w .rest) → Fews ps → all ≡ w .done ++ builts ps (take top l) vars → Written code l top vars from all (k + 1) l″ next
     go [] c f h = absurd (other (eo ∙ number-here code k _ _ c))
     go (pvar m ∷ ps) c f h = let n = number-here code k _ _ c in let y = f .0 in absurd (omega (arith, n, eo, y))
-    go (punit ∷ ps) c f h =
+    go (pleaf u ∷ ps) c f h =
         record {
           due = ps;
           rest = w .rest;
           codes = behind-number code k _ _ c;
           few = f .1;
-          done = w .done ++ (85 ∷ []);
-          whole = h ∙ sym (append-assoc (w .done) (85 ∷ []) (builts ps (take top l) vars));
-          writes = one _ _ c (omega arith);
+          done = w .done ++ (leafLetter u ∷ []);
+          whole = h ∙ sym (append-assoc (w .done) (leafLetter u ∷ []) (builts ps (take top l) vars));
+          writes = let y = leaf-between u in one _ _ c (omega (arith, y));
         }
-    go (pinj left p ∷ ps) c f h =
+    go (pinj t p ∷ ps) c f h =
         record {
           due = p ∷ ps;
           rest = w .rest;
           codes = behind-number code k _ _ c;
           few = f;
-          done = w .done ++ (76 ∷ []);
-          whole = h ∙ sym (append-assoc (w .done) (76 ∷ []) (builts (p ∷ ps) (take top l) vars));
-          writes = one _ _ c (omega arith);
+          done = w .done ++ (letterOf t ∷ []);
+          whole = h ∙ sym (append-assoc (w .done) (letterOf t ∷ []) (builts (p ∷ ps) (take top l) vars));
+          writes = let y = tag-between t in one _ _ c (omega (arith, y));
         }
-    go (pinj right p ∷ ps) c f h =
-        record {
-          due = p ∷ ps;
-          rest = w .rest;
-          codes = behind-number code k _ _ c;
-          few = f;
-          done = w .done ++ (82 ∷ []);
-          whole = h ∙ sym (append-assoc (w .done) (82 ∷ []) (builts (p ∷ ps) (take top l) vars));
-          writes = one _ _ c (omega arith);
-        }
-    go (ppair p q ∷ ps) c f h =
+    go (pnode m p q ∷ ps) c f h =
         record {
           due = p ∷ (q ∷ ps);
           rest = w .rest;
           codes = behind-number code k _ _ c ∙ ap (λ ys. ys ++ (stop ∷ w .rest)) (append-assoc (flat p) (flat q) (flats ps));
           few = (f .0 .0, (f .0 .1, f .1));
-          done = w .done ++ (80 ∷ []);
+          done = w .done ++ (nodeLetter m ∷ []);
           whole = h
-              ∙ ap (λ ys. w .done ++ (80 ∷ ys)) (append-assoc (built p (take top l) vars) (built q (take top l) vars) (builts ps (take top l) vars))
-              ∙ sym (append-assoc (w .done) (80 ∷ []) (builts (p ∷ (q ∷ ps)) (take top l) vars));
-          writes = one _ _ c (omega arith);
+              ∙ ap (λ ys. w .done ++ (nodeLetter m ∷ ys)) (append-assoc (built p (take top l) vars) (built q (take top l) vars) (builts ps (take top l) vars))
+              ∙ sym (append-assoc (w .done) (nodeLetter m ∷ []) (builts (p ∷ (q ∷ ps)) (take top l) vars));
+          writes = let y = node-between m in one _ _ c (omega (arith, y));
         }

@@ -4,21 +4,21 @@ use mathlib.Core.Path.{_≡_}
 use mathlib.Core.List.{List, [], _∷_, _++_}
 use lib.ListN.{length, drop}
 use Rattle.limits.specs.Limits.{variables}
-use Rattle.calculus.specs.Trees.{Pat, punit, pvar, pinj, ppair}
-use Rattle.calculus.specs.Letters.{letterU, letterP, letterOf}
+use Rattle.calculus.specs.Trees.{Pat, pleaf, pvar, pinj, pnode}
+use Rattle.calculus.specs.Letters.{leafLetter, letterOf, nodeLetter}
 
 abbrev pub flat : Pat → List ℕ
-flat punit = letterU ∷ []
+flat (pleaf l) = leafLetter l ∷ []
 flat (pvar n) = n ∷ []
 flat (pinj t p) = letterOf t ∷ flat p
-flat (ppair p q) = letterP ∷ (flat p ++ flat q)
+flat (pnode k p q) = nodeLetter k ∷ (flat p ++ flat q)
 
 -- every variable has a range
 abbrev pub Few : Pat → Type 0
-Few punit = Unit
+Few (pleaf l) = Unit
 Few (pvar n) = n < variables
 Few (pinj t p) = Few p
-Few (ppair p q) = Few p × Few q
+Few (pnode k p q) = Few p × Few q
 
 -- the number behind a pattern's last one, which is no letter and no variable
 abbrev pub stop : ℕ

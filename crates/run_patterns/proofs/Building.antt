@@ -7,7 +7,7 @@ use mathlib.Core.List.{List, _∷_, _++_}
 use lib.Dec.{ltb}
 use lib.ListN.{length, getD, set, take, drop, length-append}
 use lib.Seq.{slice, take-take, take-set-le}
-use Rattle.calculus.specs.Trees.{Tag, left, right, Pat, punit, pvar, pinj, ppair}
+use Rattle.calculus.specs.Trees.{Tag, left, right, Pat, pleaf, unitLeaf, pvar, pinj, pnode, pairNode}
 use Rattle.calculus.specs.Letters.{letterOf}
 use Rattle.area_cells.specs.Areas.{Writes}
 use Rattle.area_cells.proofs.Writing.{writes-one, writes-both, writes-as}
@@ -28,7 +28,7 @@ Puts l l′ at end b = (l′ ≡ set l at b) × (end ≡ cond (ltb at (length l)
 
 module _ {vars l : List ℕ} {at : ℕ} where
   -- unit
-  builds-unit : {l′ : List ℕ} {r : ℕ} → Puts l l′ at r 85 → Builds vars l l′ at r punit
+  builds-unit : {l′ : List ℕ} {r : ℕ} → Puts l l′ at r 85 → Builds vars l l′ at r (pleaf unitLeaf)
   builds-unit w top b h = writes-one (w .0) (w .1)
 
   -- a variable: its range lies below the place
@@ -49,7 +49,7 @@ module _ {vars l : List ℕ} {at : ℕ} where
 
   -- a pair: the letter, the first part, the second part
   builds-pair : (p q : Pat) {l₁ l₂ l₃ : List ℕ} {m n r : ℕ} → Puts l l₁ at m 80 → Builds vars l₁ l₂ m n p → length l₃ ≡ length l₂ → Builds vars l₂ l₃ n r q
-      → Builds vars l l₃ at r (ppair p q)
+      → Builds vars l l₃ at r (pnode pairNode p q)
   builds-pair p q {l₁} {l₂} {l₃} {m} {n} {r} w f same g top b h =
       record { kept = same ∙ before .kept; area = λ k. whole k .area k; place = λ k. whole k .place k }
     where
@@ -123,5 +123,5 @@ module _ (t : List ℕ) (base j : ℕ) {vars l : List ℕ} {at k : ℕ} (e : k �
           → Builds vars l₂ l₃ i r (patternOf t base c) → Builds vars l l₃ at r (patternOf t base j)
       build-pair {c} h o same v =
           as-line
-          (pattern-pair t base j (sym e ∙ h) ∙ ap₂ (λ x y. ppair (patternOf t base x) (patternOf t base y)) (sym n) (sym o))
+          (pattern-pair t base j (sym e ∙ h) ∙ ap₂ (λ x y. pnode pairNode (patternOf t base x) (patternOf t base y)) (sym n) (sym o))
           (builds-pair (patternOf t base a) (patternOf t base c) (subst (Puts l l₁ at m) (f ∙ ap letterFor h) w) g same v)

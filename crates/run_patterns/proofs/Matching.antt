@@ -9,7 +9,7 @@ use mathlib.Core.List.{List}
 use lib.Dec.{eqb, ltb}
 use lib.ListN.{length, getD, set, length-append}
 use borrow.Author.Tests.{lt-ltb, le-ltb, eq-eqb, ne-eqb}
-use Rattle.calculus.specs.Trees.{Tag, left, right, Pat, punit, pvar, pinj, ppair, Val, vunit, vinj, vpair}
+use Rattle.calculus.specs.Trees.{unitLeaf, emptyLeaf, Tag, left, right, pairNode, elementNode, Pat, pleaf, pvar, pinj, pnode, Val, vleaf, vinj, vnode}
 use Rattle.calculus.specs.Letters.{letters}
 use Rattle.calculus.proofs.Basic.{and-true, eqb-eq}
 use Rattle.table_trees.specs.Unfolding.{cellOf, smallerOf, patternOf}
@@ -45,7 +45,7 @@ ends-inj : {end : ℕ} (at : ℕ) (t : Tag) (v : Val) → Ends end at (vinj t v)
 ends-inj at t v d h = let e = d h in omega arith
 
 -- the end of a pair is that of its second value
-ends-second : {end m : ℕ} (at : ℕ) (v w : Val) → Ends end at (vpair v w) → m ≡ at + 1 + length (letters v) → Ends end m w
+ends-second : {end m : ℕ} (at : ℕ) (v w : Val) → Ends end at (vnode pairNode v w) → m ≡ at + 1 + length (letters v) → Ends end m w
 ends-second at v w d q h = let e = d h in omega (arith, length-append (letters v) (letters w))
 
 -- a value's end, found where it is not told
@@ -75,86 +75,106 @@ module _ {s : List ℕ} {at end : ℕ} {vars : List ℕ} where
   matches-var n e p = record { answers = λ v a f. ap upto.Place (e v a f); leaves = λ v a f. p ∙ ap (putRange vars n at) (e v a f) }
 
   -- unit
-  matches-unit : getD s at 0 ≡ 85 → Matches s at end punit vars vars (upto.Place (at + 1))
+  matches-unit : getD s at 0 ≡ 85 → Matches s at end (pleaf unitLeaf) vars vars (upto.Place (at + 1))
   matches-unit e = record { answers = answer; leaves = λ v a f. refl }
     where
-      answer : (v : Val) → At s at v → Ends end at v → upto.Place (at + 1) ≡ matched (alike punit v) (at + length (letters v))
-      answer vunit a d = refl
+      answer : (v : Val) → At s at v → Ends end at v → upto.Place (at + 1) ≡ matched (alike (pleaf unitLeaf) v) (at + length (letters v))
+      answer (vleaf unitLeaf) a d = refl
+      answer (vleaf emptyLeaf) a d = absurd (a .bare)
+      answer (vnode elementNode v w) a d = absurd (a .bare)
       answer (vinj left v) a d = absurd (omega (arith, at-first a))
       answer (vinj right v) a d = absurd (omega (arith, at-first a))
-      answer (vpair v w) a d = absurd (omega (arith, at-first a))
+      answer (vnode pairNode v w) a d = absurd (omega (arith, at-first a))
 
   -- another letter
-  misses-unit : (at < length s → getD s at 0 ≡ 85 → ⊥) → Matches s at end punit vars vars upto.Nothing
+  misses-unit : (at < length s → getD s at 0 ≡ 85 → ⊥) → Matches s at end (pleaf unitLeaf) vars vars upto.Nothing
   misses-unit n = record { answers = answer; leaves = λ v a f. refl }
     where
-      answer : (v : Val) → At s at v → Ends end at v → upto.Nothing ≡ matched (alike punit v) (at + length (letters v))
-      answer vunit a d = absurd (n (at-within a) (at-first a))
+      answer : (v : Val) → At s at v → Ends end at v → upto.Nothing ≡ matched (alike (pleaf unitLeaf) v) (at + length (letters v))
+      answer (vleaf unitLeaf) a d = absurd (n (at-within a) (at-first a))
+      answer (vleaf emptyLeaf) a d = absurd (a .bare)
+      answer (vnode elementNode v w) a d = absurd (a .bare)
       answer (vinj t v) a d = refl
-      answer (vpair v w) a d = refl
+      answer (vnode pairNode v w) a d = refl
 
   -- left and right
   matches-left : {p : Pat} {vars′ : List ℕ} {r : U.Upto} → getD s at 0 ≡ 76 → Matches s (at + 1) end p vars vars′ r → Matches s at end (pinj left p) vars vars′ r
   matches-left {p} {vars′} {r} e m = record { answers = answer; leaves = left-ranges }
     where
       answer : (v : Val) → At s at v → Ends end at v → r ≡ matched (alike (pinj left p) v) (at + length (letters v))
-      answer vunit a d = absurd (omega (arith, at-first a))
+      answer (vleaf unitLeaf) a d = absurd (omega (arith, at-first a))
+      answer (vleaf emptyLeaf) a d = absurd (a .bare)
+      answer (vnode elementNode v w) a d = absurd (a .bare)
       answer (vinj left v) a d = m .answers v (at-inj a) (ends-inj at left v d) ∙ ap (matched (alike p v)) (omega arith)
       answer (vinj right v) a d = absurd (omega (arith, at-first a))
-      answer (vpair v w) a d = absurd (omega (arith, at-first a))
+      answer (vnode pairNode v w) a d = absurd (omega (arith, at-first a))
 
       left-ranges : (v : Val) → At s at v → Ends end at v → vars′ ≡ ranges (pinj left p) v at vars
-      left-ranges vunit a d = absurd (omega (arith, at-first a))
+      left-ranges (vleaf unitLeaf) a d = absurd (omega (arith, at-first a))
+      left-ranges (vleaf emptyLeaf) a d = absurd (a .bare)
+      left-ranges (vnode elementNode v w) a d = absurd (a .bare)
       left-ranges (vinj left v) a d = m .leaves v (at-inj a) (ends-inj at left v d) ∙ ap (λ k. ranges p v k vars) (add-one at)
       left-ranges (vinj right v) a d = absurd (omega (arith, at-first a))
-      left-ranges (vpair v w) a d = absurd (omega (arith, at-first a))
+      left-ranges (vnode pairNode v w) a d = absurd (omega (arith, at-first a))
 
   -- a letter other than that of left
   misses-left : {p : Pat} → (at < length s → getD s at 0 ≡ 76 → ⊥) → Matches s at end (pinj left p) vars vars upto.Nothing
   misses-left {p} n = record { answers = answer; leaves = left-ranges }
     where
       answer : (v : Val) → At s at v → Ends end at v → upto.Nothing ≡ matched (alike (pinj left p) v) (at + length (letters v))
-      answer vunit a d = refl
+      answer (vleaf unitLeaf) a d = refl
+      answer (vleaf emptyLeaf) a d = absurd (a .bare)
+      answer (vnode elementNode v w) a d = absurd (a .bare)
       answer (vinj left v) a d = absurd (n (at-within a) (at-first a))
       answer (vinj right v) a d = refl
-      answer (vpair v w) a d = refl
+      answer (vnode pairNode v w) a d = refl
 
       left-ranges : (v : Val) → At s at v → Ends end at v → vars ≡ ranges (pinj left p) v at vars
-      left-ranges vunit a d = refl
+      left-ranges (vleaf unitLeaf) a d = refl
+      left-ranges (vleaf emptyLeaf) a d = absurd (a .bare)
+      left-ranges (vnode elementNode v w) a d = absurd (a .bare)
       left-ranges (vinj left v) a d = absurd (n (at-within a) (at-first a))
       left-ranges (vinj right v) a d = refl
-      left-ranges (vpair v w) a d = refl
+      left-ranges (vnode pairNode v w) a d = refl
 
   matches-right : {p : Pat} {vars′ : List ℕ} {r : U.Upto} → getD s at 0 ≡ 82 → Matches s (at + 1) end p vars vars′ r → Matches s at end (pinj right p) vars vars′ r
   matches-right {p} {vars′} {r} e m = record { answers = answer; leaves = right-ranges }
     where
       answer : (v : Val) → At s at v → Ends end at v → r ≡ matched (alike (pinj right p) v) (at + length (letters v))
-      answer vunit a d = absurd (omega (arith, at-first a))
+      answer (vleaf unitLeaf) a d = absurd (omega (arith, at-first a))
+      answer (vleaf emptyLeaf) a d = absurd (a .bare)
+      answer (vnode elementNode v w) a d = absurd (a .bare)
       answer (vinj left v) a d = absurd (omega (arith, at-first a))
       answer (vinj right v) a d = m .answers v (at-inj a) (ends-inj at right v d) ∙ ap (matched (alike p v)) (omega arith)
-      answer (vpair v w) a d = absurd (omega (arith, at-first a))
+      answer (vnode pairNode v w) a d = absurd (omega (arith, at-first a))
 
       right-ranges : (v : Val) → At s at v → Ends end at v → vars′ ≡ ranges (pinj right p) v at vars
-      right-ranges vunit a d = absurd (omega (arith, at-first a))
+      right-ranges (vleaf unitLeaf) a d = absurd (omega (arith, at-first a))
+      right-ranges (vleaf emptyLeaf) a d = absurd (a .bare)
+      right-ranges (vnode elementNode v w) a d = absurd (a .bare)
       right-ranges (vinj left v) a d = absurd (omega (arith, at-first a))
       right-ranges (vinj right v) a d = m .leaves v (at-inj a) (ends-inj at right v d) ∙ ap (λ k. ranges p v k vars) (add-one at)
-      right-ranges (vpair v w) a d = absurd (omega (arith, at-first a))
+      right-ranges (vnode pairNode v w) a d = absurd (omega (arith, at-first a))
 
   -- a letter other than that of right
   misses-right : {p : Pat} → (at < length s → getD s at 0 ≡ 82 → ⊥) → Matches s at end (pinj right p) vars vars upto.Nothing
   misses-right {p} n = record { answers = answer; leaves = right-ranges }
     where
       answer : (v : Val) → At s at v → Ends end at v → upto.Nothing ≡ matched (alike (pinj right p) v) (at + length (letters v))
-      answer vunit a d = refl
+      answer (vleaf unitLeaf) a d = refl
+      answer (vleaf emptyLeaf) a d = absurd (a .bare)
+      answer (vnode elementNode v w) a d = absurd (a .bare)
       answer (vinj left v) a d = refl
       answer (vinj right v) a d = absurd (n (at-within a) (at-first a))
-      answer (vpair v w) a d = refl
+      answer (vnode pairNode v w) a d = refl
 
       right-ranges : (v : Val) → At s at v → Ends end at v → vars ≡ ranges (pinj right p) v at vars
-      right-ranges vunit a d = refl
+      right-ranges (vleaf unitLeaf) a d = refl
+      right-ranges (vleaf emptyLeaf) a d = absurd (a .bare)
+      right-ranges (vnode elementNode v w) a d = absurd (a .bare)
       right-ranges (vinj left v) a d = refl
       right-ranges (vinj right v) a d = absurd (n (at-within a) (at-first a))
-      right-ranges (vpair v w) a d = refl
+      right-ranges (vnode pairNode v w) a d = refl
 
 -- a place is answered: the shapes are alike
 pub place-alike : (b : Bool) (m n : ℕ) → upto.Place m ≡ matched b n → (b ≡ true) × (m ≡ n)
@@ -169,67 +189,79 @@ nothing-alike false n e = refl
 module _ {s : List ℕ} {at end : ℕ} {vars : List ℕ} {p q : Pat} where
   -- a pair whose first part matches
   matches-pair : {m : ℕ} {vars₁ vars₂ : List ℕ} {r : U.Upto} → getD s at 0 ≡ 80 → Matches s (at + 1) 0 p vars vars₁ (upto.Place m)
-      → Matches s m end q vars₁ vars₂ r → Matches s at end (ppair p q) vars vars₂ r
+      → Matches s m end q vars₁ vars₂ r → Matches s at end (pnode pairNode p q) vars vars₂ r
   matches-pair {m} {vars₁} {vars₂} {r} e f g = record { answers = answer; leaves = pair-ranges }
     where
       -- the first part is alike, and the second stands behind it
-      seam : (v w : Val) → At s at (vpair v w) → (alike p v ≡ true) × (m ≡ at + 1 + length (letters v))
+      seam : (v w : Val) → At s at (vnode pairNode v w) → (alike p v ≡ true) × (m ≡ at + 1 + length (letters v))
       seam v w a = place-alike (alike p v) m (at + 1 + length (letters v)) (f .answers v (at-left {w = w} a) (ends-none (at + 1) v))
 
-      second : (v w : Val) → At s at (vpair v w) → At s m w
+      second : (v w : Val) → At s at (vnode pairNode v w) → At s m w
       second v w a = subst (λ k. At s k w) (sym (seam v w a .1)) (at-right {v = v} a)
 
-      answer : (v : Val) → At s at v → Ends end at v → r ≡ matched (alike (ppair p q) v) (at + length (letters v))
-      answer vunit a d = absurd (omega (arith, at-first a))
+      answer : (v : Val) → At s at v → Ends end at v → r ≡ matched (alike (pnode pairNode p q) v) (at + length (letters v))
+      answer (vleaf unitLeaf) a d = absurd (omega (arith, at-first a))
+      answer (vleaf emptyLeaf) a d = absurd (a .bare)
+      answer (vnode elementNode v w) a d = absurd (a .bare)
       answer (vinj left v) a d = absurd (omega (arith, at-first a))
       answer (vinj right v) a d = absurd (omega (arith, at-first a))
-      answer (vpair v w) a d =
+      answer (vnode pairNode v w) a d =
           g .answers w (second v w a) (ends-second at v w d (seam v w a .1))
           ∙ ap₂ matched (sym (ap (λ b. b && alike q w) (seam v w a .0))) (omega (arith, seam v w a .1, length-append (letters v) (letters w)))
 
-      pair-ranges : (v : Val) → At s at v → Ends end at v → vars₂ ≡ ranges (ppair p q) v at vars
-      pair-ranges vunit a d = absurd (omega (arith, at-first a))
+      pair-ranges : (v : Val) → At s at v → Ends end at v → vars₂ ≡ ranges (pnode pairNode p q) v at vars
+      pair-ranges (vleaf unitLeaf) a d = absurd (omega (arith, at-first a))
+      pair-ranges (vleaf emptyLeaf) a d = absurd (a .bare)
+      pair-ranges (vnode elementNode v w) a d = absurd (a .bare)
       pair-ranges (vinj left v) a d = absurd (omega (arith, at-first a))
       pair-ranges (vinj right v) a d = absurd (omega (arith, at-first a))
-      pair-ranges (vpair v w) a d =
+      pair-ranges (vnode pairNode v w) a d =
           g .leaves w (second v w a) (ends-second at v w d (seam v w a .1))
           ∙ ap₂ (ranges q w) (seam v w a .1 ∙ ap (λ k. k + length (letters v)) (add-one at)) (f .leaves v (at-left {w = w} a) (ends-none (at + 1) v) ∙ ap (λ k. ranges p v k vars) (add-one at))
           ∙ sym (ap (λ b. cond b (ranges q w (suc at + length (letters v)) (ranges p v (suc at) vars)) (ranges p v (suc at) vars)) (seam v w a .0))
 
   -- a pair whose first part does not
-  misses-first : {vars₁ : List ℕ} → getD s at 0 ≡ 80 → Matches s (at + 1) 0 p vars vars₁ upto.Nothing → Matches s at end (ppair p q) vars vars₁ upto.Nothing
+  misses-first : {vars₁ : List ℕ} → getD s at 0 ≡ 80 → Matches s (at + 1) 0 p vars vars₁ upto.Nothing → Matches s at end (pnode pairNode p q) vars vars₁ upto.Nothing
   misses-first {vars₁} e f = record { answers = answer; leaves = pair-ranges }
     where
-      unlike : (v w : Val) → At s at (vpair v w) → alike p v ≡ false
+      unlike : (v w : Val) → At s at (vnode pairNode v w) → alike p v ≡ false
       unlike v w a = nothing-alike (alike p v) (at + 1 + length (letters v)) (f .answers v (at-left {w = w} a) (ends-none (at + 1) v))
 
-      answer : (v : Val) → At s at v → Ends end at v → upto.Nothing ≡ matched (alike (ppair p q) v) (at + length (letters v))
-      answer vunit a d = refl
+      answer : (v : Val) → At s at v → Ends end at v → upto.Nothing ≡ matched (alike (pnode pairNode p q) v) (at + length (letters v))
+      answer (vleaf unitLeaf) a d = refl
+      answer (vleaf emptyLeaf) a d = absurd (a .bare)
+      answer (vnode elementNode v w) a d = absurd (a .bare)
       answer (vinj t v) a d = refl
-      answer (vpair v w) a d = sym (ap (λ b. matched (b && alike q w) (at + length (letters (vpair v w)))) (unlike v w a))
+      answer (vnode pairNode v w) a d = sym (ap (λ b. matched (b && alike q w) (at + length (letters (vnode pairNode v w)))) (unlike v w a))
 
-      pair-ranges : (v : Val) → At s at v → Ends end at v → vars₁ ≡ ranges (ppair p q) v at vars
-      pair-ranges vunit a d = absurd (omega (arith, at-first a))
+      pair-ranges : (v : Val) → At s at v → Ends end at v → vars₁ ≡ ranges (pnode pairNode p q) v at vars
+      pair-ranges (vleaf unitLeaf) a d = absurd (omega (arith, at-first a))
+      pair-ranges (vleaf emptyLeaf) a d = absurd (a .bare)
+      pair-ranges (vnode elementNode v w) a d = absurd (a .bare)
       pair-ranges (vinj left v) a d = absurd (omega (arith, at-first a))
       pair-ranges (vinj right v) a d = absurd (omega (arith, at-first a))
-      pair-ranges (vpair v w) a d =
+      pair-ranges (vnode pairNode v w) a d =
           f .leaves v (at-left {w = w} a) (ends-none (at + 1) v)
           ∙ ap (λ k. ranges p v k vars) (add-one at)
           ∙ sym (ap (λ b. cond b (ranges q w (suc at + length (letters v)) (ranges p v (suc at) vars)) (ranges p v (suc at) vars)) (unlike v w a))
 
   -- another letter
-  misses-pair : (at < length s → getD s at 0 ≡ 80 → ⊥) → Matches s at end (ppair p q) vars vars upto.Nothing
+  misses-pair : (at < length s → getD s at 0 ≡ 80 → ⊥) → Matches s at end (pnode pairNode p q) vars vars upto.Nothing
   misses-pair n = record { answers = answer; leaves = pair-ranges }
     where
-      answer : (v : Val) → At s at v → Ends end at v → upto.Nothing ≡ matched (alike (ppair p q) v) (at + length (letters v))
-      answer vunit a d = refl
+      answer : (v : Val) → At s at v → Ends end at v → upto.Nothing ≡ matched (alike (pnode pairNode p q) v) (at + length (letters v))
+      answer (vleaf unitLeaf) a d = refl
+      answer (vleaf emptyLeaf) a d = absurd (a .bare)
+      answer (vnode elementNode v w) a d = absurd (a .bare)
       answer (vinj t v) a d = refl
-      answer (vpair v w) a d = absurd (n (at-within a) (at-first a))
+      answer (vnode pairNode v w) a d = absurd (n (at-within a) (at-first a))
 
-      pair-ranges : (v : Val) → At s at v → Ends end at v → vars ≡ ranges (ppair p q) v at vars
-      pair-ranges vunit a d = refl
+      pair-ranges : (v : Val) → At s at v → Ends end at v → vars ≡ ranges (pnode pairNode p q) v at vars
+      pair-ranges (vleaf unitLeaf) a d = refl
+      pair-ranges (vleaf emptyLeaf) a d = absurd (a .bare)
+      pair-ranges (vnode elementNode v w) a d = absurd (a .bare)
       pair-ranges (vinj t v) a d = refl
-      pair-ranges (vpair v w) a d = absurd (n (at-within a) (at-first a))
+      pair-ranges (vnode pairNode v w) a d = absurd (n (at-within a) (at-first a))
 
 -- a variable, as the contract has it
 pub var-told : {s : List ℕ} {at end : ℕ} (vars : List ℕ) (n : ℕ) {stop : ℕ} {vars′ : List ℕ} → ((v : Val) → At s at v → Ends end at v → stop ≡ at + length (letters v))
@@ -281,7 +313,7 @@ module _ (t : List ℕ) (base j : ℕ) (s : List ℕ) (at end : ℕ) (vars : Lis
     match-variable {x} {vars′} {r} z f h = subst (λ p. Told s at end p vars vars′ r) (sym (pattern-var t base j (sym e ∙ z) ∙ sym (ap pvar f))) h
 
     -- a unit, or a number that is no kind
-    unit-line : (k ≡ 1 → ⊥) → (k ≡ 4 → ⊥) → (k ≡ 2 → ⊥) → (k ≡ 3 → ⊥) → patternOf t base j ≡ punit
+    unit-line : (k ≡ 1 → ⊥) → (k ≡ 4 → ⊥) → (k ≡ 2 → ⊥) → (k ≡ 3 → ⊥) → patternOf t base j ≡ pleaf unitLeaf
     unit-line n x y z = pattern-other t base j (λ h. n (e ∙ h)) (λ h. y (e ∙ h)) (λ h. z (e ∙ h)) (λ h. x (e ∙ h))
 
     module _ {b : ℕ} {o : U.Upto} (l : b ≡ letterFor k) (u : o ≡ Found s at b) where
@@ -311,7 +343,7 @@ module _ (t : List ℕ) (base j : ℕ) (s : List ℕ) (at end : ℕ) (vars : Lis
         pub match-unit : (k ≡ 1 → ⊥) → (k ≡ 4 → ⊥) → (k ≡ 2 → ⊥) → (k ≡ 3 → ⊥) → Told s at end (patternOf t base j) vars vars (upto.Place next)
         match-unit n x y z =
             as-line _ (unit-line n x y z)
-            (subst (λ n. Matches s at end punit vars vars (upto.Place n)) (sym then) (matches-unit (here (letter-other k x y z))))
+            (subst (λ n. Matches s at end (pleaf unitLeaf) vars vars (upto.Place n)) (sym then) (matches-unit (here (letter-other k x y z))))
 
         pub match-low : (k ≡ 1 → ⊥) → k < 2 → Told s at end (patternOf t base j) vars vars (upto.Place next)
         match-low n h = match-unit n (λ z. absurd (omega arith)) (λ z. absurd (omega arith)) (λ z. absurd (omega arith))
@@ -342,8 +374,8 @@ module _ (t : List ℕ) (base j : ℕ) (s : List ℕ) (at end : ℕ) (vars : Lis
 
           module _ (h : k ≡ 4) where
             -- the tree of a pair line
-            pair-line : {c : ℕ} → c ≡ smallerOf (cellOf t (base + j) 3) j → patternOf t base j ≡ ppair (patternOf t base a) (patternOf t base c)
-            pair-line f = pattern-pair t base j (sym e ∙ h) ∙ ap₂ (λ x y. ppair (patternOf t base x) (patternOf t base y)) (sym n) (sym f)
+            pair-line : {c : ℕ} → c ≡ smallerOf (cellOf t (base + j) 3) j → patternOf t base j ≡ pnode pairNode (patternOf t base a) (patternOf t base c)
+            pair-line f = pattern-pair t base j (sym e ∙ h) ∙ ap₂ (λ x y. pnode pairNode (patternOf t base x) (patternOf t base y)) (sym n) (sym f)
 
             -- a pair whose first part matches
             pub match-pair : {c m : ℕ} {vars₁ vars₂ : List ℕ} {w r : U.Upto} → w ≡ upto.Place m → Told s next 0 (patternOf t base a) vars vars₁ w

@@ -10,29 +10,29 @@ use lib.Dec.{eqb}
 use lib.ListN.{length, getD, drop, length-append, length-drop}
 use lib.Seq.{getD-drop, drop-drop, drop-append-seam}
 use borrow.Author.Tests.{eq-eqb, ne-eqb}
-use Rattle.calculus.specs.Trees.{Tag, left, right, Val, vunit, vinj, vpair}
-use Rattle.calculus.specs.Letters.{letters, letterU, letterP, letterOf}
-use Rattle.run_values.specs.Texts.{At}
+use Rattle.calculus.specs.Trees.{Leaf, unitLeaf, emptyLeaf, Tag, left, right, Node, pairNode, elementNode, Val, vleaf, vinj, vnode}
+use Rattle.calculus.specs.Letters.{letters, leafLetter, letterOf, nodeLetter}
+use Rattle.run_values.specs.Texts.{Bare, At}
 
 -- ---- the first letter
 
 -- the first letter of a value
 abbrev pub firstOf : Val → ℕ
-firstOf vunit = letterU
+firstOf (vleaf l) = leafLetter l
 firstOf (vinj t v) = letterOf t
-firstOf (vpair v w) = letterP
+firstOf (vnode k v w) = nodeLetter k
 
 -- the other letters
 abbrev restOf : Val → List ℕ
-restOf vunit = []
+restOf (vleaf l) = []
 restOf (vinj t v) = letters v
-restOf (vpair v w) = letters v ++ letters w
+restOf (vnode k v w) = letters v ++ letters w
 
 -- both together
 letters-first : (v : Val) → letters v ≡ firstOf v ∷ restOf v
-letters-first vunit = refl
+letters-first (vleaf l) = refl
 letters-first (vinj t v) = refl
-letters-first (vpair v w) = refl
+letters-first (vnode k v w) = refl
 
 -- the letter at a place where bytes are told
 byte-here : (s : List ℕ) (i : ℕ) (b : ℕ) (bs : List ℕ) → drop i s ≡ b ∷ bs → getD s i 0 ≡ b
@@ -58,26 +58,28 @@ at-first {s} {at} {v} a = byte-here s at (firstOf v) (restOf v ++ a .rest) (a .s
 
 -- the value below a left or a right
 pub at-inj : {s : List ℕ} {at : ℕ} {t : Tag} {v : Val} → At s at (vinj t v) → At s (at + 1) v
-at-inj {s} {at} {t} {v} a = record { rest = a .rest; spells = behind-here s at (letterOf t) (letters v ++ a .rest) (a .spells) }
+at-inj {s} {at} {t} {v} a = record { rest = a .rest; spells = behind-here s at (letterOf t) (letters v ++ a .rest) (a .spells); bare = a .bare }
 
 -- the first value of a pair
-pub at-left : {s : List ℕ} {at : ℕ} {v w : Val} → At s at (vpair v w) → At s (at + 1) v
+pub at-left : {s : List ℕ} {at : ℕ} {v w : Val} → At s at (vnode pairNode v w) → At s (at + 1) v
 at-left {s} {at} {v} {w} a =
     record {
       rest = letters w ++ a .rest;
-      spells = behind-here s at letterP (letters v ++ letters w ++ a .rest) (a .spells) ∙ append-assoc (letters v) (letters w) (a .rest);
+      spells = behind-here s at (nodeLetter pairNode) (letters v ++ letters w ++ a .rest) (a .spells) ∙ append-assoc (letters v) (letters w) (a .rest);
+      bare = a .bare .0;
     }
 
 -- the second value of a pair
-pub at-right : {s : List ℕ} {at : ℕ} {v w : Val} → At s at (vpair v w) → At s (at + 1 + length (letters v)) w
+pub at-right : {s : List ℕ} {at : ℕ} {v w : Val} → At s at (vnode pairNode v w) → At s (at + 1 + length (letters v)) w
 at-right {s} {at} {v} {w} a =
     record {
       rest = a .rest;
       spells =
           sym (drop-drop (length (letters v)) (at + 1) s)
           ∙ ap (drop (length (letters v)))
-          (behind-here s at letterP (letters v ++ letters w ++ a .rest) (a .spells) ∙ append-assoc (letters v) (letters w) (a .rest))
+          (behind-here s at (nodeLetter pairNode) (letters v ++ letters w ++ a .rest) (a .spells) ∙ append-assoc (letters v) (letters w) (a .rest))
           ∙ drop-append-seam (letters v) (letters w ++ a .rest);
+      bare = a .bare .1;
     }
 
 -- ---- values that stand side by side
@@ -87,6 +89,10 @@ abbrev spell : List Val → List ℕ
 spell [] = []
 spell (v ∷ vs) = letters v ++ spell vs
 
+abbrev Bares : List Val → Type 0
+Bares [] = Unit
+Bares (v ∷ vs) = Bare v × Bares vs
+
 -- at place i a value begins, and `more` values come behind it, up to place `end`
 pub record Going (s : List ℕ) (i more end : ℕ) : Type 0 where
   pub first : Val
@@ -94,15 +100,16 @@ pub record Going (s : List ℕ) (i more end : ℕ) : Type 0 where
   pub rest : List ℕ
   pub count : length others ≡ more
   pub spells : drop i s ≡ letters first ++ (spell others ++ rest)
+  pub bare : Bares (first ∷ others)
   pub ends : i + (length (letters first) + length (spell others)) ≡ end
 
 -- where the value begins
 pub going-start : {s : List ℕ} {at : ℕ} {v : Val} → At s at v → Going s at 0 (at + length (letters v))
-going-start {v} a = record { first = v; others = []; rest = a .rest; count = refl; spells = a .spells; ends = omega arith }
+going-start {v} a = record { first = v; others = []; rest = a .rest; count = refl; spells = a .spells; bare = (a .bare, tt); ends = omega arith }
 
 -- the value that begins at i
 begun : {s : List ℕ} {i more end : ℕ} (g : Going s i more end) → At s i (g .first)
-begun g = record { rest = spell (g .others) ++ g .rest; spells = g .spells }
+begun g = record { rest = spell (g .others) ++ g .rest; spells = g .spells; bare = g .bare .0 }
 
 -- there is a letter
 pub going-within : {s : List ℕ} {i more end : ℕ} → Going s i more end → i < length s
@@ -110,11 +117,13 @@ going-within g = at-within (begun g)
 
 -- a unit behind which nothing comes
 last-letter : (i : ℕ) {end : ℕ} (v : Val) (vs : List Val) → firstOf v ≡ 85 → length vs ≡ 0 → i + (length (letters v) + length (spell vs)) ≡ end → i + 1 ≡ end
-last-letter i vunit [] e z h = h
-last-letter i vunit (w ∷ vs) e z h = absurd (omega arith)
+last-letter i (vleaf unitLeaf) [] e z h = h
+last-letter i (vleaf unitLeaf) (w ∷ vs) e z h = absurd (omega arith)
 last-letter i (vinj left v) vs e z h = absurd (omega arith)
 last-letter i (vinj right v) vs e z h = absurd (omega arith)
-last-letter i (vpair v w) vs e z h = absurd (omega arith)
+last-letter i (vleaf emptyLeaf) vs e z h = absurd (omega arith)
+last-letter i (vnode pairNode v w) vs e z h = absurd (omega arith)
+last-letter i (vnode elementNode v w) vs e z h = absurd (omega arith)
 
 -- a unit behind which nothing comes is the last letter
 pub going-last : {s : List ℕ} {i more end : ℕ} → Going s i more end → getD s i 0 ≡ 85 → more ≡ 0 → i + 1 ≡ end
@@ -141,32 +150,36 @@ pub more-tag : (b more : ℕ) → (b ≡ 85 → ⊥) → (b ≡ 80 → ⊥) → 
 more-tag b more n m = sym (ap₂ (λ p q. cond p (more - 1) (cond q (more + 1) more)) (ne-eqb b 85 n) (ne-eqb b 80 m))
 
 -- one letter further, by the value that begins
-next-letter : (s : List ℕ) (i : ℕ) {more end : ℕ} (v : Val) (vs : List Val) (rest : List ℕ) → length vs ≡ more → drop i s ≡ letters v ++ (spell vs ++ rest)
+next-letter : (s : List ℕ) (i : ℕ) {more end : ℕ} (v : Val) (vs : List Val) (rest : List ℕ) → Bares (v ∷ vs) → length vs ≡ more → drop i s ≡ letters v ++ (spell vs ++ rest)
     → i + (length (letters v) + length (spell vs)) ≡ end → (firstOf v ≡ 85 → more ≡ 0 → ⊥) → Going s (i + 1) (moreAfter (firstOf v) more) end
-next-letter s i vunit [] rest c e h n = absurd (n refl (sym c))
-next-letter s i vunit (w ∷ vs) rest c e h n =
+next-letter s i (vleaf emptyLeaf) vs rest f c e h n = absurd (f .0)
+next-letter s i (vleaf unitLeaf) [] rest f c e h n = absurd (n refl (sym c))
+next-letter s i (vleaf unitLeaf) (w ∷ vs) rest f c e h n =
     record {
       first = w;
       others = vs;
       rest = rest;
       count = omega arith;
-      spells = behind-here s i letterU (letters w ++ spell vs ++ rest) e ∙ append-assoc (letters w) (spell vs) rest;
+      spells = behind-here s i (leafLetter unitLeaf) (letters w ++ spell vs ++ rest) e ∙ append-assoc (letters w) (spell vs) rest;
+      bare = f .1;
       ends = omega (arith, length-append (letters w) (spell vs));
     }
-next-letter s i (vinj left v) vs rest c e h n =
-    record { first = v; others = vs; rest = rest; count = c; spells = behind-here s i 76 (letters v ++ (spell vs ++ rest)) e; ends = omega arith }
-next-letter s i (vinj right v) vs rest c e h n =
-    record { first = v; others = vs; rest = rest; count = c; spells = behind-here s i 82 (letters v ++ (spell vs ++ rest)) e; ends = omega arith }
-next-letter s i (vpair v w) vs rest c e h n =
+next-letter s i (vinj left v) vs rest f c e h n =
+    record { first = v; others = vs; rest = rest; count = c; spells = behind-here s i 76 (letters v ++ (spell vs ++ rest)) e; bare = f; ends = omega arith }
+next-letter s i (vinj right v) vs rest f c e h n =
+    record { first = v; others = vs; rest = rest; count = c; spells = behind-here s i 82 (letters v ++ (spell vs ++ rest)) e; bare = f; ends = omega arith }
+next-letter s i (vnode elementNode v w) vs rest f c e h n = absurd (f .0)
+next-letter s i (vnode pairNode v w) vs rest f c e h n =
     record {
       first = v;
       others = w ∷ vs;
       rest = rest;
       count = omega arith;
       spells =
-          behind-here s i letterP (letters v ++ letters w ++ (spell vs ++ rest)) e
+          behind-here s i (nodeLetter pairNode) (letters v ++ letters w ++ (spell vs ++ rest)) e
           ∙ append-assoc (letters v) (letters w) (spell vs ++ rest)
           ∙ ap (λ l. letters v ++ l) (sym (append-assoc (letters w) (spell vs) rest));
+      bare = (f .0 .0, (f .0 .1, f .1));
       ends = omega (arith, length-append (letters v) (letters w), length-append (letters w) (spell vs));
     }
 
@@ -175,7 +188,7 @@ pub going-next : {s : List ℕ} {i more end : ℕ} → Going s i more end → (g
 going-next {s} {i} {more} {end} g n =
     let f = at-first (begun g) in
     subst (λ b. Going s (i + 1) (moreAfter b more) end) (sym f)
-    (next-letter s i (g .first) (g .others) (g .rest) (g .count) (g .spells) (g .ends) (λ e. n (f ∙ e)))
+    (next-letter s i (g .first) (g .others) (g .rest) (g .bare) (g .count) (g .spells) (g .ends) (λ e. n (f ∙ e)))
 
 -- ---- the search for a value's end
 

@@ -29,8 +29,8 @@ ghost use Prim.Native.Nat.{ℕ, _+_, _-_, _≤_, _<_};
 ghost use lib.Dec.{eqb, ltb};
 ghost use lib.ListN.{length, getD, take};
 ghost use Rattle.limits.specs.Limits.{fieldBound};
-ghost use Rattle.calculus.specs.Trees.{pvar, Val};
-ghost use Rattle.calculus.specs.Letters.{letters, letterU, letterP};
+ghost use Rattle.calculus.specs.Trees.{unitLeaf, pairNode, pvar, Val};
+ghost use Rattle.calculus.specs.Letters.{letters, leafLetter, nodeLetter};
 ghost use Rattle.area_cells.specs.Areas.{Writes};
 ghost use Rattle.table_trees.specs.Unfolding.{cellOf, smallerOf, patternOf};
 ghost use Rattle.run_values.specs.Texts.{At, Ends, letterFor, alike, matched, putRange, ranges, rangeOf, built, Below};
@@ -38,7 +38,7 @@ ghost use Rattle.run_values.specs.Texts.{At, Ends, letterFor, alike, matched, p
 // How many values come behind the one that is begun, once a letter is read, where `more` came before.
 fn more_after(b: u8, more: usize) -> usize
     requires { ⌜ more < 18446744073709551615 ⌝ }
-    ensures { λ r. ⌜ r ≡ cond (eqb b letterU) (more - 1) (cond (eqb b letterP) (more + 1) more) ⌝ }
+    ensures { λ r. ⌜ r ≡ cond (eqb b (leafLetter unitLeaf)) (more - 1) (cond (eqb b (nodeLetter pairNode)) (more + 1) more) ⌝ }
 {
     if b == LETTER_UNIT {
         if 0 < more {

@@ -10,17 +10,18 @@ use mathlib.Core.List.{List, [], _∷_, _++_, append-assoc}
 use lib.ListN.{length, getD, getElem?, take, drop, replicate, length-append, drop-of-length-le, take-append-drop}
 use lib.Seq.{sets, slice, sets-eq, length-take-le, length-slice, drop-at, take-take, drop-drop, drop-append-le}
 use Rattle.limits.specs.Limits.{variables, maxLets, resultLength, workLength, frame, wordBound}
-use Rattle.calculus.specs.Trees.{Pat, pvar, Val, vunit, vinj, vpair, Let, Clause, Iso}
+use Rattle.calculus.specs.Trees.{Pat, pvar, Val, Let, Clause, Iso}
 use Rattle.calculus.specs.Slots.{Slots, empty}
 use Rattle.calculus.specs.Letters.{letters}
 use Rattle.calculus.specs.Reduction.{bind, build}
 use Rattle.calculus.proofs.Basic.{not-both, index-below, le-or-lt}
 use Rattle.calculus.proofs.Binding.{bind-length, build-length}
+use Rattle.calculus.proofs.Letters.{letters-some}
 use Rattle.area_cells.specs.Areas.{Writes}
 use Rattle.table_trees.specs.Unfolding.{cellOf, patternOf}
 use Rattle.table_walks.specs.InTable.{letAt, clauseIn}
 use Rattle.run_index.specs.Index.{placeAt, isoAt}
-use Rattle.run_values.specs.Texts.{At, alike, Below, ranges, built}
+use Rattle.run_values.specs.Texts.{Bare, At, alike, Below, ranges, built}
 use Rattle.run_values.specs.Agrees.{Agrees}
 use Rattle.run_values.specs.Traces.{Small, LetsTrace, done, step, Runs}
 use Rattle.run_values.proofs.Agreeing.{at-within, at-take, at-sets, take-sets, bind-alike, length-ranges, below-ranges, below-more, agrees-empty, agrees-more, agrees-bind, built-build, at-slice}
@@ -190,16 +191,16 @@ pub record Ready (w₀ w₁ vars : List ℕ) (top end : ℕ) (u : Val) (f : Slot
   pub wide : length w₁ ≡ length w₀
   pub rest : EnvAt w₀ top vars f
 
-pub ready : {w₀ w₁ vars : List ℕ} {top end : ℕ} (q : Pat) {e f : Slots Val} {u : Val} → EnvAt w₀ top vars e → build q e ≡ some (u, f)
+pub ready : {w₀ w₁ vars : List ℕ} {top end : ℕ} (q : Pat) {e f : Slots Val} {u : Val} → Bare u → EnvAt w₀ top vars e → build q e ≡ some (u, f)
     → top + length (letters u) ≤ length w₀ → ((n : ℕ) → Below vars n → n ≤ top → Writes w₀ w₁ top end (built q (take n w₀) vars))
     → Ready w₀ w₁ vars top end u f
-ready {w₀} {w₁} {vars} {top} {end} q {e} {f} {u} env b room writes =
+ready {w₀} {w₁} {vars} {top} {end} q {e} {f} {u} free env b room writes =
     let w = writes top (env .below) (omega arith) in
     let same = built-build q e (take top w₀) vars b (env .agrees) in
     let fits : top + length (built q (take top w₀) vars) ≤ length w₀ = subst (λ bs. top + length bs ≤ length w₀) (sym (same .0)) room in
     let is : w₁ ≡ sets w₀ top (letters u) = w .area fits ∙ ap (sets w₀ top) (same .0) in
     record {
-      spelled = subst (λ l. At l top u) (sym is) (at-sets w₀ (letters u) top u refl room);
+      spelled = subst (λ l. At l top u) (sym is) (at-sets w₀ (letters u) top u free refl room);
       ends = w .place fits ∙ ap (λ bs. top + length bs) (same .0);
       spares = subst (λ l. Spares w₀ l top (top + length (letters u))) (sym is) (spares-sets w₀ (letters u) top room);
       wide = w .kept;
@@ -208,14 +209,9 @@ ready {w₀} {w₁} {vars} {top} {end} q {e} {f} {u} env b room writes =
 
 -- ---- a variable's letters
 
-letters-some : (v : Val) → 0 < length (letters v)
-letters-some vunit = omega arith
-letters-some (vinj t v) = omega arith
-letters-some (vpair v w) = omega arith
-
 -- letters between two places
-pub range-at : (w : List ℕ) (from to : ℕ) (u : Val) → to ≤ length w → slice from to w ≡ letters u → At w from u × (to ≡ from + length (letters u))
-range-at w from to u h e =
+pub range-at : (w : List ℕ) (from to : ℕ) (u : Val) → Bare u → to ≤ length w → slice from to w ≡ letters u → At w from u × (to ≡ from + length (letters u))
+range-at w from to u free h e =
     let n = length-slice from to w h in
     let m = ap length e in
     let some′ = letters-some u in
@@ -224,6 +220,7 @@ range-at w from to u h e =
       record {
         rest = drop to w;
         spells = ap (drop from) (sym (take-append-drop to w)) ∙ drop-append-le from (take to w) (drop to w) (omega (arith, front, place)) ∙ ap (λ x. x ++ drop to w) e;
+        bare = free;
       },
       place,
     )
@@ -240,13 +237,13 @@ record Ranged (w vars : List ℕ) (top n : ℕ) (u : Val) (f : Slots Val) : Type
   pub bytes : slice (getD vars n 0) (getD vars (32 + n) 0) w ≡ letters u
   pub rest : EnvAt w top vars f
 
-ranged : {w vars : List ℕ} {top : ℕ} (p : Pat) (n : ℕ) {e f : Slots Val} {u : Val} → p ≡ pvar n → EnvAt w top vars e → build p e ≡ some (u, f) → top ≤ length w → Ranged w vars top n u f
-ranged {w} {vars} {top} p n {e} {f} {u} is env b room =
+ranged : {w vars : List ℕ} {top : ℕ} (p : Pat) (n : ℕ) {e f : Slots Val} {u : Val} → p ≡ pvar n → Bare u → EnvAt w top vars e → build p e ≡ some (u, f) → top ≤ length w → Ranged w vars top n u f
+ranged {w} {vars} {top} p n {e} {f} {u} is free env b room =
     let b′ : build (pvar n) e ≡ some (u, f) = subst (λ q. build q e ≡ some (u, f)) is b in
     let same = built-build (pvar n) e (take top w) vars b′ (env .agrees) in
     let low = env .below .ends n in
     let bytes : slice (getD vars n 0) (getD vars (32 + n) 0) w ≡ letters u = ap (drop (getD vars n 0)) (sym (take-take (getD vars (32 + n) 0) top w low)) ∙ same .0 in
-    let r = range-at w (getD vars n 0) (getD vars (32 + n) 0) u (omega (arith, low, room)) bytes in
+    let r = range-at w (getD vars n 0) (getD vars (32 + n) 0) u free (omega (arith, low, room)) bytes in
     record {
       stands = r .0;
       ends = r .1;
@@ -260,7 +257,7 @@ ranged {w} {vars} {top} p n {e} {f} {u} is env b room =
 pub argue-var : (p : Pat) (n : ℕ) {vars work : List ℕ} {top : ℕ} (a : P.Place) → p ≡ pvar n → a .at ≡ getD vars n 0 → a .end ≡ getD vars (32 + n) 0 → a .free ≡ top
     → ArgueSays p vars work work top a
 argue-var p n {vars} {work} {top} a is ea ez ef e f u b small env room =
-    let r = ranged p n is env b (omega arith) in
+    let r = ranged p n is (small .bare) env b (omega arith) in
     let ends = r .ends in
     let low = r .low in
     record {
@@ -276,14 +273,14 @@ argue-var p n {vars} {work} {top} a is ea ez ef e f u b small env room =
 pub argue-built : (p : Pat) {vars w₀ w₁ : List ℕ} {top end : ℕ} (a : P.Place) → a .at ≡ top → a .end ≡ end → a .free ≡ end
     → ((n : ℕ) → Below vars n → n ≤ top → Writes w₀ w₁ top end (built p (take n w₀) vars)) → ArgueSays p vars w₀ w₁ top a
 argue-built p {vars} {w₀} {w₁} {top} {end} a ea ez ef writes e f u b small env room =
-    let rd = ready p env b (omega (arith, small, room)) writes in
+    let rd = ready p (small .bare) env b (omega (arith, small .fits, room)) writes in
     let ends = rd .ends in
     record {
       stands = subst (λ k. At w₁ k u) (sym ea) (rd .spelled);
       ends = ez ∙ ends ∙ ap (λ k. k + length (letters u)) (sym ea);
       low = omega (arith, ez, ef);
       over = omega (arith, ef, ends);
-      near = omega (arith, ef, ends, small);
+      near = omega (arith, ef, ends, small .fits);
       spares = rd .spares;
       rest = rd .rest;
     }
@@ -294,7 +291,7 @@ argue-built p {vars} {w₀} {w₁} {top} {end} a ea ez ef writes e f u b small e
 pub give-place : (p : Pat) (n : ℕ) {vars work : List ℕ} {top dest left from to : ℕ} → p ≡ pvar n → from ≡ getD vars n 0 → to ≡ getD vars (32 + n) 0 → to ≤ dest
     → GiveSays p vars work work top dest left (given.Range from to left)
 give-place p n {vars} {work} {top} {dest} {left} {from} {to} is ea ez h e f w b small env low room =
-    let r = ranged p n is env b (omega (arith, room)) in
+    let r = ranged p n is (small .bare) env b (omega (arith, room)) in
     let ends = r .ends in
     record {
       begin = from;
@@ -308,7 +305,7 @@ give-place p n {vars} {work} {top} {dest} {left} {from} {to} is ea ez h e f w b 
 pub give-copied : (p : Pat) (n : ℕ) {vars work work′ : List ℕ} {top dest left from to end : ℕ} → p ≡ pvar n → from ≡ getD vars n 0 → to ≡ getD vars (32 + n) 0 → dest ≤ from
     → (dest ≤ from → to ≤ length work → Writes work work′ dest end (slice from to work)) → GiveSays p vars work work′ top dest left (given.Range dest end left)
 give-copied p n {vars} {work} {work′} {top} {dest} {left} {from} {to} {end} is ea ez h copy e f w b small env low room =
-    let r = ranged p n is env b (omega (arith, room)) in
+    let r = ranged p n is (small .bare) env b (omega (arith, room)) in
     let ends = r .ends in
     let under = r .low in
     let bytes : slice from to work ≡ letters w = ap₂ (λ x y. slice x y work) ea ez ∙ r .bytes in
@@ -321,8 +318,8 @@ give-copied p n {vars} {work} {work′} {top} {dest} {left} {from} {to} {end} is
     record {
       begin = dest;
       gives = ap (λ k. given.Range dest k left) stops;
-      stands = subst (λ l. At l dest w) (sym final) (at-sets work (letters w) dest w refl room′);
-      near = omega (arith, small);
+      stands = subst (λ l. At l dest w) (sym final) (at-sets work (letters w) dest w (small .bare) refl room′);
+      near = omega (arith, small .fits);
       spares = subst (λ z. Spares work z dest (top + resultLength)) (sym final)
           (spares-more dest (dest + length (letters w)) dest (top + resultLength) (spares-sets work (letters w) dest room′) (omega arith) (omega (arith, far)));
     }
@@ -331,37 +328,37 @@ give-copied p n {vars} {work} {work′} {top} {dest} {left} {from} {to} {end} is
 pub give-built : (p : Pat) {vars work work′ : List ℕ} {top dest left last : ℕ} → top ≡ dest
     → ((n : ℕ) → Below vars n → n ≤ top → Writes work work′ top last (built p (take n work) vars)) → GiveSays p vars work work′ top dest left (given.Range dest last left)
 give-built p {vars} {work} {work′} {top} {dest} {left} {last} here writes e f w b small env low room =
-    let rd = ready p env b (omega (arith, small, room)) writes in
+    let rd = ready p (small .bare) env b (omega (arith, small .fits, room)) writes in
     let ends = rd .ends in
     record {
       begin = dest;
       gives = ap (λ k. given.Range dest k left) (ends ∙ ap (λ k. k + length (letters w)) here);
       stands = subst (λ k. At work′ k w) here (rd .spelled);
-      near = omega (arith, small);
-      spares = spares-more top (top + length (letters w)) dest (top + resultLength) (rd .spares) (omega (arith, here)) (omega (arith, small));
+      near = omega (arith, small .fits);
+      spares = spares-more top (top + length (letters w)) dest (top + resultLength) (rd .spares) (omega (arith, here)) (omega (arith, small .fits));
     }
 
 -- built at `top`, and copied to `dest`
 pub give-moved : (p : Pat) {vars work w₁ work′ : List ℕ} {top dest left last end : ℕ} → ((n : ℕ) → Below vars n → n ≤ top → Writes work w₁ top last (built p (take n work) vars))
     → (dest ≤ top → last ≤ length w₁ → Writes w₁ work′ dest end (slice top last w₁)) → GiveSays p vars work work′ top dest left (given.Range dest end left)
 give-moved p {vars} {work} {w₁} {work′} {top} {dest} {left} {last} {end} writes copy e f w b small env low room =
-    let rd = ready p env b (omega (arith, small, room)) writes in
+    let rd = ready p (small .bare) env b (omega (arith, small .fits, room)) writes in
     let stop = rd .ends in
     let long = rd .wide in
-    let c = copy low (omega (arith, stop, small, room, long)) in
+    let c = copy low (omega (arith, stop, small .fits, room, long)) in
     let bytes : slice top last w₁ ≡ letters w = ap (λ k. slice top k w₁) stop ∙ at-slice (rd .spelled) in
-    let room′ : dest + length (letters w) ≤ length w₁ = omega (arith, low, small, room, long) in
+    let room′ : dest + length (letters w) ≤ length w₁ = omega (arith, low, small .fits, room, long) in
     let fits : dest + length (slice top last w₁) ≤ length w₁ = subst (λ bs. dest + length bs ≤ length w₁) (sym bytes) room′ in
     let final : work′ ≡ sets w₁ dest (letters w) = c .area fits ∙ ap (sets w₁ dest) bytes in
     let stops : end ≡ dest + length (letters w) = c .place fits ∙ ap (λ bs. dest + length bs) bytes in
     record {
       begin = dest;
       gives = ap (λ k. given.Range dest k left) stops;
-      stands = subst (λ l. At l dest w) (sym final) (at-sets w₁ (letters w) dest w refl room′);
-      near = omega (arith, small);
-      spares = spares-both (spares-more top (top + length (letters w)) dest (top + resultLength) (rd .spares) low (omega (arith, small)))
+      stands = subst (λ l. At l dest w) (sym final) (at-sets w₁ (letters w) dest w (small .bare) refl room′);
+      near = omega (arith, small .fits);
+      spares = spares-both (spares-more top (top + length (letters w)) dest (top + resultLength) (rd .spares) low (omega (arith, small .fits)))
           (subst (λ z. Spares w₁ z dest (top + resultLength)) (sym final)
-          (spares-more dest (dest + length (letters w)) dest (top + resultLength) (spares-sets w₁ (letters w) dest room′) (omega arith) (omega (arith, low, small))));
+          (spares-more dest (dest + length (letters w)) dest (top + resultLength) (spares-sets w₁ (letters w) dest room′) (omega arith) (omega (arith, low, small .fits))));
     }
 
 -- ---- a let step
@@ -371,7 +368,7 @@ step-spares : {w₀ w₁ w₂ : List ℕ} (top i j : ℕ) (u : Val) → Small u 
     → Spares w₀ w₂ top (top + i * frame)
 step-spares top i j u small less a b =
     spares-both
-    (spares-more top (top + length (letters u)) top (top + i * frame) a (omega arith) (omega (arith, small, less)))
+    (spares-more top (top + length (letters u)) top (top + i * frame) a (omega arith) (omega (arith, small .fits, less)))
     (spares-more top (top + suc j * frame) top (top + i * frame) b (omega arith) (omega (arith, less)))
 
 -- a let step that names no earlier iso is in no trace

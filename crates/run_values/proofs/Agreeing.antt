@@ -14,9 +14,11 @@ use lib.ListN.{length, getD, set, take, drop, length-append, length-drop, length
 use lib.Seq.{take-nil, take-append-seam, take-append-add, drop-append-seam, getD-set-same, getD-set-other, take-set-le, take-take, drop-drop, drop-at, length-take-le, sets, sets-eq, slice}
 use Rattle.calculus.specs.Tools.{_>>=_, guard}
 use Rattle.limits.specs.Limits.{variables}
-use Rattle.calculus.specs.Trees.{Ty, tunit, tsum, tprod, Tag, left, right, Pat, punit, pvar, pinj, ppair, Val, vunit, vinj, vpair, sameTag}
+use Rattle.calculus.specs.Trees.{Ty, tunit, tlist, tsum, tprod, Leaf, unitLeaf, emptyLeaf, Tag, left, right, Node, pairNode, elementNode, Pat, pleaf, pvar, pinj, pnode, Val, vleaf, vinj}
+use Rattle.calculus.specs.Trees.{vnode, sameLeaf, sameTag, sameNode}
 use Rattle.calculus.specs.Slots.{Slots, put, empty}
-use Rattle.calculus.specs.Letters.{letters, letterU, letterP, letterOf, valueOf, inhabits}
+use Rattle.calculus.specs.Letters.{letters, leafLetter, letterOf, nodeLetter, valueOf, inhabits}
+use Rattle.calculus.specs.Lists.{Finite}
 use Rattle.calculus.specs.Reduction.{bind, build}
 use Rattle.calculus.specs.Paper.{Of}
 use Rattle.model.specs.Services.{valueIn}
@@ -24,7 +26,7 @@ use Rattle.calculus.proofs.Basic.{bind-some, some-bind, none≢some, some-inj, 
 use Rattle.calculus.proofs.Slots.{slot, put-of-get, put-length, Filled, put-filled, filled-keeps, slot-empty}
 use Rattle.calculus.proofs.Binding.{bind-length}
 use Rattle.calculus.proofs.Letters.{value-letters, letters-value, inhabits-of, of-inhabits, letters-some}
-use Rattle.run_values.specs.Texts.{At, behind, alike, putRange, ranges, rangeOf, built, Below}
+use Rattle.run_values.specs.Texts.{Bare, At, behind, alike, putRange, ranges, rangeOf, built, Below}
 use Rattle.run_values.specs.Agrees.{Agrees}
 
 -- ---- where a value's letters stand
@@ -46,23 +48,24 @@ at-within {s} {at} {v} h =
 
 -- a tag's value stands behind the tag
 pub at-inj : {s : List ℕ} {at : ℕ} {t : Tag} {v : Val} → At s at (vinj t v) → At s (suc at) v
-at-inj {s} {at} h = record { rest = h .rest; spells = drop-suc s at (h .spells) }
+at-inj {s} {at} h = record { rest = h .rest; spells = drop-suc s at (h .spells); bare = h .bare }
 
 -- what follows the letter of pairs
-pair-spells : {s : List ℕ} {at : ℕ} {v w : Val} (h : At s at (vpair v w)) → drop (suc at) s ≡ letters v ++ (letters w ++ h .rest)
+pair-spells : {s : List ℕ} {at : ℕ} {v w : Val} (h : At s at (vnode pairNode v w)) → drop (suc at) s ≡ letters v ++ (letters w ++ h .rest)
 pair-spells {s} {at} {v} {w} h = drop-suc s at (h .spells) ∙ append-assoc (letters v) (letters w) (h .rest)
 
 -- a pair's first value stands behind the letter of pairs
-pub at-first : {s : List ℕ} {at : ℕ} {v w : Val} → At s at (vpair v w) → At s (suc at) v
-at-first {w} h = record { rest = letters w ++ h .rest; spells = pair-spells h }
+pub at-first : {s : List ℕ} {at : ℕ} {v w : Val} → At s at (vnode pairNode v w) → At s (suc at) v
+at-first {w} h = record { rest = letters w ++ h .rest; spells = pair-spells h; bare = h .bare .0 }
 
 -- and its second behind the first
-pub at-second : {s : List ℕ} {at : ℕ} {v w : Val} → At s at (vpair v w) → At s (suc at + length (letters v)) w
+pub at-second : {s : List ℕ} {at : ℕ} {v w : Val} → At s at (vnode pairNode v w) → At s (suc at + length (letters v)) w
 at-second {s} {at} {v} {w} h =
     record {
       rest = h .rest;
       spells = sym (drop-drop (length (letters v)) (suc at) s) ∙ ap (drop (length (letters v))) (pair-spells h)
           ∙ drop-append-seam (letters v) (letters w ++ h .rest);
+      bare = h .bare .1;
     }
 
 -- the slice from its place to its end is the value's letters
@@ -79,17 +82,19 @@ at-take s at top v h b =
     record {
       rest = take m (h .rest);
       spells = ap (λ k. drop at (take k s)) e ∙ drop-take at (n + m) s ∙ ap (take (n + m)) (h .spells) ∙ take-append-add (letters v) (h .rest) m;
+      bare = h .bare;
     }
 
 -- letters written to a place stand there
-pub at-sets : (l bs : List ℕ) (at : ℕ) (v : Val) → bs ≡ letters v → at + length bs ≤ length l → At (sets l at bs) at v
-at-sets l bs at v e h =
+pub at-sets : (l bs : List ℕ) (at : ℕ) (v : Val) → Bare v → bs ≡ letters v → at + length bs ≤ length l → At (sets l at bs) at v
+at-sets l bs at v free e h =
     let rest = drop (at + length bs) l in
     record {
       rest = rest;
       spells = ap (drop at) (sets-eq bs l at h ∙ append-assoc (take at l) bs rest)
           ∙ drop-at (take at l) (bs ++ rest) at (length-take-le at l (omega arith))
           ∙ ap (λ r. r ++ rest) e;
+      bare = free;
     }
 
 -- and leave what is before them
@@ -115,19 +120,21 @@ slot-below (s ∷ e) (suc n) h = let k = slot-below e n h in omega arith
 
 -- a pattern that binds is of the value's shape
 pub bind-alike : (p : Pat) (v : Val) (e : Slots Val) {e′ : Slots Val} → bind p v e ≡ some e′ → alike p v ≡ true
-bind-alike punit vunit e h = refl
-bind-alike punit (vinj t v) e h = absurd (none≢some h)
-bind-alike punit (vpair v w) e h = absurd (none≢some h)
 bind-alike (pvar n) v e h = refl
-bind-alike (pinj s p) vunit e h = absurd (none≢some h)
+bind-alike (pleaf l) (vleaf k) e h = guard-true (sameLeaf l k) (bind-some (guard (sameLeaf l k)) (λ _. some e) h .1)
+bind-alike (pleaf l) (vinj t v) e h = absurd (none≢some h)
+bind-alike (pleaf l) (vnode k v w) e h = absurd (none≢some h)
+bind-alike (pinj s p) (vleaf k) e h = absurd (none≢some h)
 bind-alike (pinj s p) (vinj t v) e h =
     let d = bind-some (guard (sameTag s t)) (λ _. bind p v e) h in
     true-and (guard-true (sameTag s t) (d .1)) (bind-alike p v e (d .2))
-bind-alike (pinj s p) (vpair v w) e h = absurd (none≢some h)
-bind-alike (ppair p q) vunit e h = absurd (none≢some h)
-bind-alike (ppair p q) (vinj t v) e h = absurd (none≢some h)
-bind-alike (ppair p q) (vpair v w) e h =
-    let d = bind-some (bind p v e) (bind q w) h in true-and (bind-alike p v e (d .1)) (bind-alike q w (d .0) (d .2))
+bind-alike (pinj s p) (vnode k v w) e h = absurd (none≢some h)
+bind-alike (pnode m p q) (vleaf k) e h = absurd (none≢some h)
+bind-alike (pnode m p q) (vinj t v) e h = absurd (none≢some h)
+bind-alike (pnode m p q) (vnode k v w) e h =
+    let c = bind-some (guard (sameNode m k)) (λ _. bind p v e >>= λ d. bind q w d) h in
+    let d = bind-some (bind p v e) (bind q w) (c .2) in
+    true-and (guard-true (sameNode m k) (c .1)) (true-and (bind-alike p v e (d .1)) (bind-alike q w (d .0) (d .2)))
 
 -- what holds of two lists holds of the one chosen
 choose : (P : List ℕ → Type 0) (b : Bool) {xs ys : List ℕ} → (b ≡ true → P xs) → P ys → P (cond b xs ys)
@@ -141,16 +148,18 @@ length-putRange vars n from to =
 
 -- matching keeps the number of ranges
 pub length-ranges : (p : Pat) (v : Val) (at : ℕ) (vars : List ℕ) → length (ranges p v at vars) ≡ length vars
-length-ranges punit v at vars = refl
 length-ranges (pvar n) v at vars = length-putRange vars n at (at + length (letters v))
-length-ranges (pinj s p) vunit at vars = refl
+length-ranges (pleaf l) v at vars = refl
+length-ranges (pinj s p) (vleaf k) at vars = refl
 length-ranges (pinj s p) (vinj t v) at vars = choose (λ l. length l ≡ length vars) (sameTag s t) (λ _. length-ranges p v (suc at) vars) refl
-length-ranges (pinj s p) (vpair v w) at vars = refl
-length-ranges (ppair p q) vunit at vars = refl
-length-ranges (ppair p q) (vinj t v) at vars = refl
-length-ranges (ppair p q) (vpair v w) at vars =
+length-ranges (pinj s p) (vnode k v w) at vars = refl
+length-ranges (pnode m p q) (vleaf k) at vars = refl
+length-ranges (pnode m p q) (vinj t v) at vars = refl
+length-ranges (pnode m p q) (vnode k v w) at vars =
     let first = length-ranges p v (suc at) vars in
-    choose (λ l. length l ≡ length vars) (alike p v) (λ _. length-ranges q w (suc at + length (letters v)) (ranges p v (suc at) vars) ∙ first) first
+    choose (λ l. length l ≡ length vars) (sameNode m k)
+    (λ _. choose (λ l. length l ≡ length vars) (alike p v) (λ _. length-ranges q w (suc at + length (letters v)) (ranges p v (suc at) vars) ∙ first) first)
+    refl
 
 -- ---- where ranges end
 
@@ -175,19 +184,21 @@ below-putRange vars n from to top h k =
 -- the ranges that matching puts end with the value
 pub below-ranges : (p : Pat) (v : Val) (at : ℕ) (vars : List ℕ) (top : ℕ) → Below vars top → at + length (letters v) ≤ top
     → Below (ranges p v at vars) top
-below-ranges punit v at vars top h k = h
 below-ranges (pvar n) v at vars top h k = below-putRange vars n at (at + length (letters v)) top h k
-below-ranges (pinj s p) vunit at vars top h k = h
+below-ranges (pleaf l) v at vars top h k = h
+below-ranges (pinj s p) (vleaf l) at vars top h k = h
 below-ranges (pinj s p) (vinj t v) at vars top h k =
     choose (λ l. Below l top) (sameTag s t) (λ _. below-ranges p v (suc at) vars top h (omega arith)) h
-below-ranges (pinj s p) (vpair v w) at vars top h k = h
-below-ranges (ppair p q) vunit at vars top h k = h
-below-ranges (ppair p q) (vinj t v) at vars top h k = h
-below-ranges (ppair p q) (vpair v w) at vars top h k =
+below-ranges (pinj s p) (vnode m v w) at vars top h k = h
+below-ranges (pnode m p q) (vleaf l) at vars top h k = h
+below-ranges (pnode m p q) (vinj t v) at vars top h k = h
+below-ranges (pnode m p q) (vnode m′ v w) at vars top h k =
     let n = length-append (letters v) (letters w) in
     let first = below-ranges p v (suc at) vars top h (omega arith) in
-    choose (λ l. Below l top) (alike p v)
-    (λ _. below-ranges q w (suc at + length (letters v)) (ranges p v (suc at) vars) top first (omega arith)) first
+    choose (λ l. Below l top) (sameNode m m′)
+    (λ _. choose (λ l. Below l top) (alike p v)
+    (λ _. below-ranges q w (suc at + length (letters v)) (ranges p v (suc at) vars) top first (omega arith)) first)
+    h
 
 -- a higher bound
 pub below-more : (vars : List ℕ) (top top′ : ℕ) → Below vars top → top ≤ top′ → Below vars top′
@@ -259,19 +270,22 @@ agrees-put n v e {e′} s vars at size slots room a h g = record { holds = λ m 
 -- the ranges after matching agree with the slots after binding
 pub agrees-bind : (p : Pat) (v : Val) (e : Slots Val) {e′ : Slots Val} (s vars : List ℕ) (at : ℕ) → length vars ≡ 64 → length e ≡ 32 → length s < 65536
     → At s at v → bind p v e ≡ some e′ → Agrees s vars e → Agrees s (ranges p v at vars) e′
-agrees-bind punit vunit e s vars at size slots room a h g = subst (Agrees s vars) (some-inj h) g
-agrees-bind punit (vinj t v) e s vars at size slots room a h g = absurd (none≢some h)
-agrees-bind punit (vpair v w) e s vars at size slots room a h g = absurd (none≢some h)
 agrees-bind (pvar n) v e s vars at size slots room a h g = agrees-put n v e s vars at size slots room a h g
-agrees-bind (pinj u p) vunit e s vars at size slots room a h g = absurd (none≢some h)
+agrees-bind (pleaf l) (vleaf k) e s vars at size slots room a h g =
+    subst (Agrees s vars) (some-inj (bind-some (guard (sameLeaf l k)) (λ _. some e) h .2)) g
+agrees-bind (pleaf l) (vinj t v) e s vars at size slots room a h g = absurd (none≢some h)
+agrees-bind (pleaf l) (vnode k v w) e s vars at size slots room a h g = absurd (none≢some h)
+agrees-bind (pinj u p) (vleaf k) e s vars at size slots room a h g = absurd (none≢some h)
 agrees-bind (pinj u p) (vinj t v) e {e′} s vars at size slots room a h g =
     let d = bind-some (guard (sameTag u t)) (λ _. bind p v e) h in
     subst (λ b. Agrees s (cond b (ranges p v (suc at) vars) vars) e′) (sym (guard-true (sameTag u t) (d .1)))
     (agrees-bind p v e s vars (suc at) size slots room (at-inj a) (d .2) g)
-agrees-bind (pinj u p) (vpair v w) e s vars at size slots room a h g = absurd (none≢some h)
-agrees-bind (ppair p q) vunit e s vars at size slots room a h g = absurd (none≢some h)
-agrees-bind (ppair p q) (vinj t v) e s vars at size slots room a h g = absurd (none≢some h)
-agrees-bind (ppair p q) (vpair v w) e {e′} s vars at size slots room a h g =
+agrees-bind (pinj u p) (vnode k v w) e s vars at size slots room a h g = absurd (none≢some h)
+agrees-bind (pnode m p q) (vleaf k) e s vars at size slots room a h g = absurd (none≢some h)
+agrees-bind (pnode m p q) (vinj t v) e s vars at size slots room a h g = absurd (none≢some h)
+agrees-bind (pnode m p q) (vnode elementNode v w) e s vars at size slots room a h g = absurd (a .bare)
+agrees-bind (pnode elementNode p q) (vnode pairNode v w) e s vars at size slots room a h g = absurd (none≢some h)
+agrees-bind (pnode pairNode p q) (vnode pairNode v w) e {e′} s vars at size slots room a h g =
     let d = bind-some (bind p v e) (bind q w) h in
     let first = ranges p v (suc at) vars in
     subst (λ b. Agrees s (cond b (ranges q w (suc at + length (letters v)) first) first) e′) (sym (bind-alike p v e (d .1)))
@@ -283,7 +297,7 @@ agrees-bind (ppair p q) (vpair v w) e {e′} s vars at size slots room a h g =
 -- the letters of a pattern with the ranges' letters put in are those of the value built, and the ranges agree with the slots left
 pub built-build : (p : Pat) (e : Slots Val) {v : Val} {e′ : Slots Val} (s vars : List ℕ) → build p e ≡ some (v, e′) → Agrees s vars e
     → (built p s vars ≡ letters v) × Agrees s vars e′
-built-build punit e s vars h g = subst (λ r. (letterU ∷ [] ≡ letters (r .0)) × Agrees s vars (r .1)) (some-inj h) (refl, g)
+built-build (pleaf l) e s vars h g = subst (λ r. (leafLetter l ∷ [] ≡ letters (r .0)) × Agrees s vars (r .1)) (some-inj h) (refl, g)
 built-build (pvar n) e {v} {e′} s vars h g =
     let f = put-filled n v e′ (put-of-get n v e h) in
     (g .holds n v (f .held), record { holds = λ m w i. g .holds m w (filled-keeps f m w i) })
@@ -291,25 +305,26 @@ built-build (pinj t p) e s vars h g =
     let d = bind-some (build p e) (λ r. some (vinj t (r .0), r .1)) h in
     let r = built-build p e s vars (d .1) g in
     subst (λ r. (letterOf t ∷ built p s vars ≡ letters (r .0)) × Agrees s vars (r .1)) (some-inj (d .2)) (ap (λ l. letterOf t ∷ l) (r .0), r .1)
-built-build (ppair p q) e s vars h g =
-    let d = bind-some (build q e) (λ r. build p (r .1) >>= λ s. some (vpair (s .0) (r .0), s .1)) h in
-    let c = bind-some (build p (d .0 .1)) (λ s. some (vpair (s .0) (d .0 .0), s .1)) (d .2) in
+built-build (pnode k p q) e s vars h g =
+    let d = bind-some (build q e) (λ r. build p (r .1) >>= λ s. some (vnode k (s .0) (r .0), s .1)) h in
+    let c = bind-some (build p (d .0 .1)) (λ s. some (vnode k (s .0) (d .0 .0), s .1)) (d .2) in
     let r = built-build q e s vars (d .1) g in
     let l = built-build p (d .0 .1) s vars (c .1) (r .1) in
-    subst (λ r. (letterP ∷ (built p s vars ++ built q s vars) ≡ letters (r .0)) × Agrees s vars (r .1)) (some-inj (c .2))
-    (ap₂ (λ x y. letterP ∷ (x ++ y)) (l .0) (r .0), l .1)
+    subst (λ r. (nodeLetter k ∷ (built p s vars ++ built q s vars) ≡ letters (r .0)) × Agrees s vars (r .1)) (some-inj (c .2))
+    (ap₂ (λ x y. nodeLetter k ∷ (x ++ y)) (l .0) (r .0), l .1)
 
 -- ---- the closed values of a type
 
-behind-unit : (bs : List ℕ) {cs : List ℕ} → behind tunit bs ≡ some cs → bs ≡ letterU ∷ cs
+behind-unit : (bs : List ℕ) {cs : List ℕ} → behind tunit bs ≡ some cs → bs ≡ leafLetter unitLeaf ∷ cs
 behind-unit [] h = absurd (none≢some h)
 behind-unit (b ∷ bs) h =
-    let d = bind-some (guard (eqb b letterU)) (λ _. some bs) h in
-    ap₂ _∷_ (eqb-eq b letterU (guard-true (eqb b letterU) (d .1))) (some-inj (d .2))
+    let d = bind-some (guard (eqb b (leafLetter unitLeaf))) (λ _. some bs) h in
+    ap₂ _∷_ (eqb-eq b (leafLetter unitLeaf) (guard-true (eqb b (leafLetter unitLeaf)) (d .1))) (some-inj (d .2))
 
 -- letters that pass the test of a type are those of a value of that type, before what is behind it
 pub behind-value : (a : Ty) (bs : List ℕ) {cs : List ℕ} → behind a bs ≡ some cs → (v : Val) × Of v a × (bs ≡ letters v ++ cs)
-behind-value tunit bs h = (vunit, Of.unit, behind-unit bs h)
+behind-value tunit bs h = (vleaf unitLeaf, Of.unit, behind-unit bs h)
+behind-value (tlist a) bs h = absurd (none≢some h)
 behind-value (tsum a b) [] h = absurd (none≢some h)
 behind-value (tsum a b) (x ∷ bs) {cs} h = go (eqb x (letterOf left)) (eqb x (letterOf right)) refl refl (λ k. behind-value a bs k) (λ k. behind-value b bs k) h
   where
@@ -323,25 +338,25 @@ behind-value (tsum a b) (x ∷ bs) {cs} h = go (eqb x (letterOf left)) (eqb x (l
     go false false i j l r k = absurd (none≢some k)
 behind-value (tprod a b) [] h = absurd (none≢some h)
 behind-value (tprod a b) (x ∷ bs) {cs} h =
-    let g = bind-some (guard (eqb x letterP)) (λ _. behind a bs >>= λ ds. behind b ds) h in
+    let g = bind-some (guard (eqb x (nodeLetter pairNode))) (λ _. behind a bs >>= λ ds. behind b ds) h in
     let d = bind-some (behind a bs) (λ ds. behind b ds) (g .2) in
     let l = behind-value a bs (d .1) in
     let r = behind-value b (d .0) (d .2) in (
-      vpair (l .0) (r .0),
+      vnode pairNode (l .0) (r .0),
       Of.pair (l .1) (r .1),
-      ap₂ _∷_ (eqb-eq x letterP (guard-true (eqb x letterP) (g .1)))
+      ap₂ _∷_ (eqb-eq x (nodeLetter pairNode) (guard-true (eqb x (nodeLetter pairNode)) (g .1)))
           (l .2 ∙ ap (λ y. letters (l .0) ++ y) (r .2) ∙ sym (append-assoc (letters (l .0)) (letters (r .0)) cs)),
     )
 
--- and the letters of a value of a type pass it
-pub value-behind : {v : Val} {a : Ty} → Of v a → (cs : List ℕ) → behind a (letters v ++ cs) ≡ some cs
-value-behind Of.unit cs = refl
-value-behind (Of.inj {t = left} h) cs = value-behind h cs
-value-behind (Of.inj {t = right} h) cs = value-behind h cs
-value-behind (Of.pair {v} {w} {a} {b} h k) cs =
+-- and the letters of a value of a type without lists pass it
+pub value-behind : {v : Val} {a : Ty} → Finite a → Of v a → (cs : List ℕ) → behind a (letters v ++ cs) ≡ some cs
+value-behind Finite.unit Of.unit cs = refl
+value-behind (Finite.sum f g) (Of.inj {t = left} h) cs = value-behind f h cs
+value-behind (Finite.sum f g) (Of.inj {t = right} h) cs = value-behind g h cs
+value-behind (Finite.product f g) (Of.pair {v} {w} {a} {b} h k) cs =
     ap (λ l. behind a l >>= λ ds. behind b ds) (append-assoc (letters v) (letters w) cs)
-    ∙ some-bind (λ ds. behind b ds) (value-behind h (letters w ++ cs))
-    ∙ value-behind k cs
+    ∙ some-bind (λ ds. behind b ds) (value-behind f h (letters w ++ cs))
+    ∙ value-behind g k cs
 
 -- ---- letters that are a value of a type
 
@@ -359,12 +374,12 @@ value-some a bs h =
     )
 
 -- and where they do not, there is none
-pub value-none : (a : Ty) (bs : List ℕ) → (behind a bs ≡ some [] → ⊥) → valueIn bs a ≡ none
-value-none a bs h =
+pub value-none : (a : Ty) (bs : List ℕ) → Finite a → (behind a bs ≡ some [] → ⊥) → valueIn bs a ≡ none
+value-none a bs free h =
     not-some (valueIn bs a)
     (λ u k.
     let d = bind-some (valueOf bs) (λ v. guard (inhabits v a) >>= λ _. some v) k in
     let v = d .0 in
     let g = bind-some (guard (inhabits v a)) (λ _. some v) (d .2) in
     h (ap (behind a) (letters-value bs v (d .1) ∙ sym (append-nil (letters v)))
-    ∙ value-behind (inhabits-of v a (guard-true (inhabits v a) (g .1))) []))
+    ∙ value-behind free (inhabits-of v a (guard-true (inhabits v a) (g .1))) []))

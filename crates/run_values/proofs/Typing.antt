@@ -10,7 +10,7 @@ use lib.ListN.{length, getD, drop, drop-of-length-le}
 use lib.Seq.{drop-cons}
 use borrow.Author.Tests.{eq-eqb, ne-eqb}
 use Rattle.calculus.specs.Tools.{_>>=_, guard}
-use Rattle.calculus.specs.Trees.{Ty, tunit, tsum, tprod}
+use Rattle.calculus.specs.Trees.{Ty, tunit, tlist, tsum, tprod}
 use Rattle.table_trees.specs.Unfolding.{cellOf, smallerOf, typeOf}
 use Rattle.run_values.specs.declared.Upto as U
 use Rattle.run_values.specs.declared.Upto.the-variants as upto
@@ -22,6 +22,7 @@ use Rattle.table_trees.proofs.Lines.{line-sum, line-product, line-other}
 -- no letter
 behind-none : (a : Ty) → behind a [] ≡ none
 behind-none tunit = refl
+behind-none (tlist a) = refl
 behind-none (tsum a b) = refl
 behind-none (tprod a b) = refl
 

@@ -9,15 +9,25 @@ use lib.ListN.{length, getD, set, drop}
 use lib.Seq.{slice}
 use Rattle.limits.specs.Limits.{variables, fieldBound}
 use Rattle.calculus.specs.Tools.{_>>=_, guard}
-use Rattle.calculus.specs.Trees.{Ty, tunit, tsum, tprod, Pat, punit, pvar, pinj, ppair, left, right, Val, vunit, vinj, vpair, sameTag}
-use Rattle.calculus.specs.Letters.{letters, letterU, letterP, letterOf}
+use Rattle.calculus.specs.Trees.{Ty, tunit, tlist, tsum, tprod, unitLeaf, emptyLeaf, left, right, pairNode, elementNode, Pat, pleaf, pvar, pinj, pnode, Val, vleaf, vinj, vnode}
+use Rattle.calculus.specs.Trees.{sameLeaf, sameTag, sameNode}
+use Rattle.calculus.specs.Letters.{letters, leafLetter, letterOf, nodeLetter}
 use Rattle.run_values.specs.declared.Upto as U
 use Rattle.run_values.specs.declared.Upto.the-variants as upto
 
--- the letters of a value stand from a place on
+-- a value that holds no list: its letters are U, L, R and P
+abbrev pub Bare : Val → Type 0
+Bare (vleaf unitLeaf) = Unit
+Bare (vleaf emptyLeaf) = ⊥
+Bare (vinj t v) = Bare v
+Bare (vnode pairNode v w) = Bare v × Bare w
+Bare (vnode elementNode v w) = ⊥
+
+-- the letters of such a value stand from a place on
 pub record At (s : List ℕ) (at : ℕ) (v : Val) : Type 0 where
   pub rest : List ℕ
   pub spells : drop at s ≡ letters v ++ rest
+  pub bare : Bare v
 
 -- a place that is that value's end, or 0 where none is told
 abbrev pub Ends : ℕ → ℕ → Val → Type 0
@@ -31,7 +41,7 @@ asUpto s upto.Nothing = none
 -- the bytes behind the closed value of a type that begins here
 abbrev pub behindUnit : List ℕ → Option (List ℕ)
 behindUnit [] = none
-behindUnit (b ∷ bs) = guard (eqb b letterU) >>= λ _. some bs
+behindUnit (b ∷ bs) = guard (eqb b (leafLetter unitLeaf)) >>= λ _. some bs
 
 abbrev pub behindTag : (List ℕ → Option (List ℕ)) → (List ℕ → Option (List ℕ)) → List ℕ → Option (List ℕ)
 behindTag l r [] = none
@@ -39,10 +49,12 @@ behindTag l r (b ∷ bs) = cond (eqb b (letterOf left)) (l bs) (cond (eqb b (let
 
 abbrev pub behindPair : (List ℕ → Option (List ℕ)) → (List ℕ → Option (List ℕ)) → List ℕ → Option (List ℕ)
 behindPair l r [] = none
-behindPair l r (b ∷ bs) = guard (eqb b letterP) >>= λ _. l bs >>= λ cs. r cs
+behindPair l r (b ∷ bs) = guard (eqb b (nodeLetter pairNode)) >>= λ _. l bs >>= λ cs. r cs
 
+-- no T line unfolds to a list
 abbrev pub behind : Ty → List ℕ → Option (List ℕ)
 behind tunit bs = behindUnit bs
+behind (tlist a) bs = none
 behind (tsum a b) bs = behindTag (behind a) (behind b) bs
 behind (tprod a b) bs = behindPair (behind a) (behind b) bs
 
@@ -54,20 +66,20 @@ alone (some (b ∷ bs)) = false
 
 -- the letter of a P line of kind k that is no variable; a number that is no kind has a unit's
 abbrev pub letterFor : ℕ → ℕ
-letterFor k = cond (eqb k 4) letterP (cond (eqb k 2) (letterOf left) (cond (eqb k 3) (letterOf right) letterU))
+letterFor k = cond (eqb k 4) (nodeLetter pairNode) (cond (eqb k 2) (letterOf left) (cond (eqb k 3) (letterOf right) (leafLetter unitLeaf)))
 
 -- whether a pattern is of a value's shape, whatever its variables
 abbrev pub alike : Pat → Val → Bool
-alike punit vunit = true
-alike punit (vinj t v) = false
-alike punit (vpair v w) = false
 alike (pvar n) v = true
-alike (pinj s p) vunit = false
+alike (pleaf l) (vleaf k) = sameLeaf l k
+alike (pleaf l) (vinj t v) = false
+alike (pleaf l) (vnode k v w) = false
+alike (pinj s p) (vleaf k) = false
 alike (pinj s p) (vinj t v) = sameTag s t && alike p v
-alike (pinj s p) (vpair v w) = false
-alike (ppair p q) vunit = false
-alike (ppair p q) (vinj t v) = false
-alike (ppair p q) (vpair v w) = alike p v && alike q w
+alike (pinj s p) (vnode k v w) = false
+alike (pnode m p q) (vleaf k) = false
+alike (pnode m p q) (vinj t v) = false
+alike (pnode m p q) (vnode k v w) = sameNode m k && (alike p v && alike q w)
 
 -- Where a variable's value begins and ends stands in numbers n and 32 + n of the ranges, as numbers of 16 bits.
 abbrev pub putRange : List ℕ → ℕ → ℕ → ℕ → List ℕ
@@ -75,15 +87,16 @@ putRange vars n from to = cond (ltb n variables) (set (set vars n (from % fieldB
 
 -- the ranges after a pattern is matched, as far as that goes, with a value whose letters begin at a place
 abbrev pub ranges : Pat → Val → ℕ → List ℕ → List ℕ
-ranges punit v at vars = vars
 ranges (pvar n) v at vars = putRange vars n at (at + length (letters v))
-ranges (pinj s p) vunit at vars = vars
+ranges (pleaf l) v at vars = vars
+ranges (pinj s p) (vleaf k) at vars = vars
 ranges (pinj s p) (vinj t v) at vars = cond (sameTag s t) (ranges p v (suc at) vars) vars
-ranges (pinj s p) (vpair v w) at vars = vars
-ranges (ppair p q) vunit at vars = vars
-ranges (ppair p q) (vinj t v) at vars = vars
-ranges (ppair p q) (vpair v w) at vars =
-    let first : List ℕ = ranges p v (suc at) vars in cond (alike p v) (ranges q w (suc at + length (letters v)) first) first
+ranges (pinj s p) (vnode k v w) at vars = vars
+ranges (pnode m p q) (vleaf k) at vars = vars
+ranges (pnode m p q) (vinj t v) at vars = vars
+ranges (pnode m p q) (vnode k v w) at vars =
+    let first : List ℕ = ranges p v (suc at) vars in
+    cond (sameNode m k) (cond (alike p v) (ranges q w (suc at + length (letters v)) first) first) vars
 
 -- a variable's letters, by its range
 abbrev pub rangeOf : List ℕ → List ℕ → ℕ → List ℕ
@@ -91,10 +104,10 @@ rangeOf s vars n = slice (getD vars n 0) (getD vars (variables + n) 0) s
 
 -- the letters of a pattern with its variables' letters put in
 abbrev pub built : Pat → List ℕ → List ℕ → List ℕ
-built punit s vars = letterU ∷ []
+built (pleaf l) s vars = leafLetter l ∷ []
 built (pvar n) s vars = rangeOf s vars n
 built (pinj t p) s vars = letterOf t ∷ built p s vars
-built (ppair p q) s vars = letterP ∷ (built p s vars ++ built q s vars)
+built (pnode k p q) s vars = nodeLetter k ∷ (built p s vars ++ built q s vars)
 
 -- every range ends at or before a place
 pub record Below (vars : List ℕ) (top : ℕ) : Type 0 where

@@ -11,10 +11,12 @@ use Rattle.calculus.specs.Trees.{Val, Let, Clause, Iso}
 use Rattle.calculus.specs.Slots.{Slots, empty}
 use Rattle.calculus.specs.Letters.{letters}
 use Rattle.calculus.specs.Reduction.{bind, build}
-use Rattle.run_values.specs.Texts.{alike}
+use Rattle.run_values.specs.Texts.{Bare, alike}
 
-abbrev pub Small : Val → Type 0
-Small v = length (letters v) ≤ maxNodes
+-- a value without lists whose letters fit
+pub record Small (v : Val) : Type 0 where
+  pub fits : length (letters v) ≤ maxNodes
+  pub bare : Bare v
 
 -- let steps of a clause of iso i, from some slots to others with so many applications
 pub data LetsTrace (call : ℕ → Val → Val → ℕ → Type 0) (i : ℕ) : List Let → Slots Val → Slots Val → ℕ → Type 0 where

@@ -8,7 +8,7 @@ use lib.ListN.{length, getD, set, take, drop, length-set}
 use lib.Seq.{paste, paste-zero, paste-suc, take-length}
 use Rattle.calculus.specs.Trees.{Val}
 use Rattle.calculus.specs.Letters.{letters}
-use Rattle.run_values.specs.Texts.{At}
+use Rattle.run_values.specs.Texts.{Bare, At}
 
 -- what the copying loop has come to after i bytes
 pub record Copied (from : List ℕ) (n : ℕ) (to₀ to : List ℕ) (i : ℕ) : Type 0 where
@@ -40,6 +40,6 @@ pub paste-front : (to from : List ℕ) (n : ℕ) → paste to 0 from n ≡ take 
 paste-front to from n = ap (λ k. take n from ++ drop k to) (zero-add n)
 
 -- a whole value at the front
-pub value-front : {to′ : List ℕ} (to bs : List ℕ) (v : Val) → bs ≡ letters v → to′ ≡ paste to 0 bs (length bs) → At to′ 0 v
-value-front to bs v e p =
-    record { rest = drop (length bs) to; spells = p ∙ paste-front to bs (length bs) ∙ ap (λ l. l ++ drop (length bs) to) (take-length bs ∙ e) }
+pub value-front : {to′ : List ℕ} (to bs : List ℕ) (v : Val) → Bare v → bs ≡ letters v → to′ ≡ paste to 0 bs (length bs) → At to′ 0 v
+value-front to bs v free e p =
+    record { rest = drop (length bs) to; spells = p ∙ paste-front to bs (length bs) ∙ ap (λ l. l ++ drop (length bs) to) (take-length bs ∙ e); bare = free }

@@ -2,26 +2,28 @@
 use Prim.Native.Nat.{ℕ, suc, _+_, _-_, _*_, _≤_, _<_}
 use native.Mathlib.Nat.{zero-add}
 use native.Mathlib.Omega.{arith}
-use mathlib.Core.Path.{_≡_, refl, sym, ap, ap₂, _∙_}
+use mathlib.Core.Path.{_≡_, refl, sym, ap, ap₂, _∙_, subst}
 use mathlib.Core.Bool.{Bool, true, false, cond}
 use mathlib.Core.Option.{none, some}
 use mathlib.Core.Logic.{_⊎_, inl, inr}
 use mathlib.Core.List.{List, _++_}
 use lib.ListN.{length, getElem?, take, drop, length-map}
 use lib.Seq.{paste, drop-at, take-length}
-use Rattle.limits.specs.Limits.{maxIsos, runRoom, workLength, resultLength, frame}
+use Rattle.limits.specs.Limits.{maxIsos, maxDepth, runRoom, workLength, resultLength, frame}
 use Rattle.calculus.specs.Trees.{Val, Iso, invert}
 use Rattle.calculus.specs.Refusals.{Refusal, noIso, noValue, spent}
 use Rattle.format.specs.Lines.{Row}
 use Rattle.format.specs.Judge.{start}
 use Rattle.format.specs.Unfold.{isosOf}
 use Rattle.calculus.specs.Letters.{letters}
+use Rattle.calculus.specs.Lists.{Finite}
 use Rattle.model.specs.Services.{Ran, gives, fails, within, argument, from, onIso, runRows, toward, RunAnswer, answerOfRun, written}
 use Rattle.format.specs.Code.{refusalView, numbered}
 use Rattle.calculus.proofs.Basic.{le-leb, not-leb, le-or-lt}
 use Rattle.format.proofs.Passing.{Passes}
 use Rattle.model.proofs.Runs.{good-toward, accepted-good, toward-length}
 use Rattle.table_trees.specs.Unfolding.{cellOf, typeOf}
+use Rattle.table_trees.proofs.Lists.{type-finite}
 use Rattle.table_walks.proofs.Tails.{isos-few}
 use Rattle.table_walks.proofs.Rows.{isos-told, past-row}
 use Rattle.run_coding.specs.Coded.{Coded}
@@ -128,7 +130,7 @@ pub no-value : (t : List ℕ) (base : ℕ) (index : List ℕ) (isos i : ℕ) (ba
 no-value t base index isos i back budget value o r j row h f b less ej er eh ef eb not′ n k l rs p =
     let x = found t base index isos i back j row h f less ej er eh ef rs p in
     let none′ : argument (x .o) value ≡ none =
-    value-none (x .o .from) value (λ y. alone-false (behind (typeOf t j) value) (sym eb ∙ not′) (ap (λ a. behind a value) (sym (x .type)) ∙ y)) in
+    value-none (x .o .from) value (subst Finite (sym (x .type)) (type-finite t j)) (λ y. alone-false (behind (typeOf t j) value) (sym eb ∙ not′) (ap (λ a. behind a value) (sym (x .type)) ∙ y)) in
     ran-refused (answerFor rs i back budget value) o r noValue
     (ap answerOfRun (on-some (toward back rs) i budget value (x .at) ∙ ap (from (isosOf (toward back rs)) i budget) none′)) n k l
 
@@ -145,7 +147,7 @@ record Begun (t : List ℕ) (base : ℕ) (index : List ℕ) (i : ℕ) (back : Bo
   pub depth : ℕ
   pub runs : Runs depth (isosOf (toward back rs)) i v w m
   pub lay : Laid t base index back (isosOf (toward back rs))
-  pub answer : answerFor rs i back budget value ≡ answerOfRun (within budget (some (w, m)))
+  pub answer : answerFor rs i back budget value ≡ answerOfRun (within budget (some w, m))
   pub few : i < maxIsos
 
 begun : (t : List ℕ) (base : ℕ) (index : List ℕ) (isos i : ℕ) (back : Bool) (budget : ℕ) (value : List ℕ) (j row h f : ℕ) (b : Bool) → i < isos
@@ -165,7 +167,7 @@ begun t base index isos i back budget value j row h f b less ej er eh ef eb yes�
       m = r .1;
       small = r .4;
       less = r .5;
-      depth = length (isosOf (toward back rs));
+      depth = maxDepth;
       runs = r .3;
       lay = x .lay;
       answer = ap answerOfRun (on-some (toward back rs) i budget value (x .at) ∙ ap (from (isosOf (toward back rs)) i budget) (a .1) ∙ ap (within budget) (r .2));
@@ -178,17 +180,17 @@ applied : {t : List ℕ} {base : ℕ} {index : List ℕ} {i : ℕ} {back : Bool}
     → (length value ≤ length value → length value ≤ length work → work₁ ≡ paste work 0 value (length value))
     → ApplySays t base index back i work₁ work₂ 0 (length value) 0 (length value) budget r → Applied work₁ work₂ 0 i budget (g .w) (g .m) r
 applied {i = i} {value = value} work g long most wide copy says =
-    let small = g .small in
+    let small = g .small .fits in
     let few = g .few in
     let n : length value ≡ length (letters (g .v)) = ap length (g .spelled) in
     let front = copy (omega arith) (omega (arith, n, small, long)) in
-    says _ (g .depth) (g .v) (g .w) (g .m) (g .lay) (g .runs) (value-front work value (g .v) (g .spelled) front) (n ∙ sym (zero-add (length (letters (g .v)))))
+    says _ (g .depth) (g .v) (g .w) (g .m) (g .lay) (g .runs) (value-front work value (g .v) (g .small .bare) (g .spelled) front) (n ∙ sym (zero-add (length (letters (g .v)))))
     (omega arith) (omega arith) (omega (arith, n, small)) (omega (arith, few, long, wide)) (omega (arith, wide, most))
 
-within-gives : (budget m : ℕ) (w : Val) → m ≤ budget → within budget (some (w, m)) ≡ gives (m, letters w)
+within-gives : (budget m : ℕ) (w : Val) → m ≤ budget → within budget (some w, m) ≡ gives (m, letters w)
 within-gives budget m w h = ap (λ b. cond b (gives (m, letters w)) (fails spent)) (le-leb h)
 
-within-spent : (budget m : ℕ) (w : Val) → budget < m → within budget (some (w, m)) ≡ fails spent
+within-spent : (budget m : ℕ) (w : Val) → budget < m → within budget (some w, m) ≡ fails spent
 within-spent budget m w h = ap (λ b. cond b (gives (m, letters w)) (fails spent)) (not-leb h)
 
 -- a result within the budget
@@ -202,7 +204,7 @@ ran-done {i = i} {back = back} {budget = budget} {value = value} {rs = rs} work�
     go (inr h) = absurd (range≢spent (sym told ∙ a .spent h))
     go (inl h) =
         let bs : List ℕ = letters (g .w) in
-        let less = g .less in
+        let less = g .less .fits in
         let done = sym told ∙ a .done h in
         let rest = range-left done in
         let bytes : part ≡ bs = ep ∙ ap₂ (λ p q. drop p (take q work₂)) (range-begin done) (range-end done) ∙ at-slice (a .stands h) in
@@ -268,7 +270,7 @@ pub run-spares : (t : List ℕ) (base : ℕ) (index : List ℕ) (isos i : ℕ) (
 run-spares t base index isos i back budget value work work₁ work₂ j row h f b less ej er eh ef eb yes′ wide copy says rs p long most =
     let g = begun t base index isos i back budget value j row h f b less ej er eh ef eb yes′ rs p in
     let a = applied work g long most wide copy says in
-    let small = g .small in
+    let small = g .small .fits in
     let few = g .few in
     let n : length value ≡ length (letters (g .v)) = ap length (g .spelled) in
     let first = front-spares work value (copy (omega arith) (omega (arith, n, small, long))) in

@@ -1,5 +1,6 @@
 -- The counts of an unfolded line's nodes, from those of the lines that it names, up to the ceiling that stands for more.
 use Prim.Native.Nat.{ℕ, suc, _+_, _<_, _≤_, min, max}
+use native.Mathlib.Nat.{zero-add}
 use native.Mathlib.Omega.{arith}
 use mathlib.Core.Path.{_≡_, refl, sym, ap, _∙_, subst}
 use mathlib.Core.List.{List}
@@ -44,7 +45,7 @@ inj-tags n p q lefts = refl
 inj-tags n p q rights = refl
 
 pub pair-tags : {k : ℕ} (n : ℕ) (p q : Pat) → k ≡ 4 → tags (patternNode k n p q) ≡ tags p + tags q
-pair-tags n p q e = ap (λ k. tags (patternNode k n p q)) e
+pair-tags n p q e = ap (λ k. tags (patternNode k n p q)) e ∙ zero-add (tags p + tags q)
 
 -- ---- counts that stop at a ceiling
 

@@ -2,7 +2,7 @@
 use Prim.Native.Nat.{ℕ, zero, suc, _<_, _≤_}
 use native.Mathlib.Omega.{arith}
 use mathlib.Core.Path.{_≡_, refl, ap}
-use Rattle.calculus.specs.Trees.{Ty, tunit, tsum, tprod, Pat, punit, pvar, pinj, ppair, left, right}
+use Rattle.calculus.specs.Trees.{Ty, tunit, tsum, tprod, Pat, pleaf, unitLeaf, pvar, pinj, pnode, pairNode, left, right}
 use Rattle.format.specs.Judge.{typeNode, patternNode}
 
 -- ---- T lines
@@ -59,7 +59,7 @@ node-whole a b (others k) = refl
 
 -- ---- P lines
 
-pub node-punit : {k : ℕ} (n : ℕ) (p q : Pat) → k ≡ 0 → patternNode k n p q ≡ punit
+pub node-punit : {k : ℕ} (n : ℕ) (p q : Pat) → k ≡ 0 → patternNode k n p q ≡ pleaf unitLeaf
 node-punit n p q e = ap (λ k. patternNode k n p q) e
 
 pub node-var : {k : ℕ} (n : ℕ) (p q : Pat) → k ≡ 1 → patternNode k n p q ≡ pvar n
@@ -71,11 +71,11 @@ node-left n p q e = ap (λ k. patternNode k n p q) e
 pub node-right : {k : ℕ} (n : ℕ) (p q : Pat) → k ≡ 3 → patternNode k n p q ≡ pinj right p
 node-right n p q e = ap (λ k. patternNode k n p q) e
 
-pub node-pair : {k : ℕ} (n : ℕ) (p q : Pat) → k ≡ 4 → patternNode k n p q ≡ ppair p q
+pub node-pair : {k : ℕ} (n : ℕ) (p q : Pat) → k ≡ 4 → patternNode k n p q ≡ pnode pairNode p q
 node-pair n p q e = ap (λ k. patternNode k n p q) e
 
 -- a unit, or a number that is no kind
-pub node-pother : {k : ℕ} (n : ℕ) (p q : Pat) → (k ≡ 1 → ⊥) → (k ≡ 2 → ⊥) → (k ≡ 3 → ⊥) → (k ≡ 4 → ⊥) → patternNode k n p q ≡ punit
+pub node-pother : {k : ℕ} (n : ℕ) (p q : Pat) → (k ≡ 1 → ⊥) → (k ≡ 2 → ⊥) → (k ≡ 3 → ⊥) → (k ≡ 4 → ⊥) → patternNode k n p q ≡ pleaf unitLeaf
 node-pother {k = zero} n p q v l r b = refl
 node-pother {k = suc zero} n p q v l r b = absurd (v refl)
 node-pother {k = suc (suc zero)} n p q v l r b = absurd (l refl)

@@ -2,3 +2,4 @@
 pub mod Cases
 pub mod Unfolding
 pub mod Lines
+pub mod Lists

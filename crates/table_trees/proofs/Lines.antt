@@ -3,7 +3,7 @@ use Prim.Native.Nat.{ℕ, suc, _+_, _*_, _<_, max}
 use native.Mathlib.Omega.{arith}
 use mathlib.Core.Path.{_≡_, refl, sym, ap, ap₂, _∙_}
 use mathlib.Core.List.{List}
-use Rattle.calculus.specs.Trees.{tunit, tsum, tprod, left, right, punit, pvar, pinj, ppair}
+use Rattle.calculus.specs.Trees.{tunit, tsum, tprod, left, right, pleaf, unitLeaf, pvar, pinj, pnode, pairNode}
 use Rattle.format.specs.Judge.{typeNode}
 use Rattle.table_trees.specs.Unfolding.{cellOf, smallerOf, typeOf, patternOf}
 use Rattle.table_trees.proofs.Cases.{node-sum, node-prod, node-other}
@@ -47,11 +47,11 @@ module _ (t : List ℕ) (base p : ℕ) {k : ℕ} (e : k ≡ cellOf t (base + p) 
   is-right z f = pattern-right t base p (sym e ∙ z) ∙ ap (λ x. pinj right (patternOf t base x)) (sym f)
 
   pub is-pair : {q r : ℕ} → k ≡ 4 → q ≡ smallerOf (cellOf t (base + p) 2) p → r ≡ smallerOf (cellOf t (base + p) 3) p
-      → patternOf t base p ≡ ppair (patternOf t base q) (patternOf t base r)
-  is-pair z f g = pattern-pair t base p (sym e ∙ z) ∙ sym (ap₂ (λ x y. ppair (patternOf t base x) (patternOf t base y)) f g)
+      → patternOf t base p ≡ pnode pairNode (patternOf t base q) (patternOf t base r)
+  is-pair z f g = pattern-pair t base p (sym e ∙ z) ∙ sym (ap₂ (λ x y. pnode pairNode (patternOf t base x) (patternOf t base y)) f g)
 
   -- a unit, or a number that is no kind
-  pub is-unit : (k ≡ 1 → ⊥) → (k ≡ 2 → ⊥) → (k ≡ 3 → ⊥) → (k ≡ 4 → ⊥) → patternOf t base p ≡ punit
+  pub is-unit : (k ≡ 1 → ⊥) → (k ≡ 2 → ⊥) → (k ≡ 3 → ⊥) → (k ≡ 4 → ⊥) → patternOf t base p ≡ pleaf unitLeaf
   is-unit v l r b = pattern-other t base p (λ h. v (e ∙ h)) (λ h. l (e ∙ h)) (λ h. r (e ∙ h)) (λ h. b (e ∙ h))
 
 -- ---- measures: twice the line's rank; of two lines one more than twice the higher rank

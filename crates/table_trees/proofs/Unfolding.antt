@@ -10,7 +10,7 @@ use lib.Dec.{ltb}
 use lib.ListN.{getD}
 use borrow.Author.Tests.{lt-ltb, le-ltb, ltb-true, ltb-false}
 use Rattle.limits.specs.Limits.{maxLines, rowWidth}
-use Rattle.calculus.specs.Trees.{tunit, tsum, tprod, punit, pvar, pinj, ppair, left, right}
+use Rattle.calculus.specs.Trees.{tunit, tsum, tprod, pleaf, unitLeaf, pvar, pinj, pnode, pairNode, left, right}
 use Rattle.format.specs.Judge.{typeNode, patternNode}
 use Rattle.calculus.proofs.Basic.{bool-cases}
 use Rattle.table_trees.specs.Unfolding.{cellOf, smallerOf, typeIn, patternIn, typeOf, patternOf}
@@ -163,11 +163,11 @@ module _ (t : List ℕ) (base : ℕ) where
   unfolding patternOf
   pattern-open j = refl
 
-  pub pattern-past-in : (d j : ℕ) → maxLines ≤ base + j → patternIn t base d j ≡ punit
+  pub pattern-past-in : (d j : ℕ) → maxLines ≤ base + j → patternIn t base d j ≡ pleaf unitLeaf
   pattern-past-in zero j h = refl
   pattern-past-in (suc d) j h = node-punit _ _ _ (cell-past t (base + j) 1 h)
 
-  pub pattern-past : (j : ℕ) → maxLines ≤ base + j → patternOf t base j ≡ punit
+  pub pattern-past : (j : ℕ) → maxLines ≤ base + j → patternOf t base j ≡ pleaf unitLeaf
   pattern-past j h = pattern-open j ∙ pattern-past-in (suc j) j h
 
   pattern-deep : (d e j : ℕ) → j < d → j < e → patternIn t base d j ≡ patternIn t base e j
@@ -205,7 +205,7 @@ module _ (t : List ℕ) (base : ℕ) where
       ap (λ x. patternNode x (cellOf t (base + j) 2) (patternOf t base (smallerOf (cellOf t (base + j) 2) j)) (patternOf t base (smallerOf (cellOf t (base + j) 3) j))) e
       ∙ sym (pattern-node j)
 
-  pub pattern-unit : (j : ℕ) → cellOf t (base + j) 1 ≡ 0 → patternOf t base j ≡ punit
+  pub pattern-unit : (j : ℕ) → cellOf t (base + j) 1 ≡ 0 → patternOf t base j ≡ pleaf unitLeaf
   pattern-unit j e = pattern-node j ∙ node-punit _ _ _ e
 
   pub pattern-var : (j : ℕ) → cellOf t (base + j) 1 ≡ 1 → patternOf t base j ≡ pvar (cellOf t (base + j) 2)
@@ -217,10 +217,12 @@ module _ (t : List ℕ) (base : ℕ) where
   pub pattern-right : (j : ℕ) → cellOf t (base + j) 1 ≡ 3 → patternOf t base j ≡ pinj right (patternOf t base (smallerOf (cellOf t (base + j) 2) j))
   pattern-right j e = pattern-node j ∙ node-right _ _ _ e
 
-  pub pattern-pair : (j : ℕ) → cellOf t (base + j) 1 ≡ 4 → patternOf t base j ≡ ppair (patternOf t base (smallerOf (cellOf t (base + j) 2) j)) (patternOf t base (smallerOf (cellOf t (base + j) 3) j))
+  pub pattern-pair : (j : ℕ) → cellOf t (base + j) 1 ≡ 4 → patternOf t base j ≡ pnode pairNode (patternOf t base (smallerOf (cellOf t (base + j) 2) j))
+      (patternOf t base (smallerOf (cellOf t (base + j) 3) j))
   pattern-pair j e = pattern-node j ∙ node-pair _ _ _ e
 
-  pub pattern-other : (j : ℕ) → (cellOf t (base + j) 1 ≡ 1 → ⊥) → (cellOf t (base + j) 1 ≡ 2 → ⊥) → (cellOf t (base + j) 1 ≡ 3 → ⊥) → (cellOf t (base + j) 1 ≡ 4 → ⊥) → patternOf t base j ≡ punit
+  pub pattern-other : (j : ℕ) → (cellOf t (base + j) 1 ≡ 1 → ⊥) → (cellOf t (base + j) 1 ≡ 2 → ⊥) → (cellOf t (base + j) 1 ≡ 3 → ⊥) → (cellOf t (base + j) 1 ≡ 4 → ⊥) → patternOf t base j ≡
+      pleaf unitLeaf
   pattern-other j v l r b = pattern-node j ∙ node-pother _ _ _ v l r b
 
 -- ---- tables with the same rows below n

@@ -1,1 +1,2 @@
 pub mod Unfolding
+pub mod Lists

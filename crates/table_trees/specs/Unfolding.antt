@@ -7,7 +7,7 @@ use lib.Dec.{ltb}
 use lib.ListN.{getD}
 use Rattle.limits.specs.Fields.{kindField, firstField, secondField}
 use Rattle.limits.specs.Limits.{maxLines, rowWidth}
-use Rattle.calculus.specs.Trees.{Ty, tunit, Pat, punit}
+use Rattle.calculus.specs.Trees.{Ty, tunit, Pat, pleaf, unitLeaf}
 use Rattle.format.specs.Judge.{typeNode, patternNode}
 
 -- number k of a row, 0 where there is none
@@ -25,7 +25,7 @@ typeIn t (suc d) i =
 
 -- P line j, where the P lines begin at row `base`
 abbrev pub patternIn : List ℕ → ℕ → ℕ → ℕ → Pat
-patternIn t base zero j = punit
+patternIn t base zero j = pleaf unitLeaf
 patternIn t base (suc d) j =
     patternNode (cellOf t (base + j) kindField) (cellOf t (base + j) firstField)
     (patternIn t base d (smallerOf (cellOf t (base + j) firstField) j)) (patternIn t base d (smallerOf (cellOf t (base + j) secondField) j))

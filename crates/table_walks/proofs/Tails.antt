@@ -49,7 +49,7 @@ kept-start = record { owned = λ l. absurd (omega arith); isos = omega arith; cl
 pub isos-few : {rs : List Row} → Passes start rs → length (isoRows 0 rs) ≤ maxIsos
 isos-few {rs} d = let k = kept-all d kept-start in omega (arith, isos-told 0 start rs)
 
-isos-none : start .isos ≡ 0
+pub isos-none : start .isos ≡ 0
 unfolding start
 isos-none = refl
 

@@ -11,13 +11,14 @@ use mathlib.Core.List.{List, [], _∷_, _++_, map, append-nil, List·Memᴰ}
 use lib.ListN.{length, getD, getElem?, take, drop, length-append, length-map}
 use lib.Seq.{take-length, drop-length}
 use Rattle.limits.specs.Limits.{maxLines, maxIsos, maxClauses, variables}
-use Rattle.calculus.specs.Tools.{firstOf, orElse}
-use Rattle.calculus.specs.Trees.{Ty, tunit, Pat, punit, Clause}
+use Rattle.calculus.specs.Tools.{orElse}
+use Rattle.calculus.specs.Trees.{Ty, tunit, Pat, pleaf, unitLeaf, Clause, Iso}
 use Rattle.calculus.specs.Refusals.{Kind, isoLine, clauseLine, letLine, Refusal}
 use Rattle.format.specs.Lines.{Row, letter}
 use Rattle.format.specs.Judge.{start, afterAll}
 use Rattle.format.specs.Unfold.{Tail, place, tailFrom, isosOf}
-use Rattle.calculus.specs.Clauses.{Sigs, Event, events, at, clauseFault, sideFault, isoFault, sigsOf, fault}
+use Rattle.calculus.specs.Clauses.{Sigs, Event, events, at, clauseFault, sideFault, isoFault, sigsOf, faultFrom, fault}
+use Rattle.calculus.specs.Paper.{NeverCalls}
 use Rattle.calculus.proofs.Basic.{index-map, index-mem}
 use Rattle.table_trees.specs.Unfolding.{cellOf, typeOf, patternOf}
 use Rattle.table_walks.specs.InTable.{letAt, letsIn, clauseIn, sigsIn, patternsAt, sidesFault}
@@ -25,6 +26,7 @@ use Rattle.table_walks.specs.Walk.{FileIn, whenIso, isoRows, tailAt, own
 use Rattle.table_walks.proofs.Rows.{row-at, Names, row-names, kind-iso, kind-clause, kind-let, clause≢iso, let≢iso, iso-rows-step, iso-place, iso-rows-take, iso-rows-below, other-no-iso}
 use Rattle.table_walks.proofs.Tails.{isos-few, clause-owned, clauses-few, Parted, parted, tail-row, place-early, early-no-iso, late-cases, IsoTypes}
 use Rattle.table_walks.proofs.Tails.{sigs-from, lets-slots, file-formed, events-slots}
+use Rattle.table_walks.proofs.Calls.{no-recursion, clauses-quiet}
 
 -- no clause, no refusal
 no-pending : (sigs : Sigs) (o : Option (Ty × Ty)) → none ≡ pendingFault sigs o []
@@ -143,7 +145,7 @@ module _ {t : List ℕ} {types patterns lines : ℕ} {rs : List Row} (f : FileIn
   named-type : (i c : ℕ) → i < length typeList → c ≡ i → getD typeList i tunit ≡ typeOf t c
   named-type i c h e = sym (f .typeTrees i (omega (arith, f .typeCount))) ∙ ap (typeOf t) (sym e)
 
-  named-pattern : (i c : ℕ) → i < length patternList → c ≡ i → getD patternList i punit ≡ patternOf t types c
+  named-pattern : (i c : ℕ) → i < length patternList → c ≡ i → getD patternList i (pleaf unitLeaf) ≡ patternOf t types c
   named-pattern i c h e = sym (f .patternTrees i (omega (arith, f .patternCount))) ∙ ap (patternOf t types) (sym e)
 
   module _ (n : ℕ) {r : Row} (e : getElem? rs n ≡ some r) where
@@ -153,19 +155,19 @@ module _ {t : List ℕ} {types patterns lines : ℕ} {rs : List Row} (f : FileIn
     pub iso-types : r .kind ≡ isoLine → IsoTypes t typeList n r
     iso-types k = let h = names-of k in (named-type (r .x) (cellOf t n 1) (h .0) (f .xs n r e), named-type (r .y) (cellOf t n 2) (h .1) (f .ys n r e))
 
-    pub clause-left : r .kind ≡ clauseLine → getD patternList (r .x) punit ≡ patternOf t types (cellOf t n 1)
+    pub clause-left : r .kind ≡ clauseLine → getD patternList (r .x) (pleaf unitLeaf) ≡ patternOf t types (cellOf t n 1)
     clause-left k = named-pattern (r .x) (cellOf t n 1) (names-of k .0) (f .xs n r e)
 
-    pub clause-right : r .kind ≡ clauseLine → getD patternList (r .y) punit ≡ patternOf t types (cellOf t n 2)
+    pub clause-right : r .kind ≡ clauseLine → getD patternList (r .y) (pleaf unitLeaf) ≡ patternOf t types (cellOf t n 2)
     clause-right k = named-pattern (r .y) (cellOf t n 2) (names-of k .1) (f .ys n r e)
 
-    pub let-here : r .kind ≡ letLine → record { p = getD patternList (r .x) punit; iso = r .y; q = getD patternList (r .z) punit } ≡ letAt t types n
+    pub let-here : r .kind ≡ letLine → record { p = getD patternList (r .x) (pleaf unitLeaf); iso = r .y; q = getD patternList (r .z) (pleaf unitLeaf) } ≡ letAt t types n
     let-here k = λ i. record { p = p i; iso = sym (f .ys n r e) i; q = q i }
       where
-        p : getD patternList (r .x) punit ≡ patternOf t types (cellOf t n 1)
+        p : getD patternList (r .x) (pleaf unitLeaf) ≡ patternOf t types (cellOf t n 1)
         p = named-pattern (r .x) (cellOf t n 1) (names-of k .0) (f .xs n r e)
 
-        q : getD patternList (r .z) punit ≡ patternOf t types (cellOf t n 3)
+        q : getD patternList (r .z) (pleaf unitLeaf) ≡ patternOf t types (cellOf t n 3)
         q = named-pattern (r .z) (cellOf t n 3) (names-of k .1) (f .zs n r e)
 
     -- what a row of a known kind adds
@@ -194,7 +196,7 @@ module _ {t : List ℕ} {types patterns lines : ℕ} {rs : List Row} (f : FileIn
         clauseFaults =
             no-pending sigs (ownSig sigs (length (isoRows 0 rs)))
             ∙ ap (λ o. pendingFault sigs (ownSig sigs (length (isoRows 0 rs))) (o .clauses)) (sym tail-end);
-        isoFaults = ap (λ o. firstOf (isoFault sigs) (o .isos)) (sym tail-end);
+        isoFaults = ap (λ o. faultFrom sigs (length (isoRows 0 rs)) (o .isos)) (sym tail-end);
       }
 
   -- no more isos above a row than in the file
@@ -217,7 +219,7 @@ module _ {t : List ℕ} {types patterns lines : ℕ} {rs : List Row} (f : FileIn
           fewer = w .fewer;
           number = w .number ∙ ap length (iso-rows-other n e (λ i. let≢iso (sym k ∙ i)));
           clauseFaults = w .clauseFaults ∙ ap (λ o. pendingFault sigs (ownSig sigs iso) (o .clauses)) (sym here);
-          isoFaults = w .isoFaults ∙ ap (λ o. firstOf (isoFault sigs) (o .isos)) (sym here);
+          isoFaults = w .isoFaults ∙ ap (λ o. faultFrom sigs iso (o .isos)) (sym here);
         }
       where
         here : tailAt rs n ≡ place typeList patternList letLine (suc n) r (tailAt rs (suc n))
@@ -233,7 +235,7 @@ module _ {t : List ℕ} {types patterns lines : ℕ} {rs : List Row} (f : FileIn
         (i, h .0, omega (arith, clause-owned (f .passes) n e k), h .1)
 
     clause-here : r .kind ≡ clauseLine → WalkAt t types rs (suc n) cs below iso pending found
-        → record { line = suc n; lhs = getD patternList (r .x) punit; lets = tailAt rs (suc n) .lets; rhs = getD patternList (r .y) punit } ≡ clauseIn t types n below
+        → record { line = suc n; lhs = getD patternList (r .x) (pleaf unitLeaf); lets = tailAt rs (suc n) .lets; rhs = getD patternList (r .y) (pleaf unitLeaf) } ≡ clauseIn t types n below
     clause-here k w = λ i. record { line = suc n; lhs = clause-left n e k i; lets = w .lets i; rhs = clause-right n e k i }
 
     clause-tail : r .kind ≡ clauseLine → WalkAt t types rs (suc n) cs below iso pending found
@@ -248,7 +250,7 @@ module _ {t : List ℕ} {types patterns lines : ℕ} {rs : List Row} (f : FileIn
         let h = file-formed (f .passes) in
         subst (λ (c : Clause). (v : Event) → List·Memᴰ v (events c) → v .name < variables) (clause-here k w)
         (events-slots
-        (record { line = suc n; lhs = getD patternList (r .x) punit; lets = tailAt rs (suc n) .lets; rhs = getD patternList (r .y) punit })
+        (record { line = suc n; lhs = getD patternList (r .x) (pleaf unitLeaf); lets = tailAt rs (suc n) .lets; rhs = getD patternList (r .y) (pleaf unitLeaf) })
         (h (r .x)) (lets-slots rs h (suc n)) (h (r .y)))
 
     -- there is room for it
@@ -277,7 +279,7 @@ module _ {t : List ℕ} {types patterns lines : ℕ} {rs : List Row} (f : FileIn
               ap (orElse (at (suc n) (clauseFault sigs (s .0) (s .1) (clauseIn t types n below))))
               (w .clauseFaults ∙ ap (λ o. pendingFault sigs o (tailAt rs (suc n) .clauses)) own)
               ∙ ap₂ (pendingFault sigs) (sym own) (ap (λ o. o .clauses) (sym here));
-          isoFaults = w .isoFaults ∙ ap (λ o. firstOf (isoFault sigs) (o .isos)) (sym here);
+          isoFaults = w .isoFaults ∙ ap (λ o. faultFrom sigs iso (o .isos)) (sym here);
         }
       where
         s : Ty × Ty
@@ -294,14 +296,20 @@ module _ {t : List ℕ} {types patterns lines : ℕ} {rs : List Row} (f : FileIn
     iso-above k w = w .number ∙ iso-rows-longer n e k
 
     -- the refusal of its iso
-    iso-fault : r .kind ≡ isoLine → WalkAt t types rs (suc n) cs below iso pending found
+    iso-fault : r .kind ≡ isoLine → WalkAt t types rs (suc n) cs below iso pending found → (i : ℕ) → iso ≡ suc i
         → orElse pending (at (suc n) (sidesFault (patternsAt t types 1 cs) (patternsAt t types 2 cs)))
-        ≡ isoFault sigs (record { line = suc n; from = getD typeList (r .x) tunit; to = getD typeList (r .y) tunit; clauses = tailAt rs (suc n) .clauses })
+        ≡ isoFault sigs i (record { line = suc n; from = getD typeList (r .x) tunit; to = getD typeList (r .y) tunit; clauses = tailAt rs (suc n) .clauses })
     unfolding isoFault sideFault sidesFault
-    iso-fault k w =
-        ap₂ (λ a b. orElse a (at (suc n) b)) (w .clauseFaults ∙ ap (λ o. pendingFault sigs o (tailAt rs (suc n) .clauses)) own)
-        (ap₂ sidesFault (sym (w .lefts)) (sym (w .rights)))
+    iso-fault k w i p =
+        ap₂ orElse (w .clauseFaults ∙ ap (λ o. pendingFault sigs o (tailAt rs (suc n) .clauses)) own)
+        (ap₂ (λ a b. orElse a (at (suc n) b)) (sym (no-recursion i here quiet)) (ap₂ sidesFault (sym (w .lefts)) (sym (w .rights))))
       where
+        here : Iso
+        here = record { line = suc n; from = getD typeList (r .x) tunit; to = getD typeList (r .y) tunit; clauses = tailAt rs (suc n) .clauses }
+
+        quiet : NeverCalls i here
+        quiet = clauses-quiet (f .passes) (suc n) i (sym (w .number) ∙ p)
+
         typed : IsoTypes t typeList n r
         typed = iso-types n e k
 
@@ -324,7 +332,9 @@ module _ {t : List ℕ} {types patterns lines : ℕ} {rs : List Row} (f : FileIn
           fewer = omega arith;
           number = omega (arith, iso-above k w);
           clauseFaults = no-pending sigs (ownSig sigs i) ∙ ap (λ o. pendingFault sigs (ownSig sigs i) (o .clauses)) (sym here);
-          isoFaults = ap₂ orElse (iso-fault k w) (w .isoFaults) ∙ ap (λ o. firstOf (isoFault sigs) (o .isos)) (sym here);
+          isoFaults =
+              ap₂ orElse (iso-fault k w i p) (w .isoFaults ∙ ap (λ j. faultFrom sigs j (tailAt rs (suc n) .isos)) p)
+              ∙ ap (λ o. faultFrom sigs i (o .isos)) (sym here);
         }
       where
         here : tailAt rs n ≡ place typeList patternList isoLine (suc n) r (tailAt rs (suc n))
@@ -344,5 +354,6 @@ module _ {t : List ℕ} {types patterns lines : ℕ} {rs : List Row} (f : FileIn
   unfolding isosOf fault
   walk-end w =
       w .isoFaults
-      ∙ ap (λ o. firstOf (isoFault sigs) (o .isos)) (tail-early (types + patterns) (omega arith))
-      ∙ ap (λ g. firstOf (isoFault g) (isosOf rs)) (sym sigs-rows)
+      ∙ ap (λ i. faultFrom sigs i (tailAt rs (types + patterns) .isos)) (w .number ∙ ap length (iso-rows-early (types + patterns) (omega arith)))
+      ∙ ap (λ o. faultFrom sigs 0 (o .isos)) (tail-early (types + patterns) (omega arith))
+      ∙ ap (λ g. faultFrom g 0 (isosOf rs)) (sym sigs-rows)

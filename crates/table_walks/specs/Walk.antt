@@ -7,12 +7,12 @@ use lib.ListN.{length, getD, getElem?, take, drop}
 use Rattle.limits.specs.Fields.{letterField, clauseLeft, clauseRight}
 use Rattle.limits.specs.Limits.{maxLines, maxClauses}
 use Rattle.calculus.specs.Tools.{firstOf}
-use Rattle.calculus.specs.Trees.{Ty, tunit, punit, Clause}
+use Rattle.calculus.specs.Trees.{Ty, tunit, pleaf, unitLeaf, Clause}
 use Rattle.calculus.specs.Refusals.{Kind, typeLine, patternLine, isoLine, clauseLine, letLine, Refusal}
 use Rattle.format.specs.Lines.{Row, letter}
 use Rattle.format.specs.Judge.{start, afterAll, Passes}
 use Rattle.format.specs.Unfold.{Tail, tailFrom}
-use Rattle.calculus.specs.Clauses.{Sigs, at, clauseFault, isoFault}
+use Rattle.calculus.specs.Clauses.{Sigs, at, clauseFault, faultFrom}
 use Rattle.table_trees.specs.Unfolding.{cellOf, typeOf, patternOf}
 use Rattle.table_walks.specs.InTable.{letsIn, sigsIn, patternsAt}
 
@@ -24,7 +24,7 @@ pub record FileIn (t : List ℕ) (types patterns lines : ℕ) (rs : List Row) : 
   pub typeCount : types ≡ length (afterAll start rs .types)
   pub patternCount : patterns ≡ length (afterAll start rs .patterns)
   pub typeTrees : (i : ℕ) → i < types → typeOf t i ≡ getD (afterAll start rs .types) i tunit
-  pub patternTrees : (j : ℕ) → j < patterns → patternOf t types j ≡ getD (afterAll start rs .patterns) j punit
+  pub patternTrees : (j : ℕ) → j < patterns → patternOf t types j ≡ getD (afterAll start rs .patterns) j (pleaf unitLeaf)
   pub letters : (k : ℕ) (r : Row) → getElem? rs k ≡ some r → cellOf t k letterField ≡ letter (r .kind)
   pub xs : (k : ℕ) (r : Row) → getElem? rs k ≡ some r → cellOf t k 1 ≡ r .x
   pub ys : (k : ℕ) (r : Row) → getElem? rs k ≡ some r → cellOf t k 2 ≡ r .y
@@ -66,4 +66,4 @@ pub record WalkAt (t : List ℕ) (base : ℕ) (rs : List Row) (n : ℕ) (clauses
   pub fewer : length clauses ≤ maxClauses
   pub number : iso ≡ length (isoRows 0 (take n rs))
   pub clauseFaults : pending ≡ pendingFault (sigsIn t (isoRows 0 rs)) (ownSig (sigsIn t (isoRows 0 rs)) iso) (tailAt rs n .clauses)
-  pub isoFaults : found ≡ firstOf (isoFault (sigsIn t (isoRows 0 rs))) (tailAt rs n .isos)
+  pub isoFaults : found ≡ faultFrom (sigsIn t (isoRows 0 rs)) iso (tailAt rs n .isos)

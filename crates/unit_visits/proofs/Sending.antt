@@ -5,13 +5,13 @@ use native.Mathlib.Nat.{zero-add}
 use native.Mathlib.Omega.{arith}
 use mathlib.Core.Path.{_≡_, refl, sym, ap, ap₂, _∙_, subst}
 use mathlib.Core.Bool.{Bool, true, false, cond}
-use mathlib.Core.Option.{some}
+use mathlib.Core.Option.{Option, some}
 use mathlib.Core.Logic.{_⊎_, inl, inr}
 use mathlib.Core.List.{List, _++_}
 use lib.Dec.{leb}
 use lib.ListN.{length, getElem?, drop}
 use lib.Seq.{sets-eq, drop-at}
-use Rattle.limits.specs.Limits.{maxIsos, runRoom, workLength, frame}
+use Rattle.limits.specs.Limits.{maxIsos, maxDepth, runRoom, workLength, frame}
 use Rattle.calculus.specs.Trees.{Val, Iso}
 use Rattle.calculus.specs.Refusals.{spent as overBudget}
 use Rattle.calculus.specs.Letters.{letters}
@@ -69,15 +69,17 @@ module _ {t : List ℕ} {types : ℕ} {index : List ℕ} {isos : ℕ} {rs : List
   start-typed : Of (valueOf h) (o .from)
   start-typed = subst (Of (valueOf h)) same (typed h)
 
-  trace : (u : Val) × (k : ℕ) × (reduce os (p .iso) (valueOf h) ≡ some (u, k)) × Runs (length os) os (p .iso) (valueOf h) u k × Small (valueOf h) × Small u
+  trace : (u : Val) × (k : ℕ) × (reduce os (p .iso) (valueOf h) ≡ (some u, k)) × Runs maxDepth os (p .iso) (valueOf h) u k × Small (valueOf h) × Small u
   trace = traced (toward (p .back) rs) (good-toward (p .back) rs g) (p .iso) o e (valueOf h) start-typed
 
-  runs : Runs (length os) os (p .iso) (valueOf h) w m
+  runs : Runs maxDepth os (p .iso) (valueOf h) w m
   runs =
-      subst (λ (x : Val × ℕ). Runs (length os) os (p .iso) (valueOf h) (x .0) (x .1)) (some-inj (sym (trace .2) ∙ reduced rs g budget q h e same .2)) (trace .3)
+      let both = sym (trace .2) ∙ reduced rs g budget q h e same .2 in
+      subst (λ k. Runs maxDepth os (p .iso) (valueOf h) w k) (ap (λ (x : Option Val × ℕ). x .1) both)
+      (subst (λ u. Runs maxDepth os (p .iso) (valueOf h) u (trace .1)) (some-inj (ap (λ (x : Option Val × ℕ). x .0) both)) (trace .3))
 
   small : length ls ≤ 127
-  small = trace .4
+  small = trace .4 .fits
 
   few : p .iso < maxIsos
   few = let s = isos-small rs (g .passes) in let c = a .prepared .count in omega (arith, s, c)
@@ -101,8 +103,8 @@ module _ {t : List ℕ} {types : ℕ} {index : List ℕ} {isos : ℕ} {rs : List
           let f = few in
           let k = told .1 in
           let y = zero-add (length ls) in
-          runs-there os (length os) (valueOf h) w m (laid t types index isos rs (g .passes) (a .prepared .indexed) (p .back)) runs
-          (record { rest = drop (0 + length ls) work; spells = told .0 }) k (omega arith) (omega arith) (omega (arith, k, y, s)) (omega (arith, f, long, kept))
+          runs-there os maxDepth (valueOf h) w m (laid t types index isos rs (g .passes) (a .prepared .indexed) (p .back)) runs
+          (record { rest = drop (0 + length ls) work; spells = told .0; bare = trace .4 .bare }) k (omega arith) (omega arith) (omega (arith, k, y, s)) (omega (arith, f, long, kept))
           (omega (arith, kept, most))
 
       first : Spares work work₁ 0 (length ls)

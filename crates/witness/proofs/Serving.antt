@@ -12,7 +12,7 @@ use borrow.Author.Tests.{lt-ltb, le-ltb}
 use Rattle.limits.specs.Limits.{maxBytes, maxLines, tableLength, workLength, resultLength}
 use Rattle.calculus.specs.Tools.{isSome, orElse}
 use Rattle.calculus.specs.Refusals.{Refusal, number, shortArea}
-use Rattle.format.specs.Lines.{lines}
+use Rattle.format.specs.Lines.{Row, lines}
 use Rattle.format.specs.Judge.{rows}
 use Rattle.format.specs.Unfold.{isosOf}
 use Rattle.format.specs.Idle.{idleFault}
@@ -29,7 +29,9 @@ use Rattle.checker.specs.CheckSays.{CheckSays, Entered, Settled, Early}
 use Rattle.checker.specs.declared.Checked as C
 use Rattle.checker.proofs.Checks.{filed-says, early-says}
 use Rattle.law_witnesses.specs.Showing.{sided, showing, showService}
-use Rattle.law_witnesses.proofs.Served.{as-check, as-refused, short-area, served-shows, served-silent}
+use Rattle.format.proofs.Listless.{isos-listless}
+use Rattle.law_witnesses.proofs.Served.{short-area, served-shows, served-silent}
+use Rattle.law_witnesses.proofs.Listless.{FiniteSides, always-check, always-refused}
 use Rattle.fault_values.specs.Faults.{FaultShown}
 use Rattle.witness.specs.WitnessSays.{WitnessSays, Searched}
 use Rattle.witness.specs.declared.Witnessed as W
@@ -52,16 +54,20 @@ short-result s t w out r h f p l =
 
 -- ---- as Check, with a value or without one
 
+-- no iso of a file has to do with lists
+all-free : (s : List ℕ) (rs : List Row) → InForm s rs → FiniteSides (isosOf rs)
+all-free s rs h o m = let p = isos-listless rs o m in (p .from, p .to)
+
 module _ (s t w out t′ w′ out′ : List ℕ) (r : W.Witnessed) (long : resultLength ≤ length out) (says : CheckSays s t w t′ w′ (r .answer)) where
   same-as : (showService s t w out .answer ≡ check s t w .answer) × (showService s t w out .table ≡ check s t w .table) × (showService s t w out .work ≡ check s t w .work)
-  same-as = as-check s t w out (le-ltb _ _ long)
+  same-as = always-check s t w out (all-free s) (le-ltb _ _ long)
 
   pub answer-number : numberOf (r .answer .refusal) ≡ showService s t w out .answer .number
   answer-number = says .number ∙ sym (ap (λ x. x .number) (same-as .0))
 
   pub with-value : r .length ≡ showService s t w out .length → out′ ≡ showService s t w out .result → WitnessSays s t w out t′ w′ out′ r
   with-value l o = record {
-    refusal = says .refusal ∙ sym (as-refused s t w out (le-ltb _ _ long));
+    refusal = says .refusal ∙ sym (always-refused s t w out (all-free s) (le-ltb _ _ long));
     number = answer-number;
     line = says .line ∙ sym (ap (λ x. x .line) (same-as .0));
     length = l;

@@ -1,5 +1,6 @@
 use mathlib.Core.Path.{refl}
 use Rattle.table_trees.specs.Unfolding.{typeOf}
+use Rattle.table_trees.proofs.Lists.{type-finite}
 use Rattle.table_walks.specs.InTable.{patternsAt}
 use Rattle.fault_gaps.proofs.Writing.{value-some, value-none}
 use Rattle.fault_gaps.proofs.Law.{value-found, value-missing}
@@ -56,7 +57,7 @@ returns c =
     let first-count = c .before .before .before .before .before .first-count in
     let if1 = c .before .before .before .before .if1 in
     let write-gap = c .before .before .write-gap in
-    let a = args in value-found
+    let a = args in value-found (type-finite (a .t .now) (a .i))
     (value-some (typeOf (a .t .now) (a .i)) (patternsAt (a .t .now) (a .base) (a .f) (a .rows .now)) (count-gaps .ensures) refl (first-count .ensures) (write-gap .ensures) (if1 .taken))
     (if1 .taken)
 
@@ -70,7 +71,7 @@ returns-2 c =
     let args = c .before .before .before .before .before .before .before .before .before .before .before .args in
     let count-gaps = c .before .before .before .before .count-gaps in
     let first-count = c .before .first-count in
-    let a = args in value-missing
+    let a = args in value-missing (type-finite (a .t .now) (a .i))
     (value-none (typeOf (a .t .now) (a .i)) (patternsAt (a .t .now) (a .base) (a .f) (a .rows .now)) (count-gaps .ensures) refl (first-count .ensures) (a .out .now) (c .if1 .left))
 
 pub gap-value-spec : {M : Type 1} → statement M

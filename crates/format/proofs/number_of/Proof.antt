@@ -74,6 +74,12 @@ enum-told-18 c = search needs
 enum-told-19 : tie.Need-enum-told-19
 enum-told-19 c = search needs
 
+enum-told-20 : tie.Need-enum-told-20
+enum-told-20 c = search needs
+
+enum-told-21 : tie.Need-enum-told-21
+enum-told-21 c = search needs
+
 returns : tie.Need-returns
 returns c = sym (ap numberOf (c .enum-told .given .1))
 
@@ -137,6 +143,12 @@ returns-20 c = sym (ap numberOf (c .enum-told18 .given .1))
 returns-21 : tie.Need-returns-21
 returns-21 c = sym (ap numberOf (c .enum-told19 .given .1))
 
+returns-22 : tie.Need-returns-22
+returns-22 c = sym (ap numberOf (c .enum-told20 .given .1))
+
+returns-23 : tie.Need-returns-23
+returns-23 c = sym (ap numberOf (c .enum-told21 .given .1))
+
 pub number-of-spec : {M : Type 1} → statement M
 number-of-spec =
     tie.close
@@ -164,6 +176,8 @@ number-of-spec =
     enum-told-17
     enum-told-18
     enum-told-19
+    enum-told-20
+    enum-told-21
     returns
     returns-2
     returns-3
@@ -184,4 +198,6 @@ number-of-spec =
     returns-18
     returns-19
     returns-20
-    returns-21)
+    returns-21
+    returns-22
+    returns-23)

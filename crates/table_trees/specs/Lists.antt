@@ -1,0 +1,1 @@
+pub use Rattle.calculus.specs.Lists.{Listless}
