@@ -41,6 +41,8 @@ use Rattle.law_ranking.specs.Answers.{LineFault, NumberIs, SettingIs}
 use Rattle.law_ranking.proofs.Numbering.{list-many}
 use Rattle.law_ranking.proofs.Services.{number-answers, setting-answers}
 use Rattle.law_endings.proofs.Feeds.{turned-returnless}
+use Rattle.format.proofs.Listless.{isos-listless}
+use Rattle.law_witnesses.proofs.Listless.{always-check}
 use Rattle.law_witnesses.proofs.Served.{as-check as as-shown, served-shows, served-silent, served-large}
 use Rattle.law_pairlists.specs.PairLists.{exportRows, exportService, importRows, importService}
 use Rattle.law_pairlists.proofs.Services.{import-areas, import-checks, import-exports, export-areas}
@@ -135,8 +137,10 @@ export-of-import file t w i j list output r same e budget l t₂ w₂ output₂ 
 
 -- ---- request 09
 
+-- 24 stands in no place of Check's answer: no iso of a file has to do with lists
 pub shows-as-check : ShowsAsCheck
-shows-as-check file t w result room = as-shown file t w result (le-ltb (length result) resultLength room)
+shows-as-check file t w result room =
+    always-check file t w result (λ rs f o m. let p = isos-listless rs o m in (p .from, p .to)) (le-ltb (length result) resultLength room)
 
 pub shows-fault : ShowsFault
 shows-fault file t w result = (served-shows file t w result, served-silent file t w result)

@@ -80,13 +80,11 @@ ExportOfImport =
     → (exportService (importedBytes r) t₂ w₂ 0 budget output₂ .answer ≡ yes)
     × (importedBytes (exportService (importedBytes r) t₂ w₂ 0 budget output₂) ≡ withoutReturns list)
 
--- Request 09: "A service of its own answers as Check does", in the same areas; with a short result area it is 1. Request 14: where Check answers with a side (11 to
--- 14), and the value to give has over 127 letters, it is 24 with the line 0.
+-- Request 09: "A service of its own answers as Check does", in the same areas; with a short result area it is 1.
 abbrev pub ShowsAsCheck : Type 0
 ShowsAsCheck =
     (file t w result : List ℕ) → 127 ≤ length result
-    → ((showService file t w result .answer ≡ check file t w .answer)
-    ⊎ ((showService file t w result .answer ≡ record { number = 24; line = 0 }) × (sideAnswer (check file t w .answer) ≡ true))) × (showService file t w result .table ≡ check file t w .table)
+    → (showService file t w result .answer ≡ check file t w .answer) × (showService file t w result .table ≡ check file t w .table)
     × (showService file t w result .work ≡ check file t w .work)
 
 -- "and gives, for the iso and side refused, the value …, with the fewest letters, the first in byte order among those. Its length is given, and it
