@@ -19,8 +19,8 @@
  *   - the first RULEFILE_TABLE_LENGTH numbers of the table hold, if the file was accepted, five numbers a line,
  *     and zeros behind the last one: the letter's ASCII code; the fields, padded with 0 to three; the size, which
  *     is the number of nodes of the tree that a T or P line unfolds to, and 0 for other letters. So they do where
- *     the call is refused for something else than the file: with 15 to 20 or 22, or an import with 7 at line 0.
- *     If the file was refused, with 3 to 14 or 21, they are all 0;
+ *     the call is refused for something else than the file: with 15 to 20, 22 or 24, or an import with 7 at line 0.
+ *     If the file was refused, with 3 to 14, 21 or 23, they are all 0, and so they are where rulefile_witness answers 24;
  *   - the first RULEFILE_WORK_LENGTH bytes of the work area are 0;
  *   - refusals 1 and 2 leave every area as it was;
  *   - any refusal of the call leaves output, result, the numbers and letters of a sheet, and the units and the
@@ -30,10 +30,10 @@
  * A line of a file, of a list or of a script ends with a line feed, or with a carriage return and a line feed;
  * lengths count both bytes. What Turn, an export and an import write ends with line feeds alone.
  *
- * A call needs at most 73,728 bytes of stack. Measured by painting it, over the deepest files (32 nested isos, 128
- * clauses, types and patterns of 127 nodes with a variable innermost): an import 71 KB, an export 70 KB,
- * rulefile_play 64 KB, rulefile_sheet and rulefile_run 62 KB, rulefile_bounds 55 KB, settings as numbers 49 KB, a
- * witness 48 KB, Check, Turn and an overlap 47 KB (1,000 bytes each).
+ * A call needs at most 73,728 bytes of stack. Measured by painting it, over the deepest files (32 nested isos, 40 nested
+ * calls, 128 clauses, types and patterns of 127 nodes with a variable innermost, lists within lists): an import 71 KB, an
+ * export 70 KB, rulefile_play 64 KB, rulefile_sheet and rulefile_run 62 KB, rulefile_bounds 55 KB, a witness 50 KB,
+ * settings as numbers 49 KB, Check, Turn and an overlap 47 KB (1,000 bytes each).
  *
  * docs/REFUSALS.md says what each refusal means and what to ask the supplier.
  */
@@ -54,7 +54,7 @@ extern "C" {
 /* Lengths of the areas: at least so many elements, otherwise refusal 1. */
 #define RULEFILE_TABLE_LENGTH 20480 /* numbers of 16 bits, five for each of 4,096 lines */
 #define RULEFILE_WORK_LENGTH 65536  /* bytes */
-#define RULEFILE_RESULT_LENGTH 127  /* bytes: no value has more letters */
+#define RULEFILE_RESULT_LENGTH 127  /* bytes: no result has more letters */
 #define RULEFILE_LIST_LENGTH 40960  /* bytes: no list that is exported is longer */
 
 /* For each query of a sheet: so many numbers of 32 bits, and RULEFILE_RESULT_LENGTH bytes of letters. */
@@ -80,10 +80,10 @@ enum rulefile_number {
     RULEFILE_BAD_LINE = 3,       /* not one of the five line forms, or no line feed at the end */
     RULEFILE_MISPLACED = 4,      /* a line against the stated order */
     RULEFILE_BAD_FIELD = 5,      /* kind not listed, idle field not 0, variable above 31 */
-    RULEFILE_BAD_NAME = 6,       /* a named line does not stand earlier, or an L line names its own iso */
+    RULEFILE_BAD_NAME = 6,       /* a named line does not stand earlier; an L line may name its own iso */
     RULEFILE_CEILING = 7,        /* any other ceiling passed, such as 128 C lines of an iso */
     RULEFILE_VARIABLE = 8,       /* a variable bound while live, used while not, or live at the end; line of the C */
-    RULEFILE_LET_SHAPE = 9,      /* left or right in a let pattern; line of the C */
+    RULEFILE_LET_SHAPE = 9,      /* left, right, empty or element in a let pattern; line of the C */
     RULEFILE_TYPE = 10,          /* no assignment of types fits; line of the C */
     RULEFILE_OVERLAP_LEFT = 11,  /* two left patterns match one value; line of the I */
     RULEFILE_OVERLAP_RIGHT = 12, /* the same, right patterns; line of the I */
@@ -92,11 +92,13 @@ enum rulefile_number {
     RULEFILE_NO_ISO = 15,        /* iso number, or number of a T or P line, not in the file; line 0 */
     RULEFILE_NO_VALUE = 16,      /* not exactly one closed value of the starting type or T line; line 0 */
     RULEFILE_SPENT = 17,         /* the full count would pass the budget; line 0 */
-    RULEFILE_TOO_MANY = 18,      /* the T line has over 4,294,967,295 values, of a pair list 4,096; line 0 */
+    RULEFILE_TOO_MANY = 18,      /* over 4,294,967,295 values, of a pair list 4,096, or a list in a type; line 0 */
     RULEFILE_TOO_HIGH = 19,      /* the setting's number is not below the T line's count of values; line 0 */
     RULEFILE_BAD_LIST = 20,      /* the list's lines are not 0,to 1,to and so on, each to once; line 0 */
     RULEFILE_IDLE_LINE = 21,     /* a T or P line that no I, C or L line reaches; the first such line */
-    RULEFILE_BAD_SCRIPT = 22     /* a line of the script is no visit, or names an absent unit or iso; line 0 */
+    RULEFILE_BAD_SCRIPT = 22,    /* a line of the script is no visit, or names an absent unit or iso; line 0 */
+    RULEFILE_RECURSION = 23,     /* an iso calls itself against the rule; line of the I or of a C */
+    RULEFILE_TOO_LARGE = 24      /* an argument or result of over 127 letters, or calls over 40 deep; line 0 */
 };
 
 /* What Check gives. */
@@ -215,7 +217,11 @@ struct rulefile_turn_answer rulefile_turn(
 
 /*
  * Checks a file and runs its iso number `iso` (the I lines are numbered from 0) on a value, written in
- * prefix order with the letters U, L, R and P, forward or back, with at most `budget` applications.
+ * prefix order with the letters U, L, R, P, N and K, forward or back, with at most `budget` applications.
+ * The refusals in their order: 1, 2, those of the file, 15 where it has no such iso, 16 where the letters are
+ * not exactly one closed value of the starting type, then 17 or 24, whichever the run meets first: each
+ * application is counted against the budget, then its argument (over 127 letters) and its depth (over 40, the
+ * outermost being 1) are measured, and its result when it is there. A value of over 127 letters is read, and 24.
  */
 struct rulefile_run_answer rulefile_run(
     const uint8_t *file, size_t file_length,
@@ -298,7 +304,8 @@ struct rulefile_overlap_answer rulefile_overlap(
  * clause needs 1 and what the isos of its let steps need; an iso takes the least and the greatest over its
  * clauses. No run that is not refused counts less than the least, nor more than a greatest that is not
  * flagged, and with a budget of at least that greatest no run is refused with 17. Refused as Check, then
- * with 15 where the file has no such iso.
+ * with 15 where the file has no such iso, then with 18 where a type of the iso, or of one that it reaches through
+ * L lines, holds a list.
  */
 struct rulefile_bounds_answer rulefile_bounds(
     const uint8_t *file, size_t file_length,
@@ -313,7 +320,8 @@ struct rulefile_bounds_answer rulefile_bounds(
  * fewest letters, and of several such the first in byte order.
  *
  * Number, line, table and work area are those of rulefile_check, but that a result shorter than
- * RULEFILE_RESULT_LENGTH is refused with 1 too. Bytes of the result behind the letters keep their
+ * RULEFILE_RESULT_LENGTH is refused with 1 too, and that the answer is 24 with line 0 where Check refuses with 11
+ * to 14 and the setting to give has over 127 letters. Bytes of the result behind the letters keep their
  * contents; with any other number the length is 0 and the whole result does.
  */
 struct rulefile_witness_answer rulefile_witness(
@@ -329,7 +337,8 @@ struct rulefile_witness_answer rulefile_witness(
  * RULEFILE_LIST_LENGTH bytes.
  *
  * The refusals in their order: 1, 2, those of the file, which alone name a line, 15 where it has no such
- * iso, 18 where the from-type has over 4,096 values, 17 where some run passes the budget. Table and work
+ * iso, 18 where the from-type has over 4,096 values or a type of the iso, or of one that it reaches, holds a
+ * list, 17 where some run passes the budget. Table and work
  * area are left as rulefile_check leaves them, and on refusal the output is as it was.
  */
 struct rulefile_export_answer rulefile_export(
@@ -377,9 +386,10 @@ struct rulefile_import_answer rulefile_import(
  * At most RULEFILE_MAX_UNITS units and 4,096 lines (bytes behind the last line feed are a line too); both areas
  * of units have the same length, and the tally must not be NULL. The refusals in their order: 1, also where
  * these lengths differ; 2, also for more units or lines; those of the file, which alone name a line; of the units
- * in order 15 where the T line is absent, 18 where it has over 4,294,967,295 values, 19 where the number is not
- * below its count of values; 22 where a line of the script is of another form, has no line feed, or names an absent
- * unit or iso. All this is tested before the first visit, so a refusal leaves units and tally as they were. Table
+ * in order 15 where the T line is absent, 18 where it has over 4,294,967,295 values, as each type has that holds a
+ * list, 19 where the number is not below its count of values; of the lines of the script in order 22 where it is of
+ * another form, has no line feed, or names an absent unit or iso, and 18 where a type of its iso, or of one that it
+ * reaches, holds a list. All this is tested before the first visit, so a refusal leaves units and tally as they were. Table
  * and work area are left as rulefile_check leaves them.
  */
 struct rulefile_play_answer rulefile_play(

@@ -1,6 +1,7 @@
 //! The three services with lent areas.
 
-use crate::{check, run_rules, turn_rules, Refusal, Rules};
+use crate::lines::LISTS;
+use crate::{check_with, run_rules, turn_rules, Refusal, Rules};
 
 /// "a table area of at least 16,384 numbers of 16 bits"; request 10: "what 01
 /// says of 16,384 holds for 20,480".
@@ -50,7 +51,12 @@ pub struct Known<'a> {
 
 impl<'a> Known<'a> {
     pub fn of(file: &'a [u8]) -> Known<'a> {
-        let checked = check(file);
+        Known::with(file, LISTS)
+    }
+
+    /// The same, with the lines of request 14 or without them.
+    pub fn with(file: &'a [u8], lists: bool) -> Known<'a> {
+        let checked = check_with(file, lists);
         Known { file, checked }
     }
 

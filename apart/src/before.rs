@@ -3,21 +3,21 @@
 //! another number than 8 is refused alike.
 
 use crate::clause::shapes_and_types;
-use crate::lines::{Clause, Iso};
+use crate::lines::{Clause, Iso, LISTS};
 use crate::tree::Pattern;
 use crate::{check_by, Refusal, Rules};
 
 /// Check with the old reading of 8 and 10.
 pub fn check(file: &[u8]) -> Result<Rules, Refusal> {
-    check_by(file, checked)
+    check_by(file, LISTS, checked)
 }
 
 /// The clause as it is written: a number is a name where it is bound once.
-fn checked(clause: &Clause, iso: &Iso, earlier: &[Iso]) -> Result<Clause, u8> {
+fn checked(clause: &Clause, iso: &Iso, isos: &[Iso]) -> Result<Clause, u8> {
     if !variables_hold(clause) {
         return Err(8);
     }
-    shapes_and_types(clause, iso, earlier)?;
+    shapes_and_types(clause, iso, isos)?;
     Ok(clause.clone())
 }
 

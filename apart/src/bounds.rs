@@ -5,10 +5,12 @@
 //! all nothing is needed, and what is needed with calls nested one deeper
 //! follows from that, for all isos at once, until no number changes any more.
 //! An L line names an earlier iso, so that this is so after as many depths as
-//! there are isos; the order of the isos is not used otherwise.
+//! there are isos; the order of the isos is not used otherwise. Isos that have to
+//! do with lists are left out (request 14): they may call themselves.
 
 use crate::areas::Known;
 use crate::lines::{Clause, Iso};
+use crate::recursion::has_lists;
 use crate::{Refusal, Rules};
 
 /// "Both stop at 4,294,967,295".
@@ -49,15 +51,21 @@ fn over_clauses(iso: &Iso, below: &[Exact]) -> Exact {
     }
 }
 
-/// The numbers of all isos of an accepted file.
+/// The numbers of all isos of an accepted file; 0 where lists are reached.
 pub fn exact(isos: &[Iso]) -> Vec<Exact> {
+    let with_lists = |iso: usize| has_lists(isos, iso);
+    let left_out: Vec<bool> = (0..isos.len()).map(with_lists).collect();
     let nothing = Exact {
         least: 0,
         greatest: 0,
     };
     let mut numbers = vec![nothing; isos.len()];
     loop {
-        let deeper: Vec<Exact> = isos.iter().map(|iso| over_clauses(iso, &numbers)).collect();
+        let deepened = |(iso, left_out): (&Iso, &bool)| match left_out {
+            true => nothing,
+            false => over_clauses(iso, &numbers),
+        };
+        let deeper: Vec<Exact> = isos.iter().zip(&left_out).map(deepened).collect();
         if deeper == numbers {
             return numbers;
         }
@@ -74,14 +82,16 @@ fn told(number: u128) -> (u32, bool) {
     }
 }
 
-/// The bounds of an iso of an accepted file: "15 if absent".
+/// The bounds of an iso of an accepted file: "15 if absent", then 18 where lists
+/// are reached (request 14).
 pub fn bounds_rules(rules: &Rules, iso: u32) -> Result<Bounded, Refusal> {
+    let refused = |number| Refusal { number, line: 0 };
     let numbers = exact(&rules.isos);
     let place = usize::try_from(iso).unwrap_or(usize::MAX);
-    let exact = numbers.get(place).ok_or(Refusal {
-        number: 15,
-        line: 0,
-    })?;
+    let exact = numbers.get(place).ok_or(refused(15))?;
+    if has_lists(&rules.isos, place) {
+        return Err(refused(18));
+    }
     let (least, least_over) = told(exact.least);
     let (greatest, greatest_over) = told(exact.greatest);
     Ok(Bounded {

@@ -10,18 +10,19 @@ use std::collections::BTreeMap;
 use std::rc::Rc;
 
 /// "each clause in order, lowest of 8 to 10": the clause with a name of its own
-/// for each binding, or the number of its refusal.
-pub fn checked(clause: &Clause, iso: &Iso, earlier: &[Iso]) -> Result<Clause, u8> {
+/// for each binding, or the number of its refusal. The isos are those that an L
+/// line of it may name.
+pub fn checked(clause: &Clause, iso: &Iso, isos: &[Iso]) -> Result<Clause, u8> {
     let named = named(clause).ok_or(8)?;
-    shapes_and_types(&named, iso, earlier)?;
+    shapes_and_types(&named, iso, isos)?;
     Ok(named)
 }
 
 /// 9 and 10 of a clause whose variables hold.
-pub(crate) fn shapes_and_types(clause: &Clause, iso: &Iso, earlier: &[Iso]) -> Result<(), u8> {
+pub(crate) fn shapes_and_types(clause: &Clause, iso: &Iso, isos: &[Iso]) -> Result<(), u8> {
     if !let_shape_holds(clause) {
         Err(9)
-    } else if !types_hold(clause, iso, earlier) {
+    } else if !types_hold(clause, iso, isos) {
         Err(10)
     } else {
         Ok(())
@@ -76,7 +77,8 @@ impl Names {
     }
 }
 
-/// 9: "Let patterns p and q hold only unit, variables and pairs."
+/// 9: "Let patterns p and q hold only unit, variables and pairs." Request 14:
+/// "either in a let pattern is 9".
 fn let_shape_holds(clause: &Clause) -> bool {
     clause
         .lets
@@ -90,12 +92,12 @@ fn let_shape_holds(clause: &Clause) -> bool {
 ///
 /// Each pattern meets a known type, so each place of a variable demands one
 /// type; an assignment exists when all the demands on one variable are equal.
-fn types_hold(clause: &Clause, iso: &Iso, earlier: &[Iso]) -> bool {
+fn types_hold(clause: &Clause, iso: &Iso, isos: &[Iso]) -> bool {
     let mut demands = Demands::new();
     let mut fit = demand(&clause.left, &iso.from, &mut demands);
     for step in &clause.lets {
-        fit = fit && demand(&step.q, &earlier[step.iso].from, &mut demands);
-        fit = fit && demand(&step.p, &earlier[step.iso].to, &mut demands);
+        fit = fit && demand(&step.q, &isos[step.iso].from, &mut demands);
+        fit = fit && demand(&step.p, &isos[step.iso].to, &mut demands);
     }
     fit = fit && demand(&clause.right, &iso.to, &mut demands);
     fit && demands
@@ -119,6 +121,11 @@ fn demand<'a>(pattern: &Pattern, ty: &'a Type, demands: &mut Demands<'a>) -> boo
         (Pattern::Right(inner), Type::Sum(_, b)) => demand(inner, b, demands),
         (Pattern::Pair(one, two), Type::Product(a, b)) => {
             demand(one, a, demands) && demand(two, b, demands)
+        }
+        (Pattern::Empty, Type::List(_)) => true,
+        // An element, and behind it a list of the same type.
+        (Pattern::Element(one, two), Type::List(a)) => {
+            demand(one, a, demands) && demand(two, ty, demands)
         }
         _ => false,
     }

@@ -2,7 +2,6 @@
 
 use crate::lines::Iso;
 use crate::tree::{Pattern, Type};
-use std::rc::Rc;
 
 /// "then the iso, lowest of 11 to 14": `None` when the iso stands.
 pub fn fault(iso: &Iso) -> Option<u8> {
@@ -31,14 +30,17 @@ fn all_orthogonal(patterns: &[&Pattern]) -> bool {
 }
 
 /// "Orthogonality is that of section 2.2": left against right, below the same
-/// side, or in some part of two pairs.
+/// side, or in some part of two pairs. Request 14: "empty against an element
+/// clashes like left against right".
 pub fn orthogonal(one: &Pattern, two: &Pattern) -> bool {
     match (one, two) {
         (Pattern::Left(_), Pattern::Right(_)) | (Pattern::Right(_), Pattern::Left(_)) => true,
+        (Pattern::Empty, Pattern::Element(..)) | (Pattern::Element(..), Pattern::Empty) => true,
         (Pattern::Left(a), Pattern::Left(b)) | (Pattern::Right(a), Pattern::Right(b)) => {
             orthogonal(a, b)
         }
-        (Pattern::Pair(a, b), Pattern::Pair(c, d)) => orthogonal(a, c) || orthogonal(b, d),
+        (Pattern::Pair(a, b), Pattern::Pair(c, d))
+        | (Pattern::Element(a, b), Pattern::Element(c, d)) => orthogonal(a, c) || orthogonal(b, d),
         _ => false,
     }
 }
@@ -52,16 +54,39 @@ pub fn covers(ty: &Type, patterns: &[&Pattern]) -> bool {
 
 /// A cell is the pattern that a part of the value still has to match; `None`
 /// where every value matches.
-type Cell<'a> = Option<&'a Pattern>;
+pub(crate) type Cell<'a> = Option<&'a Pattern>;
+
+/// What a value has at its root.
+#[derive(Debug, PartialEq, Eq, Clone, Copy)]
+pub(crate) enum Root {
+    Unit,
+    Left,
+    Right,
+    Pair,
+    Empty,
+    Element,
+}
+
+/// What values of a type can have at their roots, each with the types of the
+/// parts below it.
+pub(crate) fn roots(ty: &Type) -> Vec<(Root, Vec<&Type>)> {
+    match ty {
+        Type::Unit => vec![(Root::Unit, Vec::new())],
+        Type::Sum(a, b) => vec![(Root::Left, vec![a]), (Root::Right, vec![b])],
+        Type::Product(a, b) => vec![(Root::Pair, vec![a, b])],
+        Type::List(a) => vec![(Root::Element, vec![a, ty]), (Root::Empty, Vec::new())],
+    }
+}
 
 /// One case of the split type: the parts of the value not yet looked into,
 /// with their types, and for each pattern still possible its cells for these
 /// parts. True when each choice of values for the parts matches some row.
 ///
-/// Each call takes one sum or product node off the types, so the calls nest no
-/// deeper than 127. The row with the fewest left and right nodes leads: in
-/// a covered case of n orthogonal rows it has at most log2(n) of them, so few
-/// cases are opened before a row covers or no row fits.
+/// Each call takes a node off the leading row and none is put in, so that the
+/// calls come to an end. The row with the fewest left and right nodes leads, and
+/// those of lists with them: in a covered case of n orthogonal rows it has at
+/// most log2(n) of them, so few cases are opened before a row covers or no row
+/// fits.
 fn case_covered(types: Vec<&Type>, rows: Vec<Vec<Cell>>) -> bool {
     let Some(lead) = rows.iter().min_by_key(|row| row_sides(row)) else {
         // No row fits, and every type has a closed value: a gap.
@@ -72,16 +97,14 @@ fn case_covered(types: Vec<&Type>, rows: Vec<Vec<Cell>>) -> bool {
         return true;
     }
     let column = best_column(lead, &rows);
-    let first = cases(&types, &rows, column, false);
-    match types[column] {
-        Type::Sum(..) => {
-            let mut both = [first, cases(&types, &rows, column, true)];
-            both.sort_by_key(|case| case.1.len());
-            both.into_iter()
-                .all(|(types, rows)| case_covered(types, rows))
-        }
-        _ => case_covered(first.0, first.1),
-    }
+    let roots = roots(types[column]).into_iter();
+    let mut cases: Vec<_> = roots
+        .map(|root| case(&types, &rows, column, root))
+        .collect();
+    cases.sort_by_key(|case| case.1.len());
+    cases
+        .into_iter()
+        .all(|(types, rows)| case_covered(types, rows))
 }
 
 fn row_sides(row: &[Cell]) -> usize {
@@ -102,22 +125,16 @@ fn best_column(lead: &[Cell], rows: &[Vec<Cell>]) -> usize {
         .expect("the leading row has a left or right node")
 }
 
-/// The case that comes of looking into one column: for a sum the values on
-/// one side (`right` or left), for a product its two parts.
-fn cases<'a>(
+/// The case that comes of looking into one column: the values that have this at
+/// their roots there.
+fn case<'a>(
     types: &[&'a Type],
     rows: &[Vec<Cell<'a>>],
     column: usize,
-    right: bool,
+    (root, parts): (Root, Vec<&'a Type>),
 ) -> (Vec<&'a Type>, Vec<Vec<Cell<'a>>>) {
-    let parts: Vec<&Type> = match types[column] {
-        Type::Unit => Vec::new(),
-        Type::Sum(_, b) if right => vec![b],
-        Type::Sum(a, _) => vec![a],
-        Type::Product(a, b) => vec![a, b],
-    };
     let replace = |row: &Vec<Cell<'a>>| {
-        let cells = opened(row[column], parts.len(), right)?;
+        let cells = opened(row[column], root, parts.len())?;
         Some([&row[..column], &cells, &row[column + 1..]].concat())
     };
     let rows = rows.iter().filter_map(replace).collect();
@@ -126,14 +143,16 @@ fn cases<'a>(
 }
 
 /// What one cell becomes when its column is looked into; `None` when the cell
-/// stands on the other side of the sum.
-fn opened<'a>(cell: Cell<'a>, parts: usize, right: bool) -> Option<Vec<Cell<'a>>> {
-    let below = |inner: &'a Rc<Pattern>| Some(&**inner);
-    match cell {
-        None | Some(Pattern::Variable(_)) => Some(vec![None; parts]),
-        Some(Pattern::Unit) => Some(Vec::new()),
-        Some(Pattern::Left(a)) => (!right).then(|| vec![below(a)]),
-        Some(Pattern::Right(a)) => right.then(|| vec![below(a)]),
-        Some(Pattern::Pair(a, b)) => Some(vec![below(a), below(b)]),
-    }
+/// has something else at its root.
+pub(crate) fn opened(cell: Cell<'_>, root: Root, parts: usize) -> Option<Vec<Cell<'_>>> {
+    let (own, below) = match cell {
+        None | Some(Pattern::Variable(_)) => return Some(vec![None; parts]),
+        Some(Pattern::Unit) => (Root::Unit, Vec::new()),
+        Some(Pattern::Left(a)) => (Root::Left, vec![&**a]),
+        Some(Pattern::Right(a)) => (Root::Right, vec![&**a]),
+        Some(Pattern::Pair(a, b)) => (Root::Pair, vec![&**a, &**b]),
+        Some(Pattern::Empty) => (Root::Empty, Vec::new()),
+        Some(Pattern::Element(a, b)) => (Root::Element, vec![&**a, &**b]),
+    };
+    (own == root).then(|| below.into_iter().map(Some).collect())
 }

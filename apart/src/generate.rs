@@ -2,6 +2,7 @@
 //! misses of each refusal, damaged bytes, and queries.
 
 pub mod bounded;
+pub mod breach;
 pub mod ceiling;
 pub mod counted;
 pub mod damage;
@@ -10,6 +11,7 @@ pub mod ending;
 pub mod fault;
 pub mod ground;
 pub mod idle;
+pub mod large;
 pub mod life;
 pub mod listed;
 pub mod longer;
@@ -24,15 +26,20 @@ pub mod shape;
 pub mod shown;
 pub mod thread;
 pub mod tower;
+pub mod zoned;
 
-use crate::check;
 use random::Random;
 
 /// An accepted file. A plan that passes a ceiling is thrown away; any other
 /// refusal of a planned file stops the program.
 pub fn accepted(random: &mut Random) -> Vec<u8> {
     loop {
+        let zoned = random.lists && random.chance(15);
         let file = match random.below(24) {
+            _ if zoned => {
+                let ending = *random.pick(&zoned::ENDINGS);
+                zoned::file(random, ending)
+            }
             0 | 1 => ceiling::at_ceiling(random, false),
             2 | 3 => tower::tower(random),
             4 => {
@@ -46,7 +53,7 @@ pub fn accepted(random: &mut Random) -> Vec<u8> {
                 scribe::file(random, &isos)
             }
         };
-        match check(&file) {
+        match random.check(&file) {
             Ok(rules) if random.chance(15) => return crate::turn_rules(&rules),
             Ok(_) if random.chance(25) => return ending::resaved(random, &file),
             Ok(_) => return file,
@@ -67,6 +74,7 @@ pub fn any_file(random: &mut Random) -> Vec<u8> {
         0..=44 => accepted(random),
         45..=74 => {
             let number = match 2 + random.below(14) as u8 {
+                _ if random.lists && random.chance(8) => 23,
                 15 => 21,
                 number => number,
             };

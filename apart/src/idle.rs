@@ -7,8 +7,9 @@ pub fn names(row: &Row) -> Vec<(u8, u16)> {
     let [x, y, z] = row.fields;
     match (row.letter, x) {
         (b'T', 1) | (b'T', 2) => vec![(b'T', y), (b'T', z)],
+        (b'T', 3) => vec![(b'T', y)],
         (b'P', 2) | (b'P', 3) => vec![(b'P', y)],
-        (b'P', 4) => vec![(b'P', y), (b'P', z)],
+        (b'P', 4) | (b'P', 6) => vec![(b'P', y), (b'P', z)],
         (b'I', _) => vec![(b'T', x), (b'T', y)],
         (b'C', _) => vec![(b'P', x), (b'P', y)],
         (b'L', _) => vec![(b'P', x), (b'P', z)],

@@ -5,6 +5,7 @@ pub mod areas;
 pub mod before;
 pub mod bounds;
 pub mod clause;
+pub mod columns;
 pub mod cover;
 pub mod desk;
 pub mod generate;
@@ -13,13 +14,14 @@ pub mod lines;
 pub mod numbering;
 pub mod overlap;
 pub mod pair_lists;
+pub mod recursion;
 pub mod reduce;
 pub mod sheet;
 pub mod tree;
 pub mod units;
 pub mod witness;
 
-use crate::lines::{Clause, Iso, Row};
+use crate::lines::{Clause, Iso, Row, LISTS};
 use crate::reduce::{apply, turned, Counter};
 use crate::tree::{Pattern, Type, Value};
 use std::rc::Rc;
@@ -49,30 +51,40 @@ pub struct Rules {
 /// to 7. Only then the isos in order: each clause in order, lowest of 8 to 10,
 /// then the iso, lowest of 11 to 14."
 pub fn check(file: &[u8]) -> Result<Rules, Refusal> {
-    check_by(file, clause::checked)
+    check_with(file, LISTS)
 }
 
-/// What is asked of a clause, given its iso and the earlier ones: the clause
-/// with names for its variables, or the number of its refusal.
+/// Check, with the lines of request 14 or without them.
+pub fn check_with(file: &[u8], lists: bool) -> Result<Rules, Refusal> {
+    check_by(file, lists, clause::checked)
+}
+
+/// What is asked of a clause, given its iso and those up to it: the clause with
+/// names for its variables, or the number of its refusal.
 type ClauseRule = fn(&Clause, &Iso, &[Iso]) -> Result<Clause, u8>;
 
 /// Check with a rule for clauses.
-fn check_by(file: &[u8], rule: ClauseRule) -> Result<Rules, Refusal> {
-    let mut reader = lines::read(file)?;
+fn check_by(file: &[u8], lists: bool, rule: ClauseRule) -> Result<Rules, Refusal> {
+    let mut reader = lines::read_with(file, lists)?;
     // Request 11: "21 'idle line', after 7 for the whole file and before 8".
     if let Some(line) = idle::first(&reader.rows) {
         return Err(Refusal { number: 21, line });
     }
     for place in 0..reader.isos.len() {
-        let (earlier, others) = reader.isos.split_at_mut(place);
-        let iso = &mut others[0];
+        let isos = &reader.isos[..=place];
         let mut clauses = Vec::new();
-        for clause in &iso.clauses {
+        for clause in &isos[place].clauses {
             let line = clause.line;
-            let named = rule(clause, iso, earlier);
+            let named = rule(clause, &isos[place], isos);
             clauses.push(named.map_err(|number| Refusal { number, line })?);
         }
-        iso.clauses = clauses;
+        reader.isos[place].clauses = clauses;
+        let iso = &reader.isos[place];
+        // Request 14: 23, "tested when all clauses of the iso have passed 8 to 10
+        // and before 11".
+        if let Some(line) = recursion::fault(iso, place) {
+            return Err(Refusal { number: 23, line });
+        }
         if let Some(number) = cover::fault(iso) {
             let line = iso.line;
             return Err(Refusal { number, line });
@@ -144,7 +156,8 @@ pub fn run(
     run_rules(&check(file)?, iso, back, budget, value)
 }
 
-/// Run of an accepted file. "For a run, 15, 16, 17 follow."
+/// Run of an accepted file. "For a run, 15, 16, 17 follow." Request 14: 24,
+/// "after 16".
 pub fn run_rules(
     rules: &Rules,
     iso: u16,
@@ -163,8 +176,9 @@ pub fn run_rules(
     let mut counter = Counter {
         made: 0,
         budget: u64::from(budget),
+        open: 0,
     };
-    // 17: "the full count would pass the budget".
-    let given = apply(isos, place, &Rc::new(value), &mut counter).ok_or(refused(17))?;
+    // 17: "the full count would pass the budget"; or 24.
+    let given = apply(isos, place, &Rc::new(value), &mut counter).map_err(refused)?;
     Ok((counter.made, given.letters()))
 }

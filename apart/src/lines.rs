@@ -17,6 +17,10 @@ pub const LETS: usize = 8;
 pub const NODES: usize = 127;
 pub const SIDES: usize = 40;
 
+/// Whether the lines of request 14 are taken: T kind 3, P kinds 5 and 6, and an
+/// L line that names its own iso.
+pub const LISTS: bool = true;
+
 /// "Five line forms exist": the letter and the number of fields after it.
 pub const FORMS: [(u8, usize); 5] = [(b'T', 3), (b'P', 3), (b'I', 2), (b'C', 2), (b'L', 3)];
 
@@ -56,6 +60,8 @@ pub struct Iso {
 /// What the lines read so far have given.
 #[derive(Default)]
 pub struct Reader {
+    /// Whether it takes the lines of request 14.
+    lists: bool,
     pub rows: Vec<Row>,
     pub types: Vec<Rc<Type>>,
     pub patterns: Vec<Rc<Pattern>>,
@@ -78,12 +84,20 @@ pub fn text(line: &[u8]) -> Option<&[u8]> {
 /// "Order: 1, then 2. Then all lines from the first, on each the lowest of 3
 /// to 7."
 pub fn read(file: &[u8]) -> Result<Reader, Refusal> {
+    read_with(file, LISTS)
+}
+
+/// The same, with the lines of request 14 or without them.
+pub fn read_with(file: &[u8], lists: bool) -> Result<Reader, Refusal> {
     let lines = split(file);
     // 2: "over 65,536 bytes or 4,096 lines", line 0.
     if file.len() > BYTES || lines.len() > LINES {
         return Err(Refusal { number: 2, line: 0 });
     }
-    let mut reader = Reader::default();
+    let mut reader = Reader {
+        lists,
+        ..Reader::default()
+    };
     for (above, bytes) in lines.iter().enumerate() {
         let line = above + 1;
         reader
@@ -128,11 +142,15 @@ pub fn parse(line: &[u8]) -> Option<Row> {
     Some(Row { letter, fields })
 }
 
-/// 5: "kind not listed, idle field not 0, variable above 31".
-fn bad_field(row: &Row) -> bool {
+/// 5: "kind not listed, idle field not 0, variable above 31". Request 14: "T
+/// kind 3 (a the element, b 0), P kinds 5 empty (a = b = 0) and 6".
+fn bad_field(row: &Row, lists: bool) -> bool {
     let [kind, a, b] = row.fields;
     match (row.letter, kind) {
         (b'T', 0) => a != 0 || b != 0,
+        (b'T', 3) if lists => b != 0,
+        (b'P', 5) if lists => a != 0 || b != 0,
+        (b'P', 6) if lists => false,
         (b'T', kind) => kind > 2,
         (b'P', 0) => a != 0 || b != 0,
         (b'P', 1) => a > 31 || b != 0,
@@ -149,7 +167,7 @@ impl Reader {
         if self.misplaced(row.letter) {
             return Err(4);
         }
-        if bad_field(&row) {
+        if bad_field(&row, self.lists) {
             return Err(5);
         }
         if self.bad_name(&row) {
@@ -181,12 +199,17 @@ impl Reader {
         match (row.letter, x) {
             // "A T or P line names only earlier lines of its own letter."
             (b'T', 1) | (b'T', 2) => y >= types || z >= types,
+            (b'T', 3) => y >= types,
             (b'P', 2) | (b'P', 3) => y >= patterns,
-            (b'P', 4) => y >= patterns || z >= patterns,
+            (b'P', 4) | (b'P', 6) => y >= patterns || z >= patterns,
             (b'I', _) => x >= types || y >= types,
             (b'C', _) => x >= patterns || y >= patterns,
-            // "An L line names an iso earlier than its own."
-            (b'L', _) => x >= patterns || z >= patterns || y + 1 >= self.isos.len(),
+            // "An L line names an iso earlier than its own"; request 14: "An L
+            // line may name its own iso".
+            (b'L', _) => {
+                let named = self.isos.len() - usize::from(!self.lists);
+                x >= patterns || z >= patterns || y >= named
+            }
             _ => false,
         }
     }
@@ -211,7 +234,8 @@ impl Reader {
         let ty = match kind {
             0 => Type::Unit,
             1 => Type::Sum(part(a), part(b)),
-            _ => Type::Product(part(a), part(b)),
+            2 => Type::Product(part(a), part(b)),
+            _ => Type::List(part(a)),
         };
         if self.types.len() == TYPES || ty.nodes() > NODES {
             return None;
@@ -229,7 +253,9 @@ impl Reader {
             1 => Pattern::Variable(a),
             2 => Pattern::Left(part(a)),
             3 => Pattern::Right(part(a)),
-            _ => Pattern::Pair(part(a), part(b)),
+            4 => Pattern::Pair(part(a), part(b)),
+            5 => Pattern::Empty,
+            _ => Pattern::Element(part(a), part(b)),
         };
         if self.patterns.len() == PATTERNS || pattern.nodes() > NODES || pattern.sides() > SIDES {
             return None;

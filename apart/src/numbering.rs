@@ -38,12 +38,15 @@ struct Due<'a> {
 }
 
 /// How many closed values a type has. A type of 127 nodes has 64 leaves and so
-/// at most 4 times 3 to the 20th, far below 64 bits.
+/// at most 4 times 3 to the 20th, far below 64 bits. One that holds a list has no
+/// end of them, and the greatest number stands for that: "Reqs 02, 05, 07 and 12
+/// refuse 18 where a type ... holds a list" (request 14).
 pub fn values(ty: &Type) -> u64 {
     match ty {
         Type::Unit => 1,
-        Type::Sum(a, b) => values(a) + values(b),
-        Type::Product(a, b) => values(a) * values(b),
+        Type::Sum(a, b) => values(a).saturating_add(values(b)),
+        Type::Product(a, b) => values(a).saturating_mul(values(b)),
+        Type::List(_) => u64::MAX,
     }
 }
 
@@ -138,6 +141,7 @@ fn at(ty: &Type, mut before: u64) -> Vec<u8> {
                 letters.push(b'P');
                 due.extend(parts(a, b, behind));
             }
+            Type::List(_) => unreachable!("a type that can be counted holds no list"),
         }
     }
     letters

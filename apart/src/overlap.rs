@@ -3,7 +3,7 @@
 //! Each pattern is written out as the list of its nodes in prefix order, each
 //! with the way that leads to it from the root. Two nodes are laid on each other
 //! where the same way leads to both; the list of the first pattern's nodes of
-//! which that is so, cut off behind the first left against a right, is what was
+//! which that is so, cut off behind the first clash, is what was
 //! compared. No tree is walked beside the other.
 
 use crate::areas::Known;
@@ -21,28 +21,30 @@ pub struct Overlapped {
 }
 
 /// A step of a way. Those below a pair are not the one below a left or a right,
-/// so that nothing below nodes of different shape has the same way.
+/// nor those below an element, so that nothing below nodes of different shape
+/// has the same way.
 #[derive(Debug, PartialEq, Eq, PartialOrd, Ord, Clone, Copy)]
 enum Step {
     Below,
     First,
     Second,
+    Head,
+    Tail,
 }
 
 type Way = Vec<Step>;
 
 /// The nodes of a pattern in prefix order, each with the way that leads to it.
 fn nodes<'a>(pattern: &'a Pattern, way: Way, listed: &mut Vec<(Way, &'a Pattern)>) {
-    let longer = |step| [way.as_slice(), &[step]].concat();
-    let [below, first, second] = [Step::Below, Step::First, Step::Second].map(longer);
-    listed.push((way, pattern));
-    match pattern {
-        Pattern::Unit | Pattern::Variable(_) => {}
-        Pattern::Left(a) | Pattern::Right(a) => nodes(a, below, listed),
-        Pattern::Pair(a, b) => {
-            nodes(a, first, listed);
-            nodes(b, second, listed);
-        }
+    let below: Vec<(Step, &Pattern)> = match pattern {
+        Pattern::Unit | Pattern::Variable(_) | Pattern::Empty => Vec::new(),
+        Pattern::Left(a) | Pattern::Right(a) => vec![(Step::Below, a)],
+        Pattern::Pair(a, b) => vec![(Step::First, a), (Step::Second, b)],
+        Pattern::Element(a, b) => vec![(Step::Head, a), (Step::Tail, b)],
+    };
+    listed.push((way.clone(), pattern));
+    for (step, part) in below {
+        nodes(part, [&way[..], &[step]].concat(), listed);
     }
 }
 
@@ -52,11 +54,15 @@ fn listed(pattern: &Pattern) -> Vec<(Way, &Pattern)> {
     list
 }
 
-/// "a left against a right".
+/// "a left against a right"; request 14: "empty against an element clashes like
+/// left against right".
 pub fn clash(one: &Pattern, two: &Pattern) -> bool {
     matches!(
         (one, two),
-        (Pattern::Left(_), Pattern::Right(_)) | (Pattern::Right(_), Pattern::Left(_))
+        (Pattern::Left(_), Pattern::Right(_))
+            | (Pattern::Right(_), Pattern::Left(_))
+            | (Pattern::Empty, Pattern::Element(..))
+            | (Pattern::Element(..), Pattern::Empty)
     )
 }
 

@@ -11,6 +11,7 @@
 use crate::areas::Known;
 use crate::lines::{split, text, CLAUSES};
 use crate::numbering::values;
+use crate::recursion::has_lists;
 use crate::tree::Type;
 use crate::{check, run_rules, Refusal, Rules};
 use std::cmp::Reverse;
@@ -71,6 +72,7 @@ fn unsorted(ty: &Type) -> Vec<Vec<u8>> {
             };
             firsts.iter().flat_map(pair).collect()
         }
+        Type::List(_) => unreachable!("a type of few values holds no list"),
     }
 }
 
@@ -78,6 +80,10 @@ fn unsorted(ty: &Type) -> Vec<Vec<u8>> {
 pub fn export_rules(rules: &Rules, iso: u32, budget: u32) -> Result<Vec<u8>, Refusal> {
     let wanted = named(&rules.isos, iso)?;
     few(&wanted.from)?;
+    // Request 14: "where ... a type of the iso or of one it calls, holds a list".
+    if has_lists(&rules.isos, iso as usize) {
+        return Err(refused(18));
+    }
     let tos = settings(&wanted.to);
     let mut list = String::new();
     for (from, letters) in settings(&wanted.from).iter().enumerate() {
@@ -158,6 +164,7 @@ fn letters(ty: &Type) -> Vec<u8> {
         Type::Unit => b"U".to_vec(),
         Type::Sum(a, b) => [b"+".to_vec(), letters(a), letters(b)].concat(),
         Type::Product(a, b) => [b"*".to_vec(), letters(a), letters(b)].concat(),
+        Type::List(_) => unreachable!("a type of few values holds no list"),
     }
 }
 

@@ -2,7 +2,8 @@
 
 use std::rc::Rc;
 
-/// "kind, a, b: 0 unit (a = b = 0); 1 sum; 2 product of types a and b".
+/// "kind, a, b: 0 unit (a = b = 0); 1 sum; 2 product of types a and b"; request
+/// 14: "kind 3 (a the element, b 0)".
 ///
 /// "Two types are the same when their trees are equal, under any line numbers":
 /// the derived equality compares trees.
@@ -11,10 +12,12 @@ pub enum Type {
     Unit,
     Sum(Rc<Type>, Rc<Type>),
     Product(Rc<Type>, Rc<Type>),
+    List(Rc<Type>),
 }
 
 /// "kind, a, b: 0 unit (a = b = 0); 1 variable number a, 0 to 31 (b = 0);
-/// 2 left of a (b = 0); 3 right of a (b = 0); 4 pair a, b".
+/// 2 left of a (b = 0); 3 right of a (b = 0); 4 pair a, b"; request 14: "P kinds
+/// 5 empty (a = b = 0) and 6 an element before a list".
 #[derive(Debug, PartialEq, Eq, Clone)]
 pub enum Pattern {
     Unit,
@@ -22,15 +25,18 @@ pub enum Pattern {
     Left(Rc<Pattern>),
     Right(Rc<Pattern>),
     Pair(Rc<Pattern>, Rc<Pattern>),
+    Empty,
+    Element(Rc<Pattern>, Rc<Pattern>),
 }
 
-/// "A closed value has no variable".
+/// "A closed value has no variable". A list is all its elements in their order.
 #[derive(Debug, PartialEq, Eq, Clone)]
 pub enum Value {
     Unit,
     Left(Rc<Value>),
     Right(Rc<Value>),
     Pair(Rc<Value>, Rc<Value>),
+    List(Vec<Rc<Value>>),
 }
 
 impl Type {
@@ -39,6 +45,16 @@ impl Type {
         match self {
             Type::Unit => 1,
             Type::Sum(a, b) | Type::Product(a, b) => 1 + a.nodes() + b.nodes(),
+            Type::List(a) => 1 + a.nodes(),
+        }
+    }
+
+    /// Whether some node of the tree is a list.
+    pub fn holds_list(&self) -> bool {
+        match self {
+            Type::Unit => false,
+            Type::Sum(a, b) | Type::Product(a, b) => a.holds_list() || b.holds_list(),
+            Type::List(_) => true,
         }
     }
 }
@@ -47,28 +63,31 @@ impl Pattern {
     /// Nodes of the unfolded tree, a shared line as often as it is reached.
     pub fn nodes(&self) -> usize {
         match self {
-            Pattern::Unit | Pattern::Variable(_) => 1,
+            Pattern::Unit | Pattern::Variable(_) | Pattern::Empty => 1,
             Pattern::Left(a) | Pattern::Right(a) => 1 + a.nodes(),
-            Pattern::Pair(a, b) => 1 + a.nodes() + b.nodes(),
+            Pattern::Pair(a, b) | Pattern::Element(a, b) => 1 + a.nodes() + b.nodes(),
         }
     }
 
-    /// Left and right nodes together in the unfolded tree.
+    /// Left and right nodes together in the unfolded tree; request 14: "Both P
+    /// kinds count towards the 40", those of lists too.
     pub fn sides(&self) -> usize {
         match self {
             Pattern::Unit | Pattern::Variable(_) => 0,
             Pattern::Left(a) | Pattern::Right(a) => 1 + a.sides(),
             Pattern::Pair(a, b) => a.sides() + b.sides(),
+            Pattern::Empty => 1,
+            Pattern::Element(a, b) => 1 + a.sides() + b.sides(),
         }
     }
 
     /// Every variable of the unfolded tree, from left to right, with repeats.
     pub fn variables(&self) -> Vec<u16> {
         match self {
-            Pattern::Unit => Vec::new(),
+            Pattern::Unit | Pattern::Empty => Vec::new(),
             Pattern::Variable(number) => vec![*number],
             Pattern::Left(a) | Pattern::Right(a) => a.variables(),
-            Pattern::Pair(a, b) => [a.variables(), b.variables()].concat(),
+            Pattern::Pair(a, b) | Pattern::Element(a, b) => [a.variables(), b.variables()].concat(),
         }
     }
 
@@ -81,12 +100,29 @@ impl Pattern {
             Pattern::Left(a) => Pattern::Left(a.renamed(name)?),
             Pattern::Right(a) => Pattern::Right(a.renamed(name)?),
             Pattern::Pair(a, b) => Pattern::Pair(a.renamed(name)?, b.renamed(name)?),
+            Pattern::Empty => Pattern::Empty,
+            Pattern::Element(a, b) => Pattern::Element(a.renamed(name)?, b.renamed(name)?),
         }))
     }
 }
 
 impl Value {
-    /// "A value is written in prefix order with the letters U (unit), L, R, P (pair)".
+    /// The number of its letters.
+    pub fn length(&self) -> usize {
+        match self {
+            Value::Unit => 1,
+            Value::Left(a) | Value::Right(a) => 1 + a.length(),
+            Value::Pair(a, b) => 1 + a.length() + b.length(),
+            Value::List(elements) => {
+                let lengths = elements.iter().map(|element| 1 + element.length());
+                1 + lengths.sum::<usize>()
+            }
+        }
+    }
+
+    /// "A value is written in prefix order with the letters U (unit), L, R, P
+    /// (pair)"; request 14: "value letters N and K", K before an element and the
+    /// list behind it.
     pub fn letters(&self) -> Vec<u8> {
         let mut written = Vec::new();
         self.write(&mut written);
@@ -108,6 +144,13 @@ impl Value {
                 written.push(b'P');
                 a.write(written);
                 b.write(written);
+            }
+            Value::List(elements) => {
+                for element in elements {
+                    written.push(b'K');
+                    element.write(written);
+                }
+                written.push(b'N');
             }
         }
     }
@@ -141,7 +184,20 @@ impl Value {
                 let (two, others) = Value::take(others, b)?;
                 Some((Value::Pair(Rc::new(one), Rc::new(two)), others))
             }
+            (Type::List(a), _) => Value::take_list(letters, a),
             _ => None,
         }
+    }
+
+    /// N for an empty list; K before an element and a list.
+    fn take_list<'a>(mut letters: &'a [u8], ty: &Type) -> Option<(Value, &'a [u8])> {
+        let mut elements = Vec::new();
+        while let [b'K', others @ ..] = letters {
+            let (element, others) = Value::take(others, ty)?;
+            elements.push(Rc::new(element));
+            letters = others;
+        }
+        let others = letters.strip_prefix(b"N")?;
+        Some((Value::List(elements), others))
     }
 }

@@ -3,6 +3,7 @@
 use crate::areas::{Known, TABLE, WORK};
 use crate::lines::{numeral, split, text};
 use crate::numbering::{number_of_rules, setting_of_rules};
+use crate::recursion::has_lists;
 use crate::{run_rules, Refusal, Rules};
 
 /// "Up to 1,000 units".
@@ -72,13 +73,15 @@ pub fn play_rules(
     for (ty, setting) in units {
         setting_of_rules(rules, *ty, *setting)?;
     }
-    let bad = Refusal {
-        number: 22,
-        line: 0,
-    };
+    let refused = |number| Refusal { number, line: 0 };
     let mut visits = Vec::new();
+    // Request 14: "a script is tested line by line, on each 22 before 18".
     for line in split(script) {
-        visits.push(visit(line, units.len(), rules.isos.len()).ok_or(bad)?);
+        let visit = visit(line, units.len(), rules.isos.len()).ok_or(refused(22))?;
+        if has_lists(&rules.isos, visit.iso.into()) {
+            return Err(refused(18));
+        }
+        visits.push(visit);
     }
     let mut units = units.to_vec();
     let mut tally = Tally::default();

@@ -5,9 +5,11 @@
 //! the values are read letter by letter with the set of patterns that can still
 //! match: what may follow depends on nothing but the node of the type that is
 //! due and that set, so that the least letters to come are found once for each
-//! two of these. No two patterns are laid on each other.
+//! two of these. No two patterns are laid on each other. Types that hold lists
+//! have a way of their own (`columns`).
 
 use crate::areas::{Known, RESULT};
+use crate::columns;
 use crate::lines::{self, Iso};
 use crate::numbering;
 use crate::tree::{Pattern, Type, Value};
@@ -88,10 +90,17 @@ impl<'a> Side<'a> {
         search.least(Some(0), (0..self.patterns.len()).collect())
     }
 
+    /// The least value that shows the fault, by columns: of any type.
+    pub fn by_columns(&self) -> Option<Vec<u8>> {
+        columns::least_of(self)
+    }
+
     /// The letters of the least value that shows the fault.
     pub fn least(&self) -> Option<Vec<u8>> {
         if self.has_few_values() {
             self.by_force()
+        } else if self.ty.holds_list() {
+            self.by_columns()
         } else {
             self.by_sets().map(|shown| shown.letters)
         }
@@ -110,6 +119,15 @@ pub fn matches(pattern: &Pattern, value: &Value) -> bool {
         (Pattern::Variable(_), _) | (Pattern::Unit, Value::Unit) => true,
         (Pattern::Left(a), Value::Left(b)) | (Pattern::Right(a), Value::Right(b)) => matches(a, b),
         (Pattern::Pair(a, b), Value::Pair(c, d)) => matches(a, c) && matches(b, d),
+        (_, Value::List(elements)) => matches_list(pattern, elements),
+        _ => false,
+    }
+}
+
+fn matches_list(pattern: &Pattern, elements: &[Rc<Value>]) -> bool {
+    match (pattern, elements) {
+        (Pattern::Variable(_), _) | (Pattern::Empty, []) => true,
+        (Pattern::Element(a, b), [first, rest @ ..]) => matches(a, first) && matches_list(b, rest),
         _ => false,
     }
 }
@@ -131,6 +149,29 @@ pub fn closed(ty: &Type) -> Vec<Value> {
             };
             below(a).flat_map(with).collect()
         }
+        Type::List(_) => unreachable!("a type of few values holds no list"),
+    }
+}
+
+/// The letters of every closed value of any type that has at most so many.
+pub fn written(ty: &Type, most: usize) -> Vec<Vec<u8>> {
+    let below = |letter: u8, part: &Type| {
+        let all = written(part, most.saturating_sub(1)).into_iter();
+        all.map(move |value| [&[letter], &value[..]].concat())
+    };
+    let pairs = |letter: u8, [a, b]: [&Type; 2]| {
+        let with = |first: Vec<u8>| {
+            let seconds = written(b, most.saturating_sub(first.len())).into_iter();
+            seconds.map(move |second| [&first[..], &second[..]].concat())
+        };
+        below(letter, a).flat_map(with).collect::<Vec<_>>()
+    };
+    match ty {
+        _ if most == 0 => Vec::new(),
+        Type::Unit => vec![b"U".to_vec()],
+        Type::Sum(a, b) => below(b'L', a).chain(below(b'R', b)).collect(),
+        Type::Product(a, b) => pairs(b'P', [a, b]),
+        Type::List(a) => [pairs(b'K', [a, ty]), vec![b"N".to_vec()]].concat(),
     }
 }
 
@@ -218,6 +259,7 @@ fn unfold(ty: &Type, next: Option<usize>, nodes: &mut Vec<Node>) {
             unfold(a, Some(places[1]), nodes);
             unfold(b, next, nodes);
         }
+        Type::List(_) => unreachable!("a type that holds lists goes by columns"),
     }
 }
 
@@ -327,7 +369,8 @@ impl Search {
 
 /// The iso that a refusal of 11 to 14 names.
 pub fn refused_iso(file: &[u8], refusal: Refusal) -> Option<Iso> {
-    let mut isos = lines::read(file).ok()?.isos.into_iter();
+    // A file that no other line is refused in is read alike with them.
+    let mut isos = lines::read_with(file, true).ok()?.isos.into_iter();
     let wanted = matches!(refusal.number, 11..=14);
     isos.find(|iso| wanted && iso.line == refusal.line)
 }
@@ -336,6 +379,20 @@ pub fn refused_iso(file: &[u8], refusal: Refusal) -> Option<Iso> {
 pub fn witness_of(file: &[u8], refusal: Refusal) -> Option<Vec<u8>> {
     let iso = refused_iso(file, refusal)?;
     Side::refused(&iso, refusal.number).least()
+}
+
+/// The refusal that is answered: Check's, or 24 "when the smallest value is over
+/// 127 letters" (request 14); and the letters.
+pub fn answered(file: &[u8], refusal: Refusal) -> (Refusal, Vec<u8>) {
+    let letters = witness_of(file, refusal).unwrap_or_default();
+    let large = Refusal {
+        number: 24,
+        line: 0,
+    };
+    match letters.len() > RESULT {
+        true => (large, Vec::new()),
+        false => (refusal, letters),
+    }
 }
 
 /// The witness with lent areas: "it goes into 127 lent bytes".
@@ -347,7 +404,7 @@ pub fn witness(known: &Known, table: &mut [u16], work: &mut [u8], result: &mut [
             length: 0,
         };
     };
-    let letters = witness_of(known.file, refusal).unwrap_or_default();
+    let (refusal, letters) = answered(known.file, refusal);
     result[..letters.len()].copy_from_slice(&letters);
     Witnessed {
         number: refusal.number,

@@ -207,7 +207,7 @@ fn two_ways_to_rule_8_agree() {
         let back: Vec<Iso> = reader.isos.iter().map(turned).collect();
         for isos in [&reader.isos, &back] {
             for (place, clause) in clauses(isos) {
-                let given = clause::checked(clause, &isos[place], &isos[..place]);
+                let given = clause::checked(clause, &isos[place], &isos[..=place]);
                 let fine = slips(clause).is_empty();
                 assert_eq!(given == Err(8), !fine, "{clause:?}");
                 *(if fine { &mut kept } else { &mut broken }) += 1;

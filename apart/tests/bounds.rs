@@ -7,6 +7,7 @@ use apart::generate::bounded::{self, DEEP, NEEDS, TOP};
 use apart::generate::random::Random;
 use apart::lines::Iso;
 use apart::numbering::{setting_of_rules, values};
+use apart::recursion::has_lists;
 use apart::{check, run_rules, turn_rules, Rules};
 
 mod common;
@@ -125,10 +126,16 @@ fn thirty_two_deep_with_eight_let_steps() {
     assert_eq!((given.least, given.greatest), (u32::MAX, u32::MAX));
 }
 
-/// The sentences of the request, iso by iso in file order.
+/// The sentences of the request, iso by iso in file order; 0 where lists are
+/// reached.
 fn in_order(isos: &[Iso]) -> Vec<Exact> {
     let mut numbers: Vec<Exact> = Vec::new();
-    for iso in isos {
+    for (place, iso) in isos.iter().enumerate() {
+        if has_lists(isos, place) {
+            let (least, greatest) = (0, 0);
+            numbers.push(Exact { least, greatest });
+            continue;
+        }
         let needs = |least: bool| {
             let of = |place: usize| {
                 let number = numbers[place];

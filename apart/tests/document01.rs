@@ -207,7 +207,9 @@ fn the_further_examples() {
     assert_eq!(turned[15..], ["C,6,5", "L,3,0,4", "C,7,7"]);
     assert_eq!(of(&s_with(18, "")), (21, 11));
     assert_eq!(of(&s_with(18, "C,7,7 C,7,7")), (11, 15));
-    assert_eq!(of(&s_with(17, "L,4,1,3")), (6, 17));
+    // Request 14: "S with line 17 as L,4,1,3 is now `10,16`".
+    assert_eq!(of(&s_with(17, "L,4,1,3")), (10, 16));
+    assert_eq!(of(&s_with(17, "L,4,2,3")), (6, 17));
     assert_eq!(of(&s_with(17, "")), (8, 16));
     assert_eq!(of(&s_with(17, "L,4,0,1")), (8, 16));
     let gap = "T,0,0,0 T,1,0,0 P,0,0,0 P,2,0,0 I,0,1 C,0,1";
@@ -313,11 +315,12 @@ fn refusal_4_by_the_lines_above() {
 
 #[test]
 fn refusal_5_by_kind_idle_and_variable() {
-    for line in ["T,3,0,0", "T,0,1,0", "T,0,0,1", "T,3,9,9"] {
+    for line in ["T,4,0,0", "T,0,1,0", "T,0,0,1", "T,3,0,1", "T,3,9,9"] {
         assert_eq!(of(&format!("T,0,0,0 {line}")), (5, 2), "{line}");
     }
     for line in [
-        "P,5,0,0", "P,0,1,0", "P,0,0,1", "P,1,32,0", "P,1,0,1", "P,2,0,1", "P,3,0,1", "P,9,9,9",
+        "P,5,0,1", "P,0,1,0", "P,0,0,1", "P,1,32,0", "P,1,0,1", "P,2,0,1", "P,3,0,1", "P,9,9,9",
+        "P,5,1,0", "P,7,0,0",
     ] {
         assert_eq!(of(&format!("P,0,0,0 {line}")), (5, 2), "{line}");
     }
@@ -339,11 +342,13 @@ fn refusal_6_by_name() {
     let one = "T,0,0,0 P,0,0,0 I,0,0 C,0,0 I,0,0";
     assert_eq!(of(&format!("{one} C,0,1")), (6, 6));
     assert_eq!(of(&format!("{one} C,1,0")), (6, 6));
-    for line in ["L,1,0,0", "L,0,0,1", "L,0,1,0", "L,0,2,0", "L,0,65535,0"] {
+    for line in ["L,1,0,0", "L,0,0,1", "L,0,2,0", "L,0,65535,0"] {
         assert_eq!(of(&format!("{one} C,0,0 {line}")), (6, 7), "{line}");
     }
     assert_eq!(of(&format!("{one} C,0,0 L,0,0,0")), (0, 0));
-    assert_eq!(of("T,0,0,0 P,0,0,0 I,0,0 C,0,0 L,0,0,0"), (6, 5));
+    // Request 14: "An L line may name its own iso".
+    assert_eq!(of(&format!("{one} C,0,0 L,0,1,0")), (23, 5));
+    assert_eq!(of("T,0,0,0 P,0,0,0 I,0,0 C,0,0 L,0,0,0"), (23, 3));
 }
 
 #[test]

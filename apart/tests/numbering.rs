@@ -60,6 +60,7 @@ fn written(ty: &Type, lines: &mut Vec<String>) -> usize {
         Type::Unit => "T,0,0,0".to_string(),
         Type::Sum(a, b) => format!("T,1,{},{}", written(a, lines), written(b, lines)),
         Type::Product(a, b) => format!("T,2,{},{}", written(a, lines), written(b, lines)),
+        Type::List(_) => unreachable!("a type that can be numbered"),
     };
     lines.push(line);
     lines.len() - 1
@@ -86,6 +87,7 @@ fn letters_of(pattern: &Pattern, letters: &mut String) {
     match pattern {
         Pattern::Unit => letters.push('U'),
         Pattern::Variable(_) => unreachable!("closed"),
+        Pattern::Empty | Pattern::Element(..) => unreachable!("without lists"),
         Pattern::Left(a) => {
             letters.push('L');
             letters_of(a, letters);

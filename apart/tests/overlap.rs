@@ -164,10 +164,14 @@ fn walked(one: &Pattern, two: &Pattern) -> (bool, usize) {
     };
     match (one, two) {
         (Pattern::Left(_), Pattern::Right(_)) | (Pattern::Right(_), Pattern::Left(_)) => (true, 1),
+        (Pattern::Empty, Pattern::Element(..)) | (Pattern::Element(..), Pattern::Empty) => {
+            (true, 1)
+        }
         (Pattern::Left(a), Pattern::Left(b)) | (Pattern::Right(a), Pattern::Right(b)) => {
             after((false, 1), &|| walked(a, b))
         }
-        (Pattern::Pair(a, b), Pattern::Pair(c, d)) => {
+        (Pattern::Pair(a, b), Pattern::Pair(c, d))
+        | (Pattern::Element(a, b), Pattern::Element(c, d)) => {
             let first = after((false, 1), &|| walked(a, c));
             after(first, &|| walked(b, d))
         }

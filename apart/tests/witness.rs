@@ -145,6 +145,10 @@ fn both_ways() {
             continue;
         };
         let side = Side::refused(&iso, number);
+        // Those of lists have tests of their own.
+        if side.ty.holds_list() {
+            continue;
+        }
         let shown = side.by_sets().expect("a refused side has a value");
         let value = Value::read(&shown.letters, side.ty).expect("of the type");
         assert!(side.shown_by(&value));

@@ -6,10 +6,13 @@ use std::fmt::Write;
 /// The kinds of T and P lines.
 pub const SUM: usize = 1;
 pub const PRODUCT: usize = 2;
+pub const LIST: usize = 3;
 pub const VARIABLE: usize = 1;
 pub const LEFT: usize = 2;
 pub const RIGHT: usize = 3;
 pub const PAIR: usize = 4;
+pub const EMPTY: usize = 5;
+pub const ELEMENT: usize = 6;
 
 #[derive(Default)]
 pub struct Draft {

@@ -4,6 +4,8 @@ use crate::call::Call;
 use crate::grown::{self, of_clauses, of_letters, of_nodes, of_steps};
 use crate::inputs;
 use crate::long::long;
+use crate::service::Asked;
+use apart::lines::LISTS;
 
 /// What the cost is of: a call; or one of several like parts of it, as the difference between two numbers of them.
 #[derive(Clone, Copy)]
@@ -42,7 +44,10 @@ pub struct Measure {
     pub rows: &'static [Growing],
 }
 
-pub const MEASURES: [Measure; 5] = [
+/// Those that are followed: by zones where lists are taken.
+pub const MEASURES: &[Measure] = if LISTS { &ALL } else { ALL.split_at(5).0 };
+
+const ALL: [Measure; 6] = [
     Measure {
         name: "lines",
         sizes: &[512, 1_024, 2_048, 4_096],
@@ -67,6 +72,11 @@ pub const MEASURES: [Measure; 5] = [
         name: "letters",
         sizes: &[15, 31, 63, 127],
         rows: BY_LETTERS,
+    },
+    Measure {
+        name: "zones",
+        sizes: &[4, 8, 16, 32],
+        rows: BY_ZONES,
     },
 ];
 
@@ -114,6 +124,10 @@ const NODE: Need = (1, "each node");
 const NODE_AGAIN: Need = (2, "each node, for each letter that is left or right");
 const STEP: Need = (1, "each let step");
 const LETTER: Need = (1, "each letter");
+const ZONE: Need = (
+    2,
+    "each zone behind each zone, as an argument and as a result",
+);
 
 /// All services, on the long file; each checks it.
 const BY_LINES: &[Growing] = &[
@@ -148,6 +162,19 @@ const BY_LINES: &[Growing] = &[
     }),
     call("Play", LINE, |lines, _| {
         grown::play(grown::last_of_long(lines), 1)
+    }),
+];
+
+/// Zones of a board: a run calls itself once for each.
+const BY_ZONES: &[Growing] = &[
+    call("Run", ZONE, |zones, _| inputs::zoned_run(zones)),
+    call("Sheet", ZONE, |zones, _| {
+        let asked = Asked {
+            iso: 0,
+            value: inputs::zones(zones, false),
+            budget: zones as u32 + 1,
+        };
+        Call::sheet(inputs::zoned(), vec![asked])
     }),
 ];
 
@@ -304,7 +331,7 @@ mod tests {
 
     #[test]
     fn sizes_double_three_times_or_more() {
-        for measure in &MEASURES {
+        for measure in MEASURES {
             assert!(measure.sizes.len() >= 4, "{}", measure.name);
             for two in measure.sizes.windows(2) {
                 // trees and values have one node or letter less

@@ -74,7 +74,7 @@ pub fn shown(choice: Choice) -> Option<bool> {
     let count = |(measure, row, size): &Point| of_growing(measure.name, row, *size);
     let mut costs = shared_out(&points, count).into_iter();
     let mut none_above = None;
-    for measure in &MEASURES {
+    for measure in MEASURES {
         let counted = |row| {
             let own = costs.by_ref().take(measure.sizes.len());
             Counted::new(measure.sizes, row, own.collect())

@@ -1,6 +1,7 @@
 //! The measured files, but for the longest one and the worst cases. All their lines are used.
 
-use crate::draft::{Draft, LEFT, PAIR, PRODUCT, RIGHT, SUM, VARIABLE};
+use crate::call::Call;
+use crate::draft::{Draft, ELEMENT, EMPTY, LEFT, LIST, PAIR, PRODUCT, RIGHT, SUM, VARIABLE};
 use crate::service::{Asked, Unit, Visit};
 
 /// File S of document 01.
@@ -315,6 +316,47 @@ pub fn swap_value(exchanged: bool) -> Vec<u8> {
     format!("P{}{}", parts[0], parts[1]).into_bytes()
 }
 
+/// The zones of the board that is run.
+pub const ZONES: usize = 20;
+
+/// A list of zones of one bit each, and an iso that exchanges them all: it calls itself on the zones behind the first.
+pub fn zoned() -> Vec<u8> {
+    let mut draft = Draft::default();
+    let bit = bit_types(&mut draft, 1);
+    let zones = draft.type_of(LIST, bit, 0);
+    let bits = [false, true].map(|right| bit_pattern(&mut draft, right));
+    let empty = draft.pattern(EMPTY, 0, 0);
+    let [tail, given] = [0, 1].map(|n| draft.pattern(VARIABLE, n, 0));
+    let [lefts, rights] =
+        [tail, given].map(|rest| bits.map(|bit| draft.pattern(ELEMENT, bit, rest)));
+    let own = draft.iso(zones, zones);
+    draft.clause(empty, empty);
+    for side in 0..2 {
+        draft.clause(lefts[side], rights[1 - side]);
+        draft.step(given, own, tail);
+    }
+    draft.into_bytes()
+}
+
+/// So many zones, left and right in turn, or what becomes of them.
+pub fn zones(count: usize, exchanged: bool) -> Vec<u8> {
+    let zone = |place: usize| {
+        if (place % 2 == 1) == exchanged {
+            "KLU"
+        } else {
+            "KRU"
+        }
+    };
+    let zones: String = (0..count).map(zone).collect();
+    (zones + "N").into_bytes()
+}
+
+/// The run of so many zones: one application for each, and one for the end of the list.
+pub fn zoned_run(count: usize) -> Call {
+    let [value, given] = [false, true].map(|exchanged| zones(count, exchanged));
+    Call::run(zoned(), 0, value, count as u32 + 1, given)
+}
+
 /// The let steps with which each value of `flips` takes nine applications.
 pub const FLIPS: usize = 8;
 
@@ -423,7 +465,6 @@ pub fn desk_answers(queries: usize) -> Vec<u8> {
 #[cfg(test)]
 mod tests {
     use super::*;
-    use crate::call::Call;
 
     #[test]
     fn files_are_accepted_by_both() {
@@ -446,6 +487,18 @@ mod tests {
         let pairs = Call::check(units_and_pairs());
         assert_eq!(pairs.lines(), 256 + 1_024 + 16);
         pairs.agree();
+    }
+
+    /// The board of zones, by the checker written apart with the lines of request 14.
+    #[test]
+    fn zones_are_exchanged() {
+        let rules =
+            apart::check_with(&zoned(), true).unwrap_or_else(|refusal| panic!("{refusal:?}"));
+        for count in [0, 1, ZONES, 32] {
+            let budget = count as u32 + 1;
+            let ran = apart::run_rules(&rules, 0, false, budget, &zones(count, false));
+            assert_eq!(ran, Ok((budget.into(), zones(count, true))));
+        }
     }
 
     #[test]

@@ -1,11 +1,12 @@
 //! The rows and the series that are measured.
 
-use crate::inputs::MOST_ISOS_OF_128;
+use crate::inputs::{MOST_ISOS_OF_128, ZONES};
 use crate::instructions::Counts;
 use crate::measure::Both;
 use crate::point::{Point, Series};
 use crate::single::SINGLES;
 use crate::worst::CANDIDATES;
+use apart::lines::LISTS;
 
 const QUERIES: usize = 100_000;
 /// The most queries of a sheet.
@@ -106,6 +107,7 @@ pub fn rows(worst: [Point; 2]) -> Vec<Row> {
         call("Run, one swap of a value of 127 letters", Series::Swap, 127),
         runs("Run, tower of isos on 127 letters", Series::Swaps),
     ]);
+    rows.extend(rows_of_zones());
     rows.extend(rows_of_queries());
     rows.extend(rows_of_plays());
     rows.extend(rows_of_singles());
@@ -130,6 +132,17 @@ fn rows_of_checks(worst: [Point; 2]) -> Vec<Row> {
         rows.push(call(&label, worst.series, worst.size));
     }
     rows
+}
+
+/// The rows of a zoned board, where lists are taken.
+fn rows_of_zones() -> Vec<Row> {
+    let row = |label, size| Row::new(label, "a call", Series::Zoned, size);
+    let rows = [
+        row("Check, a zoned board", 1),
+        row("Turn, a zoned board", 2),
+        row("Run, 20 zones", ZONES),
+    ];
+    rows.into_iter().filter(|_| LISTS).collect()
 }
 
 /// The rows for many queries of one file. Of the runs on a long file, which are all alike, a few are made.

@@ -33,14 +33,15 @@ pub enum Series {
     Sheets,
     LongPlay,
     LongSheets,
+    Zoned,
     Desk,
 }
 
 use Series::{Applications, Clauses, Isos, Lines, Nodes, Single, Swap, Swaps, Turn, Worst, S};
-use Series::{Closed, Many, Pairs};
+use Series::{Closed, Many, Pairs, Zoned};
 use Series::{LongPlay, LongRuns, LongSheet, LongSheets, Play, Runs, Sheet, Sheets};
 
-const NAMES: [(Series, &str); 23] = [
+const NAMES: [(Series, &str); 24] = [
     (S, "s"),
     (Lines, "lines"),
     (Clauses, "clauses"),
@@ -63,6 +64,7 @@ const NAMES: [(Series, &str); 23] = [
     (Sheets, "sheets"),
     (LongPlay, "long-play"),
     (LongSheets, "long-sheets"),
+    (Zoned, "zoned"),
     (Series::Desk, "desk"),
 ];
 
@@ -78,7 +80,8 @@ impl Series {
 }
 
 /// A series, and a size in it: lines, clauses, isos, nodes, queries or visits; the place of a candidate or of a
-/// single call, from 1; or a power of two, one above the number of applications.
+/// single call, from 1; a power of two, one above the number of applications; or zones, where 1 stands for Check and 2
+/// for Turn.
 #[derive(Clone, Copy, PartialEq, Eq, Hash, Debug)]
 pub struct Point {
     pub series: Series,
@@ -127,6 +130,11 @@ impl Point {
                 let visits = inputs::visits(asked.iso, size);
                 self.played(long(4_096), units, &visits, asked.budget)
             }
+            Zoned => match size {
+                1 => Call::check(inputs::zoned()),
+                2 => Call::turn(inputs::zoned()),
+                _ => inputs::zoned_run(size),
+            },
             Series::Desk => unreachable!("the desk program is no call"),
         }
     }
@@ -197,6 +205,9 @@ mod tests {
             }
         }
         Point::new(Sheet, 600).call().agree();
+        for size in [1, 2, inputs::ZONES] {
+            Point::new(Zoned, size).call().agree();
+        }
         for series in [Play, Sheets, LongPlay, LongSheets] {
             for size in [1, 1_201] {
                 Point::new(series, size).call().agree();

@@ -73,7 +73,8 @@ pub fn verdict(file: &Input, verdict: Result<(), Refused>) -> String {
     let words = match verdict {
         Err(refused) => explain::refusal(file, refused),
         Ok(()) => {
-            let meaning = explain::entry("what it means", explain::ACCEPTED);
+            let meaning = explain::accepted(&file.bytes);
+            let meaning = explain::entry("what it means", meaning);
             let lines = explain::entry("lines", &counts(&file.bytes));
             format!("{} is accepted.\n{meaning}{lines}", file.name)
         }

@@ -77,11 +77,11 @@ static COMMANDS: &[Command] = &[
         usage: "FILE [ISO] [--letters] [--html [--back]] [-o OUT [--force]]",
         about: "show what a rule file says, in readable form",
         help: "A type of n steps is written n, and its settings 0 to n - 1; × is both parts, and its settings are (x, y); + is \
-            either part, and a setting is i:x, x in part i. Each clause is `pattern ↦ pattern, where p = iso i (q)`; small \
-            letters are parts that are carried over, and 2+a is a counted on from 2. With --letters settings are written \
+            either part, and a setting is i:x, x in part i; a list of n has settings as [x, y]. Each clause is `pattern ↦ pattern, where p = iso i (q)`; small \
+            letters are parts that are carried over, 2+a is a counted on from 2, and [a, …b] is a before the list b. With --letters settings are written \
             as queries have them: U, L and R in place of numbers. With --html it is one page, with drawings and with every \
             conversion of an iso of at most 256 settings, or a sample of a larger one: the first and the last setting, one a \
-            clause, some between. Of a file refused with 8 to 14 or 21, which has readable lines, the lines are shown too, \
+            clause, some between; of lists some of different lengths. Of a file refused with 8 to 14, 21 or 23, which has readable lines, the lines are shown too, \
             and the status is 1.",
         words: 1..=2,
         options: &[
@@ -110,8 +110,8 @@ static COMMANDS: &[Command] = &[
         help: "SETTING is letters, a number as `rulefile number` gives it, or as `rulefile show` writes it, in numbers or in names; \
             ISO is a number or a name. Prints `number,count,letters`: 0, the steps made, and the setting that comes out; then \
             both settings as `rulefile show` writes them, with --letters in letters. With --back it is sent the other way. \
-            Without --budget as many steps are allowed as any setting needs, up to 100,000,000; where that is not enough, the bound \
-            is said.",
+            Without --budget as many steps are allowed as any setting needs, up to 100,000,000, and so many where a list is, which \
+            may be of any length; where that is not enough, the bound is said.",
         words: 3..=3,
         options: &[("--back", false), ("--budget", true), ("--letters", false)],
         run: run::run,
@@ -133,7 +133,8 @@ static COMMANDS: &[Command] = &[
         usage: "FILE",
         about: "give a setting that shows the fault of a refused file",
         help: "Prints `number,line,letters`: the verdict and, for 11 to 14, a setting that two or more clauses match or give, \
-            or none, with the fewest letters. For other verdicts there is no such setting.",
+            or none, with the fewest letters; with over 127 of them the number is 24, and there are none. For other verdicts there \
+            is no such setting.",
         words: 1..=1,
         options: &[],
         run: witness::witness,
@@ -144,7 +145,8 @@ static COMMANDS: &[Command] = &[
         about: "give the number of a setting",
         help: "TYPE is the number of a T line, from 0; `rulefile show` prints it as T0, T1 and so on, which is taken too. \
             SETTING is letters, or as `rulefile show` writes it, in numbers or in names. Prints `number,setting`: 0 where it is \
-            answered, and the setting's number, from 0; then both in words. That is no verdict on FILE.",
+            answered, and the setting's number, from 0; then both in words. That is no verdict on FILE. A type that holds a list has no \
+            numbers.",
         words: 3..=3,
         options: &[],
         run: numbers::number_of,
@@ -228,7 +230,8 @@ static COMMANDS: &[Command] = &[
 const NOTES: [&str; 4] = [
     "FILE is a rule file as the supplier sent it; `-` stands for standard input. ISO is the number of a conversion, \
      from 0.",
-    "LETTERS are a setting: U, L or R before a part, P before two parts.",
+    "LETTERS are a setting: U, L or R before a part, P before two parts, K before an element and the list behind it, N at \
+     the end of a list.",
     "OUT is written whole or not at all; one that is there is kept, unless --force says to write over it.",
     "Exit status: 0 accepted or done; 1 refused; 2 not readable, not writable, or wrong usage.",
 ];

@@ -4,11 +4,12 @@
 use crate::arguments::Given;
 use crate::explain::{entry, wrapped};
 use crate::input::{self, Input};
-use crate::rules::{Iso, Rules};
+use crate::rules::{Iso, Rules, ENDLESS};
 use crate::run::{counted, in_words};
+use crate::settings::MOST_LETTERS;
 use crate::show::tree;
 use crate::{check, names, output, progress, settings, Failure, Outcome, Status};
-use rulefile::{Desk, Direction, Query, Refusal, Refused, Value, MAX_QUERIES};
+use rulefile::{Bounds, Desk, Direction, Query, Refusal, Refused, Value, MAX_QUERIES};
 use std::collections::BTreeSet;
 
 /// The most settings of an iso that are all compared: as many as there are pair lists of.
@@ -22,6 +23,9 @@ const BUDGET: u32 = 10_000;
 
 /// What is said where it is not enough.
 const OVER: &str = "not compared: a setting takes over 10000 steps";
+
+/// What is said where none of the lists that were tried is given a result.
+const NONE: &str = "not compared: no setting that was tried is given a result within 10000 steps";
 
 /// How many settings that differ are shown of an iso.
 const SHOWN: usize = 3;
@@ -109,9 +113,8 @@ fn alike(old: &[u8], new: &[u8]) -> Option<(&'static str, Vec<&'static str>)> {
 /// Whether two types are the same tree, under any line numbers.
 fn same_type(old: &Rules, a: usize, new: &Rules, b: usize) -> bool {
     let (x, y) = (old.types[a], new.types[b]);
-    x.kind == y.kind
-        && x.nodes == y.nodes
-        && (x.kind == 0 || same_type(old, x.a, new, y.a) && same_type(old, x.b, new, y.b))
+    let parts = || old.parts(a).into_iter().zip(new.parts(b));
+    x.kind == y.kind && x.nodes == y.nodes && parts().all(|(x, y)| same_type(old, x, new, y))
 }
 
 /// A type as it reads.
@@ -173,11 +176,13 @@ impl Pair<'_> {
         if !said.is_empty() {
             return Ok(Found::Differs(said));
         }
-        let bounds = [
-            self.desk.bounds(&self.old.file.bytes, place as u32)?,
-            self.desk.bounds(&self.new.file.bytes, place as u32)?,
-        ];
+        let bounds = [self.bounds(self.old, place)?, self.bounds(self.new, place)?];
         let count = self.old.rules.settings[isos[0].from];
+        let bounds = match bounds {
+            [Some(was), Some(is)] => [was, is],
+            // an iso that has to do with lists has no bounds
+            _ => return self.some(place, count),
+        };
         let [least, greatest] = bounds.map(|bounds| [bounds.least, bounds.greatest])[0];
         let settled = least == greatest && !bounds[0].greatest_over;
         let found = match count <= ALL {
@@ -196,6 +201,14 @@ impl Pair<'_> {
             }
             Found::Same(how) | Found::Tried(how) => Found::Differs(vec![steps, how]),
         })
+    }
+
+    /// The bounds of an iso; none where it has to do with lists.
+    fn bounds(&mut self, side: &Side, place: usize) -> Result<Option<Bounds>, Refused> {
+        match self.desk.bounds(&side.file.bytes, place as u32) {
+            Err(refused) if refused.refusal == Refusal::TooMany => Ok(None),
+            bounds => bounds.map(Some),
+        }
     }
 
     /// Every setting, by pair lists, and then the steps of each, unless they are settled.
@@ -300,8 +313,10 @@ impl Pair<'_> {
         let (rules, from) = (&self.old.rules, self.old.rules.isos[place].from);
         let free = (TRIED - samples.len().min(TRIED - 2)) as u128;
         for step in 0..free {
-            let number = (count - 1) * step / (free - 1);
-            samples.insert(settings::of_number(rules, from, number));
+            samples.insert(match rules.endless(from) {
+                true => settings::at(rules, from, (step, free)),
+                false => settings::of_number(rules, from, (count - 1) * step / (free - 1)),
+            });
         }
         // where two of them were the same
         for number in 1..TRIED as u128 {
@@ -309,17 +324,28 @@ impl Pair<'_> {
                 samples.insert(settings::of_number(rules, from, number));
             }
         }
-        samples.into_iter().take(TRIED).collect()
+        samples.retain(|letters| letters.len() <= MOST_LETTERS);
+        let mut samples: Vec<Vec<u8>> = samples.into_iter().take(TRIED).collect();
+        if rules.endless(from) {
+            samples.sort_by_key(Vec::len);
+        }
+        samples
     }
 
     /// Some settings of many.
     fn some(&mut self, place: usize, count: u128) -> Result<Found, Refused> {
         let samples = self.samples(place, count);
+        let endless = count == ENDLESS;
+        let of = match endless {
+            true => "settings without end".to_string(),
+            false => format!("{count} settings"),
+        };
         Ok(match self.queried(place, &samples)? {
             Err(said) => Found::Differs(said),
+            Ok(0) if endless => Found::Tried(NONE.to_string()),
             Ok(0) => Found::Tried(OVER.to_string()),
             Ok(some) => Found::Tried(format!(
-                "tried with {some} of {count} settings, and none differs; the others were not compared"
+                "tried with {some} of {of}, and none differs; the others were not compared"
             )),
         })
     }

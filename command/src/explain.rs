@@ -2,6 +2,7 @@
 
 use crate::input::Input;
 use crate::rules::Rules;
+use crate::settings::MOST_LETTERS;
 use crate::show::tree;
 use crate::{form, look, names, show};
 use rulefile::{Desk, Refusal, Refused};
@@ -35,10 +36,32 @@ pub fn meaning(refusal: Refusal) -> Meaning {
     }
 }
 
-/// What accepted means.
-pub const ACCEPTED: &str =
-    "every setting of a from-type goes to exactly one setting of its to-type, \
+/// What accepted means, of a file without lists.
+const ACCEPTED: &str = "every setting of a from-type goes to exactly one setting of its to-type, \
     every setting of the to-type is reached, and the way back leads to the setting it came from";
+
+/// The same of a file with lists, in which no iso calls itself.
+const WITH_LISTS: &str =
+    "every setting of a from-type goes to exactly one setting of its to-type, \
+    every setting of the to-type is reached, and the way back leads to the setting it came from; lists are of any \
+    length, and a run that meets a setting of over 127 letters is refused with 24";
+
+/// The same of a file in which an iso calls itself.
+const CALLS_ITSELF: &str =
+    "a setting of a from-type that is given a result gets exactly one, of the to-type, and \
+    the way back leads from there to the setting it came from, with the same count of steps; since an iso of the file \
+    calls itself, a run may be refused with 17 or 24 under every budget, and that every setting of a to-type is reached \
+    is not promised";
+
+/// What it means that a file is accepted.
+pub fn accepted(file: &[u8]) -> &'static str {
+    let rules = Rules::of(file);
+    match (rules.any_calls_itself(), rules.has_lists()) {
+        (true, _) => CALLS_ITSELF,
+        (false, true) => WITH_LISTS,
+        (false, false) => ACCEPTED,
+    }
+}
 
 /// A warning about an accepted file in which there is nothing to use. One with lines has an I line, or its first
 /// line would be idle or misplaced.
@@ -71,11 +94,16 @@ fn fault(refusal: Refusal) -> Option<&'static str> {
     }
 }
 
-/// The letters of a setting that shows the fault of an iso, from the library.
-fn witness(file: &[u8], refused: Refused) -> Option<Vec<u8>> {
-    fault(refused.refusal)?;
+/// A setting that shows the fault of an iso, from the library: its letters, or that it has too many.
+fn witness(file: &[u8], refused: Refused) -> Option<Result<Vec<u8>, String>> {
+    let fault = fault(refused.refusal)?;
     let witness = Desk::new().witness(file).err()?;
-    Some(witness.letters)
+    Some(match witness.refused.refusal {
+        Refusal::TooLarge => Err(format!(
+            "the shortest one, {fault}, has over {MOST_LETTERS} letters, and is not shown"
+        )),
+        _ => Ok(witness.letters),
+    })
 }
 
 /// The T line of the settings that show the fault of an iso.
@@ -124,8 +152,14 @@ pub fn line(rules: &Rules, file: &[u8], refused: Refused) -> Vec<(String, String
     let reading = readable(refused).then(|| show::reading(rules, refused.line));
     add("it reads", reading.flatten());
     add("look here", look::here(file, refused));
-    let letters = witness(file, refused).unwrap_or_default();
-    add("a setting", setting(rules, &letters, refused));
+    let (letters, none) = match witness(file, refused) {
+        Some(Ok(letters)) => (letters, None),
+        Some(Err(none)) => (Vec::new(), Some(none)),
+        None => (Vec::new(), None),
+    };
+    let shown = Some(&letters).filter(|letters| !letters.is_empty());
+    let shown = shown.and_then(|letters| setting(rules, letters, refused));
+    add("a setting", shown.or(none));
     for (line, clause) in look::meeting(rules, refused, &letters) {
         add(&format!("clause of line {line}"), Some(clause));
     }

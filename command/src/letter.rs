@@ -64,7 +64,7 @@ fn text(path: &OsStr, judged: &Judged) -> String {
         Err(refused) => refusal(path, judged, refused),
         Ok(()) => {
             let named = named(path, judged);
-            let meaning = explain::ACCEPTED;
+            let meaning = explain::accepted(&judged.file.bytes);
             let warning = check::warning(&judged.file, judged.verdict);
             let warning = warning.map(|warning| paragraph(&format!("But {warning}")));
             let accepted = paragraph(&format!("Your file {named} is accepted: {meaning}."));

@@ -235,8 +235,16 @@ pub fn one_blank(text: &str) -> String {
     text.split_whitespace().collect::<Vec<_>>().join(" ")
 }
 
+/// The letters that settings of a file have.
+pub fn letters(rules: &Rules) -> &'static str {
+    match rules.has_lists() {
+        false => "ULRP",
+        true => "ULRPNK",
+    }
+}
+
 /// What is wrong with a name.
-fn fault(name: &str) -> Option<String> {
+fn fault(rules: &Rules, name: &str) -> Option<String> {
     let only = |letters: &str| name.chars().all(|c| letters.contains(c));
     if name.is_empty() {
         Some(format!("there is no name behind the `=`; {FORMS}"))
@@ -246,9 +254,13 @@ fn fault(name: &str) -> Option<String> {
         Some(format!(
             "{name} has a comma or a bracket; these part the settings of a tuple"
         ))
+    } else if rules.has_lists() && name.contains(['[', ']']) {
+        Some(format!(
+            "{name} has a square bracket; these hold the elements of a list"
+        ))
     } else if only("0123456789") {
         Some(format!("{name} would be taken for a number"))
-    } else if only("ULRP") {
+    } else if only(letters(rules)) {
         Some(format!(
             "{name} would be taken for the letters of a setting"
         ))
@@ -275,7 +287,7 @@ fn line(rules: &Rules, names: &mut Names, line: &[u8]) -> Result<(), String> {
         return Err("the name has a character that cannot be seen".to_string());
     }
     let name = one_blank(name);
-    if let Some(fault) = fault(&name) {
+    if let Some(fault) = fault(rules, &name) {
         return Err(fault);
     }
     names.add(named(rules, front.trim())?, name)

@@ -1,6 +1,7 @@
 //! `play`: a script of visits tried out on units.
 
 use crate::arguments::Given;
+use crate::rules::Rules;
 use crate::run::{budget, counted};
 use crate::script::Play;
 use crate::units::Units;
@@ -97,7 +98,9 @@ impl Outcomes {
 
 /// A budget that is enough for every conversion of a file, as far as one of 32 bits can be.
 fn enough(desk: &mut Desk, file: &[u8]) -> u32 {
-    let bounds = (0..).map_while(|iso| desk.bounds(file, iso).ok());
+    let isos = 0..Rules::of(file).isos.len() as u32;
+    // a script visits no iso that has to do with lists, which has no bounds
+    let bounds = isos.filter_map(|iso| desk.bounds(file, iso).ok());
     let greatest = bounds.map(|bounds| bounds.greatest);
     greatest.max().unwrap_or(0)
 }

@@ -9,6 +9,9 @@ const MOST_NODES: usize = 127;
 /// The kind of a line that is not as the format has it, in a file that the library refuses.
 const UNKNOWN: usize = usize::MAX;
 
+/// The number of settings of a type that holds a list: they are without end. No other type of so few nodes has as many.
+pub const ENDLESS: u128 = u128::MAX;
+
 /// A T or P line.
 #[derive(Clone, Copy)]
 pub struct Row {
@@ -57,7 +60,7 @@ pub struct Rules {
     pub types: Vec<Row>,
     pub patterns: Vec<Row>,
     pub isos: Vec<Iso>,
-    /// How many settings each type has.
+    /// How many settings each type has; `ENDLESS` where it holds a list.
     pub settings: Vec<u128>,
     /// Of each type that is a right-nested sum of units how many those are, of any other 0.
     pub choices: Vec<usize>,
@@ -95,13 +98,13 @@ impl Rules {
         match letter {
             "T" => {
                 self.settings.push(settings(&self.settings, a, b, c));
-                let two = matches!(a, 1 | 2);
-                let row = row(&self.types, [a, b, c], [two, two]);
+                let named = [matches!(a, 1..=3), matches!(a, 1 | 2)];
+                let row = row(&self.types, [a, b, c], named);
                 self.choices.push(choices(&self.choices, row));
                 self.types.push(row);
             }
             "P" => {
-                let named = [matches!(a, 2..=4), a == 4];
+                let named = [matches!(a, 2..=4 | 6), matches!(a, 4 | 6)];
                 self.patterns.push(row(&self.patterns, [a, b, c], named));
             }
             "I" => self.isos.push(Iso {
@@ -113,6 +116,70 @@ impl Rules {
             "C" => self.add_clause(line, a, b),
             _ => self.add_let(Let { p: a, iso: b, q: c }),
         }
+    }
+
+    /// Whether a type holds a list, so that its settings are without end and have no numbers.
+    pub fn endless(&self, ty: usize) -> bool {
+        self.settings.get(ty) == Some(&ENDLESS)
+    }
+
+    /// Whether there is a list type.
+    pub fn has_lists(&self) -> bool {
+        self.settings.contains(&ENDLESS)
+    }
+
+    /// How many settings a type has, in words.
+    pub fn settings_of(&self, ty: usize) -> String {
+        match self.settings.get(ty).copied().unwrap_or(0) {
+            ENDLESS => "settings without end".to_string(),
+            1 => "1 setting".to_string(),
+            count => format!("{count} settings"),
+        }
+    }
+
+    /// The T lines that a T line names.
+    pub fn parts(&self, ty: usize) -> Vec<usize> {
+        let row = self.types[ty];
+        match row.kind {
+            1 | 2 => vec![row.a, row.b],
+            3 => vec![row.a],
+            _ => Vec::new(),
+        }
+    }
+
+    /// The P lines that a P line names.
+    pub fn below(&self, pattern: usize) -> Vec<usize> {
+        let row = self.patterns[pattern];
+        match row.kind {
+            2 | 3 => vec![row.a],
+            4 | 6 => vec![row.a, row.b],
+            _ => Vec::new(),
+        }
+    }
+
+    /// The numbers of the variables of a pattern, in its order.
+    pub fn variables(&self, pattern: usize) -> Vec<usize> {
+        let row = self.patterns[pattern];
+        match row.kind {
+            1 => vec![row.a],
+            _ => {
+                let below = self.below(pattern).into_iter();
+                below.flat_map(|part| self.variables(part)).collect()
+            }
+        }
+    }
+
+    /// Whether a let step of an iso names it.
+    pub fn calls_itself(&self, iso: usize) -> bool {
+        let clauses = self.isos.get(iso).map(|iso| iso.clauses.as_slice());
+        let clauses = clauses.unwrap_or_default();
+        let mut lets = clauses.iter().flat_map(|clause| &clause.lets);
+        lets.any(|step| step.iso == iso)
+    }
+
+    /// Whether a let step of any iso names its own.
+    pub fn any_calls_itself(&self) -> bool {
+        (0..self.isos.len()).any(|iso| self.calls_itself(iso))
     }
 
     fn add_clause(&mut self, line: usize, left: usize, right: usize) {
@@ -173,6 +240,7 @@ fn settings(above: &[u128], kind: usize, a: usize, b: usize) -> u128 {
     match kind {
         1 => of(a).saturating_add(of(b)),
         2 => of(a).saturating_mul(of(b)),
+        3 => ENDLESS,
         _ => 1,
     }
 }

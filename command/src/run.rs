@@ -12,6 +12,9 @@ use std::os::unix::ffi::OsStrExt;
 /// The most steps that are made, in all, where no budget is given.
 const UNASKED: u32 = 100_000_000;
 
+/// How to go on where they are not enough.
+const GO_ON: &str = "to go on, say how many may be made: --budget N, at most 4294967295";
+
 /// The steps of each of so many runs of an iso, where no budget is given.
 pub struct Unasked {
     /// The budget: enough for every run, up to its part of the most; 0 where every run takes more than that, so that
@@ -27,27 +30,45 @@ impl Unasked {
     /// For so many runs of an iso.
     pub fn of(desk: &mut Desk, file: &[u8], iso: u32, runs: u32) -> Unasked {
         let most = UNASKED / runs.max(1);
-        let Ok(bounds) = desk.bounds(file, iso) else {
+        let bounds = match desk.bounds(file, iso) {
+            Ok(bounds) => bounds,
+            Err(refused) if refused.refusal == Refusal::TooMany => {
+                return Unasked::endless(iso, most)
+            }
             // the library says what is wrong, whatever the budget
-            return Unasked {
-                budget: 0,
-                most,
-                words: None,
-            };
+            Err(_) => {
+                return Unasked {
+                    budget: 0,
+                    most,
+                    words: None,
+                }
+            }
         };
         let steps = in_words(bounds);
         progress::tell(format!("iso {iso} takes {steps}"));
         let bound = format!(
             "a run of iso {iso} takes {steps}; without --budget no more than {most} are made"
         );
-        let go_on = "to go on, say how many may be made: --budget N, at most 4294967295";
         Unasked {
             budget: match bounds.least > most {
                 true => 0,
                 false => bounds.greatest.min(most),
             },
             most,
-            words: Some([bound, go_on.to_string()]),
+            words: Some([bound, GO_ON.to_string()]),
+        }
+    }
+
+    /// For an iso that has to do with lists: how many steps it takes has no bound, and each run gets its part of the
+    /// most.
+    fn endless(iso: u32, most: u32) -> Unasked {
+        let bound = format!(
+            "a run of iso {iso} has no bound, since lists are of any length; without --budget no more than {most} steps are made"
+        );
+        Unasked {
+            budget: most,
+            most,
+            words: Some([bound, GO_ON.to_string()]),
         }
     }
 
@@ -93,8 +114,9 @@ fn ends(rules: &Rules, iso: u32, direction: Direction) -> Option<(usize, usize)>
 }
 
 /// Whether a text was meant as letters: it begins like them, or is nothing else but for their size.
-fn meant_as_letters(text: &str) -> bool {
-    let letter = |c: char| "ULRP".contains(c);
+fn meant_as_letters(rules: &Rules, text: &str) -> bool {
+    let all = names::letters(rules);
+    let letter = |c: char| all.contains(c);
     let begins = text.chars().count() > 1 && text.chars().take(2).all(letter);
     begins || text.chars().all(|c| letter(c.to_ascii_uppercase()))
 }
@@ -108,7 +130,7 @@ pub fn letters(rules: &Rules, ty: Option<usize>, word: &OsStr) -> (Vec<u8>, Opti
     };
     match words::read(rules, ty, text) {
         Ok(letters) => (letters, None),
-        Err(_) if meant_as_letters(text) => (bytes, None),
+        Err(_) if meant_as_letters(rules, text) => (bytes, None),
         Err(why) => (bytes, Some(why)),
     }
 }

@@ -1,7 +1,7 @@
 //! Conversions to look at, each a run of the library: all of a small iso, and a sample of a large one.
 
-use crate::rules::{Iso, Row, Rules};
-use crate::settings;
+use crate::rules::{Iso, Rules};
+use crate::settings::{self, MOST_LETTERS};
 use rulefile::{Desk, Direction, Query, Refusal};
 use std::collections::{BTreeMap, BTreeSet};
 
@@ -23,14 +23,16 @@ pub struct Setting {
 /// A setting and what becomes of it.
 pub struct Conversion {
     pub from: Setting,
-    /// What comes out, and the steps; nothing where it takes too many steps for a list.
-    pub to: Option<(Setting, u32)>,
+    /// What comes out, and the steps; or why that cannot be listed.
+    pub to: Result<(Setting, u32), &'static str>,
 }
 
 /// Conversions of an iso, one way.
 pub struct Conversions {
     /// Whether every setting is there.
     pub all: bool,
+    /// Whether they are without end.
+    pub endless: bool,
     pub rows: Vec<Conversion>,
 }
 
@@ -54,18 +56,10 @@ struct Type {
 
 /// The T lines that a type is made of, itself included.
 fn lines(rules: &Rules, ty: usize, found: &mut BTreeSet<usize>) {
-    if let (true, Some(row)) = (found.insert(ty), rules.types.get(ty)) {
-        for part in parts(row) {
+    if found.insert(ty) && ty < rules.types.len() {
+        for part in rules.parts(ty) {
             lines(rules, part, found);
         }
-    }
-}
-
-/// The T lines that a T line names.
-fn parts(row: &Row) -> Vec<usize> {
-    match row.kind {
-        1 | 2 => vec![row.a, row.b],
-        _ => Vec::new(),
     }
 }
 
@@ -76,10 +70,10 @@ impl Type {
         let order: Vec<usize> = found.into_iter().collect();
         let place = |ty: usize| order.binary_search(&ty).unwrap_or(0);
         let mut file = String::new();
-        for row in order.iter().filter_map(|ty| rules.types.get(*ty)) {
-            let named: Vec<usize> = parts(row).into_iter().map(place).collect();
+        for ty in order.iter().filter(|ty| **ty < rules.types.len()) {
+            let named: Vec<usize> = rules.parts(*ty).into_iter().map(place).collect();
             let [a, b] = [0, 1].map(|part| named.get(part).copied().unwrap_or(0));
-            file += &format!("T,{},{a},{b}\n", row.kind);
+            file += &format!("T,{},{a},{b}\n", rules.types[*ty].kind);
         }
         let place = place(ty);
         file += &format!("P,1,0,0\nI,{place},{place}\nC,0,0\n");
@@ -115,6 +109,9 @@ impl Numbers {
 
     /// The number of a setting.
     fn of(&mut self, rules: &Rules, ty: usize, letters: &str) -> Option<u32> {
+        if rules.endless(ty) {
+            return None;
+        }
         let (desk, ty) = self.ty(rules, ty);
         if let Some(number) = ty.known.get(letters) {
             return *number;
@@ -133,14 +130,23 @@ fn ends(iso: &Iso, direction: Direction) -> (usize, usize) {
     }
 }
 
-/// A sample of the settings that an iso takes, one way: the first and the last, one a clause, some between; in the
-/// order of their numbers.
-fn sample(rules: &Rules, iso: &Iso, direction: Direction) -> Vec<String> {
-    let (from, _) = ends(iso, direction);
-    let count = rules.settings.get(from).copied().unwrap_or(1).max(1);
+/// Settings of a type from the first to the last or, where they are without end, with lists of different lengths.
+fn spread(rules: &Rules, ty: usize) -> Vec<Vec<u8>> {
+    if rules.endless(ty) {
+        let parts = (0..BETWEEN + 2).map(|place| (place, BETWEEN + 2));
+        return parts.map(|part| settings::at(rules, ty, part)).collect();
+    }
+    let count = rules.settings.get(ty).copied().unwrap_or(1).max(1);
     let between = (1..=BETWEEN).map(|place| count * place / (BETWEEN + 1));
     let numbers = [0, count - 1].into_iter().chain(between);
-    let numbered = numbers.map(|number| settings::of_number(rules, from, number));
+    let numbered = numbers.map(|number| settings::of_number(rules, ty, number));
+    numbered.collect()
+}
+
+/// A sample of the settings that an iso takes, one way: the first and the last, one a clause, some between; in the
+/// order of their numbers, and the shortest first where they have none.
+fn sample(rules: &Rules, iso: &Iso, direction: Direction) -> Vec<String> {
+    let (from, _) = ends(iso, direction);
     let clauses = iso.clauses.len() as u128;
     // of each clause another part of the way
     let of_clauses = (1..).zip(&iso.clauses).filter_map(|(place, clause)| {
@@ -150,10 +156,13 @@ fn sample(rules: &Rules, iso: &Iso, direction: Direction) -> Vec<String> {
         };
         settings::matched_at(rules, pattern, from, (place, clauses + 1))
     });
-    let letters: BTreeSet<Vec<u8>> = numbered.chain(of_clauses).collect();
-    let text = letters
-        .iter()
-        .map(|letters| String::from_utf8_lossy(letters));
+    let letters: BTreeSet<Vec<u8>> = spread(rules, from).into_iter().chain(of_clauses).collect();
+    let short = letters.into_iter();
+    let mut short: Vec<Vec<u8>> = short.filter(|one| one.len() <= MOST_LETTERS).collect();
+    if rules.endless(from) {
+        short.sort_by_key(Vec::len);
+    }
+    let text = short.iter().map(|letters| String::from_utf8_lossy(letters));
     text.map(|text| text.into_owned()).collect()
 }
 
@@ -168,7 +177,7 @@ pub fn conversions(
 ) -> Option<Conversions> {
     let iso = rules.isos.get(place)?;
     let (from, to) = ends(iso, direction);
-    let all = *rules.settings.get(from)? <= MOST;
+    let all = *rules.settings.get(from)? <= MOST && !rules.endless(to);
     let given = match all {
         true => {
             numbers.list(rules, to);
@@ -185,9 +194,10 @@ pub fn conversions(
             Ok(value) => {
                 let letters = String::from_utf8_lossy(&value.letters).into_owned();
                 let number = numbers.of(rules, to, &letters);
-                Some((Setting { number, letters }, value.count))
+                Ok((Setting { number, letters }, value.count))
             }
-            Err(Refusal::Spent) => None,
+            Err(Refusal::Spent) => Err("too many steps for a list"),
+            Err(Refusal::TooLarge) => Err("refused with 24, too large"),
             // no setting of the iso's; the library has the last word
             Err(_) => continue,
         };
@@ -195,5 +205,6 @@ pub fn conversions(
         let from = Setting { number, letters };
         rows.push(Conversion { from, to });
     }
-    Some(Conversions { all, rows })
+    let endless = rules.endless(from);
+    Some(Conversions { all, endless, rows })
 }

@@ -3,6 +3,7 @@
 use crate::form::{self, Forms};
 use crate::look::asked;
 use crate::progress;
+use crate::rules::Rules;
 use crate::units::Units;
 use rulefile::{Desk, Refusal, Refused, Tally, MAX_UNITS};
 
@@ -91,7 +92,7 @@ impl Play<'_> {
     }
 
     /// What a line that is in form names that is not there.
-    fn absent(&self, desk: &mut Desk, line: &[u8]) -> Option<String> {
+    fn absent(&self, line: &[u8]) -> Option<String> {
         let [unit, iso, direction] = numbers(line)?;
         let units = self.units.count();
         if direction > 1 {
@@ -101,9 +102,20 @@ impl Play<'_> {
             let why = format!("there is no unit {unit}");
             Some(format!("{why}: there are {units}, numbered from 0"))
         } else {
-            let absent = desk.bounds(self.file, iso as u32).is_err();
-            absent.then(|| format!("the file has no iso {iso}; they are numbered from 0"))
+            let isos = Rules::of(self.file).isos.len();
+            (iso >= isos).then(|| format!("the file has no iso {iso}; they are numbered from 0"))
         }
+    }
+
+    /// The first line of the script whose iso has to do with lists.
+    fn listed(&self, desk: &mut Desk) -> Vec<String> {
+        let number = self.refused_line(desk);
+        let line = form::line(self.script, number).unwrap_or_default();
+        let script = self.names[1];
+        let mut said = vec![format!("line {number} of {script}: {}", form::shown(line))];
+        let list = numbers(line).and_then(|[_, iso, _]| asked::reached(&Rules::of(self.file), iso));
+        said.extend(list.map(|list| format!("look here: {list}")));
+        said
     }
 
     /// Where a refusal points, in lines.
@@ -118,6 +130,7 @@ impl Play<'_> {
                 };
                 vec![format!("look here: {many}")]
             }
+            Refusal::TooMany if self.refused_unit(desk).is_none() => self.listed(desk),
             Refusal::NoIso | Refusal::TooMany | Refusal::TooHigh => {
                 let place = self.refused_unit(desk).unwrap_or_default();
                 let (ty, setting) = self.units.unit(place);
@@ -134,7 +147,7 @@ impl Play<'_> {
                 let number = self.refused_line(desk);
                 let line = form::line(self.script, number).unwrap_or_default();
                 let fault = form::fault(FORM, self.script, number);
-                let fault = fault.or_else(|| self.absent(desk, line));
+                let fault = fault.or_else(|| self.absent(line));
                 let mut said = vec![format!("line {number} of {script}: {}", form::shown(line))];
                 said.extend(fault.map(|fault| format!("look here: {fault}")));
                 said

@@ -92,7 +92,7 @@ impl Judged {
     fn meaning(&self) -> String {
         let mut text = String::new();
         match self.verdict {
-            Ok(()) => text += &format!("meaning: {}\n", explain::ACCEPTED),
+            Ok(()) => text += &format!("meaning: {}\n", explain::accepted(&self.file.bytes)),
             Err(refused) => {
                 // without the names that people gave, which are no part of a verdict
                 let rules = Rules::of(&self.file.bytes);

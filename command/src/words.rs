@@ -1,17 +1,18 @@
 //! Settings as people write them: by letters, by number, by the numbers of their parts, and by names. What is written
 //! so becomes letters, and what those are worth is the library's to say.
 
-use crate::rules::Rules;
+use crate::rules::{Rules, ENDLESS};
 use crate::show::tree;
 use crate::{form, names, settings};
 
-/// The letters of the setting of a T line that has a number; none where there are fewer.
+/// The letters of the setting of a T line that has a number; none where there are fewer, or no numbers.
 pub fn of_number(rules: &Rules, ty: usize, number: u128) -> Option<Vec<u8>> {
     let count = *rules.settings.get(ty)?;
-    (number < count).then(|| settings::of_number(rules, ty, number))
+    (number < count && count != ENDLESS).then(|| settings::of_number(rules, ty, number))
 }
 
-/// The most bytes of a setting as people write it: 64 parts, each with a name, have fewer.
+/// The most bytes of a setting as people write it: 64 parts, each with a name, have fewer, and so have lists that are
+/// run.
 const LONGEST: usize = 32_768;
 
 /// The letters of a setting that is written in one of the ways; or why it is none.
@@ -20,7 +21,7 @@ pub fn read(rules: &Rules, ty: usize, text: &str) -> Result<Vec<u8>, String> {
     if text.len() > LONGEST {
         return Err(none(rules, ty, text));
     }
-    let letters = !text.is_empty() && text.bytes().all(|byte| b"ULRP".contains(&byte));
+    let letters = !text.is_empty() && text.bytes().all(|byte| b"ULRPNK".contains(&byte));
     if letters && tree::fits(rules, ty, text.as_bytes()) {
         return Ok(text.as_bytes().to_vec());
     }
@@ -42,6 +43,7 @@ fn value(rules: &Rules, ty: usize, text: &str) -> Result<Vec<u8>, String> {
         Some(0) if rules.names.ty(ty) == Some(text) => Ok(b"U".to_vec()),
         Some(1) if rules.choices[ty] == 0 => part(rules, ty, text),
         Some(2) => tuple(rules, ty, text),
+        Some(3) => list(rules, ty, text),
         _ => Err(none(rules, ty, text)),
     }
 }
@@ -78,13 +80,16 @@ fn within(text: &str) -> Option<&str> {
     Some(within)
 }
 
-/// The parts of a text between the commas that stand in no brackets.
-fn split(text: &str) -> Vec<&str> {
+/// The parts of a text between the commas that stand in no brackets. Square ones are brackets where there are lists.
+fn split<'a>(rules: &Rules, text: &'a str) -> Vec<&'a str> {
     let (mut parts, mut depth, mut start) = (Vec::new(), 0usize, 0);
+    let square = rules.has_lists();
     for (place, c) in text.char_indices() {
         match c {
             '(' => depth += 1,
             ')' => depth = depth.saturating_sub(1),
+            '[' if square => depth += 1,
+            ']' if square => depth = depth.saturating_sub(1),
             ',' if depth == 0 => {
                 parts.push(&text[start..place]);
                 start = place + 1;
@@ -114,7 +119,7 @@ fn part(rules: &Rules, ty: usize, text: &str) -> Result<Vec<u8>, String> {
 
 /// A setting of a product: one a part.
 fn tuple(rules: &Rules, ty: usize, text: &str) -> Result<Vec<u8>, String> {
-    let (parts, given) = (tree::parts(rules, ty), split(text));
+    let (parts, given) = (tree::parts(rules, ty), split(rules, text));
     if given.len() < 2 {
         return Err(none(rules, ty, text));
     }
@@ -134,8 +139,31 @@ fn tuple(rules: &Rules, ty: usize, text: &str) -> Result<Vec<u8>, String> {
     Ok(letters)
 }
 
+/// A setting of a list: `[x, y]`, or `[]`.
+fn list(rules: &Rules, ty: usize, text: &str) -> Result<Vec<u8>, String> {
+    let within = text
+        .strip_prefix('[')
+        .and_then(|text| text.strip_suffix(']'));
+    let within = within.ok_or_else(|| none(rules, ty, text))?.trim();
+    let mut letters = Vec::new();
+    if !within.is_empty() {
+        for text in split(rules, within) {
+            letters.push(b'K');
+            letters.extend(value(rules, rules.types[ty].a, text)?);
+        }
+    }
+    letters.push(b'N');
+    Ok(letters)
+}
+
 /// What is said of a number that no setting has.
 fn too_high(rules: &Rules, ty: usize, number: &str) -> String {
+    if rules.endless(ty) {
+        let (reads, example) = (tree::ty(rules, ty).text(), example(rules, ty));
+        return format!(
+            "T{ty}, {reads}, holds a list, so that its settings have no numbers; {example} is one"
+        );
+    }
     let last = rules
         .settings
         .get(ty)
@@ -145,8 +173,18 @@ fn too_high(rules: &Rules, ty: usize, number: &str) -> String {
 
 /// What is said of a text that is no setting.
 fn none(rules: &Rules, ty: usize, text: &str) -> String {
-    let text = names::seen(text);
-    let example = of_number(rules, ty, 0).map(|letters| tree::setting(rules, ty, &letters));
-    let example = example.unwrap_or_default();
+    let (text, example) = (names::seen(text), example(rules, ty));
     format!("{text} is no setting of T{ty}; {example} is one")
+}
+
+/// A setting to write others like it: the first or, of a type that holds a list, one with an element.
+fn example(rules: &Rules, ty: usize) -> String {
+    if ty >= rules.types.len() {
+        return String::new();
+    }
+    let letters = match rules.endless(ty) {
+        true => settings::of_number(rules, ty, 1),
+        false => settings::of_number(rules, ty, 0),
+    };
+    tree::setting(rules, ty, &letters)
 }

@@ -16,6 +16,7 @@ use crate::tally::{
 };
 use crate::trip::{Step, Trip};
 use crate::variables;
+use crate::zoned;
 use apart::areas::Known;
 use apart::desk::desk;
 use apart::generate::pair;
@@ -58,13 +59,18 @@ impl<P: Program, S: Services> Block<P, S> {
         self.tally.files += 1;
         variables::count(&mut self.tally, &known, variables::RULES);
         idle::count(&mut self.tally, &known, idle::RULES);
+        zoned::count(&mut self.tally, &known, zoned::RULES);
+        zoned::count_refused(&mut self.tally, case, &known);
+        zoned::hold_before(&mut self.tally, &known);
         self.before(&known, &trips, &input);
         self.services(random, &known, &trips);
         variables::count(&mut self.tally, &known, variables::LIBRARY);
         idle::count(&mut self.tally, &known, idle::LIBRARY);
+        zoned::count(&mut self.tally, &known, zoned::LIBRARY);
         longer::count_file(&mut self.tally, &known);
         let list = list::make(random, case, &known, &input.bytes[file.len()..]);
         self.calls.sheet(random, &mut self.tally, &known, &list);
+        zoned::count(&mut self.tally, &known, zoned::SHEET);
         self.requests(random, case, &known);
         endings::count_queries(&mut self.tally, &known, &input.bytes, &list);
         if random.chance(20) {
@@ -94,6 +100,7 @@ impl<P: Program, S: Services> Block<P, S> {
         }
         self.calls.pair_lists(random, &mut self.tally, case, known);
         self.calls.plays(random, &mut self.tally, case, known);
+        self.calls.zoned(random, &mut self.tally, case, known);
     }
 
     /// Compares the check of the file with what the case says beforehand.
@@ -199,8 +206,10 @@ impl<P: Program, S: Services> Block<P, S> {
         self.tally.turned += 1;
         self.tally.laws.hit(TURNED_ACCEPTED, RULES);
         variables::count(&mut self.tally, &other, variables::TURNED);
+        zoned::count(&mut self.tally, known, zoned::TURNED);
         for trip in trips {
             variables::count_trip(&mut self.tally, known, trip);
+            zoned::count_trip(&mut self.tally, known, trip);
             for (turned, known) in [(false, known), (true, &other)] {
                 for step in trip.steps(turned) {
                     self.step(random, known, &step);

@@ -6,13 +6,14 @@ use crate::case::Case;
 use crate::grid::Grid;
 use crate::service::{Answer, Ask, Call, Services};
 use crate::settings::{GIVEN, HERE, SHORT, THERE};
-use crate::tally::{file_number, names, Tally};
+use crate::tally::{file_number, names, number_rows, Tally, NUMBERS};
 use apart::areas::Known;
 use apart::bounds::{exact, Exact, LIMIT};
 use apart::generate::bounded::{self, DEEP, NEEDS, TOP};
 use apart::generate::query::sample;
 use apart::generate::random::Random;
 use apart::generate::tower::LONG_ISOS;
+use apart::lines::LISTS;
 use apart::Rules;
 
 /// Columns of the table of bounds.
@@ -72,11 +73,13 @@ impl Grids {
     }
 }
 
-/// The numbers that a file can be given, and 15.
+/// The numbers that a file can be given, and 15; 18 for lists.
 fn numbers() -> Grid {
-    let rows = (0..22).map(|number| number.to_string()).collect();
-    let needed =
-        |number, column| (file_number(number) || number == 15) && (number, column) != (1, SHORT);
+    let rows = number_rows();
+    let needed = |number, column| {
+        let given = file_number(number) || number == 15 || LISTS && number == 18;
+        given && (number, column) != (1, SHORT)
+    };
     Grid::new("rulefile_bounds", rows, GIVEN, needed)
 }
 
@@ -148,7 +151,7 @@ pub fn count(tally: &mut Tally, known: &Known, call: Call, ours: &Answer, theirs
     let Call::Bounds(iso) = call else { return };
     let grids = &mut tally.bounds;
     grids.numbers.hit(ours.number as usize, HERE);
-    if theirs.number < 22 {
+    if (theirs.number as usize) < NUMBERS {
         grids.numbers.hit(theirs.number as usize, THERE);
     }
     if ours.number == 1 {
@@ -228,7 +231,8 @@ impl<S: Services> Calls<S> {
         if !rules.isos.is_empty() {
             let (iso, longest) = route(random, case, rules);
             let told = self.told(random, tally, known, Call::Bounds(iso));
-            for back in [false, true] {
+            let held = usize::from(told.number == 0) * 2;
+            for back in [false, true].into_iter().take(held) {
                 self.run_under(random, tally, known, (iso, back, longest), &told);
             }
         }

@@ -11,6 +11,7 @@ use crate::sheets::{self, Given};
 use crate::sizes;
 use crate::tally::{Tally, BY_SHEET, CHECK, ISO_ABOVE_65535, LETTERS, LIBRARY, RUN, SHORT, TURN};
 use crate::witness;
+use crate::zoned;
 use apart::areas::{Known, RESULT};
 use apart::bounds::bounds_rules;
 use apart::generate::query::line;
@@ -21,6 +22,7 @@ use apart::overlap::overlap_rules;
 use apart::pair_lists::{export_rules, import_rules};
 use apart::run_rules;
 use apart::sheet::{NUMBERS, QUERIES};
+use apart::witness::answered;
 
 pub struct Calls<S> {
     pub(crate) services: S,
@@ -93,6 +95,7 @@ impl<S: Services> Calls<S> {
         bounds::count(tally, known, call, &ours, &theirs);
         witness::count(tally, known, call, &ours, &theirs);
         pair_lists::count(tally, known, call, &ours, &theirs);
+        zoned::count_run(tally, known, call, &ours);
         if let Call::Sheet(list) = call {
             let numbers = &self.ours.numbers.lent()[..ours.queries * NUMBERS];
             sheets::count(tally, list, ours.number, numbers);
@@ -205,6 +208,9 @@ fn count(tally: &mut Tally, known: &Known, call: Call, lengths: [usize; 4], ours
     if column == Some(RUN) && ours.length == RESULT {
         tally.ceilings.hit(LETTERS, 0);
     }
+    if matches!(call, Call::Run(ask) if ask.letters.len() == RESULT + 1) && ours.number == 24 {
+        tally.ceilings.hit(LETTERS, 1);
+    }
     tally.count(ours.count, LIBRARY);
     let least = call.least(known.file);
     let lacks = |area: &usize| lengths[*area] < least[*area];
@@ -225,6 +231,9 @@ pub fn otherwise(known: &Known, call: Call) -> usize {
     }
     let rules = match &known.checked {
         Ok(rules) => rules,
+        Err(refusal) if call == Call::Witness => {
+            return answered(known.file, *refusal).0.number.into();
+        }
         Err(refusal) => return refusal.number.into(),
     };
     let refused = match call {

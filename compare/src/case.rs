@@ -1,6 +1,6 @@
 //! Which files are made.
 
-use crate::{bounds, longer, pair_lists, settings, shuffle, witness};
+use crate::{bounds, longer, pair_lists, settings, shuffle, witness, zoned};
 use apart::generate::ceiling::{self, Ceiling, CEILINGS};
 use apart::generate::idle::{self, IDLES};
 use apart::generate::life::SLIPS;
@@ -8,7 +8,9 @@ use apart::generate::listed::{self, Limit};
 use apart::generate::longer::{weighed, Weight};
 use apart::generate::random::Random;
 use apart::generate::shown::Form;
+use apart::generate::zoned::Ending;
 use apart::generate::{self, accepted, any_file, ending, miss, pair, query, thread, tower};
+use apart::lines::LISTS;
 use apart::{check, Rules};
 
 #[derive(Debug, Clone, Copy, PartialEq, Eq)]
@@ -66,6 +68,15 @@ pub enum Case {
     Several(bool),
     /// Refused with one of 11 to 14, by the values that show the fault.
     Shown(Form, u8),
+    /// An accepted file with an iso that calls itself.
+    Zoned(Ending),
+    /// Refused with 23, by the place of what is broken.
+    Breach(usize),
+    /// An iso that 23 is of, with another fault.
+    Beside(u8),
+    /// A run that comes to a ceiling of 24, or to one below it: by the place of
+    /// its cause, and the size.
+    Large(usize, usize),
     /// An accepted file with as many queries as a sheet may have, or one more.
     Full(bool),
     Accepted,
@@ -80,20 +91,31 @@ pub fn always() -> Vec<Case> {
     cases.extend(witness::cases());
     cases.extend(pair_lists::cases());
     cases.extend(longer::cases());
+    cases.extend(zoned::cases());
     for over in [false, true].repeat(5) {
         cases.extend([Case::Stack, Case::Longest, Case::Bytes(over)]);
         cases.extend([Case::Several(over); 3]);
         cases.extend([Case::Full(over), Case::Again, Case::Crowded, Case::Mistyped]);
         cases.extend((0..SLIPS.len()).map(Case::Slip));
         cases.extend((0..CEILINGS.len()).map(|ceiling| Case::Ceiling(ceiling, over)));
-        cases.extend((2..15).chain([21]).map(Case::Aimed));
+        cases.extend(
+            (2..15)
+                .chain([21])
+                .chain(LISTS.then_some(23))
+                .map(Case::Aimed),
+        );
         cases.extend((0..IDLES.len()).map(Case::Idle));
     }
     cases.extend((0..=ending::S.len()).map(Case::Return));
     for over in [false, true] {
         cases.extend([Case::ReturnBytes(over), Case::Across]);
     }
-    cases.extend((3..15).chain([21]).map(Case::Returns));
+    cases.extend(
+        (3..15)
+            .chain([21])
+            .chain(LISTS.then_some(23))
+            .map(Case::Returns),
+    );
     for (place, pair) in pair::all().iter().enumerate() {
         let idle = [pair.first, pair.second].contains(&21);
         for _ in 0..if idle { 4 } else { 1 } {
@@ -145,6 +167,9 @@ pub fn file(random: &mut Random, case: Case) -> (Vec<u8>, Option<(u8, usize)>) {
         Case::Weighed(weight, number) => (weighed(random, weight, number), None),
         Case::Several(form) => (shuffle::several(random, form), None),
         Case::Shown(..) => (witness::file(random, case), None),
+        Case::Zoned(_) | Case::Breach(_) | Case::Beside(_) | Case::Large(..) => {
+            zoned::file(random, case)
+        }
         Case::Accepted | Case::Full(_) => (accepted(random), Some((0, 0))),
         Case::Any => (any_file(random), None),
     }
@@ -182,7 +207,7 @@ pub fn routes(random: &mut Random, case: Case, rules: &Rules) -> Vec<(u16, u32)>
     match case {
         Case::Stack => return vec![(last, 3_000)],
         // The clause in question is one of the last iso.
-        Case::Again | Case::Crowded | Case::Longer(..) | Case::Weighed(..) => {
+        Case::Again | Case::Crowded | Case::Longer(..) | Case::Weighed(..) | Case::Zoned(_) => {
             return vec![(last, 3_000); 4]
         }
         _ => {}

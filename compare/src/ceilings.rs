@@ -41,9 +41,9 @@ fn is_at(ceiling: Ceiling, rules: &Rules) -> bool {
     }
 }
 
-/// 1 for a left or right line.
+/// 1 for a left or right line, and for one of a list.
 fn side(row: &Row) -> usize {
-    usize::from(matches!(row.fields[0], 2 | 3))
+    usize::from(matches!(row.fields[0], 2 | 3 | 5 | 6))
 }
 
 /// For each T or P line the sum of a weight over its unfolded tree.
@@ -52,8 +52,8 @@ fn sizes(rules: &Rules, letter: u8, weight: fn(&Row) -> usize) -> Vec<usize> {
     for row in rules.rows.iter().filter(|row| row.letter == letter) {
         let [kind, a, b] = row.fields.map(usize::from);
         let below = match (letter, kind) {
-            (b'T', 1 | 2) | (b'P', 4) => sizes[a] + sizes[b],
-            (b'P', 2 | 3) => sizes[a],
+            (b'T', 1 | 2) | (b'P', 4 | 6) => sizes[a] + sizes[b],
+            (b'T', 3) | (b'P', 2 | 3) => sizes[a],
             _ => 0,
         };
         sizes.push(weight(row) + below);

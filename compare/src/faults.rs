@@ -89,7 +89,8 @@ impl Line {
         let count = values(ty);
         let mut letters = Vec::new();
         sample(random, ty, &mut letters);
-        let above = [count, count + 1, VALUES].map(|number| number.min(VALUES) as u32);
+        let above =
+            [count, count.saturating_add(1), VALUES].map(|number| number.min(VALUES) as u32);
         Line {
             place: place as u32,
             wrong_letters: wrong(random, &letters),

@@ -6,7 +6,7 @@ use crate::tally::{names, Tally};
 use apart::areas::Known;
 use apart::generate::pair::Pair;
 use apart::idle;
-use apart::lines::{read, Row};
+use apart::lines::{read, Row, LISTS};
 use apart::Refusal;
 
 /// Columns of the table of idle lines.
@@ -28,6 +28,11 @@ pub const BELOW: usize = 1;
 /// The first number that stands beside 21.
 const FIRST: u8 = 3;
 
+/// The numbers that stand beside 21.
+fn beside() -> impl Iterator<Item = u8> {
+    (FIRST..15).chain(LISTS.then_some(23))
+}
+
 /// What was hit.
 pub struct Grids {
     pub lines: Grid,
@@ -44,7 +49,7 @@ impl Default for Grids {
             "no iso in the file",
             "several idle lines",
         ]);
-        let numbers = (FIRST..15).map(|number| number.to_string()).collect();
+        let numbers = beside().map(|number| number.to_string()).collect();
         // A clause stands below all T and P lines.
         let needed = |row, column| column == ABOVE || row < usize::from(8 - FIRST);
         Grids {
@@ -102,5 +107,6 @@ pub fn count_pair(tally: &mut Tally, pair: Pair) {
         (other, 21) => (other, BELOW),
         _ => return,
     };
-    tally.idle.beside.hit(usize::from(other - FIRST), column);
+    let row = beside().position(|number| number == other);
+    tally.idle.beside.hit(row.expect("one of these"), column);
 }

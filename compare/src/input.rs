@@ -104,6 +104,7 @@ impl Input {
 }
 
 const LETTERS: [&[u8]; 5] = [b"ULRP", b"LR", b"P", b"UP", b"UL\n\0\xff,"];
+const LIST_LETTERS: [&[u8]; 3] = [b"KU", b"KN", b"ULRPKN"];
 
 /// Letters of any length, and bytes that are no letters.
 pub fn letters(random: &mut Random) -> Vec<u8> {
@@ -112,7 +113,10 @@ pub fn letters(random: &mut Random) -> Vec<u8> {
         1..=4 => 120 + random.below(140),
         _ => random.below(12),
     };
-    let letters = *random.pick(&LETTERS);
+    let letters = match random.lists && random.chance(30) {
+        true => *random.pick(&LIST_LETTERS),
+        false => *random.pick(&LETTERS),
+    };
     (0..length).map(|_| *random.pick(letters)).collect()
 }
 

@@ -34,3 +34,4 @@ pub mod trip;
 pub mod variables;
 pub mod witness;
 pub mod work;
+pub mod zoned;

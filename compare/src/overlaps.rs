@@ -5,12 +5,12 @@ use crate::calls::{fit, input, otherwise, short, Calls};
 use crate::grid::Grid;
 use crate::service::{Answer, Call, Services};
 use crate::settings::{GIVEN, HERE, SHORT, THERE};
-use crate::tally::{file_number, names, Tally};
+use crate::tally::{file_number, names, number_rows, Tally, NUMBERS};
 use apart::areas::Known;
 use apart::generate::draft::Draft;
 use apart::generate::idle::pruned;
 use apart::generate::random::Random;
-use apart::lines::NODES;
+use apart::lines::{LISTS, NODES};
 use apart::overlap::{clash, compared, laid};
 use apart::tree::Pattern;
 use apart::Rules;
@@ -52,15 +52,19 @@ impl Grids {
 
 /// The numbers that a file can be given, and 15.
 fn numbers() -> Grid {
-    let rows = (0..22).map(|number| number.to_string()).collect();
+    let rows = number_rows();
     let needed =
         |number, column| (file_number(number) || number == 15) && (number, column) != (1, SHORT);
     Grid::new("rulefile_overlap", rows, GIVEN, needed)
 }
 
+const KINDS: &[&str] = &[
+    "unit", "variable", "left", "right", "pair", "empty", "element",
+];
+
 /// Rows and columns: the kinds of the two nodes of a pair that is compared.
 fn nodes() -> Grid {
-    let kinds = &["unit", "variable", "left", "right", "pair"];
+    let kinds = if LISTS { KINDS } else { &KINDS[..5] };
     Grid::new("node pairs compared", names(kinds), kinds, |_, _| true)
 }
 
@@ -71,6 +75,8 @@ fn kind(pattern: &Pattern) -> usize {
         Pattern::Left(_) => 2,
         Pattern::Right(_) => 3,
         Pattern::Pair(..) => 4,
+        Pattern::Empty => 5,
+        Pattern::Element(..) => 6,
     }
 }
 
@@ -135,7 +141,7 @@ pub fn count(tally: &mut Tally, known: &Known, call: Call, ours: &Answer, theirs
         return;
     };
     tally.overlaps.numbers.hit(ours.number as usize, HERE);
-    if theirs.number < 22 {
+    if (theirs.number as usize) < NUMBERS {
         tally.overlaps.numbers.hit(theirs.number as usize, THERE);
     }
     if ours.number == 1 {
@@ -170,7 +176,7 @@ fn count_pair(tally: &mut Tally, [one, two]: [&Pattern; 2], lines: [u32; 2], our
         tally.overlaps.nodes.hit(kind(one), kind(two));
     }
     let column = usize::from(ours.clash);
-    let leaf = |node: &Pattern| matches!(node, Pattern::Unit | Pattern::Variable(_));
+    let leaf = |node: &Pattern| node.nodes() == 1;
     let variable = |node: &Pattern| matches!(node, Pattern::Variable(_));
     let hidden =
         |[one, two]: &[&Pattern; 2]| (variable(one) && !leaf(two)) || (variable(two) && !leaf(one));
@@ -287,7 +293,7 @@ fn late_file(random: &mut Random) -> Vec<u8> {
     for end in ends {
         draft.push(b'C', &[end, end]);
     }
-    pruned(&draft.bytes())
+    pruned(&draft.bytes(), LISTS)
 }
 
 impl<S: Services> Calls<S> {

@@ -8,7 +8,7 @@ use crate::list_faults;
 use crate::longer;
 use crate::service::{Answer, Call, Services};
 use crate::settings::{any_line, GIVEN, HERE, SHORT, THERE};
-use crate::tally::{names, Tally};
+use crate::tally::{names, number_rows, Tally, NUMBERS};
 use apart::areas::Known;
 use apart::bounds::exact;
 use apart::generate::listed::{self, Flaw, Limit, FLAWS, LINES};
@@ -111,21 +111,16 @@ impl Grids {
     }
 }
 
-/// The numbers up to 21.
-const NUMBERS: usize = 22;
-
-fn rows() -> Vec<String> {
-    (0..NUMBERS).map(|number| number.to_string()).collect()
-}
-
 fn export() -> Grid {
-    let needed = |number, column| !matches!((number, column), (1, SHORT) | (16 | 19 | 20, _));
-    Grid::new("rulefile_export", rows(), GIVEN, needed)
+    let needed =
+        |number, column| !matches!((number, column), (1, SHORT) | (16 | 19 | 20 | 22 | 24, _));
+    Grid::new("rulefile_export", number_rows(), GIVEN, needed)
 }
 
 fn import() -> Grid {
-    let needed = |number, column| !matches!((number, column), (1, SHORT) | (16 | 17 | 19, _));
-    Grid::new("rulefile_import", rows(), GIVEN, needed)
+    let needed =
+        |number, column| !matches!((number, column), (1, SHORT) | (16 | 17 | 19 | 22 | 24, _));
+    Grid::new("rulefile_import", number_rows(), GIVEN, needed)
 }
 
 /// Budgets are of use to the one way alone, lists to the other.
@@ -362,7 +357,15 @@ fn any_budget(random: &mut Random, rules: &Rules, iso: u32) -> u32 {
         return *random.pick(&[0, 1, u32::MAX]);
     }
     let need = exact(&rules.isos)[iso as usize].greatest;
-    let near = [0, 1, need - 1, need, need, need + 1, u32::MAX.into()];
+    let near = [
+        0,
+        1,
+        need.saturating_sub(1),
+        need,
+        need,
+        need + 1,
+        u32::MAX.into(),
+    ];
     affordable(rules, iso, need, *random.pick(&near))
 }
 

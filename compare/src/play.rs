@@ -14,7 +14,8 @@ use apart::areas::{Known, TABLE, WORK};
 use apart::bounds::exact;
 use apart::generate::played::{bad_lines, script, turned, units};
 use apart::generate::random::Random;
-use apart::lines::split;
+use apart::lines::{split, LISTS};
+use apart::recursion::has_lists;
 use apart::units::{play_rules, Lent, LINES, UNITS};
 use apart::{units, Rules};
 
@@ -144,8 +145,8 @@ impl Grids {
     }
 }
 
-/// The numbers up to 22.
-const NUMBERS: usize = 23;
+/// The numbers up to 22, with the lines of request 14 up to 24.
+const NUMBERS: usize = if LISTS { 25 } else { 23 };
 
 fn numbers() -> Grid {
     let rows = (0..NUMBERS).map(|number| number.to_string()).collect();
@@ -438,8 +439,9 @@ impl<S: Services> Calls<S> {
         for (count, lines) in [(UNITS, 40), (UNITS + 1, 40), (3, LINES), (3, LINES + 1)] {
             let mut play = good(random, rules, count, lines);
             play.budget = play.budget.min(5);
-            if let (UNITS, false) = (count, play.types.is_empty()) {
-                play.script.extend(b"S,999,0,0\n");
+            let free = (0..rules.isos.len()).find(|iso| !has_lists(&rules.isos, *iso));
+            if let (UNITS, false, Some(iso)) = (count, play.types.is_empty(), free) {
+                play.script.extend(format!("S,999,{iso},0\n").as_bytes());
             }
             let played = self.play(random, tally, known, &play, kinds);
             self.restored(random, tally, known, &play, &played);

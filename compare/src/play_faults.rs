@@ -166,7 +166,8 @@ impl Faults<'_> {
                 TooMany => play.types[unit] = *random.pick(&lines(rules, false)),
                 _ => {
                     let count = rules.types.get(ty as usize).map_or(1, |ty| values(ty));
-                    let high = [count, count + 1, VALUES].map(|number| number.min(VALUES));
+                    let high =
+                        [count, count.saturating_add(1), VALUES].map(|number| number.min(VALUES));
                     play.settings[unit] = *random.pick(&high) as u32;
                 }
             }

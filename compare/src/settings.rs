@@ -7,7 +7,7 @@ use crate::faults;
 use crate::grid::Grid;
 use crate::input::letters as odd_letters;
 use crate::service::{Answer, Call, Services};
-use crate::tally::{names, Tally};
+use crate::tally::{names, number_rows, Tally, NUMBERS};
 use apart::areas::{Known, RESULT};
 use apart::generate::counted::{self, COUNTS};
 use apart::generate::query::{damage, sample};
@@ -78,16 +78,18 @@ pub fn file(random: &mut Random, place: usize) -> Vec<u8> {
 
 /// The numbers that a file can be given, and 15 to 19.
 fn rows() -> Vec<String> {
-    (0..22).map(|number| number.to_string()).collect()
+    number_rows()
 }
 
 fn number_of() -> Grid {
-    let needed = |number, column| !matches!((number, column), (1, SHORT) | (17 | 19 | 20, _));
+    let needed =
+        |number, column| !matches!((number, column), (1, SHORT) | (17 | 19 | 20 | 22 | 24, _));
     Grid::new("rulefile_number_of", rows(), GIVEN, needed)
 }
 
 fn setting_of() -> Grid {
-    let needed = |number, column| !matches!((number, column), (1, SHORT) | (16 | 17 | 20, _));
+    let needed =
+        |number, column| !matches!((number, column), (1, SHORT) | (16 | 17 | 20 | 22 | 24, _));
     Grid::new("rulefile_setting_of", rows(), GIVEN, needed)
 }
 
@@ -165,7 +167,7 @@ pub fn count(tally: &mut Tally, known: &Known, call: Call, ours: &Answer, theirs
         _ => return,
     };
     grid.hit(ours.number as usize, HERE);
-    if theirs.number < 22 {
+    if (theirs.number as usize) < NUMBERS {
         grid.hit(theirs.number as usize, THERE);
     }
     if ours.number == 1 {

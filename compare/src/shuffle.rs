@@ -13,6 +13,7 @@ use crate::pair_lists::enough;
 use crate::service::{Ask, Call, Services};
 use crate::tally::{names, Tally};
 use crate::trip::Trip;
+use crate::zoned;
 use apart::areas::Known;
 use apart::clause::checked;
 use apart::desk::parts;
@@ -33,6 +34,7 @@ pub const SIDE: usize = 5;
 pub const ELSEWHERE: usize = 6;
 pub const OTHER_LINE: usize = 7;
 pub const OTHER_NUMBER: usize = 8;
+pub const RECURSION: usize = 9;
 
 /// Columns of the table.
 pub const RULES: usize = 0;
@@ -55,7 +57,7 @@ fn needed(row: usize, column: usize) -> bool {
 }
 
 pub fn grid() -> Grid {
-    let rows = names(&[
+    let mut rows = names(&[
         "accepted",
         "accepted, let steps moved",
         "accepted, several isos",
@@ -66,6 +68,9 @@ pub fn grid() -> Grid {
         "refused, at another line",
         "refused, another number",
     ]);
+    if apart::lines::LISTS {
+        rows.push("refused, 23".to_string());
+    }
     let columns = &[
         "rules", "check", "run", "sheet", "turn", "turned", "settings", "bounds", "lists",
     ];
@@ -172,6 +177,7 @@ pub fn kind(file: &[u8], refusal: Refusal) -> usize {
         3..=7 => lines_at_fault(file, refusal.line),
         8..=10 => clauses_at_fault(file, refusal.line),
         11..=14 => return SIDE,
+        23 => return RECURSION,
         _ => return ELSEWHERE,
     };
     match clauses {
@@ -210,7 +216,7 @@ fn clauses_at_fault(file: &[u8], line: usize) -> Option<bool> {
     let place = isos.iter().rposition(|iso| iso.line < line)?;
     let iso = &isos[place];
     let faults = iso.clauses.iter();
-    let faults = faults.filter_map(|clause| checked(clause, iso, &isos[..place]).err());
+    let faults = faults.filter_map(|clause| checked(clause, iso, &isos[..=place]).err());
     let mut faults: Vec<u8> = faults.collect();
     faults.dedup();
     Some(faults.len() == 1)
@@ -221,7 +227,7 @@ pub fn may_be(row: usize, first: (u32, usize), other: (u32, usize)) -> bool {
     let clause = |number| (8..=10).contains(&number);
     let form = |number| (3..=7).contains(&number);
     match row {
-        ONE => first.0 == other.0,
+        ONE | RECURSION => first.0 == other.0,
         SEVERAL => clause(first.0) && clause(other.0) || form(first.0) && form(other.0),
         _ => first == other,
     }
@@ -246,6 +252,7 @@ impl<P: Program, S: Services> Block<P, S> {
         let files = [known, &other];
         self.check_shuffled(random, files, &rows);
         self.print_shuffled(files, &input.bytes, &rows)?;
+        zoned::count(&mut self.tally, known, zoned::SHUFFLED);
         if known.checked.is_ok() && random.chance(DEEP) {
             let asks = asks(input, trips);
             for _ in 0..2 {

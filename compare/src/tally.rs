@@ -14,8 +14,10 @@ use crate::shuffle;
 use crate::sizes;
 use crate::variables;
 use crate::witness;
+use crate::zoned;
 use apart::generate::ceiling::CEILINGS;
 use apart::generate::pair;
+use apart::lines::LISTS;
 
 /// How many mismatches are shown.
 const SHOWN: usize = 5;
@@ -79,6 +81,7 @@ pub struct Tally {
     pub plays: play::Grids,
     pub idle: idle::Grids,
     pub longer: longer::Grids,
+    pub zoned: zoned::Grids,
     pub sizes: Grid,
     pub ceilings: Grid,
     pub sheets: Grid,
@@ -94,18 +97,26 @@ pub fn names(names: &[&str]) -> Vec<String> {
     names.iter().map(|name| name.to_string()).collect()
 }
 
-/// Whether Check can give the number: up to 14, and 21.
-pub fn file_number(number: usize) -> bool {
-    number < 15 || number == 21
+/// The numbers up to 21; with the lines of request 14 up to 24.
+pub const NUMBERS: usize = if LISTS { 25 } else { 22 };
+
+/// Their rows.
+pub fn number_rows() -> Vec<String> {
+    (0..NUMBERS).map(|number| number.to_string()).collect()
 }
 
-/// Refusal 1 is given through the library alone; 15 to 17 to queries and runs;
-/// a query of another form is refused with 3, in a sheet too.
+/// Whether Check can give the number: up to 14, 21 and 23.
+pub fn file_number(number: usize) -> bool {
+    number < 15 || number == 21 || number == 23
+}
+
+/// Refusal 1 is given through the library alone; 15 to 17 and 24 to queries and
+/// runs; a query of another form is refused with 3, in a sheet too.
 fn number_needed(number: usize, column: usize) -> bool {
     match column {
-        _ if matches!(number, 18..=20) => false,
+        _ if matches!(number, 18..=20 | 22) => false,
         FILE => number != 1 && file_number(number),
-        QUERY | IN_SHEET => matches!(number, 0 | 3 | 15..=17),
+        QUERY | IN_SHEET => matches!(number, 0 | 3 | 15..=17 | 24),
         CHECK | TURN | BY_SHEET => file_number(number),
         RUN => true,
         _ => number != 1,
@@ -122,13 +133,13 @@ fn law_needed(law: usize, column: usize) -> bool {
     }
 }
 
-/// A value of more than 127 letters is of no type.
+/// A value of more than 127 letters is of no type without lists.
 fn ceiling_needed(ceiling: usize, column: usize) -> bool {
-    ceiling != LETTERS || column == 0
+    ceiling != LETTERS || column == 0 || LISTS
 }
 
 fn numbers() -> Grid {
-    let rows = (0..22).map(|number| number.to_string()).collect();
+    let rows = number_rows();
     let columns = &[
         "files", "queries", "check", "turn", "run", "sheet", "in sheet", "if short",
     ];
@@ -234,6 +245,7 @@ impl Default for Tally {
             plays: play::Grids::default(),
             idle: idle::Grids::default(),
             longer: longer::Grids::default(),
+            zoned: zoned::Grids::default(),
             sizes: sizes::grid(),
             ceilings: ceilings(),
             sheets: sheets::grid(),
@@ -269,6 +281,7 @@ impl Tally {
         self.plays.add(&other.plays);
         self.idle.add(&other.idle);
         self.longer.add(&other.longer);
+        self.zoned.add(&other.zoned);
         self.sizes.add(&other.sizes);
         self.ceilings.add(&other.ceilings);
         self.sheets.add(&other.sheets);
@@ -318,6 +331,7 @@ impl Tally {
         let others = others.chain(self.witness.all());
         let others = others.chain(self.pair_lists.all()).chain(self.plays.all());
         let others = others.chain(self.idle.all()).chain(self.longer.all());
+        let others = others.chain(self.zoned.all());
         own.into_iter().chain(others).collect()
     }
 

@@ -6,15 +6,15 @@ use crate::case::Case;
 use crate::grid::Grid;
 use crate::service::{Answer, Call, Services};
 use crate::settings::{GIVEN, HERE, SHORT, THERE};
-use crate::tally::{file_number, names, Tally};
+use crate::tally::{file_number, names, number_rows, Tally, NUMBERS};
 use apart::areas::{Known, RESULT};
 use apart::cover::orthogonal;
 use apart::generate::random::Random;
 use apart::generate::shown::{self, forms};
-use apart::lines::{Iso, CLAUSES};
+use apart::lines::{Iso, CLAUSES, LISTS};
 use apart::numbering::values;
 use apart::tree::{Pattern, Value};
-use apart::witness::{refused_iso, Shown, Side};
+use apart::witness::{refused_iso, written, Shown, Side};
 use apart::Refusal;
 
 /// Files of other refusals, or of none, are asked in so many of a hundred cases.
@@ -38,6 +38,15 @@ const OTHER_TYPE: usize = 10;
 const OTHER_SIDE: usize = 11;
 const LATER_ISO: usize = 12;
 const ANOTHER_ISO: usize = 13;
+/// Those of types that hold lists follow.
+const OF_LISTS: usize = 14;
+const BY_SHORT: usize = 15;
+const LETTERS_126: usize = 16;
+const LETTERS_127: usize = 17;
+const OVER_127: usize = 18;
+
+/// Values of lists of at most so many letters are all tried.
+const FEW_LETTERS: usize = 11;
 
 /// What was hit.
 pub struct Grids {
@@ -67,8 +76,9 @@ impl Grids {
 
 /// The numbers that a file can be given.
 fn numbers() -> Grid {
-    let rows = (0..22).map(|number| number.to_string()).collect();
-    let needed = |number, column| file_number(number) && (number, column) != (1, SHORT);
+    let rows = number_rows();
+    let needed =
+        |number, column| (file_number(number) || number == 24) && (number, column) != (1, SHORT);
     Grid::new("rulefile_witness", rows, GIVEN, needed)
 }
 
@@ -86,7 +96,7 @@ fn needed(row: usize, column: usize) -> bool {
 }
 
 fn kinds() -> Grid {
-    let rows = names(&[
+    let mut rows = names(&[
         "held to brute force",
         "held to sets of patterns alone",
         "1 of over 1,000,000 values",
@@ -102,6 +112,15 @@ fn kinds() -> Grid {
         "an accepted iso before it",
         "another iso refused behind it",
     ]);
+    if LISTS {
+        rows.extend(names(&[
+            "of a type that holds lists",
+            "held to all short values",
+            "of lists, 126 letters",
+            "of lists, 127 letters",
+            "of lists, 128 letters: 24",
+        ]));
+    }
     let columns = &["11", "12", "13", "14"];
     Grid::new("settings that show a fault", rows, columns, needed)
 }
@@ -132,7 +151,7 @@ pub fn count(tally: &mut Tally, known: &Known, call: Call, ours: &Answer, theirs
     }
     let grid = &mut tally.witness.numbers;
     grid.hit(ours.number as usize, HERE);
-    if theirs.number < 22 {
+    if (theirs.number as usize) < NUMBERS {
         grid.hit(theirs.number as usize, THERE);
     }
     if ours.number == 1 {
@@ -165,6 +184,9 @@ impl<S: Services> Calls<S> {
 pub fn hold(tally: &mut Tally, known: &Known, refusal: Refusal, letters: &[u8]) {
     let iso = refused_iso(known.file, refusal).expect("the refusal names an iso");
     let side = Side::refused(&iso, refusal.number);
+    if side.ty.holds_list() {
+        return hold_lists(tally, known, (&side, refusal), letters);
+    }
     let shown = side.by_sets();
     if let Some(what) = broken(&side, shown.as_ref(), letters) {
         tally.mismatch(what, input(known.file, Call::Witness));
@@ -189,13 +211,54 @@ pub fn hold(tally: &mut Tally, known: &Known, refusal: Refusal, letters: &[u8]) 
     }
 }
 
+/// The same of a type that holds lists: by columns, and by all short values where
+/// there are few of them.
+fn hold_lists(tally: &mut Tally, known: &Known, (side, refusal): (&Side, Refusal), given: &[u8]) {
+    let least = side.by_columns().unwrap_or_default();
+    let short = least.len() <= FEW_LETTERS && written(side.ty, FEW_LETTERS).len() < 2_000;
+    let wanted = if least.len() > RESULT {
+        &[]
+    } else {
+        &least[..]
+    };
+    let value = Value::read(&least, side.ty).filter(|value| side.shown_by(value));
+    let forced = !short || by_short(side).as_ref() == Some(&least);
+    if given != wanted || value.is_none() || !forced {
+        let [least, given] = [&least[..], given].map(String::from_utf8_lossy);
+        let text = format!("{given} shows a fault of lists, by columns {least}");
+        tally.mismatch(text, input(known.file, Call::Witness));
+    }
+    let column = usize::from(refusal.number - FIRST);
+    for (row, is) in [
+        (OF_LISTS, true),
+        (BY_SHORT, short),
+        (LETTERS_126, least.len() == 126),
+        (LETTERS_127, least.len() == RESULT),
+        (OVER_127, least.len() == RESULT + 1),
+    ] {
+        if is {
+            tally.witness.kinds.hit(row, column);
+        }
+    }
+}
+
+/// The least of all short values that show the fault.
+fn by_short(side: &Side) -> Option<Vec<u8>> {
+    let shows = |letters: &Vec<u8>| {
+        let value = Value::read(letters, side.ty);
+        value.is_some_and(|value| side.shown_by(&value))
+    };
+    let shown = written(side.ty, FEW_LETTERS).into_iter().filter(shows);
+    shown.min_by_key(|letters| (letters.len(), letters.clone()))
+}
+
 /// What a witness and its side are like.
 fn like(iso: &Iso, side: &Side, refusal: Refusal, shown: &Shown) -> [(usize, bool); 10] {
     let value = Value::read(&shown.letters, side.ty).expect("a value of the type");
     let matching = |pattern: &&&Pattern| apart::witness::matches(pattern, &value);
     // The right side for 11 and 13; for 12 and 14 the left one has no such fault.
     let other = Side::refused(iso, refusal.number + refusal.number % 2);
-    let other = other.by_sets().map(|other| other.letters);
+    let other = other.least();
     [
         (
             ONE_OF_A_MILLION,

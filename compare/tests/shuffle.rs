@@ -95,7 +95,7 @@ fn refused_files_are_told_apart() {
         ("C,1,1\nC,1,2\n", (11, 7), SIDE),
         ("C,1,9\nC,1,1\n", (6, 8), ONE),
         ("C,1,9\nC,1\n", (6, 8), SEVERAL),
-        ("C,1,9\nC,1,1\nL,3,0,3\n", (6, 8), SEVERAL),
+        ("C,1,9\nC,1,1\nL,3,9,3\n", (6, 8), SEVERAL),
         ("L,3,0,3\nC,1,1\nC,2,2\n", (4, 8), ELSEWHERE),
         ("C,1,1\nC,2,2\nP,0,0,0\n", (4, 10), ELSEWHERE),
     ];

@@ -58,7 +58,7 @@ fn files_are_counted_by_their_clauses() {
             vec![slip(Slip::UsedByLetAndRight)],
         ),
         (s_with("L,3,0,3", "C,5,1"), vec![slip(Slip::LiveFromLet)]),
-        (s_with("L,3,1,3", "C,5,5"), vec![]), // another refusal
+        (s_with("L,3,2,3", "C,5,5"), vec![]), // another refusal
         (s_with("L,4,0,3", "C,3,4"), vec![]), // 10 for another reason
     ];
     for (file, wanted) in files {

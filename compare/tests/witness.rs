@@ -148,14 +148,19 @@ fn files_are_of_their_forms() {
         assert_eq!(refusal.number, number);
         let iso = refused_iso(&file, refusal).expect("11 to 14");
         let side = Side::refused(&iso, number);
-        let shown = side.by_sets().expect("a value");
+        let letters = side.least().expect("a value").len();
         let right = match form {
-            Form::One => shown.all == 1 && values(side.ty) > 1_000_000,
+            Form::One => {
+                let shown = side.by_sets().expect("a value");
+                shown.all == 1 && values(side.ty) > 1_000_000
+            }
             Form::Several => true,
             Form::Sparse => values(side.ty) > 10,
             Form::Full => iso.clauses.len() == CLAUSES,
-            Form::Longest => shown.letters.len() == RESULT - usize::from(number == 14),
+            Form::Longest => letters == RESULT - usize::from(number == 14),
             Form::Bare => iso.clauses.is_empty(),
+            Form::Lists => side.ty.holds_list(),
+            Form::Letters(size) => letters == size,
         };
         assert!(right, "{case:?}");
     }

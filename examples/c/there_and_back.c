@@ -37,6 +37,7 @@ static const char *word(uint32_t number)
         "bad name", "ceiling", "variable", "let shape", "type", "overlap left",
         "overlap right", "gap left", "gap right", "no iso", "no value", "spent",
         "too many values", "number too high", "bad list", "idle line",
+        "bad script", "recursion", "too large",
     };
     return number < sizeof words / sizeof words[0] ? words[number] : "unknown";
 }

@@ -16,10 +16,11 @@ import showing
 import streams
 import usual
 import versions
+import zoned
 
 someone = person.Person()
 try:
-    for tests in (usual, lasting, comparing, looking, forms, showing, readable, naming, streams, noise, versions, first, documents):
+    for tests in (usual, lasting, comparing, looking, zoned, forms, showing, readable, naming, streams, noise, versions, first, documents):
         tests.run(someone)
 finally:
     someone.leave()

@@ -47,15 +47,15 @@ def table(p):
     """Each row is complete in itself, for three readers, and says what the command says."""
     rows = re.findall(r"^\| (\d+) \| (.*) \|$", (TREE / "docs/REFUSALS.md").read_text(), re.M)
     cells = [[cell.strip() for cell in row.split(" | ")] for _, row in rows]
-    p.same("REFUSALS: rows", list(range(1, 23)), [int(number) for number, _ in rows])
-    p.same("REFUSALS: word, three texts and examples", [5] * 22, [len(row) for row in cells])
+    p.same("REFUSALS: rows", list(range(1, 25)), [int(number) for number, _ in rows])
+    p.same("REFUSALS: word, three texts and examples", [5] * 24, [len(row) for row in cells])
     texts = [text for row in cells for text in row[1:4]]
     p.expect("REFUSALS: each text is there", all(len(text) > 20 for text in texts), [text for text in texts if len(text) <= 20])
     p.same("REFUSALS: no text stands for another", len(texts), len(set(texts)))
     p.same("REFUSALS: none says that it is like another", [], [text for text in texts if "the same" in text or "see " in text or "above row" in text])
     p.same("REFUSALS: what happened is one thing", [], [row[1] for row in cells if len(row[1]) > 110 or row[1].count(";") > 1])
     suppliers = [int(number) for (number, _), row in zip(rows, cells) if row[2].startswith("ask ")]
-    p.same("REFUSALS: what there is to ask", True, {*range(1, 15), 20, 21, 22} <= set(suppliers))
+    p.same("REFUSALS: what there is to ask", True, {*range(1, 15), 20, 21, 22, 23} <= set(suppliers))
     for name, number in (("07-ceiling", 7), ("10-type", 10), ("12-overlap-right", 12)):
         words = said(p.call("check", f"examples/refusals/{name}.in")[1])
         p.same(f"REFUSALS: {number} in these words", cells[number - 1][1:3], [words["what happened"], words["what to do"]])
@@ -71,8 +71,8 @@ def lines(p):
     looks(p, "a P line behind an iso", rules(good, "P,0,0,0"), "4,9", "a P line stands behind an iso, which begins at line 6: all P lines come before the first I line")
     looks(p, "a clause without an iso", rules("T,0,0,0 P,0,0,0 C,0,0"), "4,3", "a C line stands before any I line: a clause belongs to the iso above it")
     looks(p, "a let step without a clause", rules("T,0,0,0 P,0,0,0 I,0,0 L,0,0,0"), "4,4", "an L line has no C line above it: a let step belongs to the clause above it")
-    looks(p, "a kind of T", rules("T,3,0,0"), "5,1", "there is no kind 3 of T lines: 0 is the unit, 1 a sum, 2 a product")
-    looks(p, "a kind of P", rules("T,0,0,0 P,65535,0,0"), "5,2", "there is no kind 65535 of P lines: 0 is the unit, 1 a variable, 2 left, 3 right, 4 a pair")
+    looks(p, "a kind of T", rules("T,4,0,0"), "5,1", "there is no kind 4 of T lines: 0 is the unit, 1 a sum, 2 a product, 3 a list")
+    looks(p, "a kind of P", rules("T,0,0,0 P,65535,0,0"), "5,2", "there is no kind 65535 of P lines: 0 is the unit, 1 a variable, 2 left, 3 right, 4 a pair, 5 the empty list, 6 an element before a list")
     looks(p, "a unit's second number", rules("T,0,7,0"), "5,1", "a unit has 0 as its second number, here it is 7")
     looks(p, "a unit's third number", rules("P,0,0,8"), "5,1", "a unit has 0 as its third number, here it is 8")
     looks(p, "a variable's third number", rules("P,1,31,9"), "5,1", "a variable has 0 as its third number, here it is 9")
@@ -86,8 +86,7 @@ def lines(p):
     looks(p, "a clause names no pattern", rules("T,0,0,0 P,0,0,0 I,0,0 C,0,9"), "6,4", "it names P9; above it there is 1 P line, P0")
     two = "T,0,0,0 P,0,0,0 I,0,0 C,0,0 I,0,0 C,0,0"
     looks(p, "a let step names no pattern", rules(two, "L,0,0,3"), "6,7", "it names P3; above it there is 1 P line, P0")
-    looks(p, "a let step names its own iso", rules(two, "L,0,1,0"), "6,7", "it names iso 1, which is its own; a let step names an earlier one")
-    looks(p, "a let step names a later iso", rules(two, "L,0,5,0"), "6,7", "it names iso 5; earlier than its own there is 1 iso, iso 0")
+    looks(p, "a let step names a later iso", rules(two, "L,0,5,0"), "6,7", "it names iso 5; up to its own there is 2 isos, iso 0 to iso 1")
 
 
 def ceilings(p):

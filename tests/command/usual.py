@@ -232,8 +232,10 @@ def witnesses(p):
         file = rules_of(p, example)
         out = p.gives(f"witness of {example.name}", ["witness", file], 1)
         p.same(f"witness of {example.name}: setting", expected, out.splitlines()[0])
-        reads = in_numbers(p, file, expected)
-        line = f"  a setting: {reads}, in letters {letters}, {words[int(number)]}\n"
+        if number == "24":
+            line = "  a setting: the shortest one, which no clause matches, has over 127 letters, and is not shown\n"
+        else:
+            line = f"  a setting: {in_numbers(p, file, expected)}, in letters {letters}, {words[int(number)]}\n"
         p.expect(f"witness of {example.name}: words", line in out, out)
         p.expect(f"check of {example.name}: the same setting", line in p.call("check", file)[1])
     out = p.gives("witness of a bad line", ["witness", p.file("w.rules", "x\n")], 1)

@@ -85,16 +85,17 @@ static const struct {
     {"rulefile_run", run},
     {"rulefile_run", run_back},
     {"rulefile_sheet", sheet},
+    {"rulefile_witness", witness},
     {"rulefile_number_of", number_of},
     {"rulefile_setting_of", setting_of},
     {"rulefile_overlap", overlap},
     {"rulefile_bounds", bounds},
-    {"rulefile_witness", witness},
     {"rulefile_export", export_list},
     {"rulefile_import", import_list},
     {"rulefile_play", play},
 };
-enum { CALLS = sizeof calls / sizeof calls[0] };
+/* Those that a file with lists answers stand first. */
+enum { CALLS = sizeof calls / sizeof calls[0], RUNS = 7 };
 
 static void *call(void *given)
 {
@@ -250,6 +251,27 @@ static void many(bool first)
     add_letters(PAIRS, first);
 }
 
+/*
+ * Request 14: lists nested in lists, 127 nodes; an iso that calls itself on the rest of a list, and a list for which 40
+ * calls are nested; and one that without its last clause leaves out what is not empty.
+ */
+static void zones(void)
+{
+    enum { LISTS = 126, ELEMENTS = 39 };
+    line("T,0,0,0\n", 0, 0, 0);
+    for (int i = 0; i < LISTS; i++)
+        line("T,3,%d,0\n", i, 0, 0);
+    line("P,1,0,0\nP,1,1,0\nP,1,2,0\nP,5,0,0\nP,6,0,1\nP,6,0,2\n", 0, 0, 0);
+    line("I,%d,%d\nC,3,3\nC,4,5\nL,2,0,1\n", LISTS, LISTS, 0);
+    line("I,%d,%d\nC,3,3\n", LISTS, LISTS, 0);
+    gap = length;
+    line("C,4,4\n", 0, 0, 0);
+    last_iso = 0;
+    for (int i = 0; i < ELEMENTS; i++)
+        strcat(value, "KN");
+    strcat(value, "N");
+}
+
 static size_t most[CALLS];
 
 /* Asks for the last iso with the value, there and back, and for a list of every setting to itself. */
@@ -262,10 +284,11 @@ static void ask(void)
         at += (size_t)snprintf((char *)pairs + at, sizeof pairs - at, "%d,%d\n", i, i);
 }
 
-static void measure(void)
+/* The first so many calls. */
+static void measure(size_t count)
 {
     ask();
-    for (size_t i = 0; i < CALLS; i++) {
+    for (size_t i = 0; i < count; i++) {
         size_t bytes = used(i);
         if (bytes > most[i])
             most[i] = bytes;
@@ -279,19 +302,23 @@ int main(void)
     for (int first = 0; first < 2; first++) {
         nested(first);
         isos(0, ISOS, true);
-        measure();
+        measure(CALLS);
         sums(first);
         isos(0, ISOS, true);
-        measure();
+        measure(CALLS);
         nested(first);
         isos(0, ISOS, false);
-        measure();
+        measure(CALLS);
         variable(first);
         isos(0, ISOS, true);
-        measure();
+        measure(CALLS);
         many(first);
-        measure();
+        measure(CALLS);
     }
+    /* what numbers settings refuses lists with 18 */
+    settings = 0;
+    zones();
+    measure(RUNS);
     int over = 0;
     for (size_t i = 1; i < CALLS; i++) {
         size_t bytes = most[i] - most[0];

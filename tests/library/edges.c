@@ -266,7 +266,7 @@ struct lengths {
     size_t tally;
 };
 
-enum { LAST_NUMBER = RULEFILE_BAD_SCRIPT };
+enum { LAST_NUMBER = RULEFILE_TOO_LARGE };
 
 static const struct bytes nothing = {NULL, 0};
 static bool hit[SERVICES][LAST_NUMBER + 1];
@@ -487,9 +487,9 @@ static struct answer make_call(const struct call *call, const struct area *file,
 static uint16_t size_of(const uint16_t *row, const uint16_t *first)
 {
     bool type = row[0] == 'T';
-    if ((!type && row[0] != 'P') || row[1] == 0 || (!type && row[1] == 1))
+    if ((!type && row[0] != 'P') || row[1] == 0 || (!type && (row[1] == 1 || row[1] == 5)))
         return type || row[0] == 'P';
-    bool two = type || row[1] == 4;
+    bool two = type ? row[1] != 3 : row[1] == 4 || row[1] == 6;
     return (uint16_t)(1 + first[5 * row[2] + 4] + (two ? first[5 * row[3] + 4] : 0));
 }
 
@@ -531,11 +531,14 @@ static void put_replies(const struct sheet *sheet, uint32_t *three, uint8_t *pla
     }
 }
 
-/* Whether a call with this answer has accepted its file: the ceilings of an import name no line of it. */
+/* Whether a call with this answer has accepted its file: the ceilings of an import name no line of it, and a witness
+ * of too many letters is of a refused one. */
 static bool accepted_file(const struct call *call, struct answer answer)
 {
     bool of_import = call->service == SERVICE_IMPORT && answer.number == RULEFILE_CEILING && answer.line == 0;
-    bool of_call = answer.number >= RULEFILE_NO_ISO && answer.number != RULEFILE_IDLE_LINE;
+    bool of_file = answer.number == RULEFILE_IDLE_LINE || answer.number == RULEFILE_RECURSION ||
+                   (call->service == SERVICE_WITNESS && answer.number == RULEFILE_TOO_LARGE);
+    bool of_call = answer.number >= RULEFILE_NO_ISO && !of_file;
     return answer.number == RULEFILE_ACCEPTED || of_call || of_import;
 }
 
@@ -712,6 +715,34 @@ static void try_call(int at, const struct setting *setting, const struct call *c
     "Q,1,0,9,PLURU\nQ,1,1,9,PLULU\nQ,1,0,2,PRULU\nQ,1,0,2,PLURU\n"                                           \
     "Q,1,0,1,PLURU\nQ,2,0,9,U\nQ,1,0,9,PLU\n"
 
+/* Zones of a bit each: iso 0 exchanges them all, iso 1 exchanges one bit. */
+#define ZONES_TREES                                                                                          \
+    "T,0,0,0\nT,1,0,0\nT,3,1,0\nP,0,0,0\nP,2,0,0\nP,3,0,0\nP,5,0,0\nP,1,0,0\nP,1,1,0\n"                      \
+    "P,6,1,4\nP,6,2,4\nP,6,1,5\nP,6,2,5\n"
+#define ZONES ZONES_TREES "I,2,2\nC,3,3\nC,6,9\nL,5,0,4\nC,7,8\nL,5,0,4\nI,1,1\nC,1,2\nC,2,1\n"
+#define ZONES_TURNED ZONES_TREES "I,2,2\nC,3,3\nC,9,6\nL,4,0,5\nC,8,7\nL,4,0,5\nI,1,1\nC,2,1\nC,1,2\n"
+/* One that calls itself twice; P line 9 is named behind it. */
+#define ZONES_TWICE                                                                                          \
+    ZONES_TREES "I,2,2\nC,3,3\nC,6,6\nL,5,0,4\nL,4,0,5\nC,7,8\nL,5,0,4\nI,1,1\nC,9,2\nC,2,1\n"
+
+/* Each unit of a list becomes a pair of units. */
+#define PAIRED                                                                                               \
+    "T,0,0,0\nT,3,0,0\nT,2,0,0\nT,3,2,0\nP,0,0,0\nP,5,0,0\nP,1,0,0\nP,1,1,0\nP,6,0,2\nP,4,0,0\nP,6,5,3\n"    \
+    "I,1,3\nC,1,1\nC,4,6\nL,3,0,2\n"
+
+/* Ten zones left, ten right; 31 units, and 31 pairs of them. */
+#define LEFTS "KLUKLUKLUKLUKLUKLUKLUKLUKLUKLU"
+#define RIGHTS "KRUKRUKRUKRUKRUKRUKRUKRUKRUKRU"
+#define UNITS_LISTED "KUKUKUKUKUKUKUKUKUKUKUKUKUKUKUKUKUKUKUKUKUKUKUKUKUKUKUKUKUKUKU"
+#define PAIRS_LISTED                                                                                         \
+    "KPUUKPUUKPUUKPUUKPUUKPUUKPUUKPUUKPUUKPUUKPUUKPUUKPUUKPUUKPUUKPUU"                                         \
+    "KPUUKPUUKPUUKPUUKPUUKPUUKPUUKPUUKPUUKPUUKPUUKPUUKPUUKPUUKPUU"
+
+/* Lists of values of 31 or of 63 letters, of which those of two elements are not matched. */
+#define LISTS_OF(types, number, list)                                                                        \
+    "T,0,0,0\nT,2,0,0\nT,2,1,1\nT,2,2,2\nT,2,3,3\n" types "T,3," number ",0\nP,1,0,0\nP,5,0,0\nP,6,0,1\n"      \
+    "I," list "," list "\nC,1,1\nC,2,2\n"
+
 struct file_case {
     int at;
     uint32_t number;
@@ -727,7 +758,8 @@ static const struct file_case file_cases[] = {
     {__LINE__, 0, 0, TEXT(S_TURNED), TEXT(S)},
     {__LINE__, 21, 11, TEXT(S_TO_16 "L,4,0,3\n"), TEXT("")},
     {__LINE__, 11, 15, TEXT(S "C,7,7\n"), TEXT("")},
-    {__LINE__, 6, 17, TEXT(S_TO_16 "L,4,1,3\nC,7,7\n"), TEXT("")},
+    {__LINE__, 10, 16, TEXT(S_TO_16 "L,4,1,3\nC,7,7\n"), TEXT("")}, /* request 14 */
+    {__LINE__, 6, 17, TEXT(S_TO_16 "L,4,2,3\nC,7,7\n"), TEXT("")},
     {__LINE__, 8, 16, TEXT(S_TO_16 "C,7,7\n"), TEXT("")},
     {__LINE__, 8, 16, TEXT(S_TO_16 "L,4,0,1\nC,7,7\n"), TEXT("")},
     {__LINE__, 14, 5, TEXT("T,0,0,0\nT,1,0,0\nP,0,0,0\nP,2,0,0\nI,0,1\nC,0,1\n"), TEXT("")},
@@ -739,6 +771,17 @@ static const struct file_case file_cases[] = {
     {__LINE__, 0, 0, TEXT(STEPS_TURNED), TEXT(STEPS)},
     {__LINE__, 0, 0, TEXT(WIDER), TEXT(WIDER_TURNED)},
     {__LINE__, 0, 0, TEXT(WIDER_TURNED), TEXT(WIDER)},
+    /* lists and calls of the own iso */
+    {__LINE__, 0, 0, TEXT(ZONES), TEXT(ZONES_TURNED)},
+    {__LINE__, 0, 0, TEXT(ZONES_TURNED), TEXT(ZONES)},
+    {__LINE__, 23, 16, TEXT(ZONES_TWICE), TEXT("")},
+    {__LINE__, 23, 3, TEXT("T,0,0,0\nP,0,0,0\nI,0,0\nC,0,0\nL,0,0,0\n"), TEXT("")},
+    {__LINE__, 5, 2, TEXT("T,0,0,0\nT,3,0,1\n"), TEXT("")},
+    {__LINE__, 6, 2, TEXT("T,0,0,0\nT,3,1,0\n"), TEXT("")},
+    {__LINE__, 5, 1, TEXT("T,4,0,0\n"), TEXT("")},
+    {__LINE__, 5, 1, TEXT("P,5,1,0\n"), TEXT("")},
+    {__LINE__, 6, 1, TEXT("P,6,0,0\n"), TEXT("")},
+    {__LINE__, 5, 1, TEXT("P,7,0,0\n"), TEXT("")},
     /* a file for each refusal from 3 on */
     {__LINE__, 3, 2, TEXT("T,0,0,0\nT,01,0,0\n"), TEXT("")},
     {__LINE__, 4, 3, TEXT("T,0,0,0\nP,0,0,0\nT,0,0,0\n"), TEXT("")},
@@ -876,7 +919,34 @@ static const struct query_case query_cases[] = {
     {__LINE__, TEXT(S), 0, false, 9, TEXT("\0U"), 16, 0, TEXT("")},
     {__LINE__, TEXT(S), 0, false, 9, TEXT("L\377"), 16, 0, TEXT("")},
     {__LINE__, TEXT(S), 1, false, 9, TEXT("PLU\0U"), 16, 0, TEXT("")},
+    /* lists: each zone and the end of the list is an application */
+    {__LINE__, TEXT(ZONES), 0, false, 3, TEXT("KLUKRUN"), 0, 3, TEXT("KRUKLUN")},
+    {__LINE__, TEXT(ZONES), 0, true, 3, TEXT("KRUKLUN"), 0, 3, TEXT("KLUKRUN")},
+    {__LINE__, TEXT(ZONES_TURNED), 0, false, 3, TEXT("KRUKLUN"), 0, 3, TEXT("KLUKRUN")},
+    {__LINE__, TEXT(ZONES), 0, false, 2, TEXT("KLUKRUN"), 17, 0, TEXT("")},
+    {__LINE__, TEXT(ZONES), 0, false, 1, TEXT("N"), 0, 1, TEXT("N")},
+    {__LINE__, TEXT(ZONES), 0, false, 9, TEXT("KLU"), 16, 0, TEXT("")},
+    {__LINE__, TEXT(ZONES), 0, false, 9, TEXT("KN"), 16, 0, TEXT("")},
+    {__LINE__, TEXT(ZONES), 0, false, 9, TEXT("NN"), 16, 0, TEXT("")},
+    {__LINE__, TEXT(ZONES), 0, false, 9, TEXT("kluN"), 16, 0, TEXT("")},
+    {__LINE__, TEXT(ZONES), 1, false, 9, TEXT("N"), 16, 0, TEXT("")},
+    /* 40 calls nested, 41: 24 by the last, and 17 below it */
+    {__LINE__, TEXT(ZONES), 0, false, 40, TEXT(LEFTS LEFTS LEFTS "KLUKLUKLUKLUKLUKLUKLUKLUKLU" "N"), 0, 40,
+     TEXT(RIGHTS RIGHTS RIGHTS "KRUKRUKRUKRUKRUKRUKRUKRUKRU" "N")},
+    {__LINE__, TEXT(ZONES), 0, false, 41, TEXT(LEFTS LEFTS LEFTS LEFTS "N"), 24, 0, TEXT("")},
+    {__LINE__, TEXT(ZONES), 0, true, 4294967295, TEXT(LEFTS LEFTS LEFTS LEFTS "N"), 24, 0, TEXT("")},
+    {__LINE__, TEXT(ZONES), 0, false, 40, TEXT(LEFTS LEFTS LEFTS LEFTS "N"), 17, 0, TEXT("")},
+    /* an argument of over 127 letters, and a result: 125 letters are given, 129 not */
+    {__LINE__, TEXT(ZONES), 0, false, 1, TEXT(LEFTS LEFTS LEFTS LEFTS "KLUKLUKLU" "N"), 24, 0, TEXT("")},
+    {__LINE__, TEXT(ZONES), 0, false, 0, TEXT(LEFTS LEFTS LEFTS LEFTS "KLUKLUKLU" "N"), 17, 0, TEXT("")},
+    {__LINE__, TEXT(ZONES), 0, false, 0, TEXT(LEFTS LEFTS LEFTS LEFTS "KLUKLUKLU"), 16, 0, TEXT("")},
+    {__LINE__, TEXT(PAIRED), 0, false, 32, TEXT(UNITS_LISTED "N"), 0, 32, TEXT(PAIRS_LISTED "N")},
+    {__LINE__, TEXT(PAIRED), 0, true, 32, TEXT(PAIRS_LISTED "N"), 0, 32, TEXT(UNITS_LISTED "N")},
+    {__LINE__, TEXT(PAIRED), 0, false, 33, TEXT("KU" UNITS_LISTED "N"), 24, 0, TEXT("")},
+    {__LINE__, TEXT(PAIRED), 0, false, 32, TEXT("KU" UNITS_LISTED "N"), 17, 0, TEXT("")},
+    {__LINE__, TEXT(PAIRED), 0, true, 1, TEXT("KPUU" PAIRS_LISTED "N"), 24, 0, TEXT("")},
     /* the file's refusal comes first */
+    {__LINE__, TEXT(ZONES_TWICE), 9, false, 0, TEXT(""), 23, 0, TEXT("")},
     {__LINE__, TEXT(S "C,7,7\n"), 2, false, 0, TEXT(""), 11, 0, TEXT("")},
     {__LINE__, TEXT(S "\n"), 1, false, 9, TEXT("PLURU"), 3, 0, TEXT("")},
 };
@@ -925,6 +995,10 @@ static const struct sheet_case sheet_cases[] = {
       REFUSED(17)}},
     {__LINE__, TEXT(WIDER), TEXT("Q,0,0,1,LU\nQ,0,1,1,PRUU\nQ,0,0,1,PRUU\nQ,0,1,1,LU\n"), 4,
      {GIVES(1, "PRUU"), GIVES(1, "LU"), REFUSED(16), REFUSED(16)}},
+    /* lists, and 24 between others */
+    {__LINE__, TEXT(ZONES),
+     TEXT("Q,0,0,3,KLUKRUN\nQ,0,0,1," LEFTS LEFTS LEFTS LEFTS "KLUKLUKLU" "N\nQ,0,1,9,N\nQ,0,0,9,K\n"), 4,
+     {GIVES(3, "KRUKLUN"), REFUSED(24), GIVES(1, "N"), REFUSED(16)}},
     /* files without isos */
     {__LINE__, TEXT(""), TEXT("Q,0,0,9,U\nQ,0,1,0,\n"), 2, {REFUSED(15), REFUSED(15)}},
     {__LINE__, TEXT(SEVEN_USED), TEXT("Q,1,0,9,U\n"), 1, {REFUSED(15)}},
@@ -1018,6 +1092,10 @@ static const struct unnumbered_case unnumbered_cases[] = {
     {__LINE__, TEXT(BITS_USED), 32, TEXT("PLU" LOWEST_OF_31), 0, 18, 18},
     {__LINE__, TEXT(BITS_USED), 32, TEXT("PRU" HIGHEST_OF_31), 1, 18, 18},
     {__LINE__, TEXT(BITS_USED), 32, TEXT("PRU" HIGHEST_OF_31), 2147483648, 18, 18},
+    /* a list, before 16 and 19 */
+    {__LINE__, TEXT(ZONES), 2, TEXT("N"), 0, 18, 18},
+    {__LINE__, TEXT(ZONES), 2, TEXT("U"), 4294967295, 18, 18},
+    {__LINE__, TEXT(ZONES), 3, TEXT("N"), 0, 15, 15},
     /* not below the count */
     {__LINE__, TEXT(S), 0, TEXT(""), 1, 16, 19},
     {__LINE__, TEXT(S), 1, TEXT(""), 2, 16, 19},
@@ -1096,6 +1174,13 @@ static const struct overlap_case overlap_cases[] = {
     {__LINE__, TEXT(COMPARED), 3, 7, 0, false, 4},
     {__LINE__, TEXT(COMPARED), 8, 9, 0, true, 3},
     {__LINE__, TEXT(COMPARED), 3, 9, 0, false, 4},
+    /* empty against an element; elements node with node */
+    {__LINE__, TEXT(ZONES), 3, 3, 0, false, 1},
+    {__LINE__, TEXT(ZONES), 3, 6, 0, true, 1},
+    {__LINE__, TEXT(ZONES), 6, 7, 0, true, 2},
+    {__LINE__, TEXT(ZONES), 6, 8, 0, false, 4},
+    {__LINE__, TEXT(ZONES), 1, 3, 0, false, 1},
+    {__LINE__, TEXT(PAIRED), 4, 5, 0, false, 1},
     {__LINE__, TEXT(SEVEN_PATTERNS), 6, 6, 0, false, 127},
     {__LINE__, TEXT(SEVEN_PATTERNS), 6, 5, 0, false, 63},
     {__LINE__, TEXT(S), 7, 8, 15, false, 0},
@@ -1139,6 +1224,10 @@ static const struct bounds_case bounds_cases[] = {
     {__LINE__, TEXT(COSTS), 3, 0, 5, 8},
     /* all runs count 4, but clauses are reckoned whether they can be reached together or not */
     {__LINE__, TEXT(COSTS), 5, 0, 3, 5},
+    /* an iso on lists */
+    {__LINE__, TEXT(ZONES), 0, 18, 0, 0},
+    {__LINE__, TEXT(ZONES), 1, 0, 1, 1},
+    {__LINE__, TEXT(ZONES), 2, 15, 0, 0},
     /* isos that are absent; numbers that would be one with fewer bits */
     {__LINE__, TEXT(S), 2, 15, 0, 0},
     {__LINE__, TEXT(S), 256, 15, 0, 0},
@@ -1200,6 +1289,12 @@ static const struct witness_case witness_cases[] = {
     {__LINE__, TEXT(PARTS "I,3,3\n" PARTS_USED), 13, 11, TEXT("PRURU")},
     {__LINE__, TEXT(PARTS "I,3,3\nC,2,2\n" PARTS_USED), 13, 11, TEXT("PLLURU")},
     {__LINE__, TEXT(PARTS "I,3,3\nC,5,5\nC,2,2\n" PARTS_USED), 11, 11, TEXT("PRURU")},
+    /* lists: the empty one, one element; two of 31 letters, and two of 63, which is 24 */
+    {__LINE__, TEXT("T,0,0,0\nT,3,0,0\nI,1,1\n"), 13, 3, TEXT("N")},
+    {__LINE__, TEXT("T,0,0,0\nT,3,0,0\nP,5,0,0\nI,1,1\nC,0,0\n"), 13, 4, TEXT("KUN")},
+    {__LINE__, TEXT("T,0,0,0\nT,3,0,0\nP,5,0,0\nP,1,0,0\nI,1,1\nC,1,1\nC,0,0\n"), 11, 5, TEXT("N")},
+    {__LINE__, TEXT(LISTS_OF("", "4", "5")), 13, 10, TEXT("K" UNITS_31 "K" UNITS_31 "N")},
+    {__LINE__, TEXT(LISTS_OF("T,2,4,4\n", "5", "6")), 24, 0, TEXT("")},
 };
 
 /* A bit as a sum and a product with a unit; a unit and a bit again; the second bit's parts are other lines. */
@@ -1251,6 +1346,9 @@ static const struct export_case export_cases[] = {
     /* too many values, before 17 */
     {__LINE__, TEXT(BITS "P,1,0,0\nI,13,13\nC,0,0\nI,32,32\nC,0,0\n"), 0, 0, 18, 0, TEXT("")},
     {__LINE__, TEXT(BITS_USED), 0, 1, 18, 0, TEXT("")},
+    /* an iso on lists */
+    {__LINE__, TEXT(ZONES), 0, 9, 18, 0, TEXT("")},
+    {__LINE__, TEXT(ZONES), 1, 1, 0, 0, TEXT("0,1\n1,0\n")},
     /* the file's refusal comes first */
     {__LINE__, TEXT(S "C,7,7\n"), 2, 0, 11, 15, TEXT("")},
     {__LINE__, TEXT(S "\n"), 1, 2, 3, 19, TEXT("")},
@@ -1316,6 +1414,9 @@ static const struct import_case import_cases[] = {
     {__LINE__, TEXT(BITS_USED), 13, 1, TEXT(""), 18, 0, TEXT("")},
     {__LINE__, TEXT(BITS_USED), 1, 13, TEXT(""), 18, 0, TEXT("")},
     {__LINE__, TEXT(BITS_USED), 32, 32, TEXT("x"), 18, 0, TEXT("")},
+    {__LINE__, TEXT(ZONES), 2, 1, TEXT("0,0\n"), 18, 0, TEXT("")},
+    {__LINE__, TEXT(ZONES), 1, 2, TEXT("x"), 18, 0, TEXT("")},
+    {__LINE__, TEXT(ZONES), 2, 3, TEXT("x"), 15, 0, TEXT("")},
     {__LINE__, TEXT(BITS_USED), 32, 33, TEXT("x"), 15, 0, TEXT("")},
     {__LINE__, TEXT(BITS_USED), 33, 32, TEXT("x"), 15, 0, TEXT("")},
     /* the file's refusal comes first */
@@ -1391,6 +1492,13 @@ static const struct play_case play_cases[] = {
     {__LINE__, TEXT(S), 9, TEXT("S,0,0,0\nx\n"), 2, {{1, 0}, {1, 1}}, 22, 0, {{0, 0}}, {0, 0, 0}},
     {__LINE__, TEXT(S), 0, TEXT("S,0,0,0\nS,0,2,0\n"), 1, {{0, 0}}, 22, 0, {{0, 0}}, {0, 0, 0}},
     {__LINE__, TEXT(S), 9, TEXT("S,0,0,0\n"), 0, {{0, 0}}, 22, 0, {{0, 0}}, {0, 0, 0}},
+    /* a unit that holds a list, an iso on lists: on each line 22 before 18 */
+    {__LINE__, TEXT(ZONES), 9, TEXT("S,0,1,0\n"), 1, {{1, 0}}, 0, 0, {{1, 1}}, {1, 0, 0}},
+    {__LINE__, TEXT(ZONES), 9, TEXT(""), 1, {{2, 0}}, 18, 0, {{0, 0}}, {0, 0, 0}},
+    {__LINE__, TEXT(ZONES), 9, TEXT("S,0,0,0\n"), 1, {{1, 0}}, 18, 0, {{0, 0}}, {0, 0, 0}},
+    {__LINE__, TEXT(ZONES), 9, TEXT("S,1,0,0\n"), 1, {{1, 0}}, 22, 0, {{0, 0}}, {0, 0, 0}},
+    {__LINE__, TEXT(ZONES), 9, TEXT("S,0,1,0\nS,0,0,1\nx\n"), 1, {{1, 0}}, 18, 0, {{0, 0}}, {0, 0, 0}},
+    {__LINE__, TEXT(ZONES), 9, TEXT("x\nS,0,0,1\n"), 1, {{1, 0}}, 22, 0, {{0, 0}}, {0, 0, 0}},
     /* the file's refusal comes first */
     {__LINE__, TEXT(S "C,7,7\n"), 9, TEXT("x"), 1, {{3, 0}}, 11, 15, {{0, 0}}, {0, 0, 0}},
     {__LINE__, TEXT(S_TREES), 9, TEXT("x"), 1, {{2, 4}}, 21, 1, {{0, 0}}, {0, 0, 0}},
@@ -1612,9 +1720,9 @@ static void header_numbers(void)
         RULEFILE_BAD_FIELD, RULEFILE_BAD_NAME, RULEFILE_CEILING, RULEFILE_VARIABLE, RULEFILE_LET_SHAPE,
         RULEFILE_TYPE, RULEFILE_OVERLAP_LEFT, RULEFILE_OVERLAP_RIGHT, RULEFILE_GAP_LEFT, RULEFILE_GAP_RIGHT,
         RULEFILE_NO_ISO, RULEFILE_NO_VALUE, RULEFILE_SPENT, RULEFILE_TOO_MANY, RULEFILE_TOO_HIGH,
-        RULEFILE_BAD_LIST, RULEFILE_IDLE_LINE, RULEFILE_BAD_SCRIPT,
+        RULEFILE_BAD_LIST, RULEFILE_IDLE_LINE, RULEFILE_BAD_SCRIPT, RULEFILE_RECURSION, RULEFILE_TOO_LARGE,
     };
-    CHECK(COUNT_OF(in_order) == 23);
+    CHECK(COUNT_OF(in_order) == 25);
     for (size_t i = 0; i < COUNT_OF(in_order); i++)
         CHECK(in_order[i] == i);
     CHECK(RULEFILE_TABLE_LENGTH == 20480);
@@ -4067,13 +4175,17 @@ static void threads_at_once(void)
 /* Whether a service can give a number. */
 static bool can_give(size_t service, size_t number)
 {
-    if (number <= RULEFILE_GAP_RIGHT || number == RULEFILE_IDLE_LINE)
+    if (number <= RULEFILE_GAP_RIGHT || number == RULEFILE_IDLE_LINE || number == RULEFILE_RECURSION)
         return true;
     if (service == SERVICE_RUN)
-        return number <= RULEFILE_SPENT;
-    if (service == SERVICE_OVERLAP || service == SERVICE_BOUNDS)
+        return number <= RULEFILE_SPENT || number == RULEFILE_TOO_LARGE;
+    if (service == SERVICE_WITNESS)
+        return number == RULEFILE_TOO_LARGE;
+    if (service == SERVICE_OVERLAP)
         return number == RULEFILE_NO_ISO;
     bool of_type = number == RULEFILE_NO_ISO || number == RULEFILE_TOO_MANY;
+    if (service == SERVICE_BOUNDS)
+        return of_type;
     if (service == SERVICE_EXPORT)
         return of_type || number == RULEFILE_SPENT;
     if (service == SERVICE_IMPORT)
@@ -4089,7 +4201,8 @@ static void every_number(void)
 {
     for (size_t number = 0; number <= LAST_NUMBER; number++) {
         bool of_queries = number == RULEFILE_ACCEPTED || number == RULEFILE_BAD_LINE ||
-                          (number >= RULEFILE_NO_ISO && number <= RULEFILE_SPENT);
+                          (number >= RULEFILE_NO_ISO && number <= RULEFILE_SPENT) ||
+                          number == RULEFILE_TOO_LARGE;
         if (!CHECK(hit_by_query[number] == of_queries))
             printf("    number %zu of a query\n", number);
         for (size_t service = 0; service < SERVICES; service++) {

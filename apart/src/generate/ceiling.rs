@@ -5,7 +5,6 @@ use super::plan;
 use super::random::Random;
 use super::scribe;
 use super::shape::exact_type;
-use crate::check;
 use crate::lines::{BYTES, ISOS, LETS, LINES, NODES, PATTERNS, SIDES, TYPES};
 use crate::tree::Type;
 
@@ -69,7 +68,7 @@ pub fn base(random: &mut Random, most: usize) -> Vec<u8> {
         let mut isos = plan::isos(random);
         isos.truncate(most);
         let file = scribe::file(random, &isos);
-        if check(&file).is_ok() {
+        if random.check(&file).is_ok() {
             return file;
         }
     }
@@ -176,6 +175,10 @@ fn add_type(draft: &mut Draft, ty: &Type) -> u32 {
         Type::Product(a, b) => {
             let (a, b) = (add_type(draft, a), add_type(draft, b));
             draft.add(b'T', [2, a, b])
+        }
+        Type::List(a) => {
+            let a = add_type(draft, a);
+            draft.add(b'T', [3, a, 0])
         }
     }
 }

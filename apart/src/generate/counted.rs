@@ -3,7 +3,6 @@
 use super::plan::{self, two};
 use super::random::Random;
 use super::scribe;
-use crate::check;
 use crate::lines::{Clause, Iso};
 use crate::tree::{Pattern, Type};
 use std::rc::Rc;
@@ -44,7 +43,7 @@ pub fn file(random: &mut Random, place: usize) -> Vec<u8> {
         let ty = of(random, COUNTS[place].1);
         isos.push(same(random, &ty));
         let file = scribe::file(random, &isos);
-        if check(&file).is_ok() {
+        if random.check(&file).is_ok() {
             return file;
         }
     }

@@ -3,7 +3,6 @@
 
 use super::ceiling::{self, Ceiling};
 use super::random::Random;
-use crate::check;
 use crate::lines::{split, text, BYTES};
 
 /// The desk program reads so many bytes at a time.
@@ -70,7 +69,7 @@ pub fn many_bytes(random: &mut Random, over: bool) -> Vec<u8> {
 pub fn across(random: &mut Random) -> Vec<u8> {
     loop {
         let file = ceiling::at(random, Ceiling::Patterns, false);
-        if check(&file).is_ok() {
+        if random.check(&file).is_ok() {
             if let Some(saved) = moved_to_border(random, &file) {
                 return saved;
             }

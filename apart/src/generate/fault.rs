@@ -21,6 +21,7 @@ pub fn together(random: &mut Random, first: u8, second: u8) -> [Part; 3] {
         (4, _) => misplaced(random, second),
         (5, _) | (6, _) => on_one_line(random, first, second),
         (8..=10, 11..=14) => clause_and_iso(random, first, second),
+        (8..=10, 23) => clause_and_iso(random, first, second),
         _ => in_one_place(random, first, second),
     }
 }
@@ -105,7 +106,12 @@ fn lines(number: u8, zone: Zone) -> Lines {
 fn type_lines(number: u8) -> Lines {
     match number {
         4 => &[("C,0,0", 0), ("L,0,0,0", 0)],
-        5 => &[("T,3,0,0", 0), ("T,0,1,0", 0), ("T,0,0,1", 0)],
+        5 => &[
+            ("T,4,0,0", 0),
+            ("T,3,unit,1", 0),
+            ("T,0,1,0", 0),
+            ("T,0,0,1", 0),
+        ],
         6 => &[("T,1,unit,256", 0), ("T,2,65535,unit", 0)],
         _ => &[("T,1,t127,unit", 0), ("T,2,unit,t127", 0)],
     }
@@ -115,7 +121,8 @@ fn pattern_lines(number: u8) -> Lines {
     match number {
         4 => &[("T,0,0,0", 0), ("C,0,0", 0), ("L,0,0,0", 0)],
         5 => &[
-            ("P,5,0,0", 0),
+            ("P,7,0,0", 0),
+            ("P,5,0,1", 0),
             ("P,0,1,0", 0),
             ("P,0,0,1", 0),
             ("P,1,32,0", 0),
@@ -163,7 +170,7 @@ fn iso_lines(number: u8) -> Lines {
 const NINE_LETS: &str = "I,unit,unit C,u,u L,u,same,u L,u,same,u L,u,same,u L,u,same,u \
 L,u,same,u L,u,same,u L,u,same,u L,u,same,u L,u,same,u";
 
-/// A part whose fault is one of 8 to 14.
+/// A part whose fault is one of 8 to 14, or 23.
 fn iso(random: &mut Random, number: u8) -> Part {
     let (lines, named): (&[&str], usize) = match number {
         8 => (
@@ -185,9 +192,22 @@ fn iso(random: &mut Random, number: u8) -> Part {
         11 => (&["I,two,three C,x,lx C,l,r", "I,two,three C,r,r C,x,lx"], 0),
         12 => (&["I,three,two C,lx,x C,r,l", "I,three,two C,r,r C,lx,x"], 0),
         13 => (&["I,two,unit C,l,u", "I,two,unit C,r,u"], 0),
+        23 => return recursion(random),
         _ => (&["I,unit,two C,u,l", "I,unit,two C,u,r"], 0),
     };
     let lines = *random.pick(lines);
+    Part::new(Zone::Isos, lines, named)
+}
+
+/// 23: a from-type that is no list, a variable for a list, two calls.
+fn recursion(random: &mut Random) -> Part {
+    let (lines, named) = *random.pick(&[
+        ("I,unit,unit C,u,u L,u,self,u", 0),
+        ("I,two,two C,x,y L,y,self,x", 0),
+        ("I,units,units C,x,y L,y,self,x", 1),
+        ("I,units,units C,n,n C,kx,kx L,y,self,x L,x,self,y", 2),
+        ("I,units,units C,kx,kx L,y,self,x L,x,self,y C,n,n", 1),
+    ]);
     Part::new(Zone::Isos, lines, named)
 }
 
@@ -244,12 +264,13 @@ fn on_one_line(random: &mut Random, first: u8, second: u8) -> [Part; 3] {
     }
 }
 
-/// One of 8 to 10 in a clause of an iso with one of 11 to 14.
+/// One of 8 to 10 in a clause of an iso with one of 11 to 14, or 23.
 fn clause_and_iso(random: &mut Random, first: u8, second: u8) -> [Part; 3] {
     let (one, two) = (iso(random, first), iso(random, second));
     let lines = match first {
         8 => "C,u,y",
         9 => "C,u,u L,u,same,l",
+        _ if second == 23 => "C,p3,p3",
         _ => "C,u,u",
     };
     let mut both = two.clone();
@@ -258,9 +279,14 @@ fn clause_and_iso(random: &mut Random, first: u8, second: u8) -> [Part; 3] {
     [both, one, two]
 }
 
-/// Two of 8 to 10 in one clause, or two of 11 to 14 in one iso.
+/// Two of 8 to 10 in one clause, two of 11 to 14 in one iso, or 23 and one of
+/// these.
 fn in_one_place(random: &mut Random, first: u8, second: u8) -> [Part; 3] {
     let lines = match (first, second) {
+        (23, 11) => "I,units,units C,x,y L,y,self,x C,n,n",
+        (23, 12) => "I,units,units C,kx,x L,y,self,x L,x,self,y C,n,n",
+        (23, 13) => "I,units,units C,kx,kx L,y,self,x L,x,self,y",
+        (23, _) => "I,units,units C,kx,kkx L,y,self,x L,x,self,y C,n,n",
         (8, 9) => "I,unit,two C,u,x L,y,swap,l",
         (8, 10) => "I,unit,two C,l,y",
         (9, 10) => "I,unit,unit C,u,u L,u,same,l",
@@ -271,7 +297,7 @@ fn in_one_place(random: &mut Random, first: u8, second: u8) -> [Part; 3] {
         (12, 14) => "I,two,two C,l,l C,r,l",
         _ => "I,two,two C,l,l",
     };
-    let named = usize::from(first < 11);
+    let named = usize::from(first < 11 || first == 23);
     let both = Part::new(Zone::Isos, lines, named);
     [both, iso(random, first), iso(random, second)]
 }

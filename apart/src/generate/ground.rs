@@ -72,6 +72,10 @@ const PATTERNS: [(&str, &str); 20] = [
     ("s40", "4,s32,s8"),
 ];
 
+/// With the lines of request 14: a list of units, and patterns of it.
+const LIST_TYPES: [(&str, &str); 1] = [("units", "3,unit,0")];
+const LIST_PATTERNS: [(&str, &str); 3] = [("n", "5,0,0"), ("kx", "6,u,x"), ("kkx", "6,u,kx")];
+
 /// An iso of the unit type, and one that exchanges the values of `two`.
 const ISOS: [(u8, &str); 5] = [
     (b'I', "unit,unit"),
@@ -84,9 +88,11 @@ const ISOS: [(u8, &str); 5] = [
 /// The last iso, which names all that the others do not: its faults are found
 /// behind those of the parts.
 const LAST: [&str; 4] = ["I,four,t127", "C,llx,lr", "C,p127,s40", "C,y,y"];
+const LIST_LAST: [&str; 3] = ["I,units,units", "C,n,kx", "C,kkx,kkx"];
 
 pub struct Ground {
     draft: Draft,
+    lists: bool,
     names: HashMap<&'static str, u32>,
 }
 
@@ -99,8 +105,17 @@ impl Ground {
             }
         };
         let names = HashMap::new();
-        let mut ground = Ground { draft, names };
-        for (letter, lines) in [(b'T', &TYPES[..]), (b'P', &PATTERNS[..])] {
+        let lists = random.lists;
+        let mut ground = Ground {
+            draft,
+            lists,
+            names,
+        };
+        let mut all = vec![(b'T', &TYPES[..]), (b'P', &PATTERNS[..])];
+        if lists {
+            all.extend([(b'T', &LIST_TYPES[..]), (b'P', &LIST_PATTERNS[..])]);
+        }
+        for (letter, lines) in all {
             for (name, fields) in lines {
                 let fields = ground.numbers(fields).try_into().expect("three fields");
                 let number = ground.draft.add(letter, fields);
@@ -115,8 +130,8 @@ impl Ground {
         ground.names.insert("same", isos);
         ground.names.insert("swap", isos + 1);
         // Two parts add two isos at most, so that this number is never one of
-        // an earlier iso.
-        ground.names.insert("own", isos + 3);
+        // an earlier iso, nor with the lines of request 14 of its own.
+        ground.names.insert("own", isos + 3 + u32::from(lists));
         let (types, patterns) = (ground.draft.count(b'T'), ground.draft.count(b'P'));
         ground.names.insert("type", types as u32);
         ground.names.insert("pattern", patterns as u32);
@@ -131,10 +146,12 @@ impl Ground {
         fields.split(',').map(number).collect()
     }
 
-    /// The line with the names behind its letter replaced.
-    fn text(&self, line: &str) -> String {
+    /// The line with the names behind its letter replaced; `self` is the iso of
+    /// the line, by how many I lines there are down to it.
+    fn text(&self, line: &str, isos: usize) -> String {
         let field = |field: &str| match self.names.get(field) {
             Some(number) => number.to_string(),
+            None if field == "self" => (isos - 1).to_string(),
             None => field.to_string(),
         };
         let mut fields = line.split(',');
@@ -147,6 +164,7 @@ impl Ground {
     pub fn file(&self, parts: &[Part]) -> (Vec<u8>, Vec<usize>) {
         let mut file = Vec::new();
         let mut above = 0;
+        let mut isos = self.draft.count(b'I');
         let mut named = vec![0; parts.len()];
         for (zone, letters) in ZONES.iter().zip(["T", "P", "ICL"]) {
             let own = |row: &&(u8, Vec<u32>)| letters.as_bytes().contains(&row.0);
@@ -157,15 +175,16 @@ impl Ground {
                 if part.zone == *zone {
                     *line = above + part.named + 1;
                     above += part.lines.len();
-                    file.extend(
-                        part.lines
-                            .iter()
-                            .flat_map(|line| self.text(line).into_bytes()),
-                    );
+                    for line in &part.lines {
+                        isos += usize::from(line.starts_with("I,"));
+                        file.extend(self.text(line, isos).into_bytes());
+                    }
                 }
             }
         }
-        file.extend(LAST.iter().flat_map(|line| self.text(line).into_bytes()));
+        let lists = if self.lists { &LIST_LAST[..] } else { &[] };
+        let last = LAST.iter().chain(lists);
+        file.extend(last.flat_map(|line| self.text(line, isos).into_bytes()));
         (file, named)
     }
 }

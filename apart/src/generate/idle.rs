@@ -4,14 +4,15 @@ use super::accepted;
 use super::draft::Draft;
 use super::random::Random;
 use crate::idle;
-use crate::lines::read;
+use crate::lines::read_with;
 
 /// The places of the fields that name T lines, and of those that name P lines.
 fn naming(letter: u8, kind: u32) -> (&'static [usize], &'static [usize]) {
     match (letter, kind) {
         (b'T', 1 | 2) => (&[1, 2], &[]),
+        (b'T', 3) => (&[1], &[]),
         (b'P', 2 | 3) => (&[], &[1]),
-        (b'P', 4) => (&[], &[1, 2]),
+        (b'P', 4 | 6) => (&[], &[1, 2]),
         (b'I', _) => (&[0, 1], &[]),
         (b'C', _) => (&[], &[0, 1]),
         (b'L', _) => (&[], &[0, 2]),
@@ -34,8 +35,8 @@ fn moved(draft: &mut Draft, letter: u8, from: u32, by: i64) {
 
 /// The file without its idle lines; a file that is refused with 2 to 7 as it
 /// is.
-pub fn pruned(file: &[u8]) -> Vec<u8> {
-    let Ok(reader) = read(file) else {
+pub fn pruned(file: &[u8], lists: bool) -> Vec<u8> {
+    let Ok(reader) = read_with(file, lists) else {
         return file.to_vec();
     };
     let mut rows = reader.rows;
@@ -49,7 +50,7 @@ pub fn pruned(file: &[u8]) -> Vec<u8> {
         let number = above.count() as u32;
         draft.0.remove(line - 1);
         moved(&mut draft, letter, number + 1, -1);
-        let Ok(reader) = read(&draft.bytes()) else {
+        let Ok(reader) = read_with(&draft.bytes(), lists) else {
             return file.to_vec();
         };
         rows = reader.rows;

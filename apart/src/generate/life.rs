@@ -245,6 +245,8 @@ fn collect<'a>(pattern: &Pattern, ty: &'a Rc<Type>, types: &mut Met<'a>) -> bool
             collect(a, b, types)
         }
         (Pattern::Pair(a, b), Type::Product(c, d)) => collect(a, c, types) && collect(b, d, types),
+        (Pattern::Empty, Type::List(_)) => true,
+        (Pattern::Element(a, b), Type::List(c)) => collect(a, c, types) && collect(b, ty, types),
         _ => false,
     }
 }

@@ -5,7 +5,6 @@ use super::ending::resaved;
 use super::random::Random;
 use super::scribe;
 use super::shape::{closed, most_sides};
-use crate::check;
 use crate::lines::{Clause, Iso, Let, CLAUSES, NODES, PATTERNS, SIDES};
 use crate::numbering::values;
 use crate::pair_lists::settings;
@@ -236,7 +235,7 @@ pub fn file(random: &mut Random, limit: Limit) -> Vec<u8> {
             isos.extend([&from, &to].map(|ty| same(random, ty)));
         }
         let file = scribe::file(random, &isos);
-        if check(&file).is_ok() {
+        if random.check(&file).is_ok() {
             return if random.chance(25) {
                 resaved(random, &file)
             } else {
@@ -267,7 +266,7 @@ pub fn mixed(random: &mut Random) -> Vec<u8> {
             same(random, &deep),
         ];
         let file = scribe::file(random, &isos);
-        if check(&file).is_ok() {
+        if random.check(&file).is_ok() {
             return file;
         }
     }

@@ -7,7 +7,6 @@ use super::random::Random;
 use super::scribe;
 use super::shape::{closed, refined, Sketch};
 use super::shown::{around, spoiled};
-use crate::check;
 use crate::lines::{Clause, Iso, Let, CLAUSES, SIDES};
 use crate::tree::Pattern;
 use std::rc::Rc;
@@ -74,7 +73,10 @@ fn given(
         };
         isos.push(iso);
         let file = scribe::file(random, &isos);
-        let given = check(&file).err().map_or(0, |refusal| refusal.number);
+        let given = random
+            .check(&file)
+            .err()
+            .map_or(0, |refusal| refusal.number);
         if given == number {
             return file;
         }

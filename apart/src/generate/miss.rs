@@ -1,6 +1,7 @@
 //! Near misses: small changes to accepted files, each aimed at one refusal.
 
 use super::accepted;
+use super::breach::{self, BREACHES};
 use super::ceiling;
 use super::damage::damage;
 use super::draft::Draft;
@@ -9,23 +10,23 @@ use super::life;
 use super::plan;
 use super::random::Random;
 use super::thread;
-use crate::check;
 use crate::lines::split;
 
 /// The number that the check of a file gives.
-fn number_of(file: &[u8]) -> u8 {
-    check(file).err().map_or(0, |refusal| refusal.number)
+fn number_of(random: &Random, file: &[u8]) -> u8 {
+    let refusal = random.check(file).err();
+    refusal.map_or(0, |refusal| refusal.number)
 }
 
-/// A file that is refused with the number wanted, 2 to 14 or 21. After many tries
-/// that are refused otherwise, the last of these is given.
+/// A file that is refused with the number wanted, 2 to 14, 21 or 23. After many
+/// tries that are refused otherwise, the last of these is given.
 pub fn aimed(random: &mut Random, number: u8) -> Vec<u8> {
     let mut last = Vec::new();
     for _ in 0..40 {
         let base = accepted(random);
         for _ in 0..12 {
             last = attempt(random, &base, number);
-            if number_of(&last) == number {
+            if number_of(random, &last) == number {
                 return last;
             }
         }
@@ -36,6 +37,10 @@ pub fn aimed(random: &mut Random, number: u8) -> Vec<u8> {
 fn attempt(random: &mut Random, base: &[u8], number: u8) -> Vec<u8> {
     let special = random.chance(50);
     match number {
+        23 => {
+            let breach = *random.pick(&BREACHES);
+            breach::file(random, breach).0
+        }
         2 if random.chance(20) => ceiling::far_over(random),
         2 if special => ceiling::many_lines(random, true),
         2 => ceiling::many_bytes(random, true),
@@ -80,7 +85,7 @@ fn same_line(random: &mut Random, file: &[u8]) -> Vec<u8> {
     let over = ceiling::at_ceiling(random, true);
     let file = if random.chance(40) { &over } else { file };
     let mut draft = Draft::of(file);
-    let line = check(file).err().map_or(0, |refusal| refusal.line);
+    let line = random.check(file).err().map_or(0, |refusal| refusal.line);
     if line > 0 {
         let fields = &mut draft.0[line - 1].1;
         let field = random.below(fields.len());
@@ -135,7 +140,7 @@ fn changed(random: &mut Random, base: &[u8], number: u8) -> Vec<u8> {
     let file = draft.bytes();
     // What a change leaves idle would hide the refusal wanted.
     if matches!(number, 8..=14) {
-        pruned(&file)
+        pruned(&file, random.lists)
     } else {
         file
     }
@@ -271,7 +276,7 @@ fn own_iso(random: &mut Random, draft: &mut Draft) -> Option<()> {
 fn flip_kind(random: &mut Random, draft: &mut Draft) -> Option<()> {
     let place = draft.some_place(random, b'T')?;
     let kind = &mut draft.0[place].1[0];
-    if *kind > 0 {
+    if matches!(kind, 1 | 2) {
         *kind = 3 - *kind;
     }
     Some(())
@@ -282,7 +287,7 @@ fn swap_parts(random: &mut Random, draft: &mut Draft) -> Option<()> {
     let letter = *random.pick(b"TP");
     let place = draft.some_place(random, letter)?;
     let fields = &mut draft.0[place].1;
-    if fields[0] == 4 || letter == b'T' {
+    if fields[0] == 4 || letter == b'T' && fields[0] != 3 {
         fields.swap(1, 2);
     }
     Some(())
@@ -294,7 +299,7 @@ fn mirror_type(random: &mut Random, draft: &mut Draft) -> Option<()> {
     let field = random.below(2);
     let number = draft.0[place].1[field] as usize;
     let row = *draft.places(b'T').get(number)?;
-    let [kind, a, b] = draft.0[row].1[..] else {
+    let [kind @ (0..=2), a, b] = draft.0[row].1[..] else {
         return None;
     };
     let new = draft.add(b'T', [kind, b, a]);
@@ -412,7 +417,14 @@ fn wrap(random: &mut Random, draft: &mut Draft, place: usize, field: usize) -> O
     let unit = draft.unit(b'P');
     let moved = place + draft.0.len() - before;
     let old = *draft.0.get(moved)?.1.get(field)?;
+    let in_list = random.lists && random.chance(40);
     let new = match random.below(3) {
+        0 if in_list => draft.add(b'P', [5, 0, 0]),
+        1 if in_list => draft.add(b'P', [6, unit, old]),
+        _ if in_list => {
+            let end = draft.add(b'P', [5, 0, 0]);
+            draft.add(b'P', [6, old, end])
+        }
         0 => draft.add(b'P', [2, old, 0]),
         1 => draft.add(b'P', [3, old, 0]),
         _ => {
@@ -429,7 +441,11 @@ fn wrap_type(random: &mut Random, draft: &mut Draft) -> Option<()> {
     let place = draft.some_place(random, b'I')?;
     let field = random.below(2);
     let old = draft.0[place].1[field];
-    let new = draft.add(b'T', [1 + random.below(2) as u32, old, old]);
+    let parts = match random.lists && random.chance(40) {
+        true => [3, old, 0],
+        false => [1 + random.below(2) as u32, old, old],
+    };
+    let new = draft.add(b'T', parts);
     *draft.0.get_mut(place + 1)?.1.get_mut(field)? = new;
     Some(())
 }

@@ -1,14 +1,15 @@
-//! Files with two faults: each pair of refusals 3 to 14 and 21 in both orders of
-//! lines, and each pair that can stand on one line, in one clause or in one
+//! Files with two faults: each pair of refusals 3 to 14, 21 and 23 in both orders
+//! of lines, and each pair that can stand on one line, in one clause or in one
 //! iso.
 
 use super::fault;
 use super::ground::Ground;
 use super::random::Random;
+use crate::lines::LISTS;
 
 /// Two faults. Apart they stand on lines of their own, the first one above;
 /// together they stand on one line, in one clause or in one iso, and the first
-/// has the lower number.
+/// is the one that is tested first: the lower number, but 23 before 11 to 14.
 #[derive(Debug, Clone, Copy, PartialEq, Eq)]
 pub struct Pair {
     pub first: u8,
@@ -28,10 +29,16 @@ pub struct Made {
 /// Apart: a line with fault 5 or 21 is a T or P line; below a clause it would
 /// be misplaced. Together: two of 3 to 7 on one line, two of 8 to 10 in one
 /// clause, two of 11 to 14 in one iso, or one of 8 to 10 in a clause of an iso
-/// with one of 11 to 14.
+/// with one of 11 to 14; with 23 any one of 8 to 14.
 pub fn all() -> Vec<Pair> {
+    all_with(LISTS)
+}
+
+/// The same, with 23 or without it.
+pub fn all_with(lists: bool) -> Vec<Pair> {
     let mut pairs = Vec::new();
-    let numbers = || (3..=14).chain([21]);
+    let numbers = || (3..=14).chain([21]).chain(lists.then_some(23));
+    let of_iso = |number| (8..=14).contains(&number) || number == 23;
     for first in numbers() {
         for second in numbers() {
             let pair = |together| Pair {
@@ -39,10 +46,15 @@ pub fn all() -> Vec<Pair> {
                 second,
                 together,
             };
-            if !(8..=14).contains(&first) || !matches!(second, 5 | 21) {
+            if !of_iso(first) || !matches!(second, 5 | 21) {
                 pairs.push(pair(false));
             }
-            if first < second && second != 21 && (second < 8 || first > 7) {
+            let together = match (first, second) {
+                (23, 11..=14) | (8..=10, 23) => true,
+                (23, _) | (_, 23) => false,
+                _ => first < second && second != 21 && (second < 8 || first > 7),
+            };
+            if together {
                 pairs.push(pair(true));
             }
         }

@@ -7,6 +7,7 @@
 use super::random::Random;
 use super::scribe;
 use super::shape::{closed, exact_type, one_case, random_type, scattered, split, Sketch};
+use super::zoned;
 use crate::cover::covers;
 use crate::lines::{Clause, Iso, Let, CLAUSES, LETS, NODES, SIDES};
 use crate::reduce::turned;
@@ -85,6 +86,9 @@ pub(super) fn fits(iso: &Iso) -> bool {
 }
 
 fn one_iso(random: &mut Random, earlier: &[Iso]) -> Option<Iso> {
+    if random.lists && random.chance(20) {
+        return Some(zoned::one_iso(random, earlier));
+    }
     match random.below(10) {
         0..=2 => by_split(random, earlier),
         3..=5 => by_lists(random, earlier),
@@ -94,9 +98,13 @@ fn one_iso(random: &mut Random, earlier: &[Iso]) -> Option<Iso> {
 }
 
 /// Types for leaves and holes: small ones and those of earlier isos.
-fn pool(earlier: &[Iso]) -> Vec<Rc<Type>> {
+fn pool(random: &Random, earlier: &[Iso]) -> Vec<Rc<Type>> {
     let mut types = vec![unit(), unit(), two(), two()];
     types.push(Rc::new(Type::Product(two(), two())));
+    if random.lists {
+        types.push(Rc::new(Type::List(unit())));
+        types.push(Rc::new(Type::List(two())));
+    }
     for iso in earlier.iter().rev().take(6) {
         types.push(Rc::clone(&iso.from));
         types.push(Rc::clone(&iso.to));
@@ -122,7 +130,8 @@ pub(super) fn some_type(random: &mut Random, earlier: &[Iso]) -> Rc<Type> {
         }
         _ => {
             let depth = 1 + random.below(5);
-            let ty = random_type(random, depth, &pool(earlier));
+            let pool = pool(random, earlier);
+            let ty = random_type(random, depth, &pool);
             if ty.nodes() > NODES {
                 return two();
             }
@@ -206,7 +215,7 @@ fn by_lists(random: &mut Random, earlier: &[Iso]) -> Option<Iso> {
         0 => 1 + random.below(32),
         _ => 1 + random.below(6),
     };
-    let all = pool(earlier);
+    let all = pool(random, earlier);
     let kinds: Vec<Rc<Type>> = (0..1 + random.below(3))
         .map(|_| Rc::clone(random.pick(&all)))
         .collect();
@@ -378,7 +387,7 @@ fn gather(random: &mut Random, ty: &Rc<Type>, held: &mut Held) -> Option<Rc<Patt
     }
     match &**ty {
         Type::Unit => Some(Rc::new(Pattern::Unit)),
-        Type::Sum(..) => one_of(random, ty, held),
+        Type::Sum(..) | Type::List(_) => one_of(random, ty, held),
         Type::Product(a, b) => {
             let one = gather(random, a, held)?;
             Some(Rc::new(Pattern::Pair(one, gather(random, b, held)?)))

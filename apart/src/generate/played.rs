@@ -3,6 +3,7 @@
 use super::ending::resaved;
 use super::random::Random;
 use crate::numbering::{values, VALUES};
+use crate::recursion::has_lists;
 use crate::Rules;
 
 /// The T lines that can be numbered, or those that have too many values.
@@ -50,14 +51,17 @@ pub fn script(
     fitting: usize,
 ) -> Vec<u8> {
     let ends = ends(rules);
-    if ends.is_empty() || types.is_empty() {
+    // An iso that has to do with lists is refused.
+    let free = |iso: &usize| !has_lists(&rules.isos, *iso);
+    let free: Vec<usize> = (0..ends.len()).filter(free).collect();
+    if free.is_empty() || types.is_empty() {
         return Vec::new();
     }
     let mut types = types.to_vec();
     let mut script = String::new();
     for _ in 0..lines {
         let unit = random.below(types.len());
-        let mut visit = (random.below(ends.len()), random.below(2));
+        let mut visit = (*random.pick(&free), random.below(2));
         if random.chance(fitting) {
             if let Some(found) = fit(random, rules, &ends, types[unit]) {
                 visit = found;

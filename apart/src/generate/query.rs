@@ -136,13 +136,30 @@ pub fn sample(random: &mut Random, ty: &Type, letters: &mut Vec<u8>) {
             sample(random, a, letters);
             sample(random, b, letters);
         }
+        Type::List(a) => sample_list(random, a, letters),
     }
+}
+
+/// A list of a few elements, now and then of as many as a run takes, or more.
+fn sample_list(random: &mut Random, ty: &Type, letters: &mut Vec<u8>) {
+    let most = *random.pick(&[0, 1, 2, 3, 3, 5, 12, 45]);
+    for _ in 0..random.below(most + 1) {
+        if letters.len() > 130 {
+            break;
+        }
+        letters.push(b'K');
+        sample(random, ty, letters);
+    }
+    letters.push(b'N');
 }
 
 /// Changes letters, of which there is at least one.
 pub fn damage(random: &mut Random, letters: &mut Vec<u8>) {
     let place = random.below(letters.len());
-    let letter = *random.pick(b"ULRPULRPlup,0 \r\0\xff");
+    let letter = match random.lists && random.chance(30) {
+        true => *random.pick(b"KNkn"),
+        false => *random.pick(b"ULRPULRPlup,0 \r\0\xff"),
+    };
     match random.below(7) {
         0 => letters[place] = letter,
         1 => letters.insert(place, letter),
@@ -153,9 +170,8 @@ pub fn damage(random: &mut Random, letters: &mut Vec<u8>) {
         4 => letters.push(letter),
         5 => letters.extend(letters.clone()),
         _ => {
-            *letters = (0..random.below(150))
-                .map(|_| *random.pick(b"ULRP"))
-                .collect()
+            let any: &[u8] = if random.lists { b"ULRPKN" } else { b"ULRP" };
+            *letters = (0..random.below(150)).map(|_| *random.pick(any)).collect()
         }
     }
 }

@@ -1,15 +1,38 @@
 //! A small seeded random number generator (splitmix64).
 
-pub struct Random(u64);
+use crate::lines::LISTS;
+use crate::{check_with, Refusal, Rules};
+
+pub struct Random {
+    state: u64,
+    /// Whether files are made with the lines of request 14 too.
+    pub lists: bool,
+}
 
 impl Random {
     pub fn new(seed: u64) -> Random {
-        Random(seed)
+        Random {
+            state: seed,
+            lists: LISTS,
+        }
+    }
+
+    /// One with which files are made with the lines of request 14 too.
+    pub fn with_lists(seed: u64) -> Random {
+        Random {
+            state: seed,
+            lists: true,
+        }
+    }
+
+    /// The check of a file that was made.
+    pub fn check(&self, file: &[u8]) -> Result<Rules, Refusal> {
+        check_with(file, self.lists)
     }
 
     pub fn number(&mut self) -> u64 {
-        self.0 = self.0.wrapping_add(0x9E37_79B9_7F4A_7C15);
-        let mut mixed = self.0;
+        self.state = self.state.wrapping_add(0x9E37_79B9_7F4A_7C15);
+        let mut mixed = self.state;
         mixed = (mixed ^ (mixed >> 30)).wrapping_mul(0xBF58_476D_1CE4_E5B9);
         mixed = (mixed ^ (mixed >> 27)).wrapping_mul(0x94D0_49BB_1331_11EB);
         mixed ^ (mixed >> 31)

@@ -61,6 +61,7 @@ impl Scribe<'_> {
             Type::Unit => "T,0,0,0\n".to_string(),
             Type::Sum(a, b) => format!("T,1,{},{}\n", self.ty(a), self.ty(b)),
             Type::Product(a, b) => format!("T,2,{},{}\n", self.ty(a), self.ty(b)),
+            Type::List(a) => format!("T,3,{},0\n", self.ty(a)),
         };
         self.type_lines += &line;
         self.types.push(Rc::clone(ty));
@@ -79,6 +80,8 @@ impl Scribe<'_> {
             Pattern::Left(a) => format!("P,2,{},0\n", self.pattern(a)),
             Pattern::Right(a) => format!("P,3,{},0\n", self.pattern(a)),
             Pattern::Pair(a, b) => format!("P,4,{},{}\n", self.pattern(a), self.pattern(b)),
+            Pattern::Empty => "P,5,0,0\n".to_string(),
+            Pattern::Element(a, b) => format!("P,6,{},{}\n", self.pattern(a), self.pattern(b)),
         };
         self.pattern_lines += &line;
         self.patterns.push(Rc::clone(pattern));

@@ -14,6 +14,12 @@ pub enum Sketch {
     Left(Box<Sketch>),
     Right(Box<Sketch>),
     Pair(Box<Sketch>, Box<Sketch>),
+    Empty,
+    Element(Box<Sketch>, Box<Sketch>),
+}
+
+fn element(one: Sketch, two: Sketch) -> Sketch {
+    Sketch::Element(Box::new(one), Box::new(two))
 }
 
 fn pair(one: Sketch, two: Sketch) -> Sketch {
@@ -37,6 +43,8 @@ impl Sketch {
             Sketch::Left(a) => Pattern::Left(a.pattern(variable)),
             Sketch::Right(a) => Pattern::Right(a.pattern(variable)),
             Sketch::Pair(a, b) => Pattern::Pair(a.pattern(variable), b.pattern(variable)),
+            Sketch::Empty => Pattern::Empty,
+            Sketch::Element(a, b) => Pattern::Element(a.pattern(variable), b.pattern(variable)),
         })
     }
 
@@ -54,29 +62,39 @@ impl Sketch {
         orthogonal(&self.pattern(&mut |_| 0), &other.pattern(&mut |_| 0))
     }
 
-    /// The cases that come of looking into one hole: two where it is a sum.
-    fn opened(&self, random: &mut Random) -> Vec<Sketch> {
+    /// The cases that come of looking into one hole: two where it is a sum or a
+    /// list.
+    pub(super) fn opened(&self, random: &mut Random) -> Vec<Sketch> {
         let hole = |ty: &Rc<Type>| Sketch::Hole(Rc::clone(ty));
         match self {
-            Sketch::Unit => vec![Sketch::Unit],
+            Sketch::Unit | Sketch::Empty => vec![self.clone()],
             Sketch::Hole(ty) => match &**ty {
                 Type::Unit => vec![Sketch::Unit],
                 Type::Sum(a, b) => vec![left(hole(a)), right(hole(b))],
                 Type::Product(a, b) => vec![pair(hole(a), hole(b))],
+                Type::List(a) => vec![Sketch::Empty, element(hole(a), hole(ty))],
             },
             Sketch::Left(a) => a.opened(random).into_iter().map(left).collect(),
             Sketch::Right(a) => a.opened(random).into_iter().map(right).collect(),
-            Sketch::Pair(a, b) => {
-                let [first, second] = [a, b].map(|part| !part.holes().is_empty());
-                if first && (!second || random.chance(50)) {
-                    let parts = a.opened(random).into_iter();
-                    parts.map(|part| pair(part, (**b).clone())).collect()
-                } else {
-                    let parts = b.opened(random).into_iter();
-                    parts.map(|part| pair((**a).clone(), part)).collect()
-                }
-            }
+            Sketch::Pair(a, b) => opened_parts(random, [a, b], pair),
+            Sketch::Element(a, b) => opened_parts(random, [a, b], element),
         }
+    }
+}
+
+/// The cases that come of looking into one hole of two parts.
+fn opened_parts(
+    random: &mut Random,
+    [a, b]: [&Sketch; 2],
+    join: fn(Sketch, Sketch) -> Sketch,
+) -> Vec<Sketch> {
+    let [first, second] = [a, b].map(|part| !part.holes().is_empty());
+    if first && (!second || random.chance(50)) {
+        let parts = a.opened(random).into_iter();
+        parts.map(|part| join(part, b.clone())).collect()
+    } else {
+        let parts = b.opened(random).into_iter();
+        parts.map(|part| join(a.clone(), part)).collect()
     }
 }
 
@@ -100,12 +118,14 @@ pub fn refined(random: &mut Random, mut cases: Vec<Sketch>, count: usize) -> Opt
     (cases.len() == count).then_some(cases)
 }
 
-/// The most left and right nodes of a closed value of the type.
+/// The most left and right nodes of a closed value of the type, far above all
+/// where it holds a list.
 pub fn most_sides(ty: &Type) -> usize {
     match ty {
         Type::Unit => 0,
         Type::Sum(a, b) => 1 + most_sides(a).max(most_sides(b)),
         Type::Product(a, b) => most_sides(a) + most_sides(b),
+        Type::List(_) => 1_000,
     }
 }
 
@@ -113,6 +133,9 @@ pub fn most_sides(ty: &Type) -> usize {
 pub fn random_type(random: &mut Random, depth: usize, pool: &[Rc<Type>]) -> Rc<Type> {
     if depth == 0 || random.chance(20) {
         return Rc::clone(random.pick(pool));
+    }
+    if random.lists && random.chance(12) {
+        return Rc::new(Type::List(random_type(random, depth - 1, pool)));
     }
     let a = random_type(random, depth - 1, pool);
     let b = random_type(random, depth - 1, pool);
@@ -171,21 +194,38 @@ pub fn split(random: &mut Random, ty: &Rc<Type>, most: usize, stop: usize) -> Ve
             cases
         }
         Type::Product(a, b) => split_product(random, [a, b], most, stop),
-        Type::Sum(..) => vec![Sketch::Hole(Rc::clone(ty))],
+        Type::List(a) if most >= 2 && random.chance(75) => {
+            // The empty list, and what comes of an element and a list.
+            let share = 1 + random.below(most - 1);
+            let cases = split_parts(random, [a, ty], share, stop, element);
+            [vec![Sketch::Empty], cases].concat()
+        }
+        Type::Sum(..) | Type::List(_) => vec![Sketch::Hole(Rc::clone(ty))],
     }
 }
 
 fn split_product(
     random: &mut Random,
-    [a, b]: [&Rc<Type>; 2],
+    parts: [&Rc<Type>; 2],
     most: usize,
     stop: usize,
 ) -> Vec<Sketch> {
     if most >= 5 && random.chance(60) {
-        if let Some(cases) = cyclic(a, b) {
+        if let Some(cases) = cyclic(parts[0], parts[1]) {
             return cases;
         }
     }
+    split_parts(random, parts, most, stop, pair)
+}
+
+/// Splits one part, and the other in each case of that.
+fn split_parts(
+    random: &mut Random,
+    [a, b]: [&Rc<Type>; 2],
+    most: usize,
+    stop: usize,
+    join: fn(Sketch, Sketch) -> Sketch,
+) -> Vec<Sketch> {
     let flip = random.chance(50);
     let (first, second) = if flip { (b, a) } else { (a, b) };
     let outer = split(random, first, most, stop);
@@ -197,9 +237,9 @@ fn split_product(
         spare -= inner.len() - 1;
         for other in inner {
             cases.push(if flip {
-                pair(other, case.clone())
+                join(other, case.clone())
             } else {
-                pair(case.clone(), other)
+                join(case.clone(), other)
             });
         }
     }
@@ -250,6 +290,11 @@ pub fn one_case(random: &mut Random, ty: &Rc<Type>, holes: usize) -> Sketch {
             let one = one_case(random, a, holes);
             pair(one, one_case(random, b, holes))
         }
+        Type::List(_) if random.chance(50) => Sketch::Empty,
+        Type::List(a) => {
+            let one = one_case(random, a, holes);
+            element(one, one_case(random, ty, holes))
+        }
     }
 }
 
@@ -278,6 +323,7 @@ pub fn closed_count(ty: &Type) -> u64 {
         Type::Unit => 1,
         Type::Sum(a, b) => closed_count(a).saturating_add(closed_count(b)),
         Type::Product(a, b) => closed_count(a).saturating_mul(closed_count(b)),
+        Type::List(_) => u64::MAX,
     }
 }
 
@@ -297,5 +343,6 @@ pub fn closed(ty: &Type) -> Vec<Sketch> {
             };
             ones.iter().flat_map(with).collect()
         }
+        Type::List(_) => unreachable!("a type of few values holds no list"),
     }
 }

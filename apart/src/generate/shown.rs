@@ -6,8 +6,9 @@ use super::plan::{self, closed_by_merge, open, permuted, Open};
 use super::random::Random;
 use super::scribe;
 use super::shape::{longest_type, most_sides, one_case, products, random_type, scattered, Sketch};
-use crate::check;
-use crate::lines::{Clause, Iso, CLAUSES, NODES};
+use super::zoned;
+use crate::check_with;
+use crate::lines::{Clause, Iso, CLAUSES, LISTS, NODES};
 use crate::reduce::turned;
 use crate::tree::{Pattern, Type};
 use std::rc::Rc;
@@ -26,7 +27,14 @@ pub enum Form {
     Sparse,
     /// The iso has no clauses.
     Bare,
+    /// The values are lists.
+    Lists,
+    /// The value is of lists and has so many letters: over 127 it is 24.
+    Letters(usize),
 }
+
+/// The letters around 127.
+pub const LETTERS: [usize; 3] = [126, 127, 128];
 
 /// The forms that a number can have: an iso without clauses is refused with 13,
 /// and one whose sides are alike for its left one.
@@ -37,13 +45,21 @@ pub fn forms(number: u8) -> Vec<Form> {
         13 => forms.extend([Form::Sparse, Form::Bare]),
         _ => {}
     }
+    if LISTS {
+        forms.push(Form::Lists);
+        forms.extend(LETTERS.map(Form::Letters));
+    }
     forms
 }
 
 /// A file that is refused with the number, 11 to 14, in one of its forms; now and
 /// then with an iso behind that one that is refused too.
 pub fn file(random: &mut Random, form: Form, number: u8) -> Vec<u8> {
-    let refused = |file: &Vec<u8>| check(file).is_err_and(|refusal| refusal.number == number);
+    let refused = |file: &Vec<u8>, lists: bool| {
+        let checked = check_with(file, lists);
+        checked.is_err_and(|refusal| refusal.number == number)
+    };
+    let lists = random.lists;
     loop {
         let mut isos = plan::isos(random);
         isos.truncate(random.below(3));
@@ -51,10 +67,10 @@ pub fn file(random: &mut Random, form: Form, number: u8) -> Vec<u8> {
             continue;
         };
         isos.push(iso);
-        let file = Some(scribe::file(random, &isos)).filter(refused);
+        let file = Some(scribe::file(random, &isos)).filter(|file| refused(file, lists));
         if file.is_some() && random.chance(50) {
             isos.push(bare(random));
-            let longer = Some(scribe::file(random, &isos)).filter(refused);
+            let longer = Some(scribe::file(random, &isos)).filter(|file| refused(file, lists));
             if let Some(file) = longer {
                 return file;
             }
@@ -69,7 +85,14 @@ fn iso(random: &mut Random, form: Form, number: u8) -> Option<Iso> {
     match (form, number) {
         (Form::One, 11..=13) if random.chance(70) => one_deep(random, number),
         (Form::One, _) => one_of_sum(random, number),
-        (Form::Several, _) => several(random, number),
+        (Form::Several, _) => {
+            let ty = some_type(random);
+            several(random, ty, number)
+        }
+        (Form::Lists, _) => {
+            let ty = zoned::list(&zoned::small_type(random));
+            several(random, ty, number)
+        }
         (Form::Full, _) => {
             let iso = plan::wide(random);
             Some(spoiled(random, iso, number))
@@ -77,7 +100,69 @@ fn iso(random: &mut Random, form: Form, number: u8) -> Option<Iso> {
         (Form::Longest, _) => longest(random, number),
         (Form::Sparse, _) => sparse(random, number),
         (Form::Bare, _) => Some(bare(random)),
+        (Form::Letters(size), _) => Some(lettered(random, number, size)),
     }
+}
+
+/// A list of long elements beside a long value, of which the empty list and lists
+/// of one element are matched, with two elements none, or some twice: the least
+/// of these has so many letters.
+fn lettered(random: &mut Random, number: u8, size: usize) -> Iso {
+    let units = 24 + random.below(5);
+    let a = products(random, 2 * units + 1);
+    let b = of_letters(random, size - 4 * units - 6);
+    let lists = zoned::list(&a);
+    let whole = zoned::product(&lists, &b);
+    let [x, y, t, z] = zoned::variables(random, &[]);
+    let beside = |list: &Rc<Pattern>| zoned::pair(list, &z);
+    let empty = zoned::empty();
+    let one = beside(&zoned::element(&x, &empty));
+    let two = beside(&zoned::element(&x, &zoned::element(&y, &empty)));
+    let more = beside(&zoned::element(&x, &zoned::element(&y, &t)));
+    let few = [beside(&empty), one];
+    let side: Vec<Rc<Pattern>> = match overlaps(number) {
+        true => few.into_iter().chain([two, more]).collect(),
+        false => few.to_vec(),
+    };
+    match number {
+        12 => tagged(random, &whole, &side),
+        14 => {
+            // A value, and before it nothing or an element.
+            let some = Rc::new(Type::Sum(Rc::new(Type::Unit), a));
+            let left = Rc::new(Pattern::Left(Rc::new(Pattern::Unit)));
+            let right = Rc::new(Pattern::Right(Rc::clone(&x)));
+            let lefts = [zoned::pair(&z, &left), zoned::pair(&z, &right)];
+            let clauses = lefts.iter().zip(&side).map(|(one, two)| clause(one, two));
+            zoned::iso(&zoned::product(&b, &some), &whole, clauses.collect())
+        }
+        _ => {
+            let mut clauses: Vec<Clause> = side.iter().map(|one| clause(one, one)).collect();
+            random.shuffle(&mut clauses);
+            zoned::iso(&whole, &whole, clauses)
+        }
+    }
+}
+
+/// A type whose least value has so many letters.
+fn of_letters(random: &mut Random, letters: usize) -> Rc<Type> {
+    match letters {
+        2 => plan::two(),
+        _ if letters.is_multiple_of(2) => {
+            let rest = products(random, letters - 3);
+            zoned::product(&plan::two(), &rest)
+        }
+        _ => products(random, letters),
+    }
+}
+
+/// The patterns on the right, and on the left each beside a value of its own.
+fn tagged(random: &mut Random, ty: &Rc<Type>, side: &[Rc<Pattern>]) -> Iso {
+    let tags = plan::wide_of(random, side.len());
+    let lefts = tags.clauses.iter().map(|one| &one.left);
+    let tagged = |(tag, one): (&Rc<Pattern>, &Rc<Pattern>)| clause(&zoned::pair(tag, one), one);
+    let mut clauses: Vec<Clause> = lefts.zip(side).map(tagged).collect();
+    random.shuffle(&mut clauses);
+    zoned::iso(&zoned::product(&tags.from, ty), ty, clauses)
 }
 
 fn overlaps(number: u8) -> bool {
@@ -168,6 +253,11 @@ pub(super) fn around(random: &mut Random, ty: &Rc<Type>, deep: bool) -> Vec<Sket
                 .chain(inner.iter().map(|case| pair(&value, case)))
                 .collect()
         }
+        Type::List(_) => {
+            let mut cases = Sketch::Hole(Rc::clone(ty)).opened(random);
+            cases.reverse();
+            cases
+        }
     }
 }
 
@@ -216,8 +306,7 @@ fn some_type(random: &mut Random) -> Rc<Type> {
 }
 
 /// Values left out, or cases that overlap, several of each.
-fn several(random: &mut Random, number: u8) -> Option<Iso> {
-    let ty = some_type(random);
+fn several(random: &mut Random, ty: Rc<Type>, number: u8) -> Option<Iso> {
     let most = 2 + random.below(20);
     let mut cases = scattered(random, &ty, most);
     if overlaps(number) {
@@ -320,6 +409,8 @@ fn looking(random: &mut Random, ty: &Rc<Type>, percent: usize) -> Sketch {
             let one = looking(random, a, percent);
             Sketch::Pair(Box::new(one), Box::new(looking(random, b, percent)))
         }
+        Type::List(_) if random.chance(percent) => one_case(random, ty, 50),
+        Type::List(_) => Sketch::Hole(Rc::clone(ty)),
     }
 }
 

@@ -6,8 +6,7 @@ use super::life::{agains, slips, Slip};
 use super::plan::{self, fits, two};
 use super::random::Random;
 use super::scribe;
-use crate::check;
-use crate::lines::{read, Clause, Iso, Let, LETS};
+use crate::lines::{read_with, Clause, Iso, Let, LETS};
 use crate::tree::{Pattern, Type};
 use std::rc::Rc;
 
@@ -25,7 +24,7 @@ pub fn again(random: &mut Random) -> Vec<u8> {
     loop {
         // A number that the clause holds already may get another's place.
         let (file, _) = made(random, &reuses);
-        if check(&file).is_ok() {
+        if random.check(&file).is_ok() {
             return file;
         }
     }
@@ -49,13 +48,14 @@ fn made(random: &mut Random, wanted: Wanted) -> (Vec<u8>, usize) {
         };
         isos.push(wide.clone());
         // Without the variables put in the file is accepted.
-        if check(&scribe::file(random, &isos)).is_err() {
+        let plain = scribe::file(random, &isos);
+        if random.check(&plain).is_err() {
             continue;
         }
         let last = isos.len() - 1;
         isos[last].clauses[place] = clause;
         let file = scribe::file(random, &isos);
-        if let Ok(reader) = read(&file) {
+        if let Ok(reader) = read_with(&file, random.lists) {
             return (file, reader.isos[last].clauses[place].line);
         }
     }
@@ -193,7 +193,7 @@ pub fn mistyped(random: &mut Random) -> (Vec<u8>, usize) {
             lets,
         ));
         let file = scribe::file(random, &isos);
-        if let Ok(reader) = read(&file) {
+        if let Ok(reader) = read_with(&file, random.lists) {
             return (file, reader.isos[isos.len() - 1].clauses[0].line);
         }
     }

@@ -33,7 +33,7 @@ pub fn typed(words: &str) -> Vec<u8> {
 }
 
 /// The numbers of the refused files.
-pub const REFUSED: [u8; 14] = [2, 3, 4, 5, 6, 7, 8, 9, 10, 11, 12, 13, 14, 21];
+pub const REFUSED: [u8; 15] = [2, 3, 4, 5, 6, 7, 8, 9, 10, 11, 12, 13, 14, 21, 23];
 
 /// A file for each of these numbers.
 pub fn refused_files() -> [Vec<u8>; REFUSED.len()] {
@@ -55,5 +55,6 @@ pub fn refused_files() -> [Vec<u8>; REFUSED.len()] {
         iso("I,2,2 C,3,3 C,4,4"),
         iso("I,1,2 C,1,3 C,2,4"),
         lines("T,0,0,0 P,0,0,0 P,0,0,0 I,0,0 C,1,1"),
+        lines("T,0,0,0 P,0,0,0 I,0,0 C,0,0 L,0,0,0"),
     ]
 }

@@ -42,7 +42,7 @@ impl<'a> Accepted<'a> {
         self.desk.turn(self.file)
     }
 
-    /// What an iso makes of a setting. Refused with 15, 16 or 17.
+    /// What an iso makes of a setting. Refused with 15, 16, 17 or 24.
     pub fn run(&mut self, query: Query) -> Result<Converted, Refused> {
         self.desk.run(self.file, query).map(Converted::from)
     }
@@ -72,7 +72,7 @@ impl<'a> Accepted<'a> {
         self.desk.overlap(self.file, left, right)
     }
 
-    /// What the runs of iso number `iso` count, at the least and at the most. Refused with 15.
+    /// What the runs of iso number `iso` count, at the least and at the most. Refused with 15 or 18.
     pub fn bounds(&mut self, iso: u32) -> Result<Bounds, Refused> {
         self.desk.bounds(self.file, iso)
     }

@@ -6,8 +6,8 @@ use std::fmt;
 use std::ops::Deref;
 use std::str::FromStr;
 
-/// The letters of a setting: one value in prefix order, with U for the unit, L or R before a part and P before two
-/// parts, at most 127 letters. Whether a type has such a value is for the library to say.
+/// The letters of a setting: one value in prefix order, with U for the unit, L or R before a part, P before two parts, N
+/// for the empty list and K before an element and the list behind it, at most 127 letters. Whether a type has such a value is for the library to say.
 ///
 /// ```
 /// use rulefile::Letters;
@@ -16,7 +16,7 @@ use std::str::FromStr;
 /// assert_eq!(format!("{letters} {letters:?}"), "PRURRLU \"PRURRLU\"");
 /// assert_eq!(letters.as_bytes(), b"PRURRLU");
 /// let why = "PRUX".parse::<Letters>().unwrap_err();
-/// assert_eq!(why.to_string(), "letter 4 is none of U, L, R and P");
+/// assert_eq!(why.to_string(), "letter 4 is none of U, L, R, P, N and K");
 /// # Ok::<(), rulefile::NoLetters>(())
 /// ```
 #[derive(Clone, PartialEq, Eq, PartialOrd, Ord, Hash)]
@@ -25,7 +25,7 @@ pub struct Letters(Vec<u8>);
 /// Why a text is no setting of any type.
 #[derive(Clone, Copy, Debug, PartialEq, Eq)]
 pub enum NoLetters {
-    /// What stands at this place, counted from 1, is none of U, L, R and P.
+    /// What stands at this place, counted from 1, is none of U, L, R, P, N and K.
     Other(usize),
     /// The setting ends before this place, counted from 1.
     Behind(usize),
@@ -53,10 +53,12 @@ impl Letters {
         for (place, letter) in (1..).zip(text) {
             parts = match letter {
                 _ if place > RESULT_LENGTH => return Err(NoLetters::TooMany),
-                b'U' | b'L' | b'R' | b'P' if parts == 0 => return Err(NoLetters::Behind(place)),
-                b'U' => parts - 1,
+                b'U' | b'L' | b'R' | b'P' | b'N' | b'K' if parts == 0 => {
+                    return Err(NoLetters::Behind(place))
+                }
+                b'U' | b'N' => parts - 1,
                 b'L' | b'R' => parts,
-                b'P' => parts + 1,
+                b'P' | b'K' => parts + 1,
                 _ => return Err(NoLetters::Other(place)),
             }
         }
@@ -134,7 +136,7 @@ impl fmt::Display for NoLetters {
     fn fmt(&self, f: &mut fmt::Formatter) -> fmt::Result {
         match self {
             NoLetters::Other(place) => {
-                write!(f, "letter {place} is none of U, L, R and P")
+                write!(f, "letter {place} is none of U, L, R, P, N and K")
             }
             NoLetters::Behind(place) => {
                 write!(f, "the setting ends before letter {place}")

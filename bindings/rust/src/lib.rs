@@ -180,7 +180,7 @@ pub fn turn(
 /// and work area as they are then: cleared.
 fn lined(number: u32, file: &[u8], table: &mut [u16], work: &mut [u8]) -> Result<(), Refused> {
     match number {
-        3..=14 | 21 => check(file, table, work).and(Refused::unless_0(number, 0)),
+        3..=14 | 21 | 23 => check(file, table, work).and(Refused::unless_0(number, 0)),
         _ => Refused::unless_0(number, 0),
     }
 }
@@ -270,7 +270,8 @@ pub fn overlap(
 /// Checks a file and bounds the count of any run of its iso number `iso`, there and back, without a run. A run
 /// with a budget of at least a greatest that is not flagged is never refused 17.
 ///
-/// Refused, in this order: what [`check`] refuses, an absent iso (15).
+/// Refused, in this order: what [`check`] refuses, an absent iso (15), a list in a type of the iso or of one that it
+/// reaches (18).
 pub fn bounds(
     file: &[u8],
     table: &mut [u16],
@@ -290,7 +291,8 @@ pub fn bounds(
 /// refused iso's from-type (11, 13) or to-type (12, 14) that two or more patterns of that side match (11, 12), or
 /// that none does (13, 14); the one with the fewest letters, of several such the first in byte order.
 ///
-/// Refused as [`check`] refuses, and with 1 also for a result area of less than 127 bytes. Behind the letters the
+/// Refused as [`check`] refuses, with 24 at line 0 in place of 11 to 14 where the setting has over 127 letters, and with
+/// 1 also for a result area of less than 127 bytes. Behind the letters the
 /// result area is as it was; with any other refusal, or none, all of it is.
 pub fn witness(
     file: &[u8],
@@ -312,8 +314,9 @@ pub fn witness(
 ///
 /// Refused, in this order: what [`check`] refuses, of which 1 also for unit areas of unequal length and 2 also for
 /// over 1,000 units or 4,096 lines; for the units in order an absent T line (15), a type of over 4,294,967,295
-/// values (18), a number that is not below their count (19); a line of the script of another form, or that names an
-/// absent unit or iso (22). All of this is tested before the first visit. Units and tally are then as they were.
+/// values (18), a number that is not below their count (19); for the lines of the script in order one of another form,
+/// or that names an absent unit or iso (22), and one whose iso, or one that it reaches, has a type that holds a list
+/// (18). All of this is tested before the first visit. Units and tally are then as they were.
 #[allow(clippy::too_many_arguments)]
 pub fn play(
     file: &[u8],

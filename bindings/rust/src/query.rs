@@ -22,7 +22,7 @@ pub struct Query<'a> {
     pub direction: Direction,
     /// The most applications that the run may make.
     pub budget: u32,
-    /// The value, in prefix order with the letters U, L, R and P.
+    /// The value, in prefix order with the letters U, L, R, P, N and K.
     pub letters: &'a [u8],
 }
 

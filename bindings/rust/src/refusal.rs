@@ -20,7 +20,7 @@ pub enum Refusal {
     Misplaced = 4,
     /// A kind that is not listed, an idle field that is not 0, a variable above 31.
     BadField = 5,
-    /// A named line does not stand earlier, or an L line names its own iso.
+    /// A named line does not stand earlier; an L line may name its own iso.
     BadName = 6,
     /// Any other ceiling passed; of an import, by the list or by the file that would be written.
     Ceiling = 7,
@@ -44,7 +44,7 @@ pub enum Refusal {
     NoValue = 16,
     /// The full count would pass the budget.
     Spent = 17,
-    /// The T line has over 4,294,967,295 values; of a pair list, over 4,096.
+    /// The T line has over 4,294,967,295 values; of a pair list, over 4,096; or a type holds a list.
     TooMany = 18,
     /// The setting's number is not below the T line's count of values.
     TooHigh = 19,
@@ -54,6 +54,11 @@ pub enum Refusal {
     IdleLine = 21,
     /// A line of the script is of another form, or names an absent unit or iso.
     BadScript = 22,
+    /// An iso calls itself, and meets the rule for that neither as written nor as turned.
+    Recursion = 23,
+    /// An argument or a result of over 127 letters, or calls nested deeper than 40; of a witness, the setting has over
+    /// 127 letters.
+    TooLarge = 24,
     /// A number that this crate has no name for: the library that is linked is of a later version.
     Unknown(u32),
 }
@@ -84,6 +89,8 @@ const ALL: &[(Refusal, &str)] = &[
     (BadList, "bad list"),
     (IdleLine, "idle line"),
     (BadScript, "bad script"),
+    (Recursion, "recursion"),
+    (TooLarge, "too large"),
 ];
 
 impl Refusal {

@@ -37,7 +37,18 @@ fn converted<E>(count: u32, text: &str) -> Result<Converted, E> {
 
 #[test]
 fn letters_as_text() {
-    for text in ["U", "LU", "RU", "PUU", "PRURRLU", "PPRULURU"] {
+    for text in [
+        "U",
+        "LU",
+        "RU",
+        "PUU",
+        "PRURRLU",
+        "PPRULURU",
+        "N",
+        "KUN",
+        "KRUKLUN",
+        "PRUKPLULUN",
+    ] {
         let letters = letters(text);
         assert_eq!(letters.to_string(), text);
         assert_eq!(format!("{letters:?}"), format!("\"{text}\""));
@@ -92,22 +103,22 @@ fn what_is_no_letters() {
         (
             "pluru",
             NoLetters::Other(1),
-            "letter 1 is none of U, L, R and P",
+            "letter 1 is none of U, L, R, P, N and K",
         ),
         (
             "PLURU\n",
             NoLetters::Other(6),
-            "letter 6 is none of U, L, R and P",
+            "letter 6 is none of U, L, R, P, N and K",
         ),
         (
             " U",
             NoLetters::Other(1),
-            "letter 1 is none of U, L, R and P",
+            "letter 1 is none of U, L, R, P, N and K",
         ),
         (
             "LÜ",
             NoLetters::Other(2),
-            "letter 2 is none of U, L, R and P",
+            "letter 2 is none of U, L, R, P, N and K",
         ),
         (
             &format!("L{longest}"),

@@ -22,7 +22,7 @@ const QUERIES: &str = "Q,1,0,9,PLURU\nQ,1,1,9,PLULU\nQ,1,0,2,PRULU\nQ,1,0,2,PLUR
     Q,2,0,9,U\nQ,1,0,9,PLU\n";
 
 /// The words of documents 01 and 02, the first one for number 1.
-const WORDS: [&str; 22] = [
+const WORDS: [&str; 24] = [
     "short area",
     "too long",
     "bad line",
@@ -45,6 +45,8 @@ const WORDS: [&str; 22] = [
     "bad list",
     "idle line",
     "bad script",
+    "recursion",
+    "too large",
 ];
 
 /// The words of which a refusal's name is made; those of two are cut.
@@ -132,7 +134,8 @@ fn files_of_document_01() {
     let gap = s_without(18).replacen(" P,4,2,3", "", 1);
     expect_refused(&file(&gap), Refusal::GapLeft, 14);
     expect_refused(&file(&format!("{S} C,7,7")), Refusal::OverlapLeft, 15);
-    expect_refused(&file(&s_with_17("L,4,1,3")), Refusal::BadName, 17);
+    // request 14: an L line may name its own iso
+    expect_refused(&file(&s_with_17("L,4,1,3")), Refusal::Type, 16);
     expect_refused(&file(&s_without(17)), Refusal::Variable, 16);
     expect_refused(&file(&s_with_17("L,4,0,1")), Refusal::Variable, 16);
     let gap = "T,0,0,0 T,1,0,0 P,0,0,0 P,2,0,0 I,0,1 C,0,1";
@@ -583,7 +586,7 @@ fn refusals_by_number_and_word() {
         let name = format!("{refusal:?}").to_lowercase();
         assert_eq!(name, name_words(word).replace(' ', ""));
     }
-    for number in [0, 23, 24, 256, 257, 65_537, u32::MAX] {
+    for number in [0, 25, 26, 256, 257, 65_537, u32::MAX] {
         assert_eq!(Refusal::of(number), None);
     }
 }

@@ -207,7 +207,9 @@ fn stored_settings() {
         let rules: Vec<u8> = rules.flatten().copied().collect();
         let stored = fs::read_to_string(path.with_extension("shown")).ok();
         let found = match Desk::new().witness(&rules) {
-            Err(shown) if !shown.letters.is_empty() => {
+            Err(shown)
+                if !shown.letters.is_empty() || shown.refused.refusal == Refusal::TooLarge =>
+            {
                 let Refused { refusal, line } = shown.refused;
                 numbers.push(refusal.number());
                 let letters = String::from_utf8(shown.letters).unwrap();
@@ -217,7 +219,7 @@ fn stored_settings() {
         };
         assert_eq!(found, stored, "{}", path.display());
     }
-    for number in 11..15 {
+    for number in [11, 12, 13, 14, 24] {
         assert!(numbers.contains(&number), "no input is refused {number}");
     }
 }

@@ -1,8 +1,9 @@
-//! Refusals 15 to 19: what was asked of an accepted file.
+//! Refusals 15 to 19 and 24: what was asked of an accepted file.
 
-use super::numbered;
-use crate::rules::Rules;
+use super::{large, numbered};
+use crate::rules::{Iso, Rules};
 use crate::run::counted;
+use crate::settings::MOST_LETTERS;
 use crate::show::tree;
 use crate::{form, settings};
 use rulefile::{Desk, Direction, Query, Refusal, Refused, MAX_QUERIES};
@@ -42,12 +43,47 @@ impl Told {
     }
 }
 
-/// The iso that is not there.
+/// The iso that is not there, or that has to do with lists.
 pub fn iso(file: &[u8], iso: u32, refused: Refused) -> Told {
-    let there = numbered(Rules::of(file).isos.len(), "iso", "iso ");
-    told(refused, Refusal::NoIso, || {
-        Some(format!("iso {iso} was named; the file has {there}"))
-    })
+    let rules = Rules::of(file);
+    let there = numbered(rules.isos.len(), "iso", "iso ");
+    let look = match refused.refusal {
+        Refusal::NoIso => Some(format!("iso {iso} was named; the file has {there}")),
+        Refusal::TooMany => reached(&rules, iso as usize),
+        _ => None,
+    };
+    Told { refused, look }
+}
+
+/// The first type that holds a list, of an iso or of one that it reaches through let steps.
+pub fn reached(rules: &Rules, iso: usize) -> Option<String> {
+    // a let step names an iso up to its own, so that going down meets each once
+    let mut reaches = vec![false; rules.isos.len()];
+    *reaches.get_mut(iso)? = true;
+    for place in (0..=iso).rev().filter(|place| *place < rules.isos.len()) {
+        let Iso {
+            from, to, clauses, ..
+        } = &rules.isos[place];
+        if !reaches[place] {
+            continue;
+        }
+        if let Some(ty) = [from, to].into_iter().find(|ty| rules.endless(**ty)) {
+            let reads = tree::ty(rules, *ty).text();
+            let whose = match place == iso {
+                true => format!("iso {iso} has to do with T{ty}"),
+                false => format!("iso {iso} reaches iso {place}, which has to do with T{ty}"),
+            };
+            return Some(format!(
+                "{whose}, {reads}, which holds a list: it has settings without end"
+            ));
+        }
+        for step in clauses.iter().flat_map(|clause| &clause.lets) {
+            if let Some(named) = reaches.get_mut(step.iso) {
+                *named = true;
+            }
+        }
+    }
+    None
 }
 
 /// The first of these P lines that is not there.
@@ -91,6 +127,7 @@ pub fn run(
             let query = |budget| Query::new(place, direction, budget, letters);
             Some(spent(desk, file, place, budget, query))
         }
+        Refusal::TooLarge => large::fault(&Rules::of(file), place, direction, letters),
         _ => None,
     };
     Told { refused, look }
@@ -125,7 +162,12 @@ fn spent<'a>(
     let known = bounds.filter(|bounds| !bounds.greatest_over);
     let most = known.map_or(u32::MAX, |bounds| bounds.greatest);
     let allowed = format!("the budget is {budget}");
+    let endless = bounds.is_none();
     match (desk.run(file, query(most.min(STEPS))), known) {
+        (Err(refused), _) if endless && refused.refusal == Refusal::TooLarge => {
+            format!("with more steps it is refused with 24, too large; {allowed}")
+        }
+        (Err(_), _) if endless => format!("it takes over {STEPS} steps; {allowed}"),
         (Ok(value), _) => {
             let steps = counted(value.count.into(), "step");
             format!("it takes {steps}; {allowed}")
@@ -151,6 +193,8 @@ pub fn misfit(rules: &Rules, ty: usize, letters: &[u8]) -> Option<String> {
             (1, b'L') => vec![row.a],
             (1, b'R') => vec![row.b],
             (2, b'P') => vec![row.b, row.a],
+            (3, b'N') => vec![],
+            (3, b'K') => vec![*next, row.a],
             _ => break,
         };
         open.pop();
@@ -159,7 +203,7 @@ pub fn misfit(rules: &Rules, ty: usize, letters: &[u8]) -> Option<String> {
     }
     let wanted = open
         .last()
-        .map(|next| ["U", "L or R", "P"][rules.types[*next].kind.min(2)]);
+        .map(|next| ["U", "L or R", "P", "N or K"][rules.types[*next].kind.min(3)]);
     let why = match (letter(letters, place), wanted) {
         (None, None) => return None,
         (None, Some(_)) if letters.is_empty() => "there are no letters".to_string(),
@@ -177,6 +221,10 @@ pub fn misfit(rules: &Rules, ty: usize, letters: &[u8]) -> Option<String> {
     let mut right = letters[..place].to_vec();
     for next in open.into_iter().rev() {
         right.extend(settings::of_number(rules, next, 0));
+    }
+    // of a long list the beginning would not help
+    if right.len() > MOST_LETTERS {
+        right = settings::of_number(rules, ty, 0);
     }
     let right = String::from_utf8_lossy(&right);
     Some(format!("{why}; a setting of T{ty} is {right}"))
@@ -213,6 +261,11 @@ fn many(rules: &Rules, types: &[u32], most: u128, what: &str) -> Option<String> 
     };
     let ty = types.iter().find(over)?;
     let count = rules.settings[*ty as usize];
+    if rules.endless(*ty as usize) {
+        let reads = tree::ty(rules, *ty as usize).text();
+        let endless = format!("T{ty}, {reads}, holds a list: it has settings without end");
+        return Some(format!("{endless}; at most {most} {what}"));
+    }
     Some(format!("T{ty} has {count} settings; at most {most} {what}"))
 }
 
@@ -251,7 +304,10 @@ pub fn export(desk: &mut Desk, file: &[u8], place: u32, budget: u32, refused: Re
     let from = rules.isos.get(place as usize).map(|iso| iso.from);
     let look = match (refused.refusal, from) {
         (Refusal::NoIso, _) => return iso(file, place, refused),
-        (Refusal::TooMany, Some(from)) => many(&rules, &[from as u32], LISTED, "are listed"),
+        (Refusal::TooMany, Some(from)) => match reached(&rules, place as usize) {
+            None => many(&rules, &[from as u32], LISTED, "are listed"),
+            list => list,
+        },
         (Refusal::Spent, Some(from)) => {
             first_spent(desk, file, &rules, [place as usize, from], budget)
         }

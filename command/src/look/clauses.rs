@@ -6,7 +6,7 @@ use rulefile::{Refusal, Refused};
 use std::collections::BTreeMap;
 
 /// A clause by its line, with the iso that it belongs to.
-fn clause(rules: &Rules, line: usize) -> Option<(&crate::rules::Iso, &Clause)> {
+pub fn clause(rules: &Rules, line: usize) -> Option<(&crate::rules::Iso, &Clause)> {
     let of = |iso: &'_ crate::rules::Iso| iso.clauses.iter().position(|one| one.line == line);
     let mut isos = rules.isos.iter();
     isos.find_map(|iso| of(iso).map(|place| (iso, &iso.clauses[place])))
@@ -67,17 +67,6 @@ fn patterns(clause: &Clause) -> Vec<(Place, usize)> {
     patterns
 }
 
-/// The numbers of the variables of a pattern, in its order.
-fn variables(rules: &Rules, pattern: usize) -> Vec<usize> {
-    let row = rules.patterns[pattern];
-    match row.kind {
-        1 => vec![row.a],
-        2 | 3 => variables(rules, row.a),
-        4 => [variables(rules, row.a), variables(rules, row.b)].concat(),
-        _ => Vec::new(),
-    }
-}
-
 /// What has happened to a variable so far.
 #[derive(Default)]
 struct History {
@@ -92,7 +81,7 @@ struct History {
 fn variable(rules: &Rules, clause: &Clause) -> Option<String> {
     let mut all: BTreeMap<usize, History> = BTreeMap::new();
     for (place, pattern) in patterns(clause) {
-        for number in variables(rules, pattern) {
+        for number in rules.variables(pattern) {
             let words = place.words();
             let history = all.entry(number).or_default();
             let name = called(number, history.times);
@@ -132,23 +121,25 @@ fn called(number: usize, times: usize) -> String {
 }
 
 /// A P line as it reads.
-fn pattern(rules: &Rules, place: usize) -> String {
+pub fn pattern(rules: &Rules, place: usize) -> String {
     let text = Naming::plain().pattern(rules, place).text();
     format!("P{place} = {text}")
 }
 
 /// A T line as it reads.
-fn ty(rules: &Rules, place: usize) -> String {
+pub fn ty(rules: &Rules, place: usize) -> String {
     format!("T{place} = {}", tree::ty(rules, place).text())
 }
 
-/// The first left or right in a pattern.
+/// The first left, right, empty list or element in a pattern.
 fn tag(rules: &Rules, pattern: usize) -> Option<&'static str> {
     let row = rules.patterns[pattern];
     match row.kind {
-        2 => Some("left"),
-        3 => Some("right"),
+        2 => Some("a left"),
+        3 => Some("a right"),
         4 => tag(rules, row.a).or_else(|| tag(rules, row.b)),
+        5 => Some("an empty list"),
+        6 => Some("an element"),
         _ => None,
     }
 }
@@ -165,7 +156,7 @@ fn let_shape(rules: &Rules, clause: &Clause) -> Option<String> {
     lets.zip(types).find_map(|((place, at), of)| {
         let tag = tag(rules, at)?;
         let (words, pattern, ty) = (place.words(), pattern(rules, at), ty(rules, of));
-        Some(format!("{words}, {pattern}, takes a setting of {ty} apart by a {tag}; it may have only units, variables and pairs"))
+        Some(format!("{words}, {pattern}, takes a setting of {ty} apart by {tag}; it may have only units, variables and pairs"))
     })
 }
 
@@ -224,6 +215,11 @@ impl Typing<'_> {
                 self.fit(binds, row.a, kind.a)?;
                 self.fit(binds, row.b, kind.b)
             }
+            (5, 3) => Ok(()),
+            (6, 3) => {
+                self.fit(binds, row.a, kind.a)?;
+                self.fit(binds, row.b, of)
+            }
             _ => Err(Misfit::Shape(at, of)),
         }
     }
@@ -245,9 +241,17 @@ impl Misfit {
                 let (kind, of_kind) = (rules.patterns[at].kind, rules.types[of].kind);
                 let is = shape(
                     kind,
-                    &["a unit", "a variable", "a left", "a right", "a pair"],
+                    &[
+                        "a unit",
+                        "a variable",
+                        "a left",
+                        "a right",
+                        "a pair",
+                        "an empty list",
+                        "an element before a list",
+                    ],
                 );
-                let wanted = shape(of_kind, &["a unit", "a sum", "a product"]);
+                let wanted = shape(of_kind, &["a unit", "a sum", "a product", "a list"]);
                 match at == whole {
                     true => format!("it is {is}, and the type is {wanted}"),
                     false => {
@@ -268,10 +272,8 @@ impl Misfit {
 /// Whether two types are the same tree.
 fn same(rules: &Rules, a: usize, b: usize) -> bool {
     let (x, y) = (rules.types[a], rules.types[b]);
-    a == b
-        || x.kind == y.kind
-            && x.nodes == y.nodes
-            && (x.kind == 0 || same(rules, x.a, y.a) && same(rules, x.b, y.b))
+    let parts = || rules.parts(a).into_iter().zip(rules.parts(b));
+    a == b || x.kind == y.kind && x.nodes == y.nodes && parts().all(|(x, y)| same(rules, x, y))
 }
 
 /// The letters behind what a pattern matches, where it matches what stands in front.
@@ -282,20 +284,25 @@ fn rest<'a>(rules: &Rules, pattern: usize, letters: &'a [u8]) -> Option<&'a [u8]
         (1, _) => past(letters),
         (0, b'U') => Some(behind),
         (2, b'L') | (3, b'R') => rest(rules, row.a, behind),
-        (4, b'P') => rest(rules, row.b, rest(rules, row.a, behind)?),
+        (4, b'P') | (6, b'K') => rest(rules, row.b, rest(rules, row.a, behind)?),
+        (5, b'N') => Some(behind),
         _ => None,
     }
 }
 
 /// The letters behind a whole value.
-fn past(letters: &[u8]) -> Option<&[u8]> {
-    let (first, behind) = letters.split_first()?;
-    match first {
-        b'U' => Some(behind),
-        b'L' | b'R' => past(behind),
-        b'P' => past(past(behind)?),
-        _ => None,
+pub fn past(letters: &[u8]) -> Option<&[u8]> {
+    let (mut open, mut place) = (1usize, 0);
+    while open > 0 {
+        open = match letters.get(place)? {
+            b'U' | b'N' => open - 1,
+            b'L' | b'R' => open,
+            b'P' | b'K' => open + 1,
+            _ => return None,
+        };
+        place += 1;
     }
+    Some(&letters[place..])
 }
 
 /// The first two clauses that meet in a setting, on the side that is refused with 11 or 12: their lines, and how they

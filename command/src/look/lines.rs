@@ -2,7 +2,7 @@
 
 use super::numbered;
 use crate::form;
-use crate::rules::{Row, Rules};
+use crate::rules::Rules;
 use rulefile::{Refusal, Refused};
 
 /// Ceilings of a file, by what is counted.
@@ -14,7 +14,7 @@ const ISOS: usize = 32;
 const CLAUSES: usize = 128;
 const LETS: usize = 8;
 const NODES: usize = 127;
-/// Left and right nodes of a pattern, or of a value.
+/// Left and right nodes of a pattern, or of a value; of a pattern empty lists and elements too.
 pub const TAGS: usize = 40;
 
 /// A line as the library found it in form, and the lines above it, which are in order.
@@ -69,14 +69,11 @@ fn line(file: &[u8], number: usize) -> Option<Line> {
     })
 }
 
-/// The left and right nodes of an unfolded pattern.
-fn tags(rules: &Rules, place: usize) -> usize {
-    let Row { kind, a, b, .. } = rules.patterns[place];
-    match kind {
-        2 | 3 => 1 + tags(rules, a),
-        4 => tags(rules, a) + tags(rules, b),
-        _ => 0,
-    }
+/// The nodes of an unfolded pattern whose kinds are among these.
+fn count(rules: &Rules, place: usize, kinds: &[usize]) -> usize {
+    let below = rules.below(place).into_iter();
+    let below: usize = below.map(|part| count(rules, part, kinds)).sum();
+    below + usize::from(kinds.contains(&rules.patterns[place].kind))
 }
 
 /// A number that has passed a ceiling.
@@ -115,14 +112,19 @@ impl Line {
             ))
         };
         match (self.letter, kind) {
-            ('T', 3..) => Some(format!("there is no kind {kind} of T lines: 0 is the unit, 1 a sum, 2 a product")),
-            ('P', 5..) => Some(format!(
+            ('T', 4..) => Some(format!(
+                "there is no kind {kind} of T lines: 0 is the unit, 1 a sum, 2 a product, 3 a list"
+            )),
+            ('P', 7..) => Some(format!(
                 "there is no kind {kind} of P lines: 0 is the unit, 1 a variable, 2 left, 3 right, 4 a \
-                 pair"
+                 pair, 5 the empty list, 6 an element before a list"
             )),
             ('P', 1) if a > 31 => Some(format!("there is no variable {a}: they are numbered 0 to 31")),
             (_, 0) if a != 0 => idle("a unit", "second", a),
             (_, 0) => idle("a unit", "third", b),
+            ('T', 3) => idle("a list", "third", b),
+            ('P', 5) if a != 0 => idle("an empty list", "second", a),
+            ('P', 5) => idle("an empty list", "third", b),
             ('P', 1) => idle("a variable", "third", b),
             ('P', _) => idle("a left or right", "third", b),
             _ => None,
@@ -132,18 +134,19 @@ impl Line {
     /// What it names that is not above it.
     fn bad_name(&self) -> Option<String> {
         let (types, patterns) = (self.above.types.len(), self.above.patterns.len());
-        let own = self.above.isos.len().saturating_sub(1);
+        let isos = self.above.isos.len();
         let [x, y, z] = self.numbers;
         let of = |letter: &'static str, number: usize, count: usize| (letter, number, count);
         let named = match (self.letter, x) {
+            ('T', 3) => vec![of("T", y, types)],
             ('T', _) => vec![of("T", y, types), of("T", z, types)],
-            ('P', 4) => vec![of("P", y, patterns), of("P", z, patterns)],
+            ('P', 4 | 6) => vec![of("P", y, patterns), of("P", z, patterns)],
             ('P', _) => vec![of("P", y, patterns)],
             ('I', _) => vec![of("T", x, types), of("T", y, types)],
             ('C', _) => vec![of("P", x, patterns), of("P", y, patterns)],
             _ => vec![
                 of("P", x, patterns),
-                of("iso ", y, own),
+                of("iso ", y, isos),
                 of("P", z, patterns),
             ],
         };
@@ -151,11 +154,8 @@ impl Line {
             .into_iter()
             .find(|(_, number, count)| number >= count)?;
         Some(match letter {
-            "iso " if number == own => {
-                format!("it names iso {number}, which is its own; a let step names an earlier one")
-            }
             "iso " => format!(
-                "it names iso {number}; earlier than its own there is {}",
+                "it names iso {number}; up to its own there is {}",
                 numbered(count, "iso", "iso ")
             ),
             _ => format!(
@@ -180,11 +180,13 @@ impl Line {
                 NODES,
             ),
             'P' => {
-                let tags = self.tags();
-                passed(
-                    format!("the pattern unfolds to {tags} left and right nodes"),
-                    TAGS,
-                )
+                let lists = self.tags(&[5, 6]);
+                let kinds = match lists {
+                    0 => "left and right",
+                    _ => "left, right, empty and element",
+                };
+                let tags = lists + self.tags(&[2, 3]);
+                passed(format!("the pattern unfolds to {tags} {kinds} nodes"), TAGS)
             }
             'I' => of("iso", above.isos.len(), ISOS),
             'C' => {
@@ -207,8 +209,8 @@ impl Line {
     fn named(&self) -> Vec<usize> {
         let [kind, a, b] = self.numbers;
         match (self.letter, kind) {
-            ('T', 1 | 2) | ('P', 4) => vec![a, b],
-            ('P', 2 | 3) => vec![a],
+            ('T', 1 | 2) | ('P', 4 | 6) => vec![a, b],
+            ('T', 3) | ('P', 2 | 3) => vec![a],
             _ => Vec::new(),
         }
     }
@@ -224,10 +226,11 @@ impl Line {
         1 + below.sum::<usize>()
     }
 
-    /// The left and right nodes that a P line unfolds to.
-    fn tags(&self) -> usize {
-        let named = self.named().into_iter();
-        let below: usize = named.map(|place| tags(&self.above, place)).sum();
-        below + usize::from(matches!(self.numbers[0], 2 | 3))
+    /// The nodes of these kinds that a P line unfolds to.
+    fn tags(&self, kinds: &[usize]) -> usize {
+        let patterns = self.above.patterns.len();
+        let named = self.named().into_iter().filter(|place| *place < patterns);
+        let below: usize = named.map(|place| count(&self.above, place, kinds)).sum();
+        below + usize::from(kinds.contains(&self.numbers[0]))
     }
 }

@@ -3,8 +3,10 @@
 
 pub mod asked;
 mod clauses;
+mod large;
 mod lines;
 mod lists;
+mod recursion;
 
 use crate::form;
 use crate::rules::Rules;
@@ -27,6 +29,13 @@ pub fn here(file: &[u8], refused: Refused) -> Option<String> {
                 ..Rules::of(file)
             };
             clauses::fault(&letters, refused)
+        }
+        Refusal::Recursion => {
+            let letters = Rules {
+                letters: true,
+                ..Rules::of(file)
+            };
+            recursion::fault(&letters, refused)
         }
         _ => None,
     }

@@ -19,8 +19,8 @@ const DRAWN: usize = 12;
 fn reading(sight: &Sight) -> String {
     let whose = sight.whose();
     let whose = whose.map(|whose| format!("Names: {}.", without_folders(&whose)));
-    let legend = tree::legend(&sight.rules).map(String::from);
-    let lines = legend.into_iter().chain(whose);
+    let legend = tree::legend(&sight.rules).into_iter().map(String::from);
+    let lines = legend.chain(whose);
     lines
         .map(|line| format!("<p class=\"pale\">{}</p>\n", escaped(&line)))
         .collect()
@@ -76,7 +76,7 @@ impl Page<'_> {
                 let warning =
                     warning.map(|warning| format!("<p>Warning: {}</p>", escaped(warning)));
                 let warning = warning.unwrap_or_default();
-                let meaning = escaped(explain::ACCEPTED);
+                let meaning = escaped(explain::accepted(&sight.file.bytes));
                 format!(
                     "<div class=\"verdict accepted\"><strong>{number},{line} – accepted</strong>\
                      <p>It is proved that {meaning}.</p>{warning}{about}</div>\n"
@@ -160,7 +160,7 @@ impl Page<'_> {
     fn ty(&self, place: usize) -> Line {
         let sight = self.sight;
         let shown = tree::ty(&sight.rules, place);
-        let settings = run::counted(sight.rules.settings[place], "setting");
+        let settings = sight.rules.settings_of(place);
         let (name, text) = (anchor('T', place), tree::titled(&sight.rules, place));
         let title = sight.rules.names.ty(place).filter(|_| !sight.rules.letters);
         let said = linked(sight, &shown.written(marked));
@@ -274,11 +274,13 @@ impl Page<'_> {
 /// What a list of conversions is called.
 fn title(way: &str, conversions: &Conversions) -> String {
     let shown = conversions.rows.len();
+    let which = match conversions.endless {
+        true => "lists of different lengths, one a clause",
+        false => "the first, the last, one a clause, some between",
+    };
     match conversions.all {
         true => way.to_string(),
-        false => format!(
-            "{way} <span class=\"pale\">a sample of {shown}: the first, the last, one a clause, some between</span>"
-        ),
+        false => format!("{way} <span class=\"pale\">a sample of {shown}: {which}</span>"),
     }
 }
 

@@ -82,12 +82,12 @@ fn row(sight: &Sight, types: [usize; 2], conversion: &Conversion) -> (String, us
     let left = reading(sight, types[0], from);
     let mut plain = length(&left) + length(&number(from));
     let to = match to {
-        Some((to, steps)) => {
+        Ok((to, steps)) => {
             let right = reading(sight, types[1], to);
             plain += length(&right) + length(&number(to));
             format!("{}<td class=\"r\">{steps}</td>", cells(to, &right))
         }
-        None => "<td></td><td colspan=\"2\">too many steps for a list</td>".to_string(),
+        Err(why) => format!("<td></td><td colspan=\"2\">{why}</td>"),
     };
     (format!("<tr>{}{to}</tr>\n", cells(from, &left)), plain)
 }

@@ -69,17 +69,24 @@ impl<'a> Sight<'a> {
     /// From and to of an iso, its settings, and how many steps its runs take.
     fn heading(&self, desk: &mut Desk, place: usize) -> String {
         let Iso { from, to, .. } = &self.rules.isos[place];
-        let (left, right) = (self.rules.settings[*from], self.rules.settings[*to]);
-        let settings = match left == right {
-            true => run::counted(left, "setting"),
-            false => format!("{left} and {}", run::counted(right, "setting")),
+        let [left, right] = [from, to].map(|ty| self.rules.settings[*ty]);
+        let settings = match (left == right, self.rules.has_lists()) {
+            (true, _) => self.rules.settings_of(*from),
+            (false, false) => format!("{left} and {}", self.rules.settings_of(*to)),
+            (false, true) => [from, to]
+                .map(|ty| self.rules.settings_of(*ty))
+                .join(" and "),
+        };
+        let itself = match self.rules.calls_itself(place) {
+            true => ", calls itself",
+            false => "",
         };
         let bounds = desk.bounds(&self.file.bytes, place as u32);
         let steps = bounds.map(|bounds| format!(", {}", run::in_words(bounds)));
         let steps = steps.unwrap_or_default();
         let name = self.rules.names.iso(place).filter(|_| !self.rules.letters);
         let name = name.map(|name| format!(", {name}")).unwrap_or_default();
-        format!("iso {place}{name}: T{from} → T{to}, {settings}{steps}")
+        format!("iso {place}{name}: T{from} → T{to}, {settings}{steps}{itself}")
     }
 
     /// Whose the names are.

@@ -3,7 +3,7 @@
 use super::tree::{self, Shown};
 use super::Sight;
 use crate::rules::Iso;
-use crate::{check, explain, run};
+use crate::{check, explain};
 use rulefile::Desk;
 
 /// The verdict, in lines.
@@ -60,7 +60,7 @@ fn types(sight: &Sight) -> String {
     }
     let row = |place: &usize| {
         let expression = tree::titled(&sight.rules, *place);
-        let settings = run::counted(sight.rules.settings[*place], "setting");
+        let settings = sight.rules.settings_of(*place);
         (format!("T{place} = {expression}"), settings)
     };
     let rows: Vec<_> = sight.types.iter().map(row).collect();
@@ -86,8 +86,9 @@ pub fn text(desk: &mut Desk, sight: &Sight) -> String {
     let mut text = verdict(sight);
     if !sight.rules.types.is_empty() {
         let whose = sight.whose().map(|whose| explain::entry("names", &whose));
-        let lines = tree::legend(&sight.rules).map(|line| format!("  {line}\n"));
-        text += &(whose.unwrap_or_default() + &lines.concat());
+        let lines = tree::legend(&sight.rules);
+        text += &whose.unwrap_or_default();
+        text.extend(lines.iter().map(|line| format!("  {line}\n")));
     }
     for place in &sight.isos {
         let Some(iso) = sight.rules.isos.get(*place) else {

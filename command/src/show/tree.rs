@@ -1,29 +1,38 @@
 //! Types, patterns and settings as trees to be written or drawn, in numbers: a right-nested sum of units is a number
 //! of choices, and its settings are their places; nested products and pairs are one tuple; in any other sum a part is
-//! told by its place. What does not fit its type, in a refused file, is written in letters, and so is all of it where
-//! letters are asked for.
+//! told by its place; a list has its elements in square brackets. What does not fit its type, in a refused file, is
+//! written in letters, and so is all of it where letters are asked for.
 
 use crate::rules::{Clause, Row, Rules};
+use crate::settings::MOST_LETTERS;
 use std::collections::BTreeSet;
 
 /// The most leaves of a part of a type that is written out where it is used.
 const MOST: usize = 7;
 
-/// The most letters of a setting.
-const MOST_LETTERS: usize = 127;
+/// What a list type is called, before the type of its elements.
+const LIST: &str = "list of ";
 
-/// How types and clauses are read, in two lines.
-pub fn legend(rules: &Rules) -> [&'static str; 2] {
-    match rules.letters {
-        false => [
+/// What stands before the rest of a list.
+const REST: &str = "…";
+
+/// How types and clauses are read, in two lines, and in a third where there are lists.
+pub fn legend(rules: &Rules) -> Vec<&'static str> {
+    let mut lines = match rules.letters {
+        false => vec![
             "4 is one of four, 0 to 3; 2 × 4 is both, as (1, 3); 2 + (2 × 4) is either, as 0:1 or 1:(1, 3).",
             "Small letters are carried over; 2+a is a, counted on from 2; the last may be all that is left.",
         ],
-        true => [
+        true => vec![
             "1 is nothing to tell apart, U; + is the left part, L, or the right one, R; × is both, in queries P.",
             "Small letters are parts carried over.",
         ],
-    }
+    };
+    lines.extend(rules.has_lists().then_some(match rules.letters {
+        false => "A list of 4 is any number of them, as [], [3] or [0, 3]; in [a, …b] b is the rest of the list.",
+        true => "[] is the empty list, in queries N; [a, …b] is a before the rest of the list, b, in queries K.",
+    }));
+    lines
 }
 
 /// How a name is written: its label, whether it is that of a T line (`T`) or of an iso (`i`), and the line's number.
@@ -44,7 +53,7 @@ pub enum Tree {
     Name(String, usize),
     /// A place or a letter, and what stands behind it.
     One(String, Box<Tree>),
-    /// The parts of a sum (`+`), of a product (`×`) or of a tuple (`,`).
+    /// The parts of a sum (`+`), of a product (`×`), of a tuple (`,`) or of a list (`[`).
     Many(char, Vec<Tree>),
 }
 
@@ -66,6 +75,10 @@ pub fn ty(rules: &Rules, place: usize) -> Tree {
         }
         Some(1) => '+',
         Some(2) => '×',
+        Some(3) => {
+            let element = part_of(rules, rules.types[place].a);
+            return Tree::One(LIST.to_string(), Box::new(element));
+        }
         _ => return Tree::Leaf("?".to_string()),
     };
     let parts = parts(rules, place).into_iter();
@@ -118,6 +131,9 @@ enum Term {
     /// Right or not, and what stands behind it.
     Side(bool, Box<Term>),
     Pair(Box<Term>, Box<Term>),
+    Empty,
+    /// An element before a list.
+    Element(Box<Term>, Box<Term>),
     /// A P line that cannot be unfolded, in a refused file.
     Unknown,
 }
@@ -136,6 +152,12 @@ impl Term {
                 let (left, rest) = Term::read(rest)?;
                 let (right, rest) = Term::read(rest)?;
                 Some((Term::Pair(Box::new(left), Box::new(right)), rest))
+            }
+            b'N' => Some((Term::Empty, rest)),
+            b'K' => {
+                let (element, rest) = Term::read(rest)?;
+                let (list, rest) = Term::read(rest)?;
+                Some((Term::Element(Box::new(element), Box::new(list)), rest))
             }
             _ => None,
         }
@@ -159,6 +181,10 @@ impl Term {
             Term::Pair(left, right) => {
                 Some([b"P".to_vec(), left.letters()?, right.letters()?].concat())
             }
+            Term::Empty => Some(b"N".to_vec()),
+            Term::Element(element, list) => {
+                Some([b"K".to_vec(), element.letters()?, list.letters()?].concat())
+            }
             Term::Variable(..) | Term::Unknown => None,
         }
     }
@@ -172,6 +198,8 @@ impl Term {
             (0, Term::Unit) => true,
             (1, Term::Side(right, part)) => part.fits(rules, if *right { *b } else { *a }),
             (2, Term::Pair(left, right)) => left.fits(rules, *a) && right.fits(rules, *b),
+            (3, Term::Empty) => true,
+            (3, Term::Element(element, list)) => element.fits(rules, *a) && list.fits(rules, place),
             _ => false,
         }
     }
@@ -194,6 +222,11 @@ impl Term {
                 Tree::One(letter.to_string(), Box::new(part.lettered()))
             }
             Term::Pair(left, right) => Tree::Many(',', vec![left.lettered(), right.lettered()]),
+            Term::Empty => Tree::Leaf("[]".to_string()),
+            Term::Element(..) => {
+                let elements = self.list(Term::lettered);
+                elements.unwrap_or_else(|| self.before())
+            }
             Term::Unknown => Tree::Leaf("?".to_string()),
         }
     }
@@ -218,6 +251,7 @@ impl Term {
                 part.map(|part| part.behind(title))
             }
             Some(row) if row.kind == 2 => self.tuple(rules, &parts(rules, place)),
+            Some(row) if row.kind == 3 => self.list(|element| element.typed(rules, row.a)),
             _ => None,
         };
         shown.unwrap_or_else(|| self.lettered())
@@ -284,6 +318,35 @@ impl Term {
         shown.push(rest.typed(rules, *last));
         Some(Tree::Many(',', shown))
     }
+
+    /// The elements of a list, each as it is shown so. A variable for the rest of the list ends it.
+    fn list(&self, element: impl Fn(&Term) -> Tree) -> Option<Tree> {
+        let (mut shown, mut rest) = (Vec::new(), self);
+        while let Term::Element(first, list) = rest {
+            shown.push(element(first));
+            rest = list;
+        }
+        match rest {
+            Term::Empty if shown.is_empty() => return Some(Tree::Leaf("[]".to_string())),
+            Term::Empty => {}
+            Term::Variable(..) => {
+                shown.push(Tree::One(REST.to_string(), Box::new(rest.lettered())))
+            }
+            _ => return None,
+        }
+        Some(Tree::Many('[', shown))
+    }
+
+    /// An element before what is no list, in a refused file.
+    fn before(&self) -> Tree {
+        match self {
+            Term::Element(element, list) => {
+                let list = Tree::One(REST.to_string(), Box::new(list.before()));
+                Tree::Many('[', vec![element.lettered(), list])
+            }
+            _ => self.lettered(),
+        }
+    }
 }
 
 /// What stands at a place of a sum.
@@ -317,7 +380,9 @@ impl Naming {
     }
 
     fn bind(&mut self, rules: &Rules, pattern: usize) {
-        for number in variables(rules, pattern) {
+        let known = pattern < rules.patterns.len();
+        let variables = known.then(|| rules.variables(pattern));
+        for number in variables.unwrap_or_default() {
             if let Some(times) = self.bound.get_mut(number) {
                 *times += 1;
             }
@@ -337,6 +402,8 @@ impl Naming {
             }
             2 | 3 => Term::Side(row.kind == 3, part(row.a)),
             4 => Term::Pair(part(row.a), part(row.b)),
+            5 => Term::Empty,
+            6 => Term::Element(part(row.a), part(row.b)),
             _ => Term::Unknown,
         }
     }
@@ -353,19 +420,6 @@ impl Naming {
             Some(ty) => term.typed(rules, ty),
             None => term.lettered(),
         }
-    }
-}
-
-/// The numbers of the variables in a pattern.
-fn variables(rules: &Rules, place: usize) -> Vec<usize> {
-    let Some(Row { kind, a, b, .. }) = rules.patterns.get(place) else {
-        return Vec::new();
-    };
-    match kind {
-        1 => vec![*a],
-        2 | 3 => variables(rules, *a),
-        4 => [variables(rules, *a), variables(rules, *b)].concat(),
-        _ => Vec::new(),
     }
 }
 
@@ -436,9 +490,11 @@ impl Tree {
         }
     }
 
-    /// How many parts there are that have no parts themselves.
+    /// How many parts there are that have no parts themselves, and lists.
     pub fn leaves(&self) -> usize {
         match self {
+            // so that lists of lists get short names, too
+            Tree::One(label, part) if label == LIST => 1 + part.leaves(),
             Tree::One(_, part) => part.leaves(),
             Tree::Many(_, parts) => parts.iter().map(Tree::leaves).sum(),
             _ => 1,
@@ -448,8 +504,10 @@ impl Tree {
     /// The label of the topmost node.
     pub fn label(&self) -> String {
         match self {
-            Tree::Leaf(label) | Tree::Name(label, _) | Tree::One(label, _) => label.clone(),
+            Tree::Leaf(label) | Tree::Name(label, _) => label.clone(),
+            Tree::One(label, _) => label.trim().to_string(),
             Tree::Variable(number, again) => variable(*number, *again),
+            Tree::Many('[', _) => "[ ]".to_string(),
             Tree::Many(sign, _) => sign.to_string(),
         }
     }
@@ -462,6 +520,10 @@ impl Tree {
     /// The tree as text, with names as these are written.
     pub fn written(&self, name: Write) -> String {
         match self {
+            Tree::One(label, part) if label == LIST => match &**part {
+                Tree::One(..) => format!("{LIST}{}", part.written(name)),
+                part => format!("{LIST}{}", part.operand(name)),
+            },
             Tree::One(label, part) => {
                 let letter = label == "L" || label == "R";
                 let close = matches!(**part, Tree::One(..) | Tree::Leaf(_));
@@ -471,6 +533,10 @@ impl Tree {
             Tree::Many(',', parts) => {
                 let parts = parts.iter().map(|part| part.written(name));
                 format!("({})", parts.collect::<Vec<_>>().join(", "))
+            }
+            Tree::Many('[', parts) => {
+                let parts = parts.iter().map(|part| part.written(name));
+                format!("[{}]", parts.collect::<Vec<_>>().join(", "))
             }
             Tree::Many(sign, parts) => {
                 let parts = parts.iter().map(|part| part.operand(name));
@@ -485,6 +551,7 @@ impl Tree {
     fn operand(&self, name: Write) -> String {
         match self {
             Tree::Many(..) => format!("({})", self.written(name)),
+            Tree::One(label, _) if label == LIST => format!("({})", self.written(name)),
             _ => self.written(name),
         }
     }

@@ -10,6 +10,7 @@ use lib.ListN.{length, getD, getElem?, replicate}
 use Rattle.limits.specs.Limits.{maxIsos, maxCount}
 use Rattle.calculus.specs.Tools.{isSome}
 use Rattle.calculus.specs.Refusals.{noIso, tooMany}
+use Rattle.calculus.specs.Lists.{isFree}
 use Rattle.format.specs.Lines.{Row}
 use Rattle.format.specs.Unfold.{isosOf}
 use Rattle.model.specs.Services.{Outcome, gives, fails, refusalNumber}
@@ -19,11 +20,10 @@ use Rattle.format.specs.Code.{refusalView, numberOf, numbered}
 use Rattle.format.specs.declared.Answer as A
 use Rattle.format.specs.declared.Refusal as F
 use Rattle.calculus.proofs.Basic.{ltb-lt, ltb-false, lt-ltb, not-ltb}
-use Rattle.calculus.proofs.Lists.{free-iff}
-use Rattle.format.proofs.Listless.{isos-free}
-use Rattle.model.proofs.Runs.{good}
-use Rattle.model.proofs.Sizes.{near-of}
+use Rattle.model.proofs.Sizes.{few-isos}
 use Rattle.run_index.specs.Index.{isosAt}
+use Rattle.run_lists.specs.Marks.{FreeTold}
+use Rattle.run_lists.proofs.Marking.{free-of}
 use Rattle.checker.specs.CheckSays.{CheckSays, Accepted}
 use Rattle.checker.specs.declared.Checked as C
 use Rattle.checker.proofs.Going.{ServedAs, check-refused, check-accepted}
@@ -31,7 +31,6 @@ use Rattle.runner.specs.RunSays.{Prepared}
 use Rattle.bound_counts.specs.Held.{cap, Holds}
 use Rattle.bounds.specs.declared.Bounded as B
 use Rattle.bounds.specs.BoundsSays.{ToldOf, BoundsSays}
-use Rattle.runner.proofs.Running.{isos-small}
 use Rattle.run_reduction.proofs.Laying.{inside}
 
 -- ---- on a checked table
@@ -50,6 +49,25 @@ pub no-iso : (t index : List ℕ) (isos i : ℕ) (f : F.Refusal) (r : B.Bounded)
 no-iso t index isos i f r h n z base rs p =
     let k = p .count in
     subst (λ x. ToldOf x r) (sym (ap (onIso (isosOf rs) i) (past (isosOf rs) i (omega (arith, h, k)))))
+    (record {
+      refusal = ap refusalView (z .0) ∙ n;
+      told = record { number = ap numberOf (z .0) ∙ ap numbered n; least = z .1; greatest = z .2; leastOver = z .3; greatestOver = z .4 };
+    })
+
+-- whether the iso has nothing to do with lists, as `is_free` tells it
+module _ (t index : List ℕ) (isos i : ℕ) {b : Bool} (tells : FreeTold t index isos i b) (base : ℕ) (rs : List Row) (p : Prepared t base index isos rs) where
+  free-as : isFree (isosOf rs) i ≡ b
+  free-as = sym (free-of t index base isos rs (p .good .passes) (p .indexed) (p .count) i tells)
+
+pub has-lists : (t index : List ℕ) (isos i : ℕ) (f : F.Refusal) (r : B.Bounded) → i < isos → {b : Bool} → FreeTold t index isos i b → b ≡ false
+    → refusalView f ≡ some tooMany → Refused f r → (base : ℕ) (rs : List Row) → Prepared t base index isos rs → ToldOf (boundsRows i rs) r
+has-lists t index isos i f r h tells off n z base rs p =
+    let k = p .count in
+    let o = inside (isosOf rs) i (omega (arith, h, k)) in
+    let low : ℕ = getD (leastCosts (isosOf rs)) i 0 in
+    let high : ℕ = getD (greatestCosts (isosOf rs)) i 0 in
+    subst (λ x. ToldOf x r)
+    (sym (ap (onIso (isosOf rs) i) (o .1) ∙ ap (λ c. cond c (gives (low, high)) (fails tooMany)) (free-as t index isos i tells base rs p ∙ off)))
     (record {
       refusal = ap refusalView (z .0) ∙ n;
       told = record { number = ap numberOf (z .0) ∙ ap numbered n; least = z .1; greatest = z .2; leastOver = z .3; greatestOver = z .4 };
@@ -74,21 +92,21 @@ over-same l x h = go (ltb maxCount x) refl
 abbrev pub Reckons : (List ℕ → ℕ) → List ℕ → List ℕ → ℕ → List ℕ → Type 0
 Reckons pick t index isos area = (base : ℕ) → isos ≤ maxIsos → Holds area (costsFrom pick [] (isosAt t base index 0 isos))
 
-pub told : (t index least greatest : List ℕ) (isos i l g : ℕ) (r : B.Bounded) → i < isos → Reckons leastOf t index isos least
+pub told : (t index least greatest : List ℕ) (isos i l g : ℕ) (r : B.Bounded) → i < isos → {b : Bool} → FreeTold t index isos i b → b ≡ true → Reckons leastOf t index isos least
     → Reckons greatestOf t index isos greatest → l ≡ getD least i 0 → g ≡ getD greatest i 0 → refusalView (r .refusal) ≡ none → r .least ≡ min l maxCount
     → r .greatest ≡ min g maxCount → r .«least_over» ≡ ltb maxCount l → r .«greatest_over» ≡ ltb maxCount g
     → (base : ℕ) (rs : List Row) → Prepared t base index isos rs → ToldOf (boundsRows i rs) r
 unfolding leastCosts greatestCosts
-told t index least greatest isos i l g r h hl hg el eg n tl tg ol og base rs p =
+told t index least greatest isos i l g r h tells on hl hg el eg n tl tg ol og base rs p =
     let k = p .count in
-    let few = isos-small rs (p .good .passes) in
+    let few = few-isos (p .good .passes) in
     let room : isos ≤ maxIsos = omega (arith, k, few) in
     let o = inside (isosOf rs) i (omega (arith, h, k)) in
     let x = el ∙ hl base room i ∙ ap (λ os. min (getD (costsFrom leastOf [] os) i 0) cap) (sym (p .indexed)) in
     let y = eg ∙ hg base room i ∙ ap (λ os. min (getD (costsFrom greatestOf [] os) i 0) cap) (sym (p .indexed)) in
     let low : ℕ = getD (costsFrom leastOf [] (isosOf rs)) i 0 in
     let high : ℕ = getD (costsFrom greatestOf [] (isosOf rs)) i 0 in
-    let free = free-iff (isosOf rs) (near-of (good rs (p .good))) i (o .0) (o .1) .1 (isos-free rs i) in
+    let free = free-as t index isos i tells base rs p ∙ on in
     subst (λ z. ToldOf z r) (sym (ap (onIso (isosOf rs) i) (o .1) ∙ ap (λ b. cond b (gives (low, high)) (fails tooMany)) free))
     (record {
       refusal = n;

@@ -10,6 +10,7 @@ use limits::INDEX_LENGTH;
 use limits::MAX_COUNT;
 use limits::MAX_ISOS;
 use limits::MAX_NUMBER;
+use run_lists::is_free;
 use runner::run::prepare;
 ghost use mathlib.Core.Path.{_≡_};
 ghost use mathlib.Core.Bool.{false};
@@ -69,6 +70,9 @@ pub fn bounds_checked(t: &[u16], index: &[u16], isos: usize, i: usize) -> Bounde
 {
     if isos <= i {
         return refused(Refusal::NoIso);
+    }
+    if !is_free(t, index, isos, i) {
+        return refused(Refusal::TooMany);
     }
     let mut least = [0u64; MAX_ISOS];
     let mut greatest = [0u64; MAX_ISOS];

@@ -135,20 +135,20 @@ lets-either {sigs} call keeps (l ∷ ls) {p = p} {b = b} {ε = ε} c r h =
 -- ---- an application
 
 -- how an application measures
-measured-true : (fits : Val → Bool) (v : Val) → fits v ≡ true → measured fits v ≡ (some v, 0)
+pub measured-true : (fits : Val → Bool) (v : Val) → fits v ≡ true → measured fits v ≡ (some v, 0)
 measured-true fits v e = counted (some-bind (λ _. some v) (true-guard e)) refl
 
-measured-false : (fits : Val → Bool) (v : Val) → fits v ≡ false → measured fits v ≡ (none, 0)
+pub measured-false : (fits : Val → Bool) (v : Val) → fits v ≡ false → measured fits v ≡ (none, 0)
 measured-false fits v e = counted (ap (λ b. guard b >>= λ _. some v) e) refl
 
-none-then : {A B : Type 0} {x : Counted A} {m : ℕ} (f : A → Counted B) → x ≡ (none, m) → (x >>> f) ≡ (none, m)
+pub none-then : {A B : Type 0} {x : Counted A} {m : ℕ} (f : A → Counted B) → x ≡ (none, m) → (x >>> f) ≡ (none, m)
 none-then f e = ap (λ x. x >>> f) e
 
 module _ (fits : Val → Bool) (d : ℕ) (os : List Iso) (i : ℕ) (v : Val) where
   abbrev call : Call
   call = reduceTo fits d os
 
-  reduce-argument : fits v ≡ false → reduceTo fits (suc d) os i v ≡ (none, 1)
+  pub reduce-argument : fits v ≡ false → reduceTo fits (suc d) os i v ≡ (none, 1)
   reduce-argument e =
       none-then (measured fits) (none-then (applied call os i) (some-then {m = 1} (measured fits) refl (measured-false fits v e)))
 
@@ -157,13 +157,13 @@ module _ (fits : Val → Bool) (d : ℕ) (os : List Iso) (i : ℕ) (v : Val) whe
   reduce-applied o a e h =
       some-then {m = 1} (applied call os i) (some-then {m = 1} (measured fits) refl (measured-true fits v a)) (some-given (λ o. apply call o v) e h)
 
-  reduce-stop : (o : Iso) {k : ℕ} → fits v ≡ true → getElem? os i ≡ some o → apply call o v ≡ (none, k) → reduceTo fits (suc d) os i v ≡ (none, suc k)
+  pub reduce-stop : (o : Iso) {k : ℕ} → fits v ≡ true → getElem? os i ≡ some o → apply call o v ≡ (none, k) → reduceTo fits (suc d) os i v ≡ (none, suc k)
   reduce-stop o {k} a e h = none-then (measured fits) (reduce-applied o a e h) ∙ counted refl sums
     where
       sums : 1 + k ≡ suc k
       sums = omega arith
 
-  reduce-result : (o : Iso) {w : Val} {k : ℕ} → fits v ≡ true → getElem? os i ≡ some o → apply call o v ≡ (some w, k) → (x : Option Val) → measured fits w ≡ (x, 0)
+  pub reduce-result : (o : Iso) {w : Val} {k : ℕ} → fits v ≡ true → getElem? os i ≡ some o → apply call o v ≡ (some w, k) → (x : Option Val) → measured fits w ≡ (x, 0)
       → reduceTo fits (suc d) os i v ≡ (x, suc k)
   reduce-result o {k = k} a e h x m = some-then {m = 1 + k} (measured fits) (reduce-applied o a e h) m ∙ counted refl sums
     where

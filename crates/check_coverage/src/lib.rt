@@ -83,7 +83,7 @@ fn orthogonal(t: &[u16], f: &[u8], base: usize, k: usize, rows: &[u16], n: usize
     apart(t, base, k, rows)
 }
 
-// The left and right nodes of P line p, 41 for more than 40: a fact, or counted where there is none.
+// The left, right, empty and element nodes of P line p, 41 for more than 40: a fact, or counted where there is none.
 fn tags_at(t: &[u16], f: &[u8], base: usize, p: usize) -> usize
     requires { ⌜ Facts (now t) base (now f) ⌝ }
     ensures { λ r. ⌜ r ≡ min manyTags (tags (patternOf (now (t .entry)) base p)) ⌝ }
@@ -96,7 +96,7 @@ fn tags_at(t: &[u16], f: &[u8], base: usize, p: usize) -> usize
     pattern_tags(t, base, p)
 }
 
-// 2 to the power of 40 - k for k left and right nodes.
+// 2 to the power of 40 - k for k left, right, empty and element nodes.
 pub const WEIGHTS: [u64; MANY_TAGS] = [
     1099511627776,
     549755813888,

@@ -3,20 +3,20 @@ use Prim.Native.Nat.{ℕ, zero, suc, _+_, _-_, _≤_, _<_, min, max}
 use native.Mathlib.Nat.{le-refl, eq-or-lt-of-le}
 use native.Mathlib.Omega.{arith}
 use mathlib.Core.Path.{_≡_, refl, sym, ap, ap₂, _∙_}
-use mathlib.Core.Bool.{Bool, true, false, cond}
+use mathlib.Core.Bool.{Bool, true, false, cond, true≢false}
 use mathlib.Core.Logic.{_⊎_, inl, inr}
 use mathlib.Core.List.{List}
-use lib.Dec.{ltb}
+use lib.Dec.{eqb, ltb}
 use lib.ListN.{length, getD, set, length-set}
 use lib.Seq.{getD-set-same, getD-set-other}
-use borrow.Author.Tests.{ltb-true, lt-ltb, le-ltb}
+use borrow.Author.Tests.{ltb-true, lt-ltb, le-ltb, eqb-true, eq-eqb}
 use Rattle.limits.specs.Limits.{maxLines, manyTags}
 use Rattle.calculus.specs.Trees.{tags}
 use Rattle.table_trees.specs.Unfolding.{cellOf, smallerOf, typeOf, patternOf}
 use Rattle.table_trees.proofs.Unfolding.{type-past, pattern-past}
-use Rattle.table_trees.proofs.Lines.{line-sum, line-product, line-other}
-use Rattle.table_trees.proofs.Cases.{Injects, Leaf}
-use Rattle.table_sizes.proofs.Counts.{pattern-tags-leaf, pattern-tags-inj, pattern-tags-pair}
+use Rattle.table_trees.proofs.Lines.{line-sum, line-product, line-list, line-other}
+use Rattle.table_trees.proofs.Cases.{Injects}
+use Rattle.table_sizes.proofs.Counts.{pattern-tags-inj, pattern-tags-pair, pattern-tags-element}
 use Rattle.check_facts.specs.Facts.{width, manyPlaces, Widths, Tagged, Facts}
 
 -- ---- the fact of a named line
@@ -66,8 +66,13 @@ module _ (t f : List ℕ) (i : ℕ) {k : ℕ} (w : Widths t f i) (e : k ≡ cell
         ap width (line-product t i e (ap (λ x. smallerOf x i) p) (ap (λ x. smallerOf x i) u) z) in
         omega (arith, whole, first, second)
 
+  -- a unit, a list, or a number that is no kind
   pub width-other : (k ≡ 1 → ⊥) → (k ≡ 2 → ⊥) → 0 ≡ min manyPlaces (width (typeOf t i))
-  width-other x y = sym (ap (λ a. min manyPlaces (width a)) (line-other t i e x y))
+  width-other x y = by (eqb k 3) refl
+    where
+      by : (b : Bool) → eqb k 3 ≡ b → 0 ≡ min manyPlaces (width (typeOf t i))
+      by true z = sym (ap (λ a. min manyPlaces (width a)) (line-list t i e refl (eqb-true k 3 z)))
+      by false z = sym (ap (λ a. min manyPlaces (width a)) (line-other t i e x y (λ h. true≢false (sym (eq-eqb k 3 h) ∙ z))))
 
 module _ (t : List ℕ) (base : ℕ) (f : List ℕ) (j : ℕ) {k : ℕ} (w : Tagged t base f j) (e : k ≡ cellOf t (base + j) 1) where
   module _ {a m : ℕ} (p : a ≡ cellOf t (base + j) 2) (q : m ≡ cond (ltb a j) (getD f (base + a) 0) 0) where
@@ -77,6 +82,10 @@ module _ (t : List ℕ) (base : ℕ) (f : List ℕ) (j : ℕ) {k : ℕ} (w : Tag
     pub tags-pair : {b n r : ℕ} → k ≡ 4 → b ≡ cellOf t (base + j) 3 → n ≡ cond (ltb b j) (getD f (base + b) 0) 0 → r ≡ min manyTags (m + n)
         → r ≡ min manyTags (tags (patternOf t base j))
     tags-pair {b} h u v r = pattern-tags-pair t base j e h p refl u refl (named-tags t base f j a w q) (named-tags t base f j b w v) r
+
+    pub tags-element : {b n o r : ℕ} → k ≡ 6 → b ≡ cellOf t (base + j) 3 → n ≡ cond (ltb b j) (getD f (base + b) 0) 0 → o ≡ min manyTags (1 + n)
+        → r ≡ min manyTags (m + o) → r ≡ min manyTags (tags (patternOf t base j))
+    tags-element {b} h u v o r = pattern-tags-element t base j e h p refl u refl (named-tags t base f j a w q) (named-tags t base f j b w v) o r
 
 -- ---- the loops
 

@@ -1,4 +1,4 @@
--- What is found once of each T and P line: the places of a type, and the left and right nodes of a pattern.
+-- What is found once of each T and P line: the places of a type, and the nodes of a pattern that count towards the 40.
 use Prim.Native.Nat.{ℕ, zero, suc, _+_, _<_, _≤_, min, max}
 use mathlib.Core.Path.{_≡_}
 use mathlib.Core.List.{List}
@@ -8,7 +8,7 @@ use Rattle.calculus.specs.Trees.{Ty, tunit, tlist, tsum, tprod, tags}
 use Rattle.table_trees.specs.Unfolding.{typeOf, patternOf}
 
 -- how many places a type has at which a pattern of it may hold a left or a right: those below a left are the same as those below a right.
--- No line of a table unfolds to a list; a list has none.
+-- A list has none: its empty lists and elements stand at no place.
 abbrev pub width : Ty → ℕ
 width tunit = 0
 width (tlist a) = 0
@@ -30,7 +30,7 @@ factsLength = maxTypes + maxPatterns
 pub record Widths (t : List ℕ) (f : List ℕ) (n : ℕ) : Type 0 where
   pub widths : (i : ℕ) → i < n → getD f i 0 ≡ min manyPlaces (width (typeOf t i))
 
--- and, from place `base` on, the left and right nodes of the P lines below n
+-- and, from place `base` on, the left, right, empty and element nodes of the P lines below n
 pub record Tagged (t : List ℕ) (base : ℕ) (f : List ℕ) (n : ℕ) : Type 0 where
   pub tagged : (j : ℕ) → j < n → getD f (base + j) 0 ≡ min manyTags (tags (patternOf t base j))
 

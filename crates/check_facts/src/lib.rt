@@ -1,7 +1,9 @@
 // What is found once of each T and P line: how many places a type has at which a left or a right may stand, and how
-// many left and right nodes a pattern has. The facts of the T lines come first, those of the P lines follow.
+// many left, right, empty and element nodes a pattern has. The facts of the T lines come first, those of the P lines follow.
 
 use area_words::wide;
+use codes::ELEMENT;
+use codes::EMPTY;
 use codes::FIRST;
 use codes::KIND;
 use codes::LEFT;
@@ -85,7 +87,7 @@ fn of_product(m: usize, n: usize) -> usize
     MANY_PLACES
 }
 
-// The places of T line i.
+// The places of T line i; a list has none.
 fn width_of(t: &[u16], f: &[u8], i: usize) -> usize
     requires { ⌜ (i ≤ length (now f)) × Widths (now t) (now f) i ⌝ }
     ensures { λ r. ⌜ r ≡ min manyPlaces (width (typeOf (now (t .entry)) i)) ⌝ }
@@ -105,7 +107,7 @@ fn width_of(t: &[u16], f: &[u8], i: usize) -> usize
     }
 }
 
-// The left and right nodes of P line j.
+// The left, right, empty and element nodes of P line j.
 fn tags_of(t: &[u16], f: &[u8], base: usize, j: usize) -> usize
     requires { ⌜ (base + j ≤ length (now f)) × Tagged (now t) base (now f) j ⌝ }
     ensures { λ r. ⌜ r ≡ min manyTags (tags (patternOf (now (t .entry)) base j)) ⌝ }
@@ -116,6 +118,12 @@ fn tags_of(t: &[u16], f: &[u8], base: usize, j: usize) -> usize
             let m = told(f, base, pattern_cell(t, base, j, FIRST), j);
             let n = told(f, base, pattern_cell(t, base, j, SECOND), j);
             together(m, n)
+        }
+        EMPTY => 1,
+        ELEMENT => {
+            let m = told(f, base, pattern_cell(t, base, j, FIRST), j);
+            let n = told(f, base, pattern_cell(t, base, j, SECOND), j);
+            together(m, together(1, n))
         }
         _ => 0,
     }

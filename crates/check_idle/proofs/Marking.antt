@@ -21,6 +21,7 @@ use Rattle.format.specs.declared.Answer as A
 use Rattle.calculus.proofs.Basic.{eqb-eq, eqb-false, not-both, bool-cases}
 use Rattle.format.proofs.Idling.{member-append, or-swap}
 use Rattle.table_trees.specs.Unfolding.{cellOf}
+use Rattle.table_trees.proofs.Cases.{Parted, sums, products, Whole, units, others, Injects, lefts, rights, Joins, pairs, elements, Leaf, unit, var, empty, other}
 use Rattle.table_walks.specs.Walk.{FileIn}
 use Rattle.table_walks.proofs.Rows.{drop-row, row-at, kind-iso, kind-clause, kind-let}
 use Rattle.check_idle.specs.Marks.{markAll, bit, idleAt, Marked}
@@ -64,57 +65,59 @@ told-all (a ∷ ns) m xs t =
 
 -- ---- the lines that a row names
 
-pub types-named : (t : List ℕ) (n : ℕ) (m : List ℕ) {k : ℕ} {m′ : List ℕ} → k ≡ cellOf t n 1 → (k ≡ 1 → ⊥) → (k ≡ 2 → ⊥) → m′ ≡ m
-    → m′ ≡ markAll (typeReach (typeKind (cellOf t n 1)) (cellOf t n 2) (cellOf t n 3)) m
-types-named t n m {k} e a b same =
-    same ∙ subst (λ z. m ≡ markAll (typeReach (typeKind z) (cellOf t n 2) (cellOf t n 3)) m) e (go k a b)
-  where
-    go : (k : ℕ) → (k ≡ 1 → ⊥) → (k ≡ 2 → ⊥) → m ≡ markAll (typeReach (typeKind k) (cellOf t n 2) (cellOf t n 3)) m
-    go zero a b = refl
-    go (suc zero) a b = absurd (a refl)
-    go (suc (suc zero)) a b = absurd (b refl)
-    go (suc (suc (suc k))) a b = refl
+-- k is the kind of the row
+module _ (t : List ℕ) (n : ℕ) (m : List ℕ) {k : ℕ} {m′ : List ℕ} (e : k ≡ cellOf t n 1) where
+  -- its marks, where they are those of kind k
+  types-by : m′ ≡ markAll (typeReach (typeKind k) (cellOf t n 2) (cellOf t n 3)) m → m′ ≡ markAll (typeReach (typeKind (cellOf t n 1)) (cellOf t n 2) (cellOf t n 3)) m
+  types-by same = same ∙ ap (λ z. markAll (typeReach (typeKind z) (cellOf t n 2) (cellOf t n 3)) m) e
 
-pub types-two : (t : List ℕ) (n : ℕ) (m : List ℕ) {k : ℕ} {m′ : List ℕ} → k ≡ cellOf t n 1 → (c : ℕ) → k ≡ suc c → c < 2
-    → m′ ≡ set (set m (cellOf t n 2) 1) (cellOf t n 3) 1
-    → m′ ≡ markAll (typeReach (typeKind (cellOf t n 1)) (cellOf t n 2) (cellOf t n 3)) m
-types-two t n m {k} e c h l same =
-    same ∙ subst (λ z. set (set m (cellOf t n 2) 1) (cellOf t n 3) 1 ≡ markAll (typeReach (typeKind z) (cellOf t n 2) (cellOf t n 3)) m) (sym h ∙ e) (go c l)
-  where
-    go : (c : ℕ) → c < 2 → set (set m (cellOf t n 2) 1) (cellOf t n 3) 1 ≡ markAll (typeReach (typeKind (suc c)) (cellOf t n 2) (cellOf t n 3)) m
-    go zero l = refl
-    go (suc zero) l = refl
-    go (suc (suc c)) l = absurd (omega arith)
+  pub types-named : Whole k → m′ ≡ m → m′ ≡ markAll (typeReach (typeKind (cellOf t n 1)) (cellOf t n 2) (cellOf t n 3)) m
+  types-named h same = types-by (same ∙ go h)
+    where
+      go : {k : ℕ} → Whole k → m ≡ markAll (typeReach (typeKind k) (cellOf t n 2) (cellOf t n 3)) m
+      go units = refl
+      go (others k) = refl
 
-pub patterns-named : (t : List ℕ) (base n : ℕ) (m : List ℕ) {k : ℕ} {m′ : List ℕ} → k ≡ cellOf t n 1 → (k ≡ 2 → ⊥) → (k ≡ 3 → ⊥) → (k ≡ 4 → ⊥) → m′ ≡ m
-    → m′ ≡ markAll (patternReach base (patternKind (cellOf t n 1)) (cellOf t n 2) (cellOf t n 3)) m
-patterns-named t base n m {k} e a b c same =
-    same ∙ subst (λ z. m ≡ markAll (patternReach base (patternKind z) (cellOf t n 2) (cellOf t n 3)) m) e (go k a b c)
-  where
-    go : (k : ℕ) → (k ≡ 2 → ⊥) → (k ≡ 3 → ⊥) → (k ≡ 4 → ⊥) → m ≡ markAll (patternReach base (patternKind k) (cellOf t n 2) (cellOf t n 3)) m
-    go zero a b c = refl
-    go (suc zero) a b c = refl
-    go (suc (suc zero)) a b c = absurd (a refl)
-    go (suc (suc (suc zero))) a b c = absurd (b refl)
-    go (suc (suc (suc (suc zero)))) a b c = absurd (c refl)
-    go (suc (suc (suc (suc (suc k))))) a b c = refl
+  pub types-one : k ≡ 3 → m′ ≡ set m (cellOf t n 2) 1 → m′ ≡ markAll (typeReach (typeKind (cellOf t n 1)) (cellOf t n 2) (cellOf t n 3)) m
+  types-one h same = types-by (same ∙ sym (ap (λ z. markAll (typeReach (typeKind z) (cellOf t n 2) (cellOf t n 3)) m) h))
 
-pub patterns-one : (t : List ℕ) (base n : ℕ) (m : List ℕ) {k : ℕ} {m′ : List ℕ} → k ≡ cellOf t n 1 → (c : ℕ) → k ≡ suc (suc c) → c < 2
-    → m′ ≡ set m (base + cellOf t n 2) 1
-    → m′ ≡ markAll (patternReach base (patternKind (cellOf t n 1)) (cellOf t n 2) (cellOf t n 3)) m
-patterns-one t base n m {k} e c h l same =
-    same ∙ subst (λ z. set m (base + cellOf t n 2) 1 ≡ markAll (patternReach base (patternKind z) (cellOf t n 2) (cellOf t n 3)) m) (sym h ∙ e) (go c l)
-  where
-    go : (c : ℕ) → c < 2 → set m (base + cellOf t n 2) 1 ≡ markAll (patternReach base (patternKind (suc (suc c))) (cellOf t n 2) (cellOf t n 3)) m
-    go zero l = refl
-    go (suc zero) l = refl
-    go (suc (suc c)) l = absurd (omega arith)
+  pub types-two : Parted k → m′ ≡ set (set m (cellOf t n 2) 1) (cellOf t n 3) 1
+      → m′ ≡ markAll (typeReach (typeKind (cellOf t n 1)) (cellOf t n 2) (cellOf t n 3)) m
+  types-two h same = types-by (same ∙ go h)
+    where
+      go : {k : ℕ} → Parted k → set (set m (cellOf t n 2) 1) (cellOf t n 3) 1 ≡ markAll (typeReach (typeKind k) (cellOf t n 2) (cellOf t n 3)) m
+      go sums = refl
+      go products = refl
 
-pub patterns-two : (t : List ℕ) (base n : ℕ) (m : List ℕ) {k : ℕ} {m′ : List ℕ} → k ≡ cellOf t n 1 → k ≡ 4
-    → m′ ≡ set (set m (base + cellOf t n 2) 1) (base + cellOf t n 3) 1
-    → m′ ≡ markAll (patternReach base (patternKind (cellOf t n 1)) (cellOf t n 2) (cellOf t n 3)) m
-patterns-two t base n m {k} e h same =
-    same ∙ subst (λ z. set (set m (base + cellOf t n 2) 1) (base + cellOf t n 3) 1 ≡ markAll (patternReach base (patternKind z) (cellOf t n 2) (cellOf t n 3)) m) (sym h ∙ e) refl
+module _ (t : List ℕ) (base n : ℕ) (m : List ℕ) {k : ℕ} {m′ : List ℕ} (e : k ≡ cellOf t n 1) where
+  patterns-by : m′ ≡ markAll (patternReach base (patternKind k) (cellOf t n 2) (cellOf t n 3)) m
+      → m′ ≡ markAll (patternReach base (patternKind (cellOf t n 1)) (cellOf t n 2) (cellOf t n 3)) m
+  patterns-by same = same ∙ ap (λ z. markAll (patternReach base (patternKind z) (cellOf t n 2) (cellOf t n 3)) m) e
+
+  pub patterns-named : Leaf k → m′ ≡ m → m′ ≡ markAll (patternReach base (patternKind (cellOf t n 1)) (cellOf t n 2) (cellOf t n 3)) m
+  patterns-named h same = patterns-by (same ∙ go h)
+    where
+      go : {k : ℕ} → Leaf k → m ≡ markAll (patternReach base (patternKind k) (cellOf t n 2) (cellOf t n 3)) m
+      go unit = refl
+      go var = refl
+      go empty = refl
+      go (other k) = refl
+
+  pub patterns-one : Injects k → m′ ≡ set m (base + cellOf t n 2) 1
+      → m′ ≡ markAll (patternReach base (patternKind (cellOf t n 1)) (cellOf t n 2) (cellOf t n 3)) m
+  patterns-one h same = patterns-by (same ∙ go h)
+    where
+      go : {k : ℕ} → Injects k → set m (base + cellOf t n 2) 1 ≡ markAll (patternReach base (patternKind k) (cellOf t n 2) (cellOf t n 3)) m
+      go lefts = refl
+      go rights = refl
+
+  pub patterns-two : Joins k → m′ ≡ set (set m (base + cellOf t n 2) 1) (base + cellOf t n 3) 1
+      → m′ ≡ markAll (patternReach base (patternKind (cellOf t n 1)) (cellOf t n 2) (cellOf t n 3)) m
+  patterns-two h same = patterns-by (same ∙ go h)
+    where
+      go : {k : ℕ} → Joins k → set (set m (base + cellOf t n 2) 1) (base + cellOf t n 3) 1 ≡ markAll (patternReach base (patternKind k) (cellOf t n 2) (cellOf t n 3)) m
+      go pairs = refl
+      go elements = refl
 
 kind-type : (k : Kind) → letter k ≡ 84 → k ≡ typeLine
 kind-type typeLine e = refl

@@ -7,6 +7,7 @@ use area_cells::put_byte;
 use codes::CLAUSE_LEFT;
 use codes::CLAUSE_LINE;
 use codes::CLAUSE_RIGHT;
+use codes::ELEMENT;
 use codes::FIRST;
 use codes::ISO_FROM;
 use codes::ISO_LINE;
@@ -15,6 +16,7 @@ use codes::KIND;
 use codes::LEFT;
 use codes::LET_P;
 use codes::LET_Q;
+use codes::LIST;
 use codes::PAIR;
 use codes::PATTERN_LINE;
 use codes::PRODUCT;
@@ -84,13 +86,10 @@ fn name_types(t: &[u16], n: usize, marks: &mut [u8])
         ≡ markAll (typeReach (typeKind (cellOf (now (t .entry)) n kindField)) (cellOf (now (t .entry)) n firstField) (cellOf (now (t .entry)) n secondField)) (now (marks .entry))
         ⌝ }
 {
-    let kind = cell(t, n, KIND);
-    if kind == SUM {
-        mark_types(t, n, FIRST, SECOND, marks);
-        return;
-    }
-    if kind == PRODUCT {
-        mark_types(t, n, FIRST, SECOND, marks);
+    match cell(t, n, KIND) {
+        SUM | PRODUCT => mark_types(t, n, FIRST, SECOND, marks),
+        LIST => mark_type(t, n, FIRST, marks),
+        _ => {}
     }
 }
 
@@ -102,17 +101,10 @@ fn name_patterns(t: &[u16], base: usize, n: usize, marks: &mut [u8])
         ≡ markAll (patternReach base (patternKind (cellOf (now (t .entry)) n kindField)) (cellOf (now (t .entry)) n firstField) (cellOf (now (t .entry)) n secondField)) (now (marks .entry))
         ⌝ }
 {
-    let kind = cell(t, n, KIND);
-    if kind == LEFT {
-        mark_pattern(t, base, n, FIRST, marks);
-        return;
-    }
-    if kind == RIGHT {
-        mark_pattern(t, base, n, FIRST, marks);
-        return;
-    }
-    if kind == PAIR {
-        mark_patterns(t, base, n, FIRST, SECOND, marks);
+    match cell(t, n, KIND) {
+        LEFT | RIGHT => mark_pattern(t, base, n, FIRST, marks),
+        PAIR | ELEMENT => mark_patterns(t, base, n, FIRST, SECOND, marks),
+        _ => {}
     }
 }
 

@@ -17,7 +17,7 @@ use Rattle.calculus.specs.Clauses.{at, clauseFault, fault}
 use Rattle.format.specs.declared.Answer as A
 use Rattle.format.specs.declared.Refusal as R
 use Rattle.table_trees.specs.Unfolding.{cellOf, typeOf}
-use Rattle.table_walks.specs.InTable.{clauseIn, sigsIn, patternsAt, sidesFault}
+use Rattle.table_walks.specs.InTable.{clauseIn, sigsIn, wholeFault}
 use Rattle.table_walks.specs.Walk.{FileIn, isoRows, WalkAt}
 use Rattle.table_walks.proofs.Rows.{get-row}
 use Rattle.table_walks.proofs.Walking.{row-of, lines-few, head-few, letter-iso, letter-clause, other-let, walk-start, walk-let, walk-clause, walk-iso, walk-end}
@@ -79,12 +79,12 @@ module _ {t : List ℕ} {base patterns lines : ℕ} {rs : List Row} (f : FileIn 
   pub walked-clause : (starts : List ℕ) → starts ≡ isoRows 0 rs → cellOf t n 0 ≡ letter clauseLine → (g : R.Refusal) → OwnFault t base starts (w .iso - 1) n (w .below) (refusalView g)
       → {m : ℕ} → m ≡ n % 65536 → (p : A.Answer) → asFault p ≡ orElse (at (n + 1) (refusalView g)) (asFault (w .pending))
       → Walked t base rs n
-      (record { clauses = set (w .clauses) (w .first - 1) m; first = w .first - 1; below = n; iso = w .iso; pending = p; found = w .found })
+      (record { clauses = set (w .clauses) (w .first - 1) m; first = w .first - 1; below = n; last = w .last; iso = w .iso; pending = p; found = w .found })
   walked-clause starts e c g eg {m} em p ep =
       record {
         places = length-set (w .clauses) (w .first - 1) m ∙ s .places;
         within = omega (arith, s .within);
-        holds = subst₂ (λ cs o. WalkAt t base rs n cs n (w .iso) o (asFault (w .found))) rows refusal next;
+        holds = subst₂ (λ cs o. WalkAt t base rs n cs n (w .last) (w .iso) o (asFault (w .found))) rows refusal next;
       }
     where
       r : (r : Row) × (getElem? rs n ≡ some r)
@@ -99,7 +99,7 @@ module _ {t : List ℕ} {base patterns lines : ℕ} {rs : List Row} (f : FileIn 
       top : ℕ
       top = getD (isoRows 0 rs) (w .iso - 1) 0
 
-      next : WalkAt t base rs n (n ∷ drop (w .first) (w .clauses)) n (w .iso)
+      next : WalkAt t base rs n (n ∷ drop (w .first) (w .clauses)) n (w .last) (w .iso)
           (orElse (at (suc n) (clauseFault (sigsIn t (isoRows 0 rs)) (typeOf t (cellOf t top 1)) (typeOf t (cellOf t top 2)) (clauseIn t base n (w .below)))) (asFault (w .pending)))
           (asFault (w .found))
       next =
@@ -136,15 +136,14 @@ module _ {t : List ℕ} {base patterns lines : ℕ} {rs : List Row} (f : FileIn 
   pub walked-iso : cellOf t n 0 ≡ letter isoLine → (p q : A.Answer) → asFault p ≡ none
       → asFault q
       ≡ orElse
-      (orElse (asFault (w .pending))
-      (at (suc n) (sidesFault (patternsAt t base 1 (take (maxClauses - w .first) (drop (w .first) (w .clauses)))) (patternsAt t base 2 (take (maxClauses - w .first) (drop (w .first) (w .clauses)))))))
+      (orElse (asFault (w .pending)) (wholeFault t base (w .iso - 1) n (take (maxClauses - w .first) (drop (w .first) (w .clauses))) (w .last)))
       (asFault (w .found))
-      → Walked t base rs n (record { clauses = w .clauses; first = maxClauses; below = n; iso = w .iso - 1; pending = p; found = q })
+      → Walked t base rs n (record { clauses = w .clauses; first = maxClauses; below = n; last = n; iso = w .iso - 1; pending = p; found = q })
   walked-iso c p q ep eq =
       record {
         places = s .places;
         within = omega arith;
-        holds = subst₃ (λ cs o u. WalkAt t base rs n cs n (w .iso - 1) o u) rows (sym ep) refusal next;
+        holds = subst₃ (λ cs o u. WalkAt t base rs n cs n n (w .iso - 1) o u) rows (sym ep) refusal next;
       }
     where
       r : (r : Row) × (getElem? rs n ≡ some r)
@@ -153,8 +152,8 @@ module _ {t : List ℕ} {base patterns lines : ℕ} {rs : List Row} (f : FileIn 
       kept : List ℕ
       kept = drop (w .first) (w .clauses)
 
-      next : WalkAt t base rs n [] n (w .iso - 1) none
-          (orElse (orElse (asFault (w .pending)) (at (suc n) (sidesFault (patternsAt t base 1 kept) (patternsAt t base 2 kept)))) (asFault (w .found)))
+      next : WalkAt t base rs n [] n n (w .iso - 1) none
+          (orElse (orElse (asFault (w .pending)) (wholeFault t base (w .iso - 1) n kept (w .last))) (asFault (w .found)))
       next = walk-iso f n (r .1) (letter-iso f n (r .1) c) (s .holds) (w .iso - 1) (omega (arith, iso-inside c .above))
 
       rows : [] ≡ drop maxClauses (w .clauses)
@@ -163,11 +162,11 @@ module _ {t : List ℕ} {base patterns lines : ℕ} {rs : List Row} (f : FileIn 
       whole : take (maxClauses - w .first) kept ≡ kept
       whole = take-all (maxClauses - w .first) kept (omega (arith, length-drop (w .first) (w .clauses), s .places))
 
-      refusal : orElse (orElse (asFault (w .pending)) (at (suc n) (sidesFault (patternsAt t base 1 kept) (patternsAt t base 2 kept)))) (asFault (w .found)) ≡ asFault q
+      refusal : orElse (orElse (asFault (w .pending)) (wholeFault t base (w .iso - 1) n kept (w .last))) (asFault (w .found)) ≡ asFault q
       refusal =
           sym
           (eq
-          ∙ ap (λ l. orElse (orElse (asFault (w .pending)) (at (suc n) (sidesFault (patternsAt t base 1 l) (patternsAt t base 2 l)))) (asFault (w .found))) whole)
+          ∙ ap (λ l. orElse (orElse (asFault (w .pending)) (wholeFault t base (w .iso - 1) n l (w .last))) (asFault (w .found))) whole)
 
 -- what the loop knows at row n, whatever file the table holds
 pub record Walking (t : List ℕ) (base : ℕ) (starts : List ℕ) (stop lines isos n : ℕ) (w : W.Walk) : Type 0 where
@@ -175,7 +174,7 @@ pub record Walking (t : List ℕ) (base : ℕ) (starts : List ℕ) (stop lines i
       → (stop ≤ n) × (n ≤ lines) × Walked t base rs n w
 
 pub walking-start : (t : List ℕ) (base : ℕ) (starts : List ℕ) (stop lines isos : ℕ) (l : List ℕ) (clear : A.Answer) → length l ≡ maxClauses → asFault clear ≡ none
-    → Walking t base starts stop lines isos lines (record { clauses = l; first = maxClauses; below = lines; iso = isos; pending = clear; found = clear })
+    → Walking t base starts stop lines isos lines (record { clauses = l; first = maxClauses; below = lines; last = lines; iso = isos; pending = clear; found = clear })
 walking-start t base starts stop lines isos l clear places e =
     record {
       holds = λ rs patterns f es ei eb. (
@@ -185,7 +184,7 @@ walking-start t base starts stop lines isos l clear places e =
           places = places;
           within = omega arith;
           holds =
-              subst₃ (λ cs i o. WalkAt t base rs lines cs lines i o o) (sym (drop-of-length-le l {i = maxClauses} (omega arith))) (sym ei) (sym e) (walk-start f);
+              subst₃ (λ cs i o. WalkAt t base rs lines cs lines lines i o o) (sym (drop-of-length-le l {i = maxClauses} (omega arith))) (sym ei) (sym e) (walk-start f);
         },
       );
     }

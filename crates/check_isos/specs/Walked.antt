@@ -25,7 +25,7 @@ pub record StartsOf (rs : List Row) (s : S.Starts) : Type 0 where
 pub record Walked (t : List ℕ) (base : ℕ) (rs : List Row) (n : ℕ) (w : W.Walk) : Type 0 where
   pub places : length (w .clauses) ≡ maxClauses
   pub within : w .first ≤ maxClauses
-  pub holds : WalkAt t base rs n (drop (w .first) (w .clauses)) (w .below) (w .iso) (asFault (w .pending)) (asFault (w .found))
+  pub holds : WalkAt t base rs n (drop (w .first) (w .clauses)) (w .below) (w .last) (w .iso) (asFault (w .pending)) (asFault (w .found))
 
 -- ---- contracts, for whatever file's rows the table holds
 

@@ -12,6 +12,7 @@ use check_facts::find_facts;
 use check_known::KNOWN;
 use check_known::any_large;
 use check_known::find_known;
+use check_recursion::recursion_fault;
 use codes::CLAUSE_LINE;
 use codes::ISO_FROM;
 use codes::ISO_LINE;
@@ -28,7 +29,7 @@ ghost use mathlib.Core.Path.{_≡_};
 ghost use mathlib.Core.Bool.{true};
 ghost use mathlib.Core.List.{List};
 ghost use mathlib.Core.Option.{none as nothing};
-ghost use Prim.Native.Nat.{suc, _+_, _≤_, _<_};
+ghost use Prim.Native.Nat.{_+_, _≤_, _<_};
 ghost use lib.ListN.{length, set};
 ghost use Rattle.check_facts.specs.Facts.{Facts, factsLength};
 ghost use Rattle.check_bare.specs.Bare.{Bares};
@@ -40,7 +41,7 @@ ghost use Rattle.calculus.specs.Refusals.{isoLine, clauseLine};
 ghost use Rattle.format.specs.Code.{refusalView};
 ghost use Rattle.format.specs.Unfold.{isosOf};
 ghost use Rattle.calculus.specs.Clauses.{at, fault};
-ghost use Rattle.table_walks.specs.InTable.{patternsAt, sidesFault};
+ghost use Rattle.table_walks.specs.InTable.{wholeFault};
 ghost use Rattle.table_walks.specs.Walk.{FileIn};
 ghost use Rattle.check_isos.specs.Answers.{asFault, OwnFault};
 ghost use Rattle.check_isos.specs.Walked.{LineCollected, LinesCollected, KindWalked, ClauseWalked, RowWalked, AllWalked};
@@ -92,12 +93,14 @@ fn iso_rows(t: &[u16], from: usize, to: usize) -> Starts
 }
 
 // What the rows from some place on have come to: the rows of the C lines of an iso above, from place
-// `first` of `clauses` on; the row where the L lines of the next C line above end; how many I lines
-// stand above; the first refusal of those clauses; the first refusal of the isos further down.
+// `first` of `clauses` on; the row where the L lines of the next C line above end, and the row where
+// the iso ends; how many I lines stand above; the first refusal of those clauses; the first refusal of
+// the isos further down.
 pub struct Walk {
     pub clauses: [u16; MAX_CLAUSES],
     pub first: usize,
     pub below: usize,
+    pub last: usize,
     pub iso: usize,
     pub pending: Answer,
     pub found: Answer,
@@ -201,6 +204,7 @@ fn with_clause(
                 clauses: clauses,
                 first: slot,
                 below: n,
+                last: w.last,
                 iso: i,
                 pending: sooner(fault, n + 1, pending),
                 found: found,
@@ -210,14 +214,16 @@ fn with_clause(
     w
 }
 
-// The first refusal from an I row n on: at a clause of its iso, or else on the iso's sides, or else
-// what was found further down.
+// The first refusal from an I row n on, that of iso i: at a clause of it, or else in its calls of
+// itself, or else on its sides, or else what was found further down.
 fn iso_found(
     t: &[u16],
     f: &[u8],
     base: usize,
-    rows: &[u16],
+    i: usize,
     n: usize,
+    rows: &[u16],
+    last: usize,
     pending: Answer,
     found: Answer,
 ) -> Answer
@@ -226,14 +232,17 @@ fn iso_found(
         × Facts (now t) base (now f) × (length (now f) ≤ maxLines)
         ⌝ }
     ensures { λ r. ⌜
-        asFault r ≡ orElse
-        (orElse (asFault pending) (at (suc n) (sidesFault (patternsAt (now (t .entry)) base 1 (now (rows .entry))) (patternsAt (now (t .entry)) base 2 (now (rows .entry))))))
-        (asFault found)
+        asFault r ≡ orElse (orElse (asFault pending) (wholeFault (now (t .entry)) base i n (now (rows .entry)) last)) (asFault found)
         ⌝ }
 {
     let early = pending.refusal;
     if is_refused(early) {
         return pending;
+    }
+    let own = recursion_fault(t, base, i, n, rows, last);
+    let broken = own.refusal;
+    if is_refused(broken) {
+        return own;
     }
     sooner(side_fault(t, f, base, rows, n), n + 1, found)
 }
@@ -251,13 +260,25 @@ fn with_iso(t: &[u16], f: &[u8], base: usize, w: Walk, n: usize) -> Walk
         let pending = w.pending;
         let clear = none();
         let above = i - 1;
+        let last = w.last;
         return Walk {
             clauses: clauses,
             first: MAX_CLAUSES,
             below: n,
+            last: n,
             iso: above,
             pending: clear,
-            found: iso_found(t, f, base, &clauses[first..MAX_CLAUSES], n, pending, found),
+            found: iso_found(
+                t,
+                f,
+                base,
+                above,
+                n,
+                &clauses[first..MAX_CLAUSES],
+                last,
+                pending,
+                found,
+            ),
         };
     }
     w
@@ -333,6 +354,7 @@ fn walk_up(
         clauses: [0u16; MAX_CLAUSES],
         first: MAX_CLAUSES,
         below: lines,
+        last: lines,
         iso: isos,
         pending: clean,
         found: clean,

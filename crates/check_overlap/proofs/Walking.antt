@@ -14,7 +14,7 @@ use Rattle.format.specs.Judge.{patternNode}
 use Rattle.calculus.proofs.Basic.{eq-eqb, not-eqb}
 use Rattle.table_trees.specs.Unfolding.{cellOf, smallerOf, patternOf}
 use Rattle.table_trees.proofs.Unfolding.{cell-within, smaller-less, smaller-not, pattern-node, pattern-past}
-use Rattle.table_trees.proofs.Cases.{Injects, lefts, rights, Leaf, unit, var, other}
+use Rattle.table_trees.proofs.Cases.{Injects, lefts, rights, Leaf, unit, var, empty, other, Plain}
 use Rattle.check_overlap.specs.Comparison.{Compared, met, andThen, compare}
 use Rattle.check_overlap.specs.Walking.{code, counted, opening, onward, Meets, partOf, Within}
 use Rattle.check_overlap.proofs.Comparing.{compare-sym}
@@ -36,13 +36,16 @@ unit-meet (pleaf k) = refl
 unit-meet (pinj t q) = refl
 unit-meet (pnode k q q′) = refl
 
-leaf-meet : {k : ℕ} (j : ℕ) → Leaf k → Like k j 0
-leaf-meet j unit a b p q u v = unit-meet (patternNode j b u v)
-leaf-meet j var a b p q u v = refl
-leaf-meet j (other k) a b p q u v = unit-meet (patternNode j b u v)
+leaf-meet : {k : ℕ} (j : ℕ) → Plain k → Like k j 0
+leaf-meet j Plain.unit a b p q u v = unit-meet (patternNode j b u v)
+leaf-meet j Plain.var a b p q u v = refl
+leaf-meet j (Plain.other k) a b p q u v = unit-meet (patternNode j b u v)
 
 pair-meet : Like 4 4 3
 pair-meet a b p q u v = then-assoc (compare p u .clash) (compare p u .pairs) (compare q v)
+
+element-meet : Like 6 6 3
+element-meet a b p q u v = then-assoc (compare p u .clash) (compare p u .pairs) (compare q v)
 
 -- a pair beside any other kind, or no kind
 pair-other-meet : (j : ℕ) → (j ≡ 4 → ⊥) → Like 4 j 0
@@ -51,19 +54,55 @@ pair-other-meet (suc zero) h a b p q u v = refl
 pair-other-meet (suc (suc zero)) h a b p q u v = refl
 pair-other-meet (suc (suc (suc zero))) h a b p q u v = refl
 pair-other-meet (suc (suc (suc (suc zero)))) h a b p q u v = absurd (h refl)
-pair-other-meet (suc (suc (suc (suc (suc j))))) h a b p q u v = refl
+pair-other-meet (suc (suc (suc (suc (suc zero))))) h a b p q u v = refl
+pair-other-meet (suc (suc (suc (suc (suc (suc zero)))))) h a b p q u v = refl
+pair-other-meet (suc (suc (suc (suc (suc (suc (suc j))))))) h a b p q u v = refl
+
+-- empty beside any kind but an element
+empty-other-meet : (j : ℕ) → (j ≡ 6 → ⊥) → Like 5 j 0
+empty-other-meet zero h a b p q u v = refl
+empty-other-meet (suc zero) h a b p q u v = refl
+empty-other-meet (suc (suc zero)) h a b p q u v = refl
+empty-other-meet (suc (suc (suc zero))) h a b p q u v = refl
+empty-other-meet (suc (suc (suc (suc zero)))) h a b p q u v = refl
+empty-other-meet (suc (suc (suc (suc (suc zero))))) h a b p q u v = refl
+empty-other-meet (suc (suc (suc (suc (suc (suc zero)))))) h a b p q u v = absurd (h refl)
+empty-other-meet (suc (suc (suc (suc (suc (suc (suc j))))))) h a b p q u v = refl
+
+-- an element beside any kind but an element and empty
+element-other-meet : (j : ℕ) → (j ≡ 6 → ⊥) → (j ≡ 5 → ⊥) → Like 6 j 0
+element-other-meet zero h g a b p q u v = refl
+element-other-meet (suc zero) h g a b p q u v = refl
+element-other-meet (suc (suc zero)) h g a b p q u v = refl
+element-other-meet (suc (suc (suc zero))) h g a b p q u v = refl
+element-other-meet (suc (suc (suc (suc zero)))) h g a b p q u v = refl
+element-other-meet (suc (suc (suc (suc (suc zero))))) h g a b p q u v = absurd (g refl)
+element-other-meet (suc (suc (suc (suc (suc (suc zero)))))) h g a b p q u v = absurd (h refl)
+element-other-meet (suc (suc (suc (suc (suc (suc (suc j))))))) h g a b p q u v = refl
+
+empty-element-meet : Like 5 6 1
+empty-element-meet a b p q u v = refl
+
+element-empty-meet : Like 6 5 1
+element-empty-meet a b p q u v = refl
 
 tag-leaf-meet : {k j : ℕ} → Injects k → Leaf j → Like k j 0
 tag-leaf-meet lefts unit a b p q u v = refl
 tag-leaf-meet lefts var a b p q u v = refl
+tag-leaf-meet lefts empty a b p q u v = refl
 tag-leaf-meet lefts (other j) a b p q u v = refl
 tag-leaf-meet rights unit a b p q u v = refl
 tag-leaf-meet rights var a b p q u v = refl
+tag-leaf-meet rights empty a b p q u v = refl
 tag-leaf-meet rights (other j) a b p q u v = refl
 
 tag-pair-meet : {k : ℕ} → Injects k → Like k 4 0
 tag-pair-meet lefts a b p q u v = refl
 tag-pair-meet rights a b p q u v = refl
+
+tag-element-meet : {k : ℕ} → Injects k → Like k 6 0
+tag-element-meet lefts a b p q u v = refl
+tag-element-meet rights a b p q u v = refl
 
 same-meet : {k : ℕ} → Injects k → Like k k 2
 same-meet lefts a b p q u v = refl
@@ -76,7 +115,7 @@ other-meet rights lefts h a b p q u v = refl
 other-meet rights rights h a b p q u v = absurd (h refl)
 
 module _ {k j : ℕ} where
-  pub meets-leaf : Leaf k → Meets k j 0
+  pub meets-leaf : Plain k → Meets k j 0
   meets-leaf h = record { few = omega arith; says = leaf-meet j h }
 
   pub meets-pairs : k ≡ 4 → j ≡ 4 → Meets k j 3
@@ -84,6 +123,21 @@ module _ {k j : ℕ} where
 
   pub meets-pair-other : k ≡ 4 → (j ≡ 4 → ⊥) → Meets k j 0
   meets-pair-other e h = subst (λ x. Meets x j 0) (sym e) (record { few = omega arith; says = pair-other-meet j h })
+
+  pub meets-empty : k ≡ 5 → j ≡ 6 → Meets k j 1
+  meets-empty e f = subst (λ x. Meets x j 1) (sym e) (subst (λ x. Meets 5 x 1) (sym f) (record { few = omega arith; says = empty-element-meet }))
+
+  pub meets-empty-other : k ≡ 5 → (j ≡ 6 → ⊥) → Meets k j 0
+  meets-empty-other e h = subst (λ x. Meets x j 0) (sym e) (record { few = omega arith; says = empty-other-meet j h })
+
+  pub meets-elements : k ≡ 6 → j ≡ 6 → Meets k j 3
+  meets-elements e f = subst (λ x. Meets x j 3) (sym e) (subst (λ x. Meets 6 x 3) (sym f) (record { few = omega arith; says = element-meet }))
+
+  pub meets-element-empty : k ≡ 6 → j ≡ 5 → Meets k j 1
+  meets-element-empty e f = subst (λ x. Meets x j 1) (sym e) (subst (λ x. Meets 6 x 1) (sym f) (record { few = omega arith; says = element-empty-meet }))
+
+  pub meets-element-other : k ≡ 6 → (j ≡ 6 → ⊥) → (j ≡ 5 → ⊥) → Meets k j 0
+  meets-element-other e h g = subst (λ x. Meets x j 0) (sym e) (record { few = omega arith; says = element-other-meet j h g })
 
   pub meets-same : Injects k → k ≡ j → Meets k j 2
   meets-same h e = subst (λ x. Meets k x 2) e (record { few = omega arith; says = same-meet h })
@@ -94,7 +148,7 @@ module _ {k j : ℕ} where
   pub meets-tag-leaf : Injects k → Leaf j → Meets k j 0
   meets-tag-leaf h l = record { few = omega arith; says = tag-leaf-meet h l }
 
-  -- a pair, or no kind
+  -- a pair, a list, or no kind
   pub meets-tag-beyond : Injects k → 4 ≤ j → Meets k j 0
   meets-tag-beyond h l = record { few = omega arith; says = go j l }
     where
@@ -104,7 +158,9 @@ module _ {k j : ℕ} where
       go (suc (suc zero)) l = absurd (omega arith)
       go (suc (suc (suc zero))) l = absurd (omega arith)
       go (suc (suc (suc (suc zero)))) l = tag-pair-meet h
-      go (suc (suc (suc (suc (suc j))))) l = tag-leaf-meet h (other j)
+      go (suc (suc (suc (suc (suc zero))))) l = tag-leaf-meet h empty
+      go (suc (suc (suc (suc (suc (suc zero)))))) l = tag-element-meet h
+      go (suc (suc (suc (suc (suc (suc (suc j))))))) l = tag-leaf-meet h (other j)
 
 -- by the kinds that were read
 pub meets-lines : {k j x y m : ℕ} → k ≡ x → j ≡ y → Meets k j m → Meets x y m

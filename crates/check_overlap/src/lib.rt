@@ -2,6 +2,8 @@
 // one number: 2 for each node pair, and 1 for a clash, which ends it.
 
 use area_words::wide;
+use codes::ELEMENT;
+use codes::EMPTY;
 use codes::LEFT;
 use codes::PAIR;
 use codes::RIGHT;
@@ -34,7 +36,7 @@ fn number(t: &[u16], row: usize, k: usize) -> usize
 }
 
 // How nodes of two kinds meet: 0 where nothing below them is compared, 1 where they clash, else the field
-// that names their last parts: 2 of two lefts or two rights, 3 of two pairs.
+// that names their last parts: 2 of two lefts or two rights, 3 of two pairs or two elements.
 fn meet(k: usize, j: usize) -> usize
     ensures { λ r. ⌜ Meets k j r ⌝ }
 {
@@ -53,6 +55,21 @@ fn meet(k: usize, j: usize) -> usize
                 LEFT | RIGHT => 1,
                 _ => 0,
             }
+        }
+        EMPTY => {
+            if j == ELEMENT {
+                return 1;
+            }
+            0
+        }
+        ELEMENT => {
+            if j == ELEMENT {
+                return 3;
+            }
+            if j == EMPTY {
+                return 1;
+            }
+            0
         }
         _ => 0,
     }
@@ -76,7 +93,7 @@ fn named(a: usize, p: usize, b: usize, q: usize) -> bool
     false
 }
 
-// The count n, with the nodes of P lines p and q that meet so and, where they are pairs, their first parts.
+// The count n, with the nodes of P lines p and q that meet so and, where they have two parts, the first ones.
 fn compare_first(t: &[u16], base: usize, p: usize, q: usize, m: usize, n: usize) -> usize
     requires { ⌜ Within (now t) base p q × (n % 2 ≡ 0) ⌝ }
     ensures { λ r. ⌜ r ≡ counted n (opening m (partOf (now (t .entry)) base p 2) (partOf (now (t .entry)) base q 2)) ⌝ }

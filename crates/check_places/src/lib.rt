@@ -1,6 +1,6 @@
 // The clauses of a side by the places of their lefts and rights: two patterns of a type clash exactly when one has a left and the other
-// a right at the same place. For each place two sets hold the clauses with a left there and those with a right; each clause that joins them
-// gathers those that it clashes with.
+// a right at the same place. Empty lists and elements stand at no place: where a pattern holds one, places do not tell. For each place
+// two sets hold the clauses with a left there and those with a right; each clause that joins them gathers those that it clashes with.
 
 use area_words::wide;
 use check_facts::PLACES;
@@ -81,7 +81,8 @@ fn mark(s: &mut [u64], n: usize, kind: usize, i: usize)
     join(s, 2 * n + 1, i);
 }
 
-// P line p of clause i at the places of T line a from n on; false where a left or a right stands at no place of it.
+// P line p of clause i at the places of T line a from n on; false where a left, a right, an empty list or an
+// element stands at no place of it.
 fn walk(
     t: &[u16],
     f: &[u8],
@@ -131,7 +132,7 @@ fn walk(
 }
 
 // Whether P line p of clause i clashes with the clauses below i: 1 where it does with all, 2 where it does not, 0 where its lefts and
-// rights do not all stand at places of T line a.
+// rights do not all stand at places of T line a, or it holds an empty list or an element.
 fn placed(t: &[u16], f: &[u8], base: usize, p: usize, a: usize, i: usize, s: &mut [u64]) -> usize
     requires { ⌜ Ordered (now t) (now f) base a i (now s) ⌝ }
     ensures { λ r. ⌜ Seen (now (t .entry)) base p a i (now (s .entry)) (now (s .exit)) r ⌝ }

@@ -7,15 +7,21 @@ use Rattle.calculus.specs.Trees.{Pat}
 use Rattle.format.specs.Judge.{patternNode}
 use Rattle.calculus.specs.Clauses.{plain}
 use Rattle.table_trees.specs.Unfolding.{cellOf, smallerOf, patternOf}
-use Rattle.table_trees.proofs.Cases.{Injects, lefts, rights, Leaf, unit, var, other}
+use Rattle.table_trees.proofs.Cases.{Injects, lefts, rights, Plain}
 use Rattle.table_trees.proofs.Unfolding.{opened}
 
 -- ---- a node, by its kind
 
-plain-leaf : {k : ℕ} (n : ℕ) (p q : Pat) → Leaf k → true ≡ plain (patternNode k n p q)
-plain-leaf n p q unit = refl
-plain-leaf n p q var = refl
-plain-leaf n p q (other k) = refl
+plain-leaf : {k : ℕ} (n : ℕ) (p q : Pat) → Plain k → true ≡ plain (patternNode k n p q)
+plain-leaf n p q Plain.unit = refl
+plain-leaf n p q Plain.var = refl
+plain-leaf n p q (Plain.other k) = refl
+
+plain-empty : {k : ℕ} (n : ℕ) (p q : Pat) → k ≡ 5 → false ≡ plain (patternNode k n p q)
+plain-empty n p q e = sym (ap (λ k. plain (patternNode k n p q)) e)
+
+plain-element : {k : ℕ} (n : ℕ) (p q : Pat) → k ≡ 6 → false ≡ plain (patternNode k n p q)
+plain-element n p q e = sym (ap (λ k. plain (patternNode k n p q)) e)
 
 plain-tag : {k : ℕ} (n : ℕ) (p q : Pat) → Injects k → false ≡ plain (patternNode k n p q)
 plain-tag n p q lefts = refl
@@ -27,7 +33,13 @@ plain-pair n p q e = sym (ap (λ k. plain (patternNode k n p q)) e)
 -- ---- a line of kind k
 
 module _ (t : List ℕ) (base p : ℕ) {k : ℕ} (e : k ≡ cellOf t (base + p) 1) where
-  pub plain-end : Leaf k → true ≡ plain (patternOf t base p)
+  pub plain-no-list : k ≡ 5 → false ≡ plain (patternOf t base p)
+  plain-no-list h = plain-empty _ _ _ h ∙ ap plain (opened t base p e)
+
+  pub plain-no-element : k ≡ 6 → false ≡ plain (patternOf t base p)
+  plain-no-element h = plain-element _ _ _ h ∙ ap plain (opened t base p e)
+
+  pub plain-end : Plain k → true ≡ plain (patternOf t base p)
   plain-end h = plain-leaf _ _ _ h ∙ ap plain (opened t base p e)
 
   pub plain-not : Injects k → false ≡ plain (patternOf t base p)

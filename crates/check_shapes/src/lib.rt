@@ -1,9 +1,12 @@
 // Types and patterns of the table as trees: same type, let shapes. Each recurses over T and P lines whose
 // numbers fall.
 
+use codes::ELEMENT;
+use codes::EMPTY;
 use codes::FIRST;
 use codes::KIND;
 use codes::LEFT;
+use codes::LIST;
 use codes::PAIR;
 use codes::PRODUCT;
 use codes::RIGHT;
@@ -24,7 +27,7 @@ pub fn names_nothing(kind: usize) -> bool
     ensures { λ r. ⌜ r ≡ namesNothing kind ⌝ }
 {
     match kind {
-        SUM | PRODUCT => false,
+        SUM | PRODUCT | LIST => false,
         _ => true,
     }
 }
@@ -47,6 +50,9 @@ pub fn same_type(t: &[u16], a: usize, b: usize) -> bool
     let c = type_part(t, a, FIRST);
     let d = type_part(t, b, FIRST);
     if same_type(t, c, d) {
+        if ka == LIST {
+            return true;
+        }
         let e = type_part(t, a, SECOND);
         let f = type_part(t, b, SECOND);
         return same_type(t, e, f);
@@ -68,6 +74,8 @@ pub fn is_plain(t: &[u16], base: usize, p: usize) -> bool
             }
             false
         }
+        EMPTY => false,
+        ELEMENT => false,
         _ => true,
     }
 }

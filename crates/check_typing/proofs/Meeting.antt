@@ -9,18 +9,21 @@ use mathlib.Core.Option.{Option, none, some}
 use mathlib.Core.List.{List, [], _∷_, map}
 use lib.ListN.{length, length-map, length-set, getD, set, List·getD-map}
 use Rattle.calculus.specs.Tools.{_>>=_, guard}
-use Rattle.calculus.specs.Trees.{Ty, tunit, tsum, tprod, Pat, pleaf, unitLeaf, pvar, pnode, pairNode, sameType}
+use Rattle.calculus.specs.Trees.{Ty, tunit, tlist, tsum, tprod, Pat, pleaf, unitLeaf, emptyLeaf, pvar, pnode, pairNode, elementNode, sameType}
 use Rattle.calculus.specs.Slots.{Slots, put, get, allEmpty}
 use Rattle.format.specs.Judge.{typeNode, patternNode}
 use Rattle.calculus.specs.Clauses.{learn, spend, used}
 use Rattle.calculus.proofs.Basic.{sameType-refl, some-bind, bind-assoc, none≢some, not-eqb, same-bind}
 use Rattle.table_trees.specs.Unfolding.{cellOf, smallerOf, typeOf, patternOf}
-use Rattle.table_trees.proofs.Cases.{Parted, sums, products, Whole, node-whole, Injects, lefts, rights, Leaf, unit, var, other}
-use Rattle.table_trees.proofs.Unfolding.{rank, type-past, type-node, type-sum, type-prod, pattern-var, pattern-pair, pattern-call, opened}
+use Rattle.table_trees.proofs.Cases.{sums, products, Whole, node-whole, Injects, lefts, rights, Plain}
+use Rattle.table_trees.proofs.Unfolding.{rank, type-past, type-node, type-sum, type-prod, type-list, pattern-var, pattern-pair, pattern-empty, pattern-element}
+use Rattle.table_trees.proofs.Unfolding.{pattern-call, opened}
+use Rattle.table_trees.proofs.Lines.{no-unit}
+use Rattle.check_shapes.proofs.Sameness.{Naming, two, list}
 use Rattle.check_variables.specs.Marks.{settledAll}
 use Rattle.check_typing.specs.declared.Env.{Env}
 use Rattle.check_bare.specs.Bare.{Bare, unit, pair}
-use Rattle.check_typing.specs.Fitting.{fitting, fitAll, entryView, EntryOf, viewIf, viewOf, envView, Fitted, HasParts, ofLeft, ofRight, ofPair}
+use Rattle.check_typing.specs.Fitting.{fitting, fitAll, entryView, EntryOf, viewIf, viewOf, envView, Fitted, HasParts, ofLeft, ofRight, ofPair, listPart}
 
 -- ---- entries
 
@@ -169,31 +172,49 @@ parts-no-unit ofLeft e = absurd (omega arith)
 parts-no-unit ofRight e = absurd (omega arith)
 parts-no-unit ofPair e = absurd (omega arith)
 
-leaf-is-unit : {k : ℕ} → Leaf k → (k ≡ 1 → ⊥) → (n : ℕ) (p q : Pat) → (pleaf unitLeaf) ≡ patternNode k n p q
-leaf-is-unit unit h n p q = refl
-leaf-is-unit var h n p q = absurd (h refl)
-leaf-is-unit (other k) h n p q = refl
+leaf-is-unit : {k : ℕ} → Plain k → (k ≡ 1 → ⊥) → (n : ℕ) (p q : Pat) → (pleaf unitLeaf) ≡ patternNode k n p q
+leaf-is-unit Plain.unit h n p q = refl
+leaf-is-unit Plain.var h n p q = absurd (h refl)
+leaf-is-unit (Plain.other k) h n p q = refl
 
-unit-misfit : (c : Bool) {k : ℕ} (a b : Ty) → Parted k → (e : Slots Ty) → fitting c (pleaf unitLeaf) (typeNode k a b) e ≡ none
-unit-misfit true a b sums e = refl
-unit-misfit true a b products e = refl
-unit-misfit false a b sums e = refl
-unit-misfit false a b products e = refl
+unit-misfit : (c : Bool) {k : ℕ} (a b : Ty) → Naming k → (e : Slots Ty) → fitting c (pleaf unitLeaf) (typeNode k a b) e ≡ none
+unit-misfit true a b (two sums) e = refl
+unit-misfit true a b (two products) e = refl
+unit-misfit true a b list e = refl
+unit-misfit false a b (two sums) e = refl
+unit-misfit false a b (two products) e = refl
+unit-misfit false a b list e = refl
+
+-- empty fits lists alone
+empty-misfit : (c : Bool) (k : ℕ) (a b : Ty) → (k ≡ 3 → ⊥) → (e : Slots Ty) → fitting c (pleaf emptyLeaf) (typeNode k a b) e ≡ none
+empty-misfit c (suc (suc (suc zero))) a b h e = absurd (h refl)
+empty-misfit true zero a b h e = refl
+empty-misfit true (suc zero) a b h e = refl
+empty-misfit true (suc (suc zero)) a b h e = refl
+empty-misfit true (suc (suc (suc (suc k)))) a b h e = refl
+empty-misfit false zero a b h e = refl
+empty-misfit false (suc zero) a b h e = refl
+empty-misfit false (suc (suc zero)) a b h e = refl
+empty-misfit false (suc (suc (suc (suc k)))) a b h e = refl
 
 tag-misfit : (c : Bool) {j : ℕ} → Injects j → (n : ℕ) (p q : Pat) (k : ℕ) (a b : Ty) → (k ≡ 1 → ⊥) → (e : Slots Ty) → fitting c (patternNode j n p q) (typeNode k a b) e ≡ none
 tag-misfit c i n p q (suc zero) a b h e = absurd (h refl)
 tag-misfit true lefts n p q zero a b h e = refl
 tag-misfit true lefts n p q (suc (suc zero)) a b h e = refl
-tag-misfit true lefts n p q (suc (suc (suc k))) a b h e = refl
+tag-misfit true lefts n p q (suc (suc (suc zero))) a b h e = refl
+tag-misfit true lefts n p q (suc (suc (suc (suc k)))) a b h e = refl
 tag-misfit true rights n p q zero a b h e = refl
 tag-misfit true rights n p q (suc (suc zero)) a b h e = refl
-tag-misfit true rights n p q (suc (suc (suc k))) a b h e = refl
+tag-misfit true rights n p q (suc (suc (suc zero))) a b h e = refl
+tag-misfit true rights n p q (suc (suc (suc (suc k)))) a b h e = refl
 tag-misfit false lefts n p q zero a b h e = refl
 tag-misfit false lefts n p q (suc (suc zero)) a b h e = refl
-tag-misfit false lefts n p q (suc (suc (suc k))) a b h e = refl
+tag-misfit false lefts n p q (suc (suc (suc zero))) a b h e = refl
+tag-misfit false lefts n p q (suc (suc (suc (suc k)))) a b h e = refl
 tag-misfit false rights n p q zero a b h e = refl
 tag-misfit false rights n p q (suc (suc zero)) a b h e = refl
-tag-misfit false rights n p q (suc (suc (suc k))) a b h e = refl
+tag-misfit false rights n p q (suc (suc (suc zero))) a b h e = refl
+tag-misfit false rights n p q (suc (suc (suc (suc k)))) a b h e = refl
 
 tag-fit : (c : Bool) {j : ℕ} → Injects j → (n : ℕ) (p q : Pat) (f : ℕ → Ty) (x : Option (Slots Ty)) → fitAll c p (f j) x ≡ fitAll c (patternNode j n p q) (tsum (f 2) (f 3)) x
 tag-fit true lefts n p q f x = refl
@@ -205,10 +226,23 @@ pair-misfit : (c : Bool) (p q : Pat) (k : ℕ) (a b : Ty) → (k ≡ 2 → ⊥) 
 pair-misfit c p q (suc (suc zero)) a b h e = absurd (h refl)
 pair-misfit true p q zero a b h e = refl
 pair-misfit true p q (suc zero) a b h e = refl
-pair-misfit true p q (suc (suc (suc k))) a b h e = refl
+pair-misfit true p q (suc (suc (suc zero))) a b h e = refl
+pair-misfit true p q (suc (suc (suc (suc k)))) a b h e = refl
 pair-misfit false p q zero a b h e = refl
 pair-misfit false p q (suc zero) a b h e = refl
-pair-misfit false p q (suc (suc (suc k))) a b h e = refl
+pair-misfit false p q (suc (suc (suc zero))) a b h e = refl
+pair-misfit false p q (suc (suc (suc (suc k)))) a b h e = refl
+
+element-misfit : (c : Bool) (p q : Pat) (k : ℕ) (a b : Ty) → (k ≡ 3 → ⊥) → (e : Slots Ty) → fitting c (pnode elementNode p q) (typeNode k a b) e ≡ none
+element-misfit c p q (suc (suc (suc zero))) a b h e = absurd (h refl)
+element-misfit true p q zero a b h e = refl
+element-misfit true p q (suc zero) a b h e = refl
+element-misfit true p q (suc (suc zero)) a b h e = refl
+element-misfit true p q (suc (suc (suc (suc k)))) a b h e = refl
+element-misfit false p q zero a b h e = refl
+element-misfit false p q (suc zero) a b h e = refl
+element-misfit false p q (suc (suc zero)) a b h e = refl
+element-misfit false p q (suc (suc (suc (suc k)))) a b h e = refl
 
 -- the parts one after the other, in the order of the deed
 pair-bind : (p q : Pat) (a b : Ty) (x : Option (Slots Ty)) → fitAll true q b (fitAll true p a x) ≡ fitAll true (pnode pairNode p q) (tprod a b) x
@@ -217,9 +251,23 @@ pair-bind p q a b x = bind-assoc x (learn p a) (learn q b)
 pair-use : (p q : Pat) (a b : Ty) (x : Option (Slots Ty)) → fitAll false p a (fitAll false q b x) ≡ fitAll false (pnode pairNode p q) (tprod a b) x
 pair-use p q a b x = bind-assoc x (spend q b) (spend p a)
 
+element-bind : (p q : Pat) (a : Ty) (x : Option (Slots Ty)) → fitAll true q (tlist a) (fitAll true p a x) ≡ fitAll true (pnode elementNode p q) (tlist a) x
+element-bind p q a x = bind-assoc x (learn p a) (learn q (tlist a))
+
+element-use : (p q : Pat) (a : Ty) (x : Option (Slots Ty)) → fitAll false p a (fitAll false q (tlist a) x) ≡ fitAll false (pnode elementNode p q) (tlist a) x
+element-use p q a x = bind-assoc x (spend q (tlist a)) (spend p a)
+
 none-fits : (c : Bool) (P : Pat) (A : Ty) (x : Option (Slots Ty)) → ((e : Slots Ty) → fitting c P A e ≡ none) → none ≡ fitAll c P A x
 none-fits c P A none h = refl
 none-fits c P A (some e) h = sym (h e)
+
+-- ---- the part of a list by its number
+
+pub list-first : (t : List ℕ) (a : ℕ) {i r : ℕ} → i ≡ 2 → r ≡ smallerOf (cellOf t a 2) a → r ≡ listPart t a i
+list-first t a e s = s ∙ sym (ap (listPart t a) e)
+
+pub list-second : (t : List ℕ) (a : ℕ) {i : ℕ} → (i ≡ 2 → ⊥) → a ≡ listPart t a i
+list-second t a h = sym (ap (λ b. cond b (smallerOf (cellOf t a 2) a) a) (not-eqb h))
 
 -- ---- P line p of kind j on T line a of kind k
 
@@ -228,7 +276,7 @@ module _ (t : List ℕ) (base p a : ℕ) (c : Bool) (x : Option (Slots Ty)) {j k
   kind = ap (λ c. typeNode c (typeOf t (smallerOf (cellOf t a 2) a)) (typeOf t (smallerOf (cellOf t a 3) a))) v ∙ sym (type-node t a)
 
   -- a P line that names nothing and is no variable
-  module _ (h : Leaf j) (y : j ≡ 1 → ⊥) where
+  module _ (h : Plain j) (y : j ≡ 1 → ⊥) where
     pub fit-unit : Whole k → x ≡ fitAll c (patternOf t base p) (typeOf t a) x
     fit-unit z =
         same c ∙ ap₂ (λ q b. fitAll c q b x) (leaf-is-unit h y _ _ _ ∙ opened t base p u) (sym (node-whole _ _ z) ∙ kind)
@@ -237,7 +285,7 @@ module _ (t : List ℕ) (base p a : ℕ) (c : Bool) (x : Option (Slots Ty)) {j k
         same true = same-bind x
         same false = same-bind x
 
-    pub fit-unit-not : {r : Option (Slots Ty)} → r ≡ none → Parted k → r ≡ fitAll c (patternOf t base p) (typeOf t a) x
+    pub fit-unit-not : {r : Option (Slots Ty)} → r ≡ none → Naming k → r ≡ fitAll c (patternOf t base p) (typeOf t a) x
     fit-unit-not e z =
         e ∙ none-fits c (pleaf unitLeaf) _ x (unit-misfit c _ _ z) ∙ ap₂ (λ q b. fitAll c q b x) (leaf-is-unit h y _ _ _ ∙ opened t base p u) kind
 
@@ -260,6 +308,22 @@ module _ (t : List ℕ) (base p a : ℕ) (c : Bool) (x : Option (Slots Ty)) {j k
   pub fit-pair-not : {r : Option (Slots Ty)} → r ≡ none → j ≡ 4 → (k ≡ 2 → ⊥) → r ≡ fitAll c (patternOf t base p) (typeOf t a) x
   fit-pair-not e h l =
       e ∙ none-fits c _ _ x (pair-misfit c _ _ k _ _ l) ∙ ap₂ (λ q b. fitAll c q b x) (sym (pattern-pair t base p (sym u ∙ h))) kind
+
+  -- empty fits a list, and nothing else
+  pub fit-empty : j ≡ 5 → k ≡ 3 → x ≡ fitAll c (patternOf t base p) (typeOf t a) x
+  fit-empty h l = same c ∙ ap₂ (λ q b. fitAll c q b x) (sym (pattern-empty t base p (sym u ∙ h))) (sym (type-list t a (sym v ∙ l)))
+    where
+      same : (c : Bool) → x ≡ fitAll c (pleaf emptyLeaf) (tlist (typeOf t (smallerOf (cellOf t a 2) a))) x
+      same true = same-bind x
+      same false = same-bind x
+
+  pub fit-empty-not : {r : Option (Slots Ty)} → r ≡ none → j ≡ 5 → (k ≡ 3 → ⊥) → r ≡ fitAll c (patternOf t base p) (typeOf t a) x
+  fit-empty-not e h l =
+      e ∙ none-fits c _ _ x (empty-misfit c k _ _ l) ∙ ap₂ (λ q b. fitAll c q b x) (sym (pattern-empty t base p (sym u ∙ h))) kind
+
+  pub fit-element-not : {r : Option (Slots Ty)} → r ≡ none → j ≡ 6 → (k ≡ 3 → ⊥) → r ≡ fitAll c (patternOf t base p) (typeOf t a) x
+  fit-element-not e h l =
+      e ∙ none-fits c _ _ x (element-misfit c _ _ k _ _ l) ∙ ap₂ (λ q b. fitAll c q b x) (sym (pattern-element t base p (sym u ∙ h))) kind
 
   -- what field i of both lines names
   abbrev fitField : Bool → ℕ → Option (Slots Ty) → Option (Slots Ty)
@@ -287,6 +351,37 @@ module _ (t : List ℕ) (base p a : ℕ) (c : Bool) (x : Option (Slots Ty)) {j k
       (e ∙ ap₂ (λ q b. fitAll c (patternOf t base q) (typeOf t b) x) (s ∙ ap (λ i. smallerOf (cellOf t (base + p) i) p) ef) (w ∙ ap (λ i. smallerOf (cellOf t a i) a) ef))
       ∙ in-turn h l
 
+  -- what field i of an element names, on its part of a list
+  abbrev fitPart : Bool → ℕ → Option (Slots Ty) → Option (Slots Ty)
+  fitPart c i x = fitAll c (patternOf t base (smallerOf (cellOf t (base + p) i) p)) (typeOf t (listPart t a i)) x
+
+  list-in-turn : j ≡ 6 → k ≡ 3 → fitPart c (cond c 3 2) (fitPart c (cond c 2 3) x) ≡ fitAll c (patternOf t base p) (typeOf t a) x
+  list-in-turn h l = go c ∙ ap₂ (λ q b. fitAll c q b x) (sym (pattern-element t base p (sym u ∙ h))) (sym is-list)
+    where
+      is-list : typeOf t a ≡ tlist (typeOf t (smallerOf (cellOf t a 2) a))
+      is-list = type-list t a (sym v ∙ l)
+
+      go : (c : Bool) → fitPart c (cond c 3 2) (fitPart c (cond c 2 3) x)
+          ≡ fitAll c (pnode elementNode (patternOf t base (smallerOf (cellOf t (base + p) 2) p)) (patternOf t base (smallerOf (cellOf t (base + p) 3) p)))
+          (tlist (typeOf t (smallerOf (cellOf t a 2) a))) x
+      go true =
+          ap (λ b. fitAll true (patternOf t base (smallerOf (cellOf t (base + p) 3) p)) b (fitPart true 2 x)) is-list
+          ∙ element-bind (patternOf t base (smallerOf (cellOf t (base + p) 2) p)) (patternOf t base (smallerOf (cellOf t (base + p) 3) p)) (typeOf t (smallerOf (cellOf t a 2) a)) x
+      go false =
+          ap (λ b. fitPart false 2 (fitAll false (patternOf t base (smallerOf (cellOf t (base + p) 3) p)) b x)) is-list
+          ∙ element-use (patternOf t base (smallerOf (cellOf t (base + p) 2) p)) (patternOf t base (smallerOf (cellOf t (base + p) 3) p)) (typeOf t (smallerOf (cellOf t a 2) a)) x
+
+  pub fit-element : {f g q b q′ b′ : ℕ} {m r : Option (Slots Ty)} → j ≡ 6 → k ≡ 3 → f ≡ cond c 2 3 → g ≡ cond c 3 2
+      → q ≡ smallerOf (cellOf t (base + p) f) p → b ≡ listPart t a f → m ≡ fitAll c (patternOf t base q) (typeOf t b) x
+      → q′ ≡ smallerOf (cellOf t (base + p) g) p → b′ ≡ listPart t a g → r ≡ fitAll c (patternOf t base q′) (typeOf t b′) m
+      → r ≡ fitAll c (patternOf t base p) (typeOf t a) x
+  fit-element {q = q} {b} {q′} {b′} {m = m} h l ef eg s w e s′ w′ e′ =
+      e′
+      ∙ ap₂ (λ q b. fitAll c (patternOf t base q) (typeOf t b) m) (s′ ∙ ap (λ i. smallerOf (cellOf t (base + p) i) p) eg) (w′ ∙ ap (listPart t a) eg)
+      ∙ ap (fitPart c (cond c 3 2))
+      (e ∙ ap₂ (λ q b. fitAll c (patternOf t base q) (typeOf t b) x) (s ∙ ap (λ i. smallerOf (cellOf t (base + p) i) p) ef) (w ∙ ap (listPart t a) ef))
+      ∙ list-in-turn h l
+
 -- ---- the recursion: the parts of a line, and from there the lines that it names
 
 pub parts-call : {i j m : ℕ} → i ≤ j → 2 * j + 1 ≡ m → 2 * i < m
@@ -297,6 +392,9 @@ twice h e = omega arith
 
 pub part-call : (t : List ℕ) (base p i : ℕ) {k q m : ℕ} → 2 * rank p ≡ m → k ≡ cellOf t (base + p) 1 → HasParts k → q ≡ smallerOf i p → 2 * rank q + 1 < m
 part-call t base p i r e h s = twice (pattern-call t base p i refl e (parts-no-unit h) s) r
+
+pub element-call : (t : List ℕ) (base p i : ℕ) {q m : ℕ} → 2 * rank p ≡ m → cellOf t (base + p) 1 ≡ 6 → q ≡ smallerOf i p → 2 * rank q + 1 < m
+element-call t base p i r h s = twice (pattern-call t base p i refl refl (no-unit h) s) r
 
 -- what has failed stays failed
 pub fit-stopped : (t : List ℕ) (e : Env) (c : Bool) (p : Pat) (a : Ty) → e .fits ≡ false → envView t e ≡ fitAll c p a (envView t e)

@@ -6,21 +6,21 @@ use mathlib.Core.Logic.{_⊎_, inl, inr}
 use mathlib.Core.Bool.{Bool, true, false, cond, true≢false}
 use mathlib.Core.Option.{Option}
 use mathlib.Core.List.{List}
-use lib.Dec.{ltb}
+use lib.Dec.{ltb, eqb}
 use lib.ListN.{length, getD}
-use borrow.Author.Tests.{lt-ltb, ltb-true, ltb-false}
+use borrow.Author.Tests.{lt-ltb, ltb-true, ltb-false, eqb-true, eqb-false}
 use Rattle.limits.specs.Limits.{maxLines, rowWidth, tableLength}
 use Rattle.calculus.specs.Trees.{Ty, Pat, pvar}
 use Rattle.calculus.specs.Slots.{Slots}
 use Rattle.calculus.proofs.Basic.{bool-cases}
 use Rattle.table_trees.specs.Unfolding.{cellOf, smallerOf, typeOf, patternOf}
-use Rattle.table_trees.proofs.Cases.{Injects, lefts, rights, Leaf}
+use Rattle.table_trees.proofs.Cases.{Injects, lefts, rights, Plain}
 use Rattle.table_trees.proofs.Unfolding.{rank, rank-within, cell-within}
 use Rattle.check_shapes.specs.Naming.{namesNothing}
-use Rattle.check_shapes.proofs.Sameness.{is-whole, is-parted}
+use Rattle.check_shapes.proofs.Sameness.{is-whole, is-naming}
 use Rattle.check_bare.specs.Bare.{Bare}
-use Rattle.check_typing.specs.Fitting.{fitAll, viewOf, Fitted, HasParts, ofLeft, ofRight, Ready, Named, Alike, Stepped, Reached}
-use Rattle.check_typing.proofs.Meeting.{bare-same, fit-unit, fit-unit-not, fit-var, fit-tag-not, fit-tag, fit-pair-not, fit-pair}
+use Rattle.check_typing.specs.Fitting.{fitAll, viewOf, Fitted, HasParts, ofLeft, ofRight, Ready, Named, Alike, Stepped, Reached, listPart}
+use Rattle.check_typing.proofs.Meeting.{bare-same, fit-unit, fit-unit-not, fit-var, fit-tag-not, fit-tag, fit-pair-not, fit-pair, fit-empty, fit-empty-not, fit-element-not, fit-element}
 
 -- ---- numbers of a row, and the lines that two lines name
 
@@ -167,13 +167,20 @@ module _ (t : List ℕ) (base p a : ℕ) (c : Bool) (l : List ℕ) {j k : ℕ} (
   pub fitted-var : {n : ℕ} {r : Bool} {z : List ℕ} → j ≡ 1 → n ≡ cellOf t (base + p) 2 → Fitted t c (pvar n) (typeOf t a) l r z → Fitted t c (patternOf t base p) (typeOf t a) l r z
   fitted-var y i f = record { long = f .long; fitted = fit-var t base p a c (viewOf t true l) u v y i (f .fitted) }
 
-  -- a P line that names nothing and is no variable
-  pub fitted-unit : {r : Bool} → Leaf j → (j ≡ 1 → ⊥) → r ≡ namesNothing k → Fitted t c (patternOf t base p) (typeOf t a) l r l
+  -- a P line that names nothing, and is neither a variable nor empty
+  pub fitted-unit : {r : Bool} → Plain j → (j ≡ 1 → ⊥) → r ≡ namesNothing k → Fitted t c (patternOf t base p) (typeOf t a) l r l
   fitted-unit {r} h y e = go r e
     where
       go : (r : Bool) → r ≡ namesNothing k → Fitted t c (patternOf t base p) (typeOf t a) l r l
       go true e = record { long = refl; fitted = fit-unit t base p a c (viewOf t true l) u v h y (is-whole k e refl) }
-      go false e = record { long = refl; fitted = fit-unit-not t base p a c (viewOf t true l) u v h y refl (is-parted k e refl) }
+      go false e = record { long = refl; fitted = fit-unit-not t base p a c (viewOf t true l) u v h y refl (is-naming k e refl) }
+
+  pub fitted-empty : {r : Bool} → j ≡ 5 → r ≡ eqb k 3 → Fitted t c (patternOf t base p) (typeOf t a) l r l
+  fitted-empty {r} h e = go r e
+    where
+      go : (r : Bool) → r ≡ eqb k 3 → Fitted t c (patternOf t base p) (typeOf t a) l r l
+      go true e = record { long = refl; fitted = fit-empty t base p a c (viewOf t true l) u v h (eqb-true k 3 (sym e)) }
+      go false e = record { long = refl; fitted = fit-empty-not t base p a c (viewOf t true l) u v refl h (eqb-false k 3 (sym e)) }
 
   module _ (h : HasParts j) where
     pub fitted-tag-not : (j ≡ 4 → ⊥) → (k ≡ 1 → ⊥) → Fitted t c (patternOf t base p) (typeOf t a) l false l
@@ -200,4 +207,23 @@ module _ (t : List ℕ) (base p a : ℕ) (c : Bool) (l : List ℕ) {j k : ℕ} (
     fitted-pair-stop e = record {
       long = one .long;
       fitted = fit-pair t base p a c (viewOf t true l) u v {m = viewOf t false m} h y ef refl s w (ap (λ e. viewOf t e m) (sym e) ∙ one .fitted) refl refl refl;
+    }
+
+  pub fitted-element-not : j ≡ 6 → (k ≡ 3 → ⊥) → Fitted t c (patternOf t base p) (typeOf t a) l false l
+  fitted-element-not h y = record { long = refl; fitted = fit-element-not t base p a c (viewOf t true l) u v refl h y }
+
+  module _ (h : j ≡ 6) (y : k ≡ 3) {f q b : ℕ} (ef : f ≡ cond c 2 3) (s : q ≡ smallerOf (cellOf t (base + p) f) p) (w : b ≡ listPart t a f)
+      {d : Bool} {m : List ℕ} (one : Fitted t c (patternOf t base q) (typeOf t b) l d m) where
+    pub fitted-element : {g q′ b′ : ℕ} {r : Bool} {z : List ℕ} → d ≡ true → g ≡ cond c 3 2 → q′ ≡ smallerOf (cellOf t (base + p) g) p → b′ ≡ listPart t a g
+        → Fitted t c (patternOf t base q′) (typeOf t b′) m r z → Fitted t c (patternOf t base p) (typeOf t a) l r z
+    fitted-element e eg s′ w′ two = record {
+      long = two .long ∙ one .long;
+      fitted = fit-element t base p a c (viewOf t true l) u v {m = viewOf t true m} h y ef eg s w (ap (λ e. viewOf t e m) (sym e) ∙ one .fitted) s′ w′ (two .fitted);
+    }
+
+    -- the first part does not fit
+    pub fitted-element-stop : d ≡ false → Fitted t c (patternOf t base p) (typeOf t a) l false m
+    fitted-element-stop e = record {
+      long = one .long;
+      fitted = fit-element t base p a c (viewOf t true l) u v {m = viewOf t false m} h y ef refl s w (ap (λ e. viewOf t e m) (sym e) ∙ one .fitted) refl refl refl;
     }

@@ -1,9 +1,10 @@
 -- The types of live variables while patterns are fitted, as the code keeps them.
 use Prim.Native.Nat.{ℕ, zero, suc, _+_, _<_, _≤_}
 use mathlib.Core.Path.{_≡_}
-use mathlib.Core.Bool.{Bool, true, false}
+use mathlib.Core.Bool.{Bool, true, false, cond}
 use mathlib.Core.Option.{Option, none, some}
 use mathlib.Core.List.{List, map}
+use lib.Dec.{eqb}
 use lib.ListN.{length, replicate}
 use Rattle.limits.specs.Limits.{variables, maxLines, tableLength}
 use Rattle.calculus.specs.Tools.{_>>=_}
@@ -62,6 +63,15 @@ pub record Parted (t : List ℕ) (base p a kp ka : ℕ) : Type 0 where
   pub pattern : kp ≡ cellOf t (base + p) 1
   pub type : ka ≡ cellOf t a 1
   pub parts : HasParts kp
+
+-- P line p, which is an element, and the kind of T line a
+pub record Element (t : List ℕ) (base p a ka : ℕ) : Type 0 where
+  pub pattern : cellOf t (base + p) 1 ≡ 6
+  pub type : ka ≡ cellOf t a 1
+
+-- the T line that number i of an element fits on T line a, a list: number 2, the element, fits the line that it names, number 3 the list itself
+abbrev pub listPart : List ℕ → ℕ → ℕ → ℕ
+listPart t a i = cond (eqb i 2) (smallerOf (cellOf t a 2) a) a
 
 -- P line p and T line a of a whole table, which have marks
 pub record Ready (t g : List ℕ) (base p a : ℕ) : Type 0 where

@@ -4,9 +4,12 @@ use area_words::wide;
 use check_bare::is_bare;
 use check_shapes::names_nothing;
 use check_shapes::same_type;
+use codes::ELEMENT;
+use codes::EMPTY;
 use codes::FIRST;
 use codes::KIND;
 use codes::LEFT;
+use codes::LIST;
 use codes::PAIR;
 use codes::PRODUCT;
 use codes::RIGHT;
@@ -31,7 +34,7 @@ ghost use Rattle.calculus.specs.Trees.{pvar, sameType};
 ghost use Rattle.check_variables.specs.Marks.{settledAll};
 ghost use Rattle.check_bare.specs.Bare.{Bare, Bares};
 ghost use Rattle.table_trees.specs.Unfolding.{cellOf, typeOf, patternOf};
-ghost use Rattle.check_typing.specs.Fitting.{envView, EntryOf, fitAll, freshEnv, Parted, Ready, Named, Stepped, Reached, Fitted};
+ghost use Rattle.check_typing.specs.Fitting.{envView, EntryOf, fitAll, freshEnv, Parted, Element, listPart, Ready, Named, Stepped, Reached, Fitted};
 
 // The type of each live variable, as one more than its T line, 0 for none; and whether all fitted so far.
 pub struct Env {
@@ -277,6 +280,8 @@ fn fit_lines(
     match kp {
         VARIABLE => assign(t, pattern_cell(t, base, p, FIRST), a, binds, line),
         LEFT | RIGHT | PAIR => fit_parts(t, g, base, p, a, kp, ka, binds, line),
+        EMPTY => ka == LIST,
+        ELEMENT => fit_element(t, g, base, p, a, ka, binds, line),
         _ => names_nothing(ka),
     }
 }
@@ -320,6 +325,48 @@ fn fit_parts(
         return fit_lines(t, g, base, second, c, binds, line);
     }
     false
+}
+
+// The same for an element and a T line of kind ka. The list behind it fits the same T line, and is used first.
+fn fit_element(
+    t: &[u16],
+    g: &[u16],
+    base: usize,
+    p: usize,
+    a: usize,
+    ka: usize,
+    binds: bool,
+    line: &mut [u16; VARIABLES],
+) -> bool
+    requires { ⌜ Element (now t) base p a ka × Bares (now t) base (now g) × (length (now line) ≡ variables) ⌝ }
+    ensures { λ r. ⌜
+        Fitted (now (t .entry)) binds (patternOf (now (t .entry)) base p) (typeOf (now (t .entry)) a)
+        (now (line .entry)) r (now (line .exit))
+        ⌝ }
+{
+    if ka != LIST {
+        return false;
+    }
+    let k = sooner(binds);
+    let first = pattern_part(t, base, p, k);
+    let b = list_part(t, a, k);
+    if fit_lines(t, g, base, first, b, binds, line) {
+        let l = later(binds);
+        let second = pattern_part(t, base, p, l);
+        let c = list_part(t, a, l);
+        return fit_lines(t, g, base, second, c, binds, line);
+    }
+    false
+}
+
+// The T line that part k of an element fits on T line a, a list: the element's, or that of the list itself.
+fn list_part(t: &[u16], a: usize, k: usize) -> usize
+    ensures { λ r. ⌜ r ≡ listPart (now (t .entry)) a k ⌝ }
+{
+    if k == FIRST {
+        return type_part(t, a, FIRST);
+    }
+    a
 }
 
 // The field of the part that comes first, and of the one that comes second.

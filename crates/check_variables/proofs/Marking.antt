@@ -13,8 +13,8 @@ use Rattle.calculus.specs.Trees.{Pat, vars}
 use Rattle.format.specs.Judge.{patternNode}
 use Rattle.calculus.specs.Clauses.{Deed, binds, uses}
 use Rattle.table_trees.specs.Unfolding.{cellOf, smallerOf, patternOf}
-use Rattle.table_trees.proofs.Cases.{Injects, lefts, rights, Leaf, unit, var, other}
-use Rattle.table_trees.proofs.Unfolding.{pattern-unit, pattern-var, pattern-pair, opened}
+use Rattle.table_trees.proofs.Cases.{Injects, lefts, rights, Joins, pairs, elements, Leaf, unit, var, empty, other}
+use Rattle.table_trees.proofs.Unfolding.{pattern-unit, pattern-var, opened}
 use Rattle.check_variables.specs.Marks.{deedView, nextState, markOne, markAll, settledAll}
 
 -- ---- one deed
@@ -52,7 +52,12 @@ injected-vars rights n p q = refl
 leaf-vars : {k : ℕ} → Leaf k → (k ≡ 1 → ⊥) → (n : ℕ) (p q : Pat) → [] ≡ vars (patternNode k n p q)
 leaf-vars unit h n p q = refl
 leaf-vars var h n p q = absurd (h refl)
+leaf-vars empty h n p q = refl
 leaf-vars (other k) h n p q = refl
+
+joined-vars : {k : ℕ} → Joins k → (n : ℕ) (p q : Pat) → (vars p ++ vars q) ≡ vars (patternNode k n p q)
+joined-vars pairs n p q = refl
+joined-vars elements n p q = refl
 
 module _ (t : List ℕ) (base p : ℕ) (d : Deed) (m : List ℕ) {k : ℕ} (e : k ≡ cellOf t (base + p) 1) where
   pub mark-unit : k ≡ 0 → m ≡ markAll d (vars (patternOf t base p)) m
@@ -69,14 +74,14 @@ module _ (t : List ℕ) (base p : ℕ) (d : Deed) (m : List ℕ) {k : ℕ} (e : 
   mark-injected h s i =
       i ∙ ap (λ x. markAll d x m) (ap (λ x. vars (patternOf t base x)) s ∙ injected-vars h _ _ _ ∙ ap vars (opened t base p e))
 
-  pub mark-pair : {a b : ℕ} {f r : List ℕ} → k ≡ 4 → a ≡ smallerOf (cellOf t (base + p) 2) p → f ≡ markAll d (vars (patternOf t base a)) m
+  pub mark-pair : {a b : ℕ} {f r : List ℕ} → Joins k → a ≡ smallerOf (cellOf t (base + p) 2) p → f ≡ markAll d (vars (patternOf t base a)) m
       → b ≡ smallerOf (cellOf t (base + p) 3) p → r ≡ markAll d (vars (patternOf t base b)) f → r ≡ markAll d (vars (patternOf t base p)) m
   mark-pair {a} {b} h s i u j =
       j
       ∙ ap (λ x. markAll d (vars (patternOf t base b)) x) i
       ∙ sym (mark-append d (vars (patternOf t base a)) (vars (patternOf t base b)) m)
       ∙ ap₂ (λ x y. markAll d (vars (patternOf t base x) ++ vars (patternOf t base y)) m) s u
-      ∙ sym (ap (λ x. markAll d (vars x) m) (pattern-pair t base p (sym e ∙ h)))
+      ∙ ap (λ x. markAll d x m) (joined-vars h _ _ _ ∙ ap vars (opened t base p e))
 
 -- ---- once all is walked
 

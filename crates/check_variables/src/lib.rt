@@ -1,5 +1,6 @@
 // The variables that a pattern of the table binds or uses, marked one by one.
 
+use codes::ELEMENT;
 use codes::FIRST;
 use codes::KIND;
 use codes::LEFT;
@@ -60,20 +61,19 @@ pub fn mark(t: &[u16], base: usize, p: usize, binds: bool, m: Marks) -> Marks
     if kind == VARIABLE {
         return mark_one(binds, pattern_cell(t, base, p, FIRST), m);
     }
-    if kind == PAIR {
-        let a = pattern_part(t, base, p, FIRST);
-        let first = mark(t, base, a, binds, m);
-        let b = pattern_part(t, base, p, SECOND);
-        return mark(t, base, b, binds, first);
-    }
     match kind {
         LEFT | RIGHT => {
             let a = pattern_part(t, base, p, FIRST);
-            return mark(t, base, a, binds, m);
+            mark(t, base, a, binds, m)
         }
-        _ => {}
+        PAIR | ELEMENT => {
+            let a = pattern_part(t, base, p, FIRST);
+            let first = mark(t, base, a, binds, m);
+            let b = pattern_part(t, base, p, SECOND);
+            mark(t, base, b, binds, first)
+        }
+        _ => m,
     }
-    m
 }
 
 // Whether no variable is live, and each was bound only while not live and used only while live.

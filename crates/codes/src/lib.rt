@@ -24,6 +24,10 @@ pub const LETTER_RIGHT: u8 = 82;
 
 pub const LETTER_PAIR: u8 = 80;
 
+pub const LETTER_EMPTY: u8 = 78;
+
+pub const LETTER_ELEMENT: u8 = 75;
+
 // A row's first number is its line's letter.
 pub const ROW_LETTER: usize = 0;
 
@@ -54,6 +58,8 @@ pub const SUM: usize = 1;
 
 pub const PRODUCT: usize = 2;
 
+pub const LIST: usize = 3;
+
 // The kinds of P lines; a variable's number stands where others name their first part.
 pub const UNIT: usize = 0;
 
@@ -64,6 +70,10 @@ pub const LEFT: usize = 2;
 pub const RIGHT: usize = 3;
 
 pub const PAIR: usize = 4;
+
+pub const EMPTY: usize = 5;
+
+pub const ELEMENT: usize = 6;
 
 // The numbers of I, C and L rows.
 pub const ISO_FROM: usize = 1;

@@ -35,7 +35,6 @@ use Rattle.model.proofs.Runs as Runs
 use Rattle.model.proofs.Runs.{Good, GoodRows, good, good-toward, accepted-good, sound, left-sides, given-from, reduces-one, run-iff, run-at, run-back}
 use Rattle.model.proofs.Runs.{there-and-back, ends-there, onto, one-clause, halted}
 use Rattle.calculus.proofs.Lists.{free-never}
-use Rattle.format.proofs.Listless.{isos-free}
 use Rattle.model.proofs.Sizes.{free-gives}
 use Rattle.demands.specs.Words.{turnedBytes, Areas, Gives}
 use Rattle.demands.specs.Demands.{EndsThatWay, NeverLarge, AcceptedExactly, AcceptedAnywhere, RefusedExactly, RunExactly, TurnedAccepted, RunsBackwards, RunBack, OneClause, ReachedOnce}
@@ -190,13 +189,12 @@ never-large file a rs f back i free table work value result budget h = go (short
     go true n = omega (arith, n)
     go false n = never (run file i back budget value) (run-iff file rs e i back budget value (run file i back budget value) .0 refl) n
 
--- every value of the to-type: no iso of a file calls itself or reaches a list
 pub reached-once : ReachedOnce
-reached-once file a rs f back i o known w h =
+reached-once file a rs f never back i o known w h =
     let e = accepted-as a rs f in
     let os : List Iso = isosOf (toward back rs) in
     let g : Good os = good (toward back rs) (good-toward back rs (accepted-good file rs e)) in
-    let r = onto file rs e (λ j p q. free-never (isosOf rs) (accepted-good file rs e .ok) j (isos-free rs j) p q) back i o known w h in
+    let r = onto file rs e never back i o known w h in
     let says = run-iff file rs e i back in
     record {
       source = r .source;
@@ -204,9 +202,7 @@ reached-once file a rs f back i o known w h =
       count = r .count;
       reduces = r .reduces;
       one = r .one;
-      given = λ t u result budget areas l b.
-          ⊎-elim (λ x. x) (λ n. absurd (never-large file a rs f back i (isos-free (toward back rs) i) t u (letters (r .source)) result budget n))
-          (given-or-large file rs e back i o known (r .source) w (r .count) (r .typed) (r .reduces) t u result budget areas l b);
+      given = given-or-large file rs e back i o known (r .source) w (r .count) (r .typed) (r .reduces);
       oneGiven = λ t u result budget k x gave.
           only-source (left-sides os (g .ok)) known r
           (says budget x (gives (k, letters w)) .0 (gives-run file t u result i back budget x k (letters w) gave));

@@ -41,15 +41,14 @@ use Rattle.law_ranking.specs.Answers.{LineFault, NumberIs, SettingIs}
 use Rattle.law_ranking.proofs.Numbering.{list-many}
 use Rattle.law_ranking.proofs.Services.{number-answers, setting-answers}
 use Rattle.law_endings.proofs.Feeds.{turned-returnless}
-use Rattle.format.proofs.Listless.{isos-listless}
-use Rattle.law_witnesses.proofs.Listless.{always-check}
 use Rattle.law_witnesses.proofs.Served.{as-check as as-shown, served-shows, served-silent, served-large}
 use Rattle.law_pairlists.specs.PairLists.{exportRows, exportService, importRows, importService}
 use Rattle.law_pairlists.proofs.Services.{import-areas, import-checks, import-exports, export-areas}
 use Rattle.law_pairlists.proofs.Runs.{import-many, export-lists}
 use Rattle.law_units.specs.Units.{Units, Holds, Tally, nothingYet, Play, playService}
 use Rattle.law_units.specs.Backward.{Alike}
-use Rattle.law_units.specs.Faults.{UnitFault, FirstUnit, Room as PlayRoom, PlayFault}
+use Rattle.law_units.specs.Apart.{Exchanged}
+use Rattle.law_units.specs.Faults.{UnitFault, FirstUnit, ScriptLine, FirstLine, Room as PlayRoom, Few as PlayFew, PlayFault}
 use Rattle.law_units.specs.Calls.{PlayServed}
 use Rattle.law_units.proofs.Playing.{AllHold}
 use Rattle.law_units.proofs.Services.{play-refused, play-areas, fileRows, accepts, play-counts, play-many, play-holds, play-restores}
@@ -63,8 +62,8 @@ use Rattle.demands.specs.Words.{Areas, yes, Accepted, turnedBytes}
 use Rattle.demands.specs.Requests.{SheetOfLoneRuns, BoundsOfTurned, TurnedWithFeeds, TurnedTwice, importedBytes, ImportAccepted, ExportOfImport}
 use Rattle.demands.specs.Requests.{ShowsAsCheck, ShowsFault, ShowsLarge, ListTypesRefused, ListImportRefused, ListIsosRefused, BothAccepted, AnswerAlike, TurnedAlike}
 use Rattle.demands.specs.Requests.{Sizes, SizesLeft, TablesLeft, PlayOfCalls}
-use Rattle.demands.specs.Requests.{PlayCounts, PlayGood, PlayRestores, PlayRefused, PlayRefusedExactly, PlayShortExactly, PlayLongExactly, UnitAtFault}
-use Rattle.demands.specs.Requests.{UnitExactly, BadScript, BadScriptExactly, PlaysExchange}
+use Rattle.demands.specs.Requests.{PlayCounts, PlayGood, PlayRestores, PlayRefused, PlayRefusedExactly, PlayShortExactly, PlayLongExactly}
+use Rattle.demands.specs.Requests.{UnitAtFault, UnitExactly, ScriptAtFault, BadScriptExactly, PlaysExchange}
 use Rattle.demands.proofs.Serving.{not-short, not-tight, check-says, accepted-as, accepted-rows, same-rows, turn-writes, gives-run, run-gives, zero-says}
 use Rattle.demands.specs.Faults.{Checks}
 use Rattle.demands.proofs.Faults.{no-one, long-exactly, numbered-answers}
@@ -137,10 +136,8 @@ export-of-import file t w i j list output r same e budget l t₂ w₂ output₂ 
 
 -- ---- request 09
 
--- 24 stands in no place of Check's answer: no iso of a file has to do with lists
 pub shows-as-check : ShowsAsCheck
-shows-as-check file t w result room =
-    always-check file t w result (λ rs f o m. let p = isos-listless rs o m in (p .from, p .to)) (le-ltb (length result) resultLength room)
+shows-as-check file t w result room = as-shown file t w result (le-ltb (length result) resultLength room)
 
 pub shows-fault : ShowsFault
 shows-fault file t w result = (served-shows file t w result, served-silent file t w result)
@@ -319,6 +316,12 @@ first-number : {rs : List Row} {is ns : List ℕ} {f : Refusal} → FirstUnit rs
 first-number (FirstUnit.here u) = unit-number u
 first-number (FirstUnit.later h u) = first-number u
 
+-- those of a line at fault
+script-number : {units : ℕ} {os : List Iso} {ls : List (List ℕ)} {f : Refusal} → FirstLine units os ls f → (number f ≡ 22) ⊎ (number f ≡ 18)
+script-number (FirstLine.here (ScriptLine.bad b)) = inl refl
+script-number (FirstLine.here (ScriptLine.lists p n h)) = inr refl
+script-number (FirstLine.later h s) = script-number s
+
 -- a number that is no answer of Check
 not-checked : (file t w : List ℕ) (n : ℕ) → 15 ≤ n → (n ≡ 21 → ⊥) → (n ≡ 23 → ⊥) → check file t w .answer .number ≡ n → ⊥
 not-checked file t w n h k l e = go (numbered-answers file t w .0)
@@ -339,7 +342,11 @@ module _ (file t w : List ℕ) (us : Units) (script : List ℕ) where
   fault-one (PlayFault.file n m r s h says) e room =
       no-one file (verdict file) refl (ap (λ (a : Answer). a .number) (sym (check-says file (areas-of room)) ∙ says) ∙ e)
   fault-one (PlayFault.unit rs f r s form ok u) e room = let b = first-number u in absurd (omega (arith, e, b .0))
-  fault-one (PlayFault.script rs l r s form ok holds at bad) e room = absurd (omega (arith, e))
+  fault-one (PlayFault.script rs f r s form ok holds first) e room = absurd (either (script-number first))
+    where
+      either : (number f ≡ 22) ⊎ (number f ≡ 18) → ⊥
+      either (inl k) = absurd (omega (arith, e, k))
+      either (inr k) = absurd (omega (arith, e, k))
 
   -- 2 is of the units, the script or the file
   fault-two : {n m : ℕ} → PlayFault file t w us script n m → n ≡ 2 → m ≡ 0
@@ -349,7 +356,11 @@ module _ (file t w : List ℕ) (us : Units) (script : List ℕ) where
   fault-two (PlayFault.file n m r s h says) e z =
       inr (long-exactly file t w (areas-of r) .0 (says ∙ ap₂ (λ x y. record { number = x; line = y }) e z))
   fault-two (PlayFault.unit rs f r s form ok u) e z = let b = first-number u in absurd (omega (arith, e, b .0))
-  fault-two (PlayFault.script rs l r s form ok holds at bad) e z = absurd (omega (arith, e))
+  fault-two (PlayFault.script rs f r s form ok holds first) e z = absurd (either (script-number first))
+    where
+      either : (number f ≡ 22) ⊎ (number f ≡ 18) → ⊥
+      either (inl k) = absurd (omega (arith, e, k))
+      either (inr k) = absurd (omega (arith, e, k))
 
   two-fault : PlayRoom t w us → ((1000 < length (us .types)) ⊎ (4096 < length (lines script))) ⊎ ((65536 < length file) ⊎ (4096 < length (lines file))) → PlayFault file t w us script 2 0
   two-fault r (inl h) = PlayFault.long r h
@@ -360,13 +371,32 @@ module _ (file t w : List ℕ) (us : Units) (script : List ℕ) where
       go (inl l) (inr m) = PlayFault.long r (inr m)
       go (inl l) (inl m) = PlayFault.file 2 0 r (record { units = l; visits = m }) (omega arith) (long-exactly file t w (areas-of r) .1 h)
 
-  -- 15, 18 and 19 are of the units
-  fault-unit : {n m : ℕ} → PlayFault file t w us script n m → 15 ≤ n → n ≤ 19 → UnitAtFault file t w us script n
+  -- a line at fault, all before it passing
+  at-script : (rs : List Row) (f : Refusal) → PlayRoom t w us → PlayFew us script → InForm file rs → FileOk (isosOf rs)
+      → ((k : ℕ) → k < length (us .types) → Holds rs (getD (us .types) k 0) (getD (us .settings) k 0))
+      → FirstLine (length (us .types)) (isosOf rs) (lines script) f → {n : ℕ} → number f ≡ n → ScriptAtFault file t w us script n
+  at-script rs f r s form ok holds first e =
+      record {
+        areas = areas-of r;
+        equal = r .equal;
+        units = s .units;
+        visits = s .visits;
+        rows = rs;
+        form = form;
+        ok = ok;
+        good = holds;
+        refusal = f;
+        numbered = e;
+        first = first;
+      }
+
+  -- 15 and 19 are of the units, 18 of a unit or of the script
+  fault-unit : {n m : ℕ} → PlayFault file t w us script n m → 15 ≤ n → n ≤ 19 → UnitAtFault file t w us script n ⊎ ((n ≡ 18) × ScriptAtFault file t w us script 18)
   fault-unit (PlayFault.area h) a b = absurd (omega (arith, a))
   fault-unit (PlayFault.long r h) a b = absurd (omega (arith, a))
   fault-unit (PlayFault.file n m r s h says) a b = absurd (not-checked file t w n a (λ q. absurd (omega (arith, b, q))) (λ q. absurd (omega (arith, b, q))) (ap (λ (x : Answer). x .number) says))
   fault-unit (PlayFault.unit rs f r s form ok u) a b =
-      record {
+      inl (record {
         areas = areas-of r;
         equal = r .equal;
         units = s .units;
@@ -377,30 +407,28 @@ module _ (file t w : List ℕ) (us : Units) (script : List ℕ) where
         refusal = f;
         numbered = refl;
         first = u;
-      }
-  fault-unit (PlayFault.script rs l r s form ok holds at bad) a b = absurd (omega (arith, b))
+      })
+  fault-unit (PlayFault.script rs f r s form ok holds first) a b = either (script-number first)
+    where
+      either : (number f ≡ 22) ⊎ (number f ≡ 18) → UnitAtFault file t w us script (number f) ⊎ ((number f ≡ 18) × ScriptAtFault file t w us script 18)
+      either (inl k) = absurd (omega (arith, b, k))
+      either (inr k) = inr (k, at-script rs f r s form ok holds first k)
 
   -- 22 is of the script
-  fault-script : {n m : ℕ} → PlayFault file t w us script n m → n ≡ 22 → BadScript file t w us script
+  fault-script : {n m : ℕ} → PlayFault file t w us script n m → n ≡ 22 → ScriptAtFault file t w us script 22
   fault-script (PlayFault.area h) e = absurd (omega (arith, e))
   fault-script (PlayFault.long r h) e = absurd (omega (arith, e))
   fault-script (PlayFault.file n m r s h says) e =
       absurd (not-checked file t w 22 (omega arith) (λ q. absurd (omega (arith, q))) (λ q. absurd (omega (arith, q))) (ap (λ (a : Answer). a .number) says ∙ e))
   fault-script (PlayFault.unit rs f r s form ok u) e = let b = first-number u in absurd (omega (arith, e, b .1))
-  fault-script (PlayFault.script rs l r s form ok holds at bad) e =
-      record {
-        areas = areas-of r;
-        equal = r .equal;
-        units = s .units;
-        visits = s .visits;
-        rows = rs;
-        form = form;
-        ok = ok;
-        good = holds;
-        line = l;
-        among = at;
-        bad = bad;
-      }
+  fault-script (PlayFault.script rs f r s form ok holds first) e = at-script rs f r s form ok holds first e
+
+  -- the refusal of a script that is at fault so
+  script-fault : {n : ℕ} → ScriptAtFault file t w us script n → PlayFault file t w us script n 0
+  script-fault b =
+      subst (λ k. PlayFault file t w us script k 0) (b .numbered)
+      (PlayFault.script (b .rows) (b .refusal) (record { table = b .areas .long; work = b .areas .wide; equal = b .equal }) (record { units = b .units; visits = b .visits })
+      (b .form) (b .ok) (b .good) (b .first))
 
 abbrev room-of : {t w : List ℕ} {us : Units} → Areas t w → length (us .types) ≡ length (us .settings) → PlayRoom t w us
 room-of a e = record { table = a .long; work = a .wide; equal = e }
@@ -423,16 +451,20 @@ pub unit-exactly : UnitExactly
 unit-exactly file t w us script budget tally n low high =
     let f = play-faults file t w us script budget tally n 0 (omega (arith, low)) in (
       (λ e. fault-unit file t w us script (f .0 e) low high),
-      (λ u. f .1
-          (subst (λ k. PlayFault file t w us script k 0) (u .numbered)
-          (PlayFault.unit (u .rows) (u .refusal) (room-of (u .areas) (u .equal)) (record { units = u .units; visits = u .visits }) (u .form) (u .ok) (u .first)))),
+      (λ x. f .1 (judged x)),
     )
+  where
+    judged : UnitAtFault file t w us script n ⊎ ((n ≡ 18) × ScriptAtFault file t w us script 18) → PlayFault file t w us script n 0
+    judged (inl u) =
+        subst (λ k. PlayFault file t w us script k 0) (u .numbered)
+        (PlayFault.unit (u .rows) (u .refusal) (room-of (u .areas) (u .equal)) (record { units = u .units; visits = u .visits }) (u .form) (u .ok) (u .first))
+    judged (inr x) = subst (λ k. PlayFault file t w us script k 0) (sym (x .0)) (script-fault file t w us script (x .1))
 
 pub bad-script-exactly : BadScriptExactly
 bad-script-exactly file t w us script budget tally =
     let f = play-faults file t w us script budget tally 22 0 (omega arith) in (
       (λ e. fault-script file t w us script (f .0 e) refl),
-      (λ b. f .1 (PlayFault.script (b .rows) (b .line) (room-of (b .areas) (b .equal)) (record { units = b .units; visits = b .visits }) (b .form) (b .ok) (b .good) (b .among) (b .bad))),
+      (λ b. f .1 (script-fault file t w us script b)),
     )
 
 -- ---- two scripts exchanged
@@ -441,8 +473,6 @@ pub plays-exchange : PlaysExchange
 plays-exchange file t w t₂ w₂ us a b budget tally areas areas₂ apart p q e e₂ =
     let c : List ℕ = a ++ (10 ∷ []) in
     let d : List ℕ = b ++ (10 ∷ []) in
-    let same = plays-exchanged us budget c d (c ++ d) (d ++ c) (lines-behind a d) (lines-behind b c) apart file t w t₂ w₂ tally (areas .long) (areas .wide) (areas₂ .long) (areas₂ .wide) in (
-      ap (λ (x : Play). x .answer) e ∙ ap (λ x. x .1) same ∙ ap (λ (x : Play). x .answer) (sym e₂),
-      ap (λ (x : Play). x .units) e ∙ ap (λ x. x .2) same ∙ ap (λ (x : Play). x .units) (sym e₂),
-      ap (λ (x : Play). x .tally) e ∙ ap (λ x. x .3) same ∙ ap (λ (x : Play). x .tally) (sym e₂),
-    )
+    subst (λ x. Exchanged x q) (sym e)
+    (subst (Exchanged (playService file t w us (c ++ d) budget tally)) (sym e₂)
+    (plays-exchanged us budget c d (c ++ d) (d ++ c) (lines-behind a d) (lines-behind b c) apart file t w t₂ w₂ tally (areas .long) (areas .wide) (areas₂ .long) (areas₂ .wide)))

@@ -16,7 +16,7 @@ use Rattle.calculus.specs.Clauses.{sigsOf}
 use Rattle.format.specs.Unfold.{isosOf}
 use Rattle.calculus.specs.Letters.{letters}
 use Rattle.model.specs.Services.{check, turn, Ran, RunAnswer, answerOfRun, RunResult, runService, toward}
-use Rattle.calculus.specs.Paper.{Of, FileOk, ExactlyOne, Ending}
+use Rattle.calculus.specs.Paper.{Of, FileOk, ExactlyOne, NoneCalls, Ending}
 use Rattle.calculus.specs.Lists.{ListFree}
 use Rattle.calculus.specs.Terms.{Term, eapp, valTerm, Steps}
 use Rattle.calculus.specs.Faulty.{FirstIso, Ends}
@@ -130,7 +130,8 @@ OneClause =
     → (n : Iso) × (getElem? (isosOf (toward back rs)) j ≡ some n) × Of w (n .from) × ExactlyOne (n .clauses) w
 
 -- "every value of the to-type is reached from exactly one value of the from-type": a closed value w of the to-type is what some closed value of the
--- from-type reduces to, with k applications; every call to Run with a budget of k or more gives it; and any bytes for which some call gives w are that value.
+-- from-type reduces to, with k applications; every call to Run with a budget of k or more gives it, or is 24 (request 14); and any bytes for which some call
+-- gives w are that value.
 pub record ReachedFrom (file : List ℕ) (rs : List Row) (back : Bool) (i : ℕ) (o : Iso) (w : Val) : Type 0 where
   pub source : Val
   pub typed : Of source (o .from)
@@ -139,16 +140,18 @@ pub record ReachedFrom (file : List ℕ) (rs : List Row) (back : Bool) (i : ℕ)
   pub one : (v : Val) (k : ℕ) → Of v (o .from) → Steps (isosOf (toward back rs)) (eapp i (valTerm v)) (valTerm w) k → v ≡ source
   pub given : (table work result : List ℕ) (budget : ℕ) → Areas table work → 127 ≤ length result → count ≤ budget
       → Gives (runService file table work i back budget (letters source) result) count (letters w)
+      ⊎ (runService file table work i back budget (letters source) result .number ≡ 24)
   pub oneGiven : (table work result : List ℕ) (budget k : ℕ) (x : List ℕ)
       → Gives (runService file table work i back budget x result) k (letters w) → (x ≡ letters source) × (k ≡ count)
 
+-- Request 14: "that each to-value is reached is kept for files where no iso calls itself". Where no list is reached no call is 24 (`NeverLarge`).
 abbrev pub ReachedOnce : Type 0
 ReachedOnce =
-    (file : List ℕ) → Accepted file → (rs : List Row) → InForm file rs → (back : Bool) (i : ℕ) (o : Iso) → getElem? (isosOf (toward back rs)) i ≡ some o
-    → (w : Val) → Of w (o .to) → ReachedFrom file rs back i o w
+    (file : List ℕ) → Accepted file → (rs : List Row) → InForm file rs → NoneCalls (isosOf rs) → (back : Bool) (i : ℕ) (o : Iso)
+    → getElem? (isosOf (toward back rs)) i ≡ some o → (w : Val) → Of w (o .to) → ReachedFrom file rs back i o w
 
 -- ---- request 14, of the three services: "Where an iso and all it reaches meet the rule in one direction (those that never call themselves meet it in both), the
--- reduction that way ends; elsewhere it may be 17 or 24 under every budget." The reading refuses lists and calls of itself as yet, so that these two hold of every file.
+-- reduction that way ends; elsewhere it may be 17 or 24 under every budget." (`Zones.under-every-budget` of `model` has such a case.)
 
 -- the steps of Table 3 lead to a closed value of the to-type; and a call to Run with a budget that holds their number gives it, or is 24
 abbrev pub EndsThatWay : Type 0

@@ -114,16 +114,19 @@ order : map (λ a. map (inOrder a) (typeLine ∷ patternLine ∷ isoLine ∷ cla
     ∷ []
 order = refl
 
--- T: "0 unit (a = b = 0); 1 sum; 2 product", and no other kind
-type-fields : map (fieldsFit typeLine) (row typeLine 0 0 0 ∷ row typeLine 0 1 0 ∷ row typeLine 0 0 1 ∷ row typeLine 1 5 6 ∷ row typeLine 2 5 6 ∷ row typeLine 3 0 0 ∷ [])
-    ≡ true ∷ false ∷ false ∷ true ∷ true ∷ false ∷ []
+-- T: "0 unit (a = b = 0); 1 sum; 2 product", request 14's "T kind 3 (a the element, b 0)", and no other kind
+type-fields : map (fieldsFit typeLine)
+    (row typeLine 0 0 0 ∷ row typeLine 0 1 0 ∷ row typeLine 0 0 1 ∷ row typeLine 1 5 6 ∷ row typeLine 2 5 6 ∷ row typeLine 3 5 0 ∷ row typeLine 3 5 1 ∷ row typeLine 4 0 0 ∷ [])
+    ≡ true ∷ false ∷ false ∷ true ∷ true ∷ true ∷ false ∷ false ∷ []
 type-fields = refl
 
--- P: "0 unit (a = b = 0); 1 variable number a, 0 to 31 (b = 0); 2 left of a (b = 0); 3 right of a (b = 0); 4 pair a, b", and no other kind
+-- P: "0 unit (a = b = 0); 1 variable number a, 0 to 31 (b = 0); 2 left of a (b = 0); 3 right of a (b = 0); 4 pair a, b", request 14's "5 empty
+-- (a = b = 0) and 6 an element before a list", and no other kind
 pattern-fields : map (fieldsFit patternLine)
     (row patternLine 0 0 0 ∷ row patternLine 0 1 0 ∷ row patternLine 0 0 1 ∷ row patternLine 1 31 0 ∷ row patternLine 1 32 0 ∷ row patternLine 1 0 1 ∷ row patternLine 2 5 0
-    ∷ row patternLine 2 5 1 ∷ row patternLine 3 5 0 ∷ row patternLine 3 5 1 ∷ row patternLine 4 5 6 ∷ row patternLine 5 0 0 ∷ [])
-    ≡ true ∷ false ∷ false ∷ true ∷ false ∷ false ∷ true ∷ false ∷ true ∷ false ∷ true ∷ false ∷ []
+    ∷ row patternLine 2 5 1 ∷ row patternLine 3 5 0 ∷ row patternLine 3 5 1 ∷ row patternLine 4 5 6 ∷ row patternLine 5 0 0 ∷ row patternLine 5 1 0
+    ∷ row patternLine 5 0 1 ∷ row patternLine 6 5 6 ∷ row patternLine 7 0 0 ∷ [])
+    ≡ true ∷ false ∷ false ∷ true ∷ false ∷ false ∷ true ∷ false ∷ true ∷ false ∷ true ∷ true ∷ false ∷ false ∷ true ∷ false ∷ []
 pattern-fields = refl
 
 -- ---- names and ceilings
@@ -132,13 +135,16 @@ pattern-fields = refl
 abbrev above : ℕ → ℕ → ℕ → ℕ → ℕ → Seen
 above t p i c l = record { above = none; types = replicate t tunit; patterns = replicate p (pleaf unitLeaf); isos = i; clauses = c; lets = l }
 
--- "A T or P line names only earlier lines of its own letter. An L line names an iso earlier than its own": lines 0 and 1 are there, and of the isos 0 and, being open, 1
+-- "A T or P line names only earlier lines of its own letter. An L line names an iso earlier than its own", or with request 14 its own: lines 0 and 1 are there, and
+-- of the isos 0 and, being open, 1
 names : map (λ r. named (above 2 2 2 0 0) (r .kind) r)
     (row typeLine 1 1 1 ∷ row typeLine 1 2 0 ∷ row typeLine 1 0 2 ∷ row typeLine 2 1 1 ∷ row typeLine 2 2 0 ∷ row typeLine 2 0 2 ∷ row patternLine 2 1 0 ∷ row patternLine 2 2 0 ∷ row
     patternLine 3 2 0 ∷ row patternLine 4 1 1
     ∷ row patternLine 4 2 0 ∷ row patternLine 4 0 2 ∷ row isoLine 1 1 0 ∷ row isoLine 2 0 0 ∷ row isoLine 0 2 0 ∷ row clauseLine 1 1 0 ∷ row clauseLine 2 0 0 ∷ row clauseLine 0 2 0
-    ∷ row letLine 1 0 1 ∷ row letLine 2 0 1 ∷ row letLine 1 0 2 ∷ row letLine 1 1 1 ∷ [])
-    ≡ true ∷ false ∷ false ∷ true ∷ false ∷ false ∷ true ∷ false ∷ false ∷ true ∷ false ∷ false ∷ true ∷ false ∷ false ∷ true ∷ false ∷ false ∷ true ∷ false ∷ false ∷ false ∷ []
+    ∷ row letLine 1 0 1 ∷ row letLine 2 0 1 ∷ row letLine 1 0 2 ∷ row letLine 1 1 1 ∷ row letLine 1 2 1
+    ∷ row typeLine 3 1 9 ∷ row typeLine 3 2 0 ∷ row patternLine 5 9 9 ∷ row patternLine 6 1 1 ∷ row patternLine 6 2 0 ∷ row patternLine 6 0 2 ∷ [])
+    ≡ true ∷ false ∷ false ∷ true ∷ false ∷ false ∷ true ∷ false ∷ false ∷ true ∷ false ∷ false ∷ true ∷ false ∷ false ∷ true ∷ false ∷ false ∷ true ∷ false ∷ false ∷ true ∷ false
+    ∷ true ∷ false ∷ true ∷ true ∷ false ∷ false ∷ []
 names = refl
 
 -- the 256th T, 1,024th P, 32nd I, 128th C and 8th L pass, and the next of each does not

@@ -5,7 +5,7 @@ use mathlib.Core.Path.{_≡_}
 use mathlib.Core.Logic.{_↔_, _⊎_}
 use mathlib.Core.Bool.{Bool, true, false}
 use mathlib.Core.Option.{some}
-use mathlib.Core.List.{List, [], _∷_, _++_, List·Memᴰ}
+use mathlib.Core.List.{List, [], _∷_, _++_}
 use lib.ListN.{length, take, drop, getD, getElem?}
 use Rattle.calculus.specs.Trees.{Ty, tunit, typeNodes, Iso, pleaf, unitLeaf, nodes}
 use Rattle.calculus.specs.Lists.{Finite, ListFree}
@@ -26,8 +26,8 @@ use Rattle.law_witnesses.specs.Served.{sideAnswer, Given, Unseen}
 use Rattle.law_pairlists.specs.PairLists.{importService, exportService}
 use Rattle.law_units.specs.Units.{Units, Holds, Tally, nothingYet, Play, playService}
 use Rattle.law_units.specs.Backward.{Backward, Alike}
-use Rattle.law_units.specs.Apart.{Apart}
-use Rattle.law_units.specs.Faults.{BadLine, FirstUnit, PlayFault}
+use Rattle.law_units.specs.Apart.{Apart, Exchanged}
+use Rattle.law_units.specs.Faults.{FirstLine, FirstUnit, PlayFault}
 use Rattle.law_units.specs.Calls.{PlayServed}
 use Rattle.law_reordering.specs.Reordered.{SameButOrder}
 use Rattle.demands.specs.Words.{Areas, yes, Accepted, turnedBytes, Gives}
@@ -80,11 +80,14 @@ ExportOfImport =
     → (exportService (importedBytes r) t₂ w₂ 0 budget output₂ .answer ≡ yes)
     × (importedBytes (exportService (importedBytes r) t₂ w₂ 0 budget output₂) ≡ withoutReturns list)
 
--- Request 09: "A service of its own answers as Check does", in the same areas; with a short result area it is 1.
+-- Request 09: "A service of its own answers as Check does", in the same areas; with a short result area it is 1. Request 14: where Check answers with a side (11 to
+-- 14), and the value to give has over 127 letters, it is 24 with the line 0.
 abbrev pub ShowsAsCheck : Type 0
 ShowsAsCheck =
     (file t w result : List ℕ) → 127 ≤ length result
-    → (showService file t w result .answer ≡ check file t w .answer) × (showService file t w result .table ≡ check file t w .table)
+    → ((showService file t w result .answer ≡ check file t w .answer)
+    ⊎ ((showService file t w result .answer ≡ record { number = 24; line = 0 }) × (sideAnswer (check file t w .answer) ≡ true)))
+    × (showService file t w result .table ≡ check file t w .table)
     × (showService file t w result .work ≡ check file t w .work)
 
 -- "and gives, for the iso and side refused, the value …, with the fewest letters, the first in byte order among those. Its length is given, and it
@@ -238,13 +241,9 @@ pub record UnitAtFault (file t w : List ℕ) (us : Units) (script : List ℕ) (n
   pub numbered : number refusal ≡ n
   pub first : FirstUnit rows (us .types) (us .settings) refusal
 
-abbrev pub UnitExactly : Type 0
-UnitExactly =
-    (file t w : List ℕ) (us : Units) (script : List ℕ) (budget : ℕ) (tally : Tally) (n : ℕ) → 15 ≤ n → n ≤ 19
-    → (playService file t w us script budget tally .answer ≡ record { number = n; line = 0 }) ↔ UnitAtFault file t w us script n
-
--- "22 "bad script", a line of another form or naming an absent unit or iso, after 19": everything before it passes, and some line is bad
-pub record BadScript (file t w : List ℕ) (us : Units) (script : List ℕ) : Type 0 where
+-- "All tests precede the first visit, the units in order and then the script"; request 14: "a script is tested line by line, on each 22 before 18": everything before passes, and
+-- the first line at fault is refused
+pub record ScriptAtFault (file t w : List ℕ) (us : Units) (script : List ℕ) (n : ℕ) : Type 0 where
   pub areas : Areas t w
   pub equal : length (us .types) ≡ length (us .settings)
   pub units : length (us .types) ≤ 1000
@@ -253,18 +252,26 @@ pub record BadScript (file t w : List ℕ) (us : Units) (script : List ℕ) : Ty
   pub form : InForm file rows
   pub ok : FileOk (isosOf rows)
   pub good : (k : ℕ) → k < length (us .types) → Holds rows (getD (us .types) k 0) (getD (us .settings) k 0)
-  pub line : List ℕ
-  pub among : List·Memᴰ line (lines script)
-  pub bad : BadLine (length (us .types)) (length (isosOf rows)) line
+  pub refusal : Refusal
+  pub numbered : number refusal ≡ n
+  pub first : FirstLine (length (us .types)) (isosOf rows) (lines script) refusal
 
+-- 15 and 19 are of the units alone, 18 of a unit or of the script
+abbrev pub UnitExactly : Type 0
+UnitExactly =
+    (file t w : List ℕ) (us : Units) (script : List ℕ) (budget : ℕ) (tally : Tally) (n : ℕ) → 15 ≤ n → n ≤ 19
+    → (playService file t w us script budget tally .answer ≡ record { number = n; line = 0 })
+    ↔ (UnitAtFault file t w us script n ⊎ ((n ≡ 18) × ScriptAtFault file t w us script 18))
+
+-- "22 "bad script", a line of another form or naming an absent unit or iso, after 19"
 abbrev pub BadScriptExactly : Type 0
 BadScriptExactly =
     (file t w : List ℕ) (us : Units) (script : List ℕ) (budget : ℕ) (tally : Tally)
-    → (playService file t w us script budget tally .answer ≡ record { number = 22; line = 0 }) ↔ BadScript file t w us script
+    → (playService file t w us script budget tally .answer ≡ record { number = 22; line = 0 }) ↔ ScriptAtFault file t w us script 22
 
--- two scripts that name different units, each ended by a line feed: in either order the same answer, units and record
+-- two scripts that name different units, each ended by a line feed: in either order the same units and record, and the same answer, but that of a 22 and an 18 the first decides
 abbrev pub PlaysExchange : Type 0
 PlaysExchange =
     (file t w t₂ w₂ : List ℕ) (us : Units) (a b : List ℕ) (budget : ℕ) (tally : Tally) → Areas t w → Areas t₂ w₂ → Apart (a ++ (10 ∷ [])) (b ++ (10 ∷ []))
     → (p q : Play) → p ≡ playService file t w us ((a ++ (10 ∷ [])) ++ (b ++ (10 ∷ []))) budget tally → q ≡ playService file t₂ w₂ us ((b ++ (10 ∷ [])) ++ (a ++ (10 ∷ []))) budget tally
-    → (p .answer ≡ q .answer) × (p .units ≡ q .units) × (p .tally ≡ q .tally)
+    → Exchanged p q

@@ -23,11 +23,15 @@ use number_values::known;
 use print_text::put_field;
 use print_text::put_number;
 use run_coding::SHORT_AREA_LENGTH;
+use run_lists::is_free;
 use runner::run::prepare;
 ghost use mathlib.Core.Path.{_≡_};
+ghost use mathlib.Core.Option.{some};
 ghost use Prim.Native.Nat.{_≤_, _<_};
 ghost use lib.ListN.{length, take, drop};
 ghost use Rattle.limits.specs.Limits.{numeralBound};
+ghost use Rattle.calculus.specs.Refusals.{tooMany};
+ghost use Rattle.format.specs.Code.{refusalView};
 ghost use Rattle.law_pairlists.specs.PairLists.{pairLine, pairLines};
 ghost use Rattle.area_cells.specs.Areas.{Writes};
 ghost use Rattle.runner.specs.RunSays.{OnChecked, OnAccepted};
@@ -50,6 +54,16 @@ fn not_listed(f: Refusal) -> Listed
 {
     Listed {
         refusal: f,
+        length: 0,
+    }
+}
+
+// An iso that has to do with lists, or a from-type with too many values, and no bytes.
+fn too_many() -> Listed
+    ensures { λ r. ⌜ (refusalView (r .refusal) ≡ some tooMany) × (r .length ≡ 0) ⌝ }
+{
+    Listed {
+        refusal: Refusal::TooMany,
         length: 0,
     }
 }
@@ -101,10 +115,13 @@ fn export_checked(
     if isos <= i {
         return not_listed(Refusal::NoIso);
     }
+    if !is_free(t, index, isos, i) {
+        return too_many();
+    }
     find_counts(t, counts);
     let n = count_values(t, counts, iso_cell(t, index, i, ISO_FROM));
     if MAX_PAIRS < n {
-        return not_listed(Refusal::TooMany);
+        return too_many();
     }
     let mut tos = [0u16; MAX_PAIRS];
     if !find_tos(t, counts, base, index, isos, i, n, budget, work, &mut tos) {

@@ -15,13 +15,13 @@ use Rattle.table_trees.specs.Unfolding.{typeOf}
 use Rattle.fault_stacks.specs.Stacks.{typesFrom, moveOf, typesAfter, TypesStepped}
 use Rattle.fault_stacks.proofs.Walking.{top-near}
 use Rattle.fault_stacks.proofs.Counting.{types-end}
-use Rattle.fault_gaps.specs.Gaps.{typesAt, rowsAt, Good, Picks, Asked, Writes, TakesAll, FirstCount}
+use Rattle.fault_gaps.specs.Gaps.{typesAt, rowsAt, Good, firstLetter, Picks, Asked, Writes, FirstLack}
 use Rattle.limits.specs.Limits.{resultLength}
 use Rattle.calculus.specs.Tools.{firstOf, orElse}
 use native.Mathlib.Nat.{le-refl, eq-or-lt-of-le}
 use mathlib.Core.Logic.{_⊎_, inl, inr}
 use mathlib.Core.Option.{none, some}
-use Rattle.fault_gaps.proofs.Descending.{picked-mem, types-next, rows-next, good-next, types-snoc, nothing-lacks, none-lacks, some-lacks, keep-all}
+use Rattle.fault_gaps.proofs.Descending.{picked-mem, types-next, rows-next, good-next, types-snoc, nothing-lacks, keep-all}
 use Rattle.calculus.proofs.Basic.{drop-set-same}
 
 -- the first m letters are written
@@ -46,26 +46,26 @@ take-stored : (l : List ℕ) (m c : ℕ) → m < length l → take (m + 1) (set 
 take-stored l m c h = ap (λ k. take k (set l m c)) (add-one m) ∙ take-suc-set l m c h
 
 module _ {a : Ty} {ps : List Pat} {out₀ out : List ℕ} {n m : ℕ} (w : Way a ps out₀ out n m) (h : m < n) (l : m < length out) where
-  -- with the L in its place
-  pub with-left : take (m + 1) (set out m 76) ≡ take m out ++ (76 ∷ [])
-  with-left = take-stored out m 76 l
+  -- with a letter in its place
+  pub with-letter : (x : ℕ) → take (m + 1) (set out m x) ≡ take m out ++ (x ∷ [])
+  with-letter x = take-stored out m x l
 
-  pub way-next : (b : Ty) (ts : List Ty) (c : ℕ) → typesAt a (take m out) ≡ b ∷ ts → c ≡ letterOn (pick (n - m - 1) b ts (rowsAt ps (take m out)) .0)
-      → Way a ps out₀ (set (set out m 76) m c) n (m + 1)
-  way-next b ts c e f =
+  pub way-next : (b : Ty) (ts : List Ty) (x c : ℕ) → typesAt a (take m out) ≡ b ∷ ts → c ≡ letterOn (pick (n - m - 1) b ts (rowsAt ps (take m out)) .0)
+      → Way a ps out₀ (set (set out m x) m c) n (m + 1)
+  way-next b ts x c e f =
       let s : n - m ≡ suc (n - m - 1) = omega arith in
       let s′ : n - (m + 1) ≡ n - m - 1 = omega arith in
       let k = n - m - 1 in
       let q = pick k b ts (rowsAt ps (take m out)) in
       let i = picked-mem k b ts (rowsAt ps (take m out)) in
-      let v : take (m + 1) (set (set out m 76) m c) ≡ take m out ++ (letterOn (q .0) ∷ []) = ap (take (m + 1)) (set-set out m 76 c) ∙ take-stored out m c l ∙ ap (λ x. take m out ++ (x ∷ [])) f in
+      let v : take (m + 1) (set (set out m x) m c) ≡ take m out ++ (letterOn (q .0) ∷ []) = ap (take (m + 1)) (set-set out m x c) ∙ take-stored out m c l ∙ ap (λ z. take m out ++ (z ∷ [])) f in
       let lk : lacks (suc k) (b ∷ ts) (rowsAt ps (take m out)) ≡ true = subst (λ z. lacks (suc k) z (rowsAt ps (take m out)) ≡ true) e
       (subst (λ z. lacks z (typesAt a (take m out)) (rowsAt ps (take m out)) ≡ true) s (w .lack)) in
       let T = types-next (w .good) b ts e q i in
       let R = rows-next (w .good) b ts e q i in
       record {
         behind =
-            ap (drop (m + 1)) (set-set out m 76 c) ∙ ap (λ z. drop z (set out m c)) (add-one m) ∙ drop-set-lt (suc m) out m c (omega arith) ∙ tails (drop-cons out m 0 l) (w .behind);
+            ap (drop (m + 1)) (set-set out m x c) ∙ ap (λ z. drop z (set out m c)) (add-one m) ∙ drop-set-lt (suc m) out m c (omega arith) ∙ tails (drop-cons out m 0 l) (w .behind);
         good = subst (Good a ps) (sym v) (good-next (w .good) b ts e q i);
         lack = subst (λ z. lacks (n - (m + 1)) (typesAt a z) (rowsAt ps z) ≡ true) (sym v)
             (subst (λ z. lacks z (typesAt a (take m out ++ (letterOn (q .0) ∷ []))) (rowsAt ps (take m out ++ (letterOn (q .0) ∷ []))) ≡ true) (sym s′)
@@ -113,24 +113,24 @@ module _ {t : List ℕ} {i : ℕ} {ps : List Pat} {out₀ out ts : List ℕ} {n 
   next-types : top < 128 → typesFrom t ts top ≡ typeOf t (getD ts top 0) ∷ typesFrom t ts (suc top)
   next-types b = ap (map (typeOf t)) (drop-cons ts top 0 (omega (arith, w .lines)))
 
-  pub writing-next : {ts′ : List ℕ} {c r : ℕ} → top ≤ 127 → n ≤ 127 → length ts′ ≡ length ts → TypesStepped t c ts ts′ top r
-      → Picks (typeOf t i) ps (take (m + 1) (set out m 76)) (typeOf t (getD ts top 0)) (n - m - 1) c → Writing t i ps out₀ (set (set out m 76) m c) ts′ n (m + 1) r
-  writing-next {ts′} {c} {r} b u e st pk =
-      let near = top-near c top (omega (arith, w .lower)) in
+  pub writing-next : {ts′ : List ℕ} {x c r : ℕ} → x ≡ firstLetter (typeOf t (getD ts top 0)) → top ≤ 127 → n ≤ 127 → length ts′ ≡ length ts → TypesStepped t c ts ts′ top r
+      → Picks (typeOf t i) ps (take (m + 1) (set out m x)) (typeOf t (getD ts top 0)) (n - m - 1) c → Writing t i ps out₀ (set (set out m x) m c) ts′ n (m + 1) r
+  writing-next {ts′} {x} {c} {r} fl b u e st pk =
+      let near = top-near (moveOf c) top (omega (arith, w .lower)) in
       let inside : m < length out = omega (arith, w .long) in
       record {
         within = omega arith;
-        long = length-set (set out m 76) m c ∙ length-set out m 76 ∙ w .long;
+        long = length-set (set out m x) m c ∙ length-set out m x ∙ w .long;
         lines = e ∙ w .lines;
         lower = omega (arith, w .lower, near .0, st .0);
         upper = omega (arith, near .1, st .0);
         way = λ q.
-            let x = w .way q in
-            let d = sym (x .1) ∙ next-types (omega arith) in
-            let f = pk .at (take m out) (typesFrom t ts (suc top)) (x .0 .good) (with-left (x .0) h inside) d in
-            let v = ap (take (m + 1)) (set-set out m 76 c) ∙ take-stored out m c inside in (
-              way-next (x .0) h inside (typeOf t (getD ts top 0)) (typesFrom t ts (suc top)) c d f,
-              st .1 ∙ ap (typesAfter (moveOf c)) (x .1) ∙ sym (types-snoc (take m out) c (typeOf t i ∷ [])) ∙ ap (typesAt (typeOf t i)) (sym v),
+            let y = w .way q in
+            let d = sym (y .1) ∙ next-types (omega arith) in
+            let f = pk .at (take m out) (typesFrom t ts (suc top)) (y .0 .good) (with-letter (y .0) h inside x ∙ ap (λ z. take m out ++ (z ∷ [])) fl) d in
+            let v = ap (take (m + 1)) (set-set out m x c) ∙ take-stored out m c inside in (
+              way-next (y .0) h inside (typeOf t (getD ts top 0)) (typesFrom t ts (suc top)) x c d f,
+              st .1 ∙ ap (typesAfter (moveOf c)) (y .1) ∙ sym (types-snoc (take m out) c (typeOf t i ∷ [])) ∙ ap (typesAt (typeOf t i)) (sym v),
             );
       }
 
@@ -188,21 +188,21 @@ pub record Searched (a : Ty) (ps : List Pat) (out₀ out : List ℕ) (r : ℕ) :
   pub some-gap : Good a ps [] → r < 128 → (gapLength a ps ≡ some r) × (out ≡ gapWord r (a ∷ []) (alone ps) ++ drop r out₀)
   pub no-gap : Good a ps [] → 128 ≤ r → (gapLength a ps ≡ none) × (out ≡ out₀)
 
-module _ (a : Ty) (ps : List Pat) {k w : List ℕ} {r : ℕ} (t : TakesAll k w (typesAt a w) ps) (z : w ≡ []) (f : FirstCount k r) where
-  start : TakesAll k [] (typesAt a []) ps
-  start = subst (λ v. TakesAll k v (typesAt a v) ps) z t
+module _ (a : Ty) (ps : List Pat) {w : List ℕ} {r : ℕ} (f : FirstLack a ps w r) (z : w ≡ []) where
+  start : FirstLack a ps [] r
+  start = subst (λ v. FirstLack a ps v r) z f
 
   rows-are : rowsAt ps [] ≡ alone ps
   rows-are = keep-all (alone ps)
 
   earlier : Good a ps [] → (j : ℕ) → j < r → lacks j (a ∷ []) (alone ps) ≡ false
-  earlier g j h = ap (lacks j (a ∷ [])) (sym rows-are) ∙ none-lacks g start j (omega (arith, f .most)) (f .before j h)
+  earlier g j h = ap (lacks j (a ∷ [])) (sym rows-are) ∙ start .before g j h
 
   pub value-some : {out₀ out : List ℕ} → Writes a ps out₀ out r → r < 128 → Searched a ps out₀ out r
   value-some {out₀} {out} wr h =
       record {
         some-gap = λ g q.
-            let e = some-lacks g start r h (f .here h) in (
+            let e = start .here g h in (
               length-some a (alone ps) 0 (suc resultLength) r (omega arith) (omega arith) (λ j x y. earlier g j y) (ap (lacks r (a ∷ [])) (sym rows-are) ∙ e),
               wr .at (record { good = g; lack = e }) ∙ ap (λ rows. gapWord r (a ∷ []) rows ++ drop r out₀) rows-are,
             );

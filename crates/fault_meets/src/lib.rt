@@ -1,13 +1,18 @@
 // The least value of a type, of a pattern, and of two patterns, as letters in an area.
 
 use area_cells::put_byte;
+use codes::ELEMENT;
+use codes::EMPTY;
 use codes::FIRST;
 use codes::KIND;
 use codes::LEFT;
+use codes::LETTER_ELEMENT;
+use codes::LETTER_EMPTY;
 use codes::LETTER_LEFT;
 use codes::LETTER_PAIR;
 use codes::LETTER_RIGHT;
 use codes::LETTER_UNIT;
+use codes::LIST;
 use codes::PAIR;
 use codes::PRODUCT;
 use codes::RIGHT;
@@ -15,6 +20,7 @@ use codes::SECOND;
 use codes::SUM;
 use codes::VARIABLE;
 use fault_tallies::first_part;
+use fault_tallies::has_two;
 use fault_tallies::second_part;
 use table_parts::pattern_part;
 use table_parts::type_part;
@@ -28,7 +34,7 @@ ghost use Rattle.limits.specs.Limits.{lengths};
 ghost use Rattle.calculus.specs.Letters.{letters};
 ghost use Rattle.law_witnesses.specs.Seeking.{least};
 ghost use Rattle.table_trees.specs.Unfolding.{typeOf, patternOf};
-ghost use Rattle.fault_meets.specs.Spelled.{SpellsLeast, SpellsIn, SpellsBoth};
+ghost use Rattle.fault_meets.specs.Spelled.{letterAt, SpellsLeast, SpellsIn, SpellsBoth};
 
 // The letters of the least value of T line i; 128 stands for more than 127.
 pub fn least_length(t: &[u16], i: usize) -> usize
@@ -70,7 +76,32 @@ pub fn write_least(t: &[u16], i: usize, out: &mut [u8], at: usize) -> usize
         let middle = write_least(t, type_part(t, i, FIRST), out, next);
         return write_least(t, type_part(t, i, SECOND), out, middle);
     }
+    if kind == LIST {
+        return put_byte(out, at, LETTER_EMPTY);
+    }
     put_byte(out, at, LETTER_UNIT)
+}
+
+// The letter of a P line of this kind.
+fn letter_of(kind: usize) -> u8
+    ensures { λ r. ⌜ r ≡ letterAt kind ⌝ }
+{
+    if kind == LEFT {
+        return LETTER_LEFT;
+    }
+    if kind == RIGHT {
+        return LETTER_RIGHT;
+    }
+    if kind == PAIR {
+        return LETTER_PAIR;
+    }
+    if kind == EMPTY {
+        return LETTER_EMPTY;
+    }
+    if kind == ELEMENT {
+        return LETTER_ELEMENT;
+    }
+    LETTER_UNIT
 }
 
 // The same for the least value of T line i that P line p matches.
@@ -88,48 +119,20 @@ pub fn write_least_in(
     if kind == VARIABLE {
         return write_least(t, i, out, at);
     }
+    let next = put_byte(out, at, letter_of(kind));
+    let a = pattern_part(t, base, p, FIRST);
+    if has_two(kind) {
+        let b = pattern_part(t, base, p, SECOND);
+        let middle = write_least_in(t, base, a, first_part(t, i), out, next);
+        return write_least_in(t, base, b, second_part(t, i), out, middle);
+    }
     if kind == LEFT {
-        let next = put_byte(out, at, LETTER_LEFT);
-        return write_least_in(
-            t,
-            base,
-            pattern_part(t, base, p, FIRST),
-            first_part(t, i),
-            out,
-            next,
-        );
+        return write_least_in(t, base, a, first_part(t, i), out, next);
     }
     if kind == RIGHT {
-        let next = put_byte(out, at, LETTER_RIGHT);
-        return write_least_in(
-            t,
-            base,
-            pattern_part(t, base, p, FIRST),
-            second_part(t, i),
-            out,
-            next,
-        );
+        return write_least_in(t, base, a, second_part(t, i), out, next);
     }
-    if kind == PAIR {
-        let next = put_byte(out, at, LETTER_PAIR);
-        let middle = write_least_in(
-            t,
-            base,
-            pattern_part(t, base, p, FIRST),
-            first_part(t, i),
-            out,
-            next,
-        );
-        return write_least_in(
-            t,
-            base,
-            pattern_part(t, base, p, SECOND),
-            second_part(t, i),
-            out,
-            middle,
-        );
-    }
-    put_byte(out, at, LETTER_UNIT)
+    next
 }
 
 // The same for the least value of T line i that P lines p and q both match, where they do not clash.
@@ -155,26 +158,20 @@ pub fn write_common(
     if kq == VARIABLE {
         return write_least_in(t, base, p, i, out, at);
     }
-    if kp == LEFT {
-        let a = pattern_part(t, base, p, FIRST);
-        let c = pattern_part(t, base, q, FIRST);
-        let next = put_byte(out, at, LETTER_LEFT);
-        return write_common(t, base, a, c, first_part(t, i), out, next);
-    }
-    if kp == RIGHT {
-        let a = pattern_part(t, base, p, FIRST);
-        let c = pattern_part(t, base, q, FIRST);
-        let next = put_byte(out, at, LETTER_RIGHT);
-        return write_common(t, base, a, c, second_part(t, i), out, next);
-    }
-    if kp == PAIR {
-        let a = pattern_part(t, base, p, FIRST);
-        let c = pattern_part(t, base, q, FIRST);
+    let next = put_byte(out, at, letter_of(kp));
+    let a = pattern_part(t, base, p, FIRST);
+    let c = pattern_part(t, base, q, FIRST);
+    if has_two(kp) {
         let b = pattern_part(t, base, p, SECOND);
         let d = pattern_part(t, base, q, SECOND);
-        let next = put_byte(out, at, LETTER_PAIR);
         let middle = write_common(t, base, a, c, first_part(t, i), out, next);
         return write_common(t, base, b, d, second_part(t, i), out, middle);
     }
-    put_byte(out, at, LETTER_UNIT)
+    if kp == LEFT {
+        return write_common(t, base, a, c, first_part(t, i), out, next);
+    }
+    if kp == RIGHT {
+        return write_common(t, base, a, c, second_part(t, i), out, next);
+    }
+    next
 }

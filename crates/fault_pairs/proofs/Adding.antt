@@ -1,6 +1,5 @@
 -- One pair more.
 use Prim.Native.Nat.{ℕ, _+_, _-_, _<_, _≤_}
-use native.Mathlib.Nat.{le-trans}
 use native.Mathlib.Omega.{arith}
 use mathlib.Core.Path.{_≡_, refl, sym, ap, ap₂, _∙_, subst}
 use mathlib.Core.Logic.{_⊎_, inl, inr}
@@ -10,17 +9,15 @@ use mathlib.Core.List.{List}
 use lib.ListN.{length, take, drop}
 use lib.Seq.{sets-eq, take-append-seam}
 use Rattle.limits.specs.Limits.{maxNodes}
-use Rattle.calculus.specs.Tools.{_>>=_}
+use Rattle.calculus.specs.Tools.{_>>=_, guard}
 use Rattle.calculus.specs.Trees.{Ty, left, right, Node, pairNode, elementNode, Pat, pvar, pleaf, pinj, pnode, Val, sameNode, typeNodes}
 use Rattle.calculus.specs.Letters.{letters}
 use Rattle.calculus.specs.Clauses.{clash}
 use Rattle.calculus.specs.Shapes.{Shape}
-use Rattle.calculus.specs.Lists.{Finite}
 use Rattle.calculus.specs.Paper.{Of}
 use Rattle.law_witnesses.specs.Showing.{sooner}
-use Rattle.law_witnesses.specs.Seeking.{leastIn, meet, better, inBoth}
-use Rattle.calculus.proofs.Basic.{or-true}
-use Rattle.model.proofs.Sizes.{of-small}
+use Rattle.law_witnesses.specs.Seeking.{leastIn, meet, better, inBoth, fitting}
+use Rattle.calculus.proofs.Basic.{or-true, le-leb, not-leb}
 use Rattle.law_witnesses.proofs.Overlaps.{leastIn-of, meet-shape, meet-some}
 use Rattle.check_overlap.specs.Comparison.{compare}
 use Rattle.check_overlap.proofs.Comparing.{compare-clash}
@@ -67,60 +64,78 @@ module _ {a : Ty} {p q : Pat} (out : List ℕ) (best : ℕ) where
   pub adds-clash : compare p q .clash ≡ true → Adds a p q out out best best
   adds-clash e =
       let n : meet p q ≡ none = clash-none p q (sym (compare-clash p q) ∙ e) in
-      record { by = λ s s′ h x k. subst (λ y. Stored a (better y x) out best) (sym (ap (λ m. m >>= λ r. some (leastIn r a)) n)) k }
+      record { by = λ s s′ h x k. subst (λ y. Stored a (better (fitting y) x) out best) (sym (ap (λ m. m >>= λ r. some (leastIn r a)) n)) k }
 
--- the letters of the common
+-- a value of at most 127 letters, and one of more
+pub fits : (v : Val) → length (letters v) ≤ 127 → fitting (some v) ≡ some v
+fits v h = ap (λ b. guard b >>= λ _. some v) (le-leb h)
+
+pub no-fit : (v : Val) → 127 < length (letters v) → fitting (some v) ≡ none
+no-fit v h = ap (λ b. guard b >>= λ _. some v) (not-leb h)
+
+-- the letters of the common, as far as 128 go
 pub record Tried (a : Ty) (p q : Pat) (common : List ℕ) (n : ℕ) : Type 0 where
-  pub by : Shape p a → Shape q a → typeNodes a ≤ maxNodes → (v : Val) × Of v a × (inBoth a p q ≡ some v) × (n ≡ length (letters v)) × (take n common ≡ letters v) × (n ≤ 127)
+  pub by : Shape p a → Shape q a → typeNodes a ≤ maxNodes → n ≤ 127
+      → (v : Val) × Of v a × (fitting (inBoth a p q) ≡ some v) × (n ≡ length (letters v)) × (take n common ≡ letters v)
+  pub over : Shape p a → Shape q a → typeNodes a ≤ maxNodes → 127 < n → fitting (inBoth a p q) ≡ none
 
-pub tried : {a : Ty} {p q : Pat} {blank common : List ℕ} {n : ℕ} → Finite a → compare p q .clash ≡ false → length blank ≡ 127 → SpellsBoth p q a blank common 0 n → Tried a p q common n
-tried {a} {p} {q} {blank} {common} {n} f c e w = record { by = go }
+pub tried : {a : Ty} {p q : Pat} {blank common : List ℕ} {n : ℕ} → compare p q .clash ≡ false → length blank ≡ 128 → SpellsBoth p q a blank common 0 n → Tried a p q common n
+tried {a} {p} {q} {blank} {common} {n} c e w = record { by = go; over = past }
   where
-    go : Shape p a → Shape q a → typeNodes a ≤ maxNodes → (v : Val) × Of v a × (inBoth a p q ≡ some v) × (n ≡ length (letters v)) × (take n common ≡ letters v) × (n ≤ 127)
-    go s s′ h =
-        let m = meet-some s s′ (sym (compare-clash p q) ∙ c) in
-        let o = leastIn-of (meet-shape s s′ (m .0) (m .1)) in
-        let ws = w .by (m .0) s s′ (m .1) h in
+    common-of : Shape p a → Shape q a → (r : Pat) × Shape r a × (meet p q ≡ some r)
+    common-of s s′ = let m = meet-some s s′ (sym (compare-clash p q) ∙ c) in (m .0, meet-shape s s′ (m .0) (m .1), m .1)
+
+    go : Shape p a → Shape q a → typeNodes a ≤ maxNodes → n ≤ 127
+        → (v : Val) × Of v a × (fitting (inBoth a p q) ≡ some v) × (n ≡ length (letters v)) × (take n common ≡ letters v)
+    go s s′ h k =
+        let m = common-of s s′ in
         let v = leastIn (m .0) a in
-        let l = le-trans (of-small f o) h in
-        let room : 0 + length (letters v) ≤ length blank = omega arith in
-        let n-is : n ≡ length (letters v) = ws .place room ∙ plain (length (letters v)) in (
+        let ws = w .by (m .0) s s′ (m .2) h in
+        let at = ws .place in
+        let n-is : n ≡ length (letters v) = omega arith in
+        let room : 0 + length (letters v) ≤ length blank = omega arith in (
           v,
-          o,
-          ap (λ x. x >>= λ r. some (leastIn r a)) (m .1),
+          leastIn-of (m .1),
+          ap (λ x. fitting (x >>= λ r. some (leastIn r a))) (m .2) ∙ fits v (omega arith),
           n-is,
-          ap₂ take n-is (ws .area room ∙ sets-eq (letters v) blank 0 room) ∙ take-append-seam (letters v) (drop (0 + length (letters v)) blank),
-          omega arith,
+          ap₂ take n-is (ws .area ∙ sets-eq (letters v) blank 0 room) ∙ take-append-seam (letters v) (drop (0 + length (letters v)) blank),
         )
-      where
-        plain : (k : ℕ) → 0 + k ≡ k
-        plain k = omega arith
+
+    past : Shape p a → Shape q a → typeNodes a ≤ maxNodes → 127 < n → fitting (inBoth a p q) ≡ none
+    past s s′ h k =
+        let m = common-of s s′ in
+        let at = w .by (m .0) s s′ (m .2) h .place in
+        ap (λ x. fitting (x >>= λ r. some (leastIn r a))) (m .2) ∙ no-fit (leastIn (m .0) a) (omega arith)
 
 module _ {a : Ty} {p q : Pat} {common : List ℕ} {n : ℕ} (t : Tried a p q common n) where
   pub adds-never : (out : List ℕ) (best : ℕ) → 127 < n → Adds a p q out out best best
-  adds-never out best h = record { by = λ s s′ k x y. let r = t .by s s′ k in let b = r .5 in absurd (omega arith) }
+  adds-never out best h = record { by = λ s s′ k x y. subst (λ z. Stored a (better z x) out best) (sym (t .over s s′ k h)) y }
 
-  pub adds-first : {out out′ : List ℕ} {best : ℕ} → best ≡ 0 → take n out′ ≡ take n common → Adds a p q out out′ best n
-  adds-first {out} {out′} {best} z e = record { by = λ s s′ k x y. let r = t .by s s′ k in go x y (r .0) (r .1) (r .2) (r .3) (e ∙ r .4) }
-    where
-      go : (x : Option Val) → Stored a x out best → (v : Val) → Of v a → inBoth a p q ≡ some v → n ≡ length (letters v) → take n out′ ≡ letters v → Stored a (better (inBoth a p q) x) out′ n
-      go none (nothing b) v o i l k = subst (λ y. Stored a (better y none) out′ n) (sym i) (text o l k)
-      go (some w) (text o′ b k′) v o i l k = let h = letters-some w in absurd (omega arith)
+  module _ (few : n ≤ 127) where
+    pub adds-first : {out out′ : List ℕ} {best : ℕ} → best ≡ 0 → take n out′ ≡ take n common → Adds a p q out out′ best n
+    adds-first {out} {out′} {best} z e = record { by = λ s s′ k x y. let r = t .by s s′ k few in go x y (r .0) (r .1) (r .2) (r .3) (e ∙ r .4) }
+      where
+        go : (x : Option Val) → Stored a x out best → (v : Val) → Of v a → fitting (inBoth a p q) ≡ some v → n ≡ length (letters v) → take n out′ ≡ letters v
+            → Stored a (better (fitting (inBoth a p q)) x) out′ n
+        go none (nothing b) v o i l k = subst (λ y. Stored a (better y none) out′ n) (sym i) (text o l k)
+        go (some w) (text o′ b k′) v o i l k = let h = letters-some w in absurd (omega arith)
 
-  pub adds-old : {out : List ℕ} {best : ℕ} → (best ≡ 0 → ⊥) → true ≡ sooner (take best out) (take n common) → Adds a p q out out best best
-  adds-old {out} {best} z e = record { by = λ s s′ k x y. let r = t .by s s′ k in go x y (r .0) (r .2) (r .4) }
-    where
-      go : (x : Option Val) → Stored a x out best → (v : Val) → inBoth a p q ≡ some v → take n common ≡ letters v → Stored a (better (inBoth a p q) x) out best
-      go none (nothing b) v i k = absurd (z b)
-      go (some w) (text o b k′) v i k =
-          subst (λ y. Stored a (better y (some w)) out best) (sym i)
-          (subst (λ c. Stored a (cond c (some w) (some v)) out best) (e ∙ ap₂ sooner k′ k) (text o b k′))
+    pub adds-old : {out : List ℕ} {best : ℕ} → (best ≡ 0 → ⊥) → true ≡ sooner (take best out) (take n common) → Adds a p q out out best best
+    adds-old {out} {best} z e = record { by = λ s s′ k x y. let r = t .by s s′ k few in go x y (r .0) (r .2) (r .4) }
+      where
+        go : (x : Option Val) → Stored a x out best → (v : Val) → fitting (inBoth a p q) ≡ some v → take n common ≡ letters v
+            → Stored a (better (fitting (inBoth a p q)) x) out best
+        go none (nothing b) v i k = absurd (z b)
+        go (some w) (text o b k′) v i k =
+            subst (λ y. Stored a (better y (some w)) out best) (sym i)
+            (subst (λ c. Stored a (cond c (some w) (some v)) out best) (e ∙ ap₂ sooner k′ k) (text o b k′))
 
-  pub adds-new : {out out′ : List ℕ} {best : ℕ} → (best ≡ 0 → ⊥) → false ≡ sooner (take best out) (take n common) → take n out′ ≡ take n common → Adds a p q out out′ best n
-  adds-new {out} {out′} {best} z e f = record { by = λ s s′ k x y. let r = t .by s s′ k in go x y (r .0) (r .1) (r .2) (r .3) (r .4) }
-    where
-      go : (x : Option Val) → Stored a x out best → (v : Val) → Of v a → inBoth a p q ≡ some v → n ≡ length (letters v) → take n common ≡ letters v → Stored a (better (inBoth a p q) x) out′ n
-      go none (nothing b) v o i l k = absurd (z b)
-      go (some w) (text o′ b k′) v o i l k =
-          subst (λ y. Stored a (better y (some w)) out′ n) (sym i)
-          (subst (λ c. Stored a (cond c (some w) (some v)) out′ n) (e ∙ ap₂ sooner k′ k) (text o l (f ∙ k)))
+    pub adds-new : {out out′ : List ℕ} {best : ℕ} → (best ≡ 0 → ⊥) → false ≡ sooner (take best out) (take n common) → take n out′ ≡ take n common → Adds a p q out out′ best n
+    adds-new {out} {out′} {best} z e f = record { by = λ s s′ k x y. let r = t .by s s′ k few in go x y (r .0) (r .1) (r .2) (r .3) (r .4) }
+      where
+        go : (x : Option Val) → Stored a x out best → (v : Val) → Of v a → fitting (inBoth a p q) ≡ some v → n ≡ length (letters v) → take n common ≡ letters v
+            → Stored a (better (fitting (inBoth a p q)) x) out′ n
+        go none (nothing b) v o i l k = absurd (z b)
+        go (some w) (text o′ b k′) v o i l k =
+            subst (λ y. Stored a (better y (some w)) out′ n) (sym i)
+            (subst (λ c. Stored a (cond c (some w) (some v)) out′ n) (e ∙ ap₂ sooner k′ k) (text o l (f ∙ k)))

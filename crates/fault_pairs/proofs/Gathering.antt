@@ -1,6 +1,6 @@
 -- All pairs, from the last.
 use Prim.Native.Nat.{ℕ, _+_, _-_, _<_, _≤_}
-use native.Mathlib.Nat.{le-refl, le-trans}
+use native.Mathlib.Nat.{le-refl}
 use native.Mathlib.Omega.{arith}
 use mathlib.Core.Path.{_≡_, refl, sym, ap, ap₂, _∙_, subst}
 use mathlib.Core.Logic.{_⊎_, inl, inr}
@@ -9,22 +9,21 @@ use mathlib.Core.Option.{Option, none, some}
 use mathlib.Core.List.{List, [], _∷_, _++_, List·Memᴰ, List·Memᴰ·head, List·Memᴰ·tail}
 use lib.ListN.{length, getD, take, drop, take-append-drop}
 use Rattle.limits.specs.Limits.{maxNodes}
-use Rattle.calculus.specs.Tools.{_>>=_, guard}
 use Rattle.calculus.specs.Trees.{Ty, Pat, Val, typeNodes}
 use Rattle.calculus.specs.Letters.{letters}
 use Rattle.model.specs.Services.{written}
 use Rattle.calculus.specs.Shapes.{Shape}
-use Rattle.calculus.specs.Lists.{Finite}
 use Rattle.law_witnesses.specs.Showing.{sooner, twice, setting}
 use Rattle.law_witnesses.specs.Seeking.{better, inBoth, overlapWith, overlapIn, fitting}
-use Rattle.calculus.proofs.Basic.{not-both, bool-cases, le-leb}
-use Rattle.model.proofs.Sizes.{of-small}
+use Rattle.calculus.proofs.Basic.{not-both, bool-cases, le-or-lt}
 use Rattle.law_witnesses.proofs.Shortlex.{not-after-trans, not-after-sooner, sooner-not-after, total-order}
 use Rattle.law_witnesses.proofs.Overlaps.{overlap-setting}
 use Rattle.table_trees.specs.Unfolding.{cellOf, patternOf}
 use Rattle.table_walks.specs.InTable.{patternsAt}
 use Rattle.fault_pairs.specs.Pairs.{Stored, nothing, text, Adds, gather, gatherAll, AddsAll, Keeps, OverlapValue}
 use Rattle.table_walks.proofs.Named.{rows-line, rows-end}
+use Rattle.fault_pairs.proofs.Sooner.{sooner-fewer, sooner-more}
+use Rattle.fault_pairs.proofs.Adding.{fits, no-fit}
 
 -- ---- one pattern with others
 
@@ -120,32 +119,58 @@ better-assoc (some u) (some v) (some w) = go (sooner (letters v) (letters u)) (s
         ap (λ d. cond d (some w) (some u)) (not-after-sooner (not-after-trans (sooner-not-after (letters u) (letters v) p) (sooner-not-after (letters v) (letters w) q)))
         ∙ sym (ap (λ d. cond d (some v) (some u)) p)
 
-gather-with : (a : Ty) (p : Pat) (qs : List Pat) (x : Option Val) → gather a p qs x ≡ better (overlapWith a p qs) x
+-- of two values the sooner has at most 127 letters where either has
+better-none : (x : Option Val) → better x none ≡ x
+better-none none = refl
+better-none (some v) = refl
+
+fitting-better : (x y : Option Val) → fitting (better x y) ≡ better (fitting x) (fitting y)
+fitting-better none y = refl
+fitting-better (some v) none = sym (better-none (fitting (some v)))
+fitting-better (some v) (some w) = go (le-or-lt (length (letters v)) 127) (le-or-lt (length (letters w)) 127)
+  where
+    both : (c : Bool) → fitting (some v) ≡ some v → fitting (some w) ≡ some w → fitting (cond c (some w) (some v)) ≡ cond c (some w) (some v)
+    both true f g = g
+    both false f g = f
+
+    neither : (c : Bool) → fitting (some v) ≡ none → fitting (some w) ≡ none → fitting (cond c (some w) (some v)) ≡ none
+    neither true f g = g
+    neither false f g = f
+
+    go : (length (letters v) ≤ 127) ⊎ (127 < length (letters v)) → (length (letters w) ≤ 127) ⊎ (127 < length (letters w))
+        → fitting (better (some v) (some w)) ≡ better (fitting (some v)) (fitting (some w))
+    go (inl h) (inl k) = both (sooner (letters w) (letters v)) (fits v h) (fits w k) ∙ sym (ap₂ better (fits v h) (fits w k))
+    go (inl h) (inr k) =
+        ap (λ c. fitting (cond c (some w) (some v))) (sym (sooner-more (letters w) (letters v) (omega arith)))
+        ∙ fits v h ∙ sym (ap₂ better (fits v h) (no-fit w k))
+    go (inr h) (inl k) =
+        ap (λ c. fitting (cond c (some w) (some v))) (sym (sooner-fewer (letters w) (letters v) (omega arith)))
+        ∙ fits w k ∙ sym (ap₂ better (no-fit v h) (fits w k))
+    go (inr h) (inr k) = neither (sooner (letters w) (letters v)) (no-fit v h) (no-fit w k) ∙ sym (ap₂ better (no-fit v h) (no-fit w k))
+
+gather-with : (a : Ty) (p : Pat) (qs : List Pat) (x : Option Val) → gather a p qs x ≡ better (fitting (overlapWith a p qs)) x
 gather-with a p [] x = refl
-gather-with a p (q ∷ qs) x = ap (better (inBoth a p q)) (gather-with a p qs x) ∙ sym (better-assoc (inBoth a p q) (overlapWith a p qs) x)
+gather-with a p (q ∷ qs) x =
+    ap (better (fitting (inBoth a p q))) (gather-with a p qs x)
+    ∙ sym (better-assoc (fitting (inBoth a p q)) (fitting (overlapWith a p qs)) x)
+    ∙ ap (λ y. better y x) (sym (fitting-better (inBoth a p q) (overlapWith a p qs)))
 
-gather-in : (a : Ty) (ps : List Pat) → gatherAll a ps ≡ overlapIn a ps
+gather-in : (a : Ty) (ps : List Pat) → gatherAll a ps ≡ fitting (overlapIn a ps)
 gather-in a [] = refl
-gather-in a (p ∷ ps) = gather-with a p ps (gatherAll a ps) ∙ ap (better (overlapWith a p ps)) (gather-in a ps)
-
--- a value of a type without lists of at most 127 nodes has at most 127 letters
-stored-fitting : {a : Ty} {out : List ℕ} {best : ℕ} → Finite a → typeNodes a ≤ maxNodes → (x : Option Val) → Stored a x out best → Stored a (fitting x) out best
-stored-fitting f h none (nothing z) = nothing z
-stored-fitting {a} {out} {best} f h (some v) (text o l t) =
-    subst (λ b. Stored a (guard b >>= λ _. some v) out best) (sym (le-leb (le-trans (of-small f o) h))) (text o l t)
+gather-in a (p ∷ ps) =
+    gather-with a p ps (gatherAll a ps) ∙ ap (better (fitting (overlapWith a p ps))) (gather-in a ps) ∙ sym (fitting-better (overlapWith a p ps) (overlapIn a ps))
 
 -- the letters kept are those of the value that request 09 asks for
-pub kept-setting : {a : Ty} → Finite a → {ps : List Pat} {out : List ℕ} {best : ℕ} → Keeps a ps out best → ((p : Pat) → List·Memᴰ p ps → Shape p a) → typeNodes a ≤ maxNodes → Stored a
-    (setting a (twice ps)) out best
-kept-setting {a} f {ps} {out} {best} k s h =
-    subst (λ x. Stored a x out best) (ap fitting (gather-in a ps) ∙ overlap-setting a ps s) (stored-fitting f h (gatherAll a ps) (k .by s h))
+pub kept-setting : {a : Ty} {ps : List Pat} {out : List ℕ} {best : ℕ} → Keeps a ps out best → ((p : Pat) → List·Memᴰ p ps → Shape p a) → typeNodes a ≤ maxNodes
+    → Stored a (setting a (twice ps)) out best
+kept-setting {a} {ps} {out} {best} k s h = subst (λ x. Stored a x out best) (gather-in a ps ∙ overlap-setting a ps s) (k .by s h)
 
 -- what is shown: the letters of the setting, then what was there
-pub value-shown : {a : Ty} → Finite a → {ps : List Pat} {kept out out′ : List ℕ} {n : ℕ} → (n ≤ 127) × Keeps a ps kept n → (take n out′ ≡ take n kept) × (drop n out′ ≡ drop n out)
+pub value-shown : {a : Ty} {ps : List Pat} {kept out out′ : List ℕ} {n : ℕ} → (n ≤ 127) × Keeps a ps kept n → (take n out′ ≡ take n kept) × (drop n out′ ≡ drop n out)
     → OverlapValue a ps out out′ n
-value-shown {a} f {ps} {kept} {out} {out′} {n} k e = record {
-  given = λ s v h. some-shown v (subst (λ x. Stored a x kept n) h (kept-setting f (k .1) (s .shapes) (s .small)));
-  nothing = λ s h. none-shown (subst (λ x. Stored a x kept n) h (kept-setting f (k .1) (s .shapes) (s .small)));
+value-shown {a} {ps} {kept} {out} {out′} {n} k e = record {
+  given = λ s v h. some-shown v (subst (λ x. Stored a x kept n) h (kept-setting (k .1) (s .shapes) (s .small)));
+  nothing = λ s h. none-shown (subst (λ x. Stored a x kept n) h (kept-setting (k .1) (s .shapes) (s .small)));
 }
   where
     some-shown : (v : Val) → Stored a (some v) kept n → (n ≡ length (letters v)) × (out′ ≡ written (letters v) out)

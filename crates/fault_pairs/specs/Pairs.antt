@@ -14,7 +14,7 @@ use Rattle.calculus.specs.Shapes.{Shape}
 use Rattle.law_witnesses.specs.Shapes.{Side}
 use Rattle.law_witnesses.specs.Showing.{twice, setting}
 use Rattle.calculus.specs.Paper.{Of}
-use Rattle.law_witnesses.specs.Seeking.{better, inBoth}
+use Rattle.law_witnesses.specs.Seeking.{better, inBoth, fitting}
 
 -- the first `best` bytes of an area are the letters of a value of the type; 0 stands for none
 pub data Stored (a : Ty) : Option Val → List ℕ → ℕ → Type 0 where
@@ -22,11 +22,11 @@ pub data Stored (a : Ty) : Option Val → List ℕ → ℕ → Type 0 where
   text : {v : Val} {out : List ℕ} {best : ℕ} → Of v a → best ≡ length (letters v) → take best out ≡ letters v → Stored a (some v) out best
 
 pub record Adds (a : Ty) (p q : Pat) (out out′ : List ℕ) (best best′ : ℕ) : Type 0 where
-  pub by : Shape p a → Shape q a → typeNodes a ≤ maxNodes → (x : Option Val) → Stored a x out best → Stored a (better (inBoth a p q) x) out′ best′
+  pub by : Shape p a → Shape q a → typeNodes a ≤ maxNodes → (x : Option Val) → Stored a x out best → Stored a (better (fitting (inBoth a p q)) x) out′ best′
 
 abbrev pub gather : Ty → Pat → List Pat → Option Val → Option Val
 gather a p [] x = x
-gather a p (q ∷ qs) x = better (inBoth a p q) (gather a p qs x)
+gather a p (q ∷ qs) x = better (fitting (inBoth a p q)) (gather a p qs x)
 
 abbrev pub gatherAll : Ty → List Pat → Option Val
 gatherAll a [] = none
@@ -39,7 +39,7 @@ pub record Keeps (a : Ty) (ps : List Pat) (out : List ℕ) (best : ℕ) : Type 0
   pub by : ((p : Pat) → List·Memᴰ p ps → Shape p a) → typeNodes a ≤ maxNodes → Stored a (gatherAll a ps) out best
 
 -- "the value matched by two or more patterns (11, 12) … with the fewest letters, the first in byte order among those": its letters and their
--- number, for patterns that fit the type; 0 where there is none. What lies behind stays
+-- number, for patterns that fit the type; 0 where there is none of at most 127 letters. What lies behind stays
 pub record OverlapValue (a : Ty) (ps : List Pat) (out₀ out : List ℕ) (r : ℕ) : Type 0 where
   pub given : Side a ps → (v : Val) → setting a (twice ps) ≡ some v → (r ≡ length (letters v)) × (out ≡ written (letters v) out₀)
   pub nothing : Side a ps → setting a (twice ps) ≡ none → (r ≡ 0) × (out ≡ out₀)

@@ -3,6 +3,7 @@
 use area_words::wide;
 use check_overlap::compare;
 use fault_meets::write_common;
+use limits::LENGTHS;
 use limits::RESULT_LENGTH;
 use table_trees::cell;
 ghost use mathlib.Core.Path.{_≡_};
@@ -50,7 +51,7 @@ fn copy_front(from: &[u8], n: usize, out: &mut [u8])
 }
 
 // Keeps in an area the letters of the sooner of two: the value kept there, if any, and the least that P
-// lines p and q both match.
+// lines p and q both match, if it has at most 127 letters.
 pub fn with_pair(
     t: &[u16],
     base: usize,
@@ -67,7 +68,7 @@ pub fn with_pair(
     if c.clash {
         return best;
     }
-    let mut common = [0u8; RESULT_LENGTH];
+    let mut common = [0u8; LENGTHS];
     let n = write_common(t, base, p, q, i, &mut common, 0);
     if RESULT_LENGTH < n {
         return best;

@@ -2,12 +2,11 @@
 use Prim.Native.Nat.{ℕ, _+_, _-_, _<_, _≤_}
 use native.Mathlib.Omega.{arith}
 use mathlib.Core.Path.{_≡_, refl, sym, ap, _∙_}
-use mathlib.Core.Bool.{Bool, cond, true, false}
 use mathlib.Core.Option.{none, some}
 use mathlib.Core.List.{List, [], _∷_, map}
-use lib.Dec.{eqb}
 use lib.ListN.{length, getD, set, drop, length-set, drop-of-length-le}
 use Rattle.calculus.specs.Tools.{_>>=_}
+use Rattle.law_witnesses.specs.Showing.{Move, leaf, tag, node}
 use Rattle.law_witnesses.specs.Seeking.{after}
 use Rattle.table_trees.specs.Unfolding.{typeOf, patternOf}
 use Rattle.fault_stacks.specs.Stacks.{typesFrom, rowFrom, moveOf, topAfter, typesAlong, rowAlong, TypesStepped, TypesWalked, RowWalked}
@@ -15,14 +14,10 @@ use Rattle.fault_stacks.proofs.Counting.{types-end, row-end}
 use Rattle.calculus.proofs.Basic.{drop-set-same, from-byte}
 
 -- the place moves by at most one
-pub top-near : (c top : ℕ) → 0 < top → (top ≤ topAfter c top + 1) × (topAfter c top ≤ top + 1)
-top-near c top p = go (eqb c 85) (eqb c 76) (eqb c 82)
-  where
-    go : (a b d : Bool) → (top ≤ cond a (top + 1) (cond b top (cond d top (top - 1))) + 1) × (cond a (top + 1) (cond b top (cond d top (top - 1))) ≤ top + 1)
-    go true b d = (omega arith, omega arith)
-    go false true d = (omega arith, omega arith)
-    go false false true = (omega arith, omega arith)
-    go false false false = (omega arith, omega arith)
+pub top-near : (m : Move) (top : ℕ) → 0 < top → (top ≤ topAfter m top + 1) × (topAfter m top ≤ top + 1)
+top-near (leaf l) top p = (omega arith, omega arith)
+top-near (tag s) top p = (omega arith, omega arith)
+top-near (node k) top p = (omega arith, omega arith)
 
 last-line : (s : List ℕ) (v : ℕ) → length s ≡ 128 → drop 127 (set s 127 v) ≡ v ∷ []
 last-line s v e = drop-set-same s 127 v (omega arith) ∙ ap (λ l. v ∷ l) (drop-of-length-le s {i = 128} (omega arith))
@@ -47,7 +42,7 @@ types-on t w s i e = record { within = omega arith; lower = omega arith; upper =
 pub types-more : {t w s s′ : List ℕ} {i n top r : ℕ} → TypesOn t w s i n top → n < length w → top ≤ 127 → length w ≤ 127 → length s′ ≡ length s → TypesStepped t (getD w n 0) s s′ top r
     → TypesOn t w s′ i (n + 1) r
 types-more {t} {w} {s} {s′} {i} {n} {top} {r} o h b l e st =
-    let near = top-near (getD w n 0) top (omega (arith, o .lower)) in
+    let near = top-near (moveOf (getD w n 0)) top (omega (arith, o .lower)) in
     record {
       within = omega arith;
       lower = omega (arith, o .lower, near .0, st .0);
@@ -78,8 +73,8 @@ module _ {t : List ℕ} {base : ℕ} {w s : List ℕ} {p n top : ℕ} (o : RowOn
   one-more : rowAlong (drop n w) (rowFrom t base s top) ≡ (after (moveOf (getD w n 0)) (rowFrom t base s top) >>= λ r. rowAlong (drop (n + 1) w) r)
   one-more = ap (λ x. rowAlong x (rowFrom t base s top)) (from-byte w n h)
 
-  pub row-more : (s′ : List ℕ) {r : ℕ} → r ≡ topAfter (getD w n 0) top → length s′ ≡ length s → after (moveOf (getD w n 0)) (rowFrom t base s top) ≡ some
-      (rowFrom t base s′ (topAfter (getD w n 0) top))
+  pub row-more : (s′ : List ℕ) {r : ℕ} → r ≡ topAfter (moveOf (getD w n 0)) top → length s′ ≡ length s → after (moveOf (getD w n 0)) (rowFrom t base s top) ≡ some
+      (rowFrom t base s′ (topAfter (moveOf (getD w n 0)) top))
       → RowOn t base w s′ p (n + 1) r
   row-more s′ {r} e l st =
       record {

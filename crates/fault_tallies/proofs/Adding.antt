@@ -4,80 +4,84 @@ use native.Mathlib.Nat.{add-assoc, add-comm, le-trans, le-of-lt}
 use native.Mathlib.Omega.{arith}
 use mathlib.Core.Path.{_≡_, refl, sym, ap, ap₂, _∙_}
 use mathlib.Core.Bool.{Bool, true, false, cond}
+use mathlib.Core.Logic.{inl, inr}
 use mathlib.Core.List.{List}
 use lib.ListN.{length}
-use Rattle.calculus.specs.Trees.{Ty, tunit}
+use Rattle.limits.specs.Limits.{maxNodes}
+use Rattle.calculus.specs.Trees.{Ty, typeNodes}
 use Rattle.table_trees.specs.Unfolding.{cellOf, smallerOf, typeOf}
 use Rattle.table_trees.proofs.Unfolding.{rank}
-use Rattle.fault_tallies.specs.Tallies.{Holds, Shifts, Adds, Copies, Halved, shifted, more}
+use Rattle.fault_tallies.specs.Tallies.{Holds, Shifts, Adds, Copies, Halved, shifted, more, CountsType, AddsType}
 use Rattle.fault_tallies.proofs.Linear.{Same, shift-same, more-same, more-shift, more-swap}
 use Rattle.fault_tallies.proofs.Counting.{held-shift, held-add, held-copy, held-as}
-use Rattle.fault_tallies.proofs.Lines.{halves-fall}
+use Rattle.fault_tallies.proofs.Lines.{halves-fall, halves-small}
 use Rattle.table_trees.proofs.Lines.{no-unit, line-sum, line-product, line-other}
 
--- what an array gets, of any ways to go on and any counts before
-abbrev pub AddsType : Ty → List ℕ → List ℕ → List ℕ → Type 0
-AddsType a w sum₀ sum = (W S : ℕ → ℕ) → Holds w W → Holds sum₀ S → Holds sum (λ n. S n + more a W n)
-
-abbrev pub CountsType : Ty → List ℕ → List ℕ → Type 0
-CountsType a k l = (W : ℕ → ℕ) → Holds k W → Holds l (more a W)
-
 -- with a value of type a before the ways to go on in k, and what stands in sum, it is T in all
-pub record Rest (k sum : List ℕ) (a : Ty) (T : ℕ → ℕ) : Type 0 where
+pub record Rest (m : ℕ) (k sum : List ℕ) (a : Ty) (T : ℕ → ℕ) : Type 0 where
   pub ways : ℕ → ℕ
   pub added : ℕ → ℕ
-  pub in-k : Holds k ways
-  pub in-sum : Holds sum added
+  pub in-k : Holds m k ways
+  pub in-sum : Holds m sum added
   pub all : Same (λ n. added n + more a ways n) T
 
-module _ {k l sum : List ℕ} {a : Ty} {T : ℕ → ℕ} (s : Shifts k l) (r : Rest k sum a T) where
-  rest-unit : a ≡ tunit → {out : List ℕ} → Adds sum l out → Holds out T
-  rest-unit e d = held-as _ (λ n. ap (λ b. r .added n + more b (r .ways) n) (sym e) ∙ r .all n) (held-add d (r .in-sum) (held-shift s (r .in-k)))
+module _ {m : ℕ} {k l sum : List ℕ} {a : Ty} {T : ℕ → ℕ} (s : Shifts k l) (r : Rest m k sum a T) where
+  rest-leaf : Same (more a (r .ways)) (shifted (r .ways)) → {out : List ℕ} → Adds m sum l out → Holds m out T
+  rest-leaf e d = held-as _ (λ n. ap (λ x. r .added n + x) (sym (e n)) ∙ r .all n) (held-add d (r .in-sum) (held-shift s (r .in-k)))
 
-  rest-sum : (few many : Ty) → Same (more a (r .ways)) (shifted (λ n. more few (r .ways) n + more many (r .ways) n)) → {out : List ℕ} → AddsType few l sum out → Rest l out many T
-  rest-sum few many e d =
+  rest-sum : (few many : Ty) → Same (more a (r .ways)) (shifted (λ n. more few (r .ways) n + more many (r .ways) n)) → {out : List ℕ} → typeNodes few ≤ maxNodes → AddsType m few l sum out →
+      Rest m l out many T
+  rest-sum few many e z d =
       record {
         ways = shifted (r .ways);
         added = λ n. r .added n + more few (shifted (r .ways)) n;
         in-k = held-shift s (r .in-k);
-        in-sum = d (shifted (r .ways)) (r .added) (held-shift s (r .in-k)) (r .in-sum);
-        all = λ n. add-assoc (r .added n) (more few (shifted (r .ways)) n) (more many (shifted (r .ways)) n) ∙ ap (λ m. r .added n + m) (apart n ∙ sym (e n)) ∙ r .all n;
+        in-sum = d z (shifted (r .ways)) (r .added) (held-shift s (r .in-k)) (r .in-sum);
+        all = λ n. add-assoc (r .added n) (more few (shifted (r .ways)) n) (more many (shifted (r .ways)) n) ∙ ap (λ x. r .added n + x) (apart n ∙ sym (e n)) ∙ r .all n;
       }
     where
       apart : Same (λ n. more few (shifted (r .ways)) n + more many (shifted (r .ways)) n) (shifted (λ n. more few (r .ways) n + more many (r .ways) n))
       apart zero = ap₂ _+_ (more-shift few (r .ways) zero) (more-shift many (r .ways) zero)
       apart (suc n) = ap₂ _+_ (more-shift few (r .ways) (suc n)) (more-shift many (r .ways) (suc n))
 
-  rest-product : (few many : Ty) → Same (more a (r .ways)) (shifted (more many (more few (r .ways)))) → {m : List ℕ} → CountsType few l m → Rest m sum many T
-  rest-product few many e d =
+  rest-product : (few many : Ty) → Same (more a (r .ways)) (shifted (more many (more few (r .ways)))) → {n : List ℕ} → typeNodes few ≤ maxNodes → CountsType m few l n → Rest m n sum many T
+  rest-product few many e z d =
       record {
         ways = more few (shifted (r .ways));
         added = r .added;
-        in-k = d (shifted (r .ways)) (held-shift s (r .in-k));
+        in-k = d z (shifted (r .ways)) (held-shift s (r .in-k));
         in-sum = r .in-sum;
-        all = λ n. ap (λ m. r .added n + m) (more-same many (more-shift few (r .ways)) n ∙ more-shift many (more few (r .ways)) n ∙ sym (e n)) ∙ r .all n;
+        all = λ n. ap (λ x. r .added n + x) (more-same many (more-shift few (r .ways)) n ∙ more-shift many (more few (r .ways)) n ∙ sym (e n)) ∙ r .all n;
       }
 
 -- ---- the walk over a T line: line j is still to be counted
 
-pub record Going (t : List ℕ) (i : ℕ) (w sum₀ k sum : List ℕ) (j : ℕ) : Type 0 where
+pub record Going (m : ℕ) (t : List ℕ) (i : ℕ) (w sum₀ k sum : List ℕ) (j : ℕ) : Type 0 where
   pub long : length k ≡ 128
   pub wide : length sum ≡ 128
   pub below : rank j ≤ rank i
-  pub at : (W S : ℕ → ℕ) → Holds w W → Holds sum₀ S → Rest k sum (typeOf t j) (λ n. S n + more (typeOf t i) W n)
+  pub small : typeNodes (typeOf t i) ≤ maxNodes → typeNodes (typeOf t j) ≤ maxNodes
+  pub at : typeNodes (typeOf t i) ≤ maxNodes → (W S : ℕ → ℕ) → Holds m w W → Holds m sum₀ S → Rest m k sum (typeOf t j) (λ n. S n + more (typeOf t i) W n)
 
-pub going-start : (t : List ℕ) (i : ℕ) {w k sum : List ℕ} → length k ≡ 128 → length sum ≡ 128 → Copies w k → Going t i w sum k sum i
-going-start t i e f c =
+pub going-start : (m : ℕ) (t : List ℕ) (i : ℕ) {w k sum : List ℕ} → length k ≡ 128 → length sum ≡ 128 → Copies w k → Going m t i w sum k sum i
+going-start m t i e f c =
     record {
       long = e;
       wide = f;
       below = omega arith;
-      at = λ W S h g. record { ways = W; added = S; in-k = held-copy c h; in-sum = g; all = λ n. refl };
+      small = λ z. z;
+      at = λ z W S h g. record { ways = W; added = S; in-k = held-copy c h; in-sum = g; all = λ n. refl };
     }
 
-module _ (t : List ℕ) (i : ℕ) {w sum₀ k l sum : List ℕ} {j kind : ℕ} (g : Going t i w sum₀ k sum j) (s : Shifts k l) (e : kind ≡ cellOf t j 1) where
-  pub going-end : (kind ≡ 1 → ⊥) → (kind ≡ 2 → ⊥) → {out : List ℕ} → Adds sum l out → AddsType (typeOf t i) w sum₀ out
-  going-end m n d W S h f = rest-unit s (g .at W S h f) (line-other t j e m n) d
+-- a list is counted at once
+pub going-list : (m : ℕ) (t : List ℕ) (i : ℕ) {w sum₀ k l sum : List ℕ} {j : ℕ} → Going m t i w sum₀ k sum j → CountsType m (typeOf t j) k l
+    → {out : List ℕ} → Adds m sum l out → AddsType m (typeOf t i) w sum₀ out
+going-list m t i {j = j} g c d z W S h f =
+    let r = g .at z W S h f in held-as _ (r .all) (held-add d (r .in-sum) (c (g .small z) (r .ways) (r .in-k)))
+
+module _ (m : ℕ) (t : List ℕ) (i : ℕ) {w sum₀ k l sum : List ℕ} {j kind : ℕ} (g : Going m t i w sum₀ k sum j) (s : Shifts k l) (e : kind ≡ cellOf t j 1) where
+  pub going-end : (kind ≡ 1 → ⊥) → (kind ≡ 2 → ⊥) → (kind ≡ 3 → ⊥) → {out : List ℕ} → Adds m sum l out → AddsType m (typeOf t i) w sum₀ out
+  going-end a b c d z W S h f = let r = g .at z W S h f in rest-leaf s r (λ n. ap (λ x. more x (r .ways) n) (line-other t j e a b c)) d
 
   module _ {few many : ℕ} (h : Halved (smallerOf (cellOf t j 2) j) (smallerOf (cellOf t j 3) j) few many) where
     -- the parts of a sum, and of a product, in either order
@@ -98,20 +102,23 @@ module _ (t : List ℕ) (i : ℕ) {w sum₀ k l sum : List ℕ} {j kind : ℕ} (
         go false {x} {y} p q n = ap (λ a. more a W n) (line-product t j e p q z) ∙ shift-same (more-swap (typeOf t x) (typeOf t y) W) n
         go true p q n = ap (λ a. more a W n) (line-product t j e q p z)
 
-    pub going-sum : kind ≡ 1 → length l ≡ 128 → {out : List ℕ} → length out ≡ 128 → AddsType (typeOf t few) l sum out → Going t i w sum₀ l out many
+    pub going-sum : kind ≡ 1 → length l ≡ 128 → {out : List ℕ} → length out ≡ 128 → AddsType m (typeOf t few) l sum out → Going m t i w sum₀ l out many
     going-sum z len {out} wide d =
         record {
           long = len;
           wide = wide;
           below = le-trans (le-of-lt (halves-fall t j e (no-unit z) h .1)) (g .below);
-          at = λ W S x y. let r = g .at W S x y in rest-sum s r (typeOf t few) (typeOf t many) (sum-parts z (r .ways)) d;
+          small = λ y. halves-small t j e (inl z) h (g .small y) .1;
+          at = λ y W S x u. let r = g .at y W S x u in rest-sum s r (typeOf t few) (typeOf t many) (sum-parts z (r .ways)) (halves-small t j e (inl z) h (g .small y) .0) d;
         }
 
-    pub going-product : kind ≡ 2 → {m : List ℕ} → length m ≡ 128 → CountsType (typeOf t few) l m → Going t i w sum₀ m sum many
+    pub going-product : kind ≡ 2 → {n : List ℕ} → length n ≡ 128 → CountsType m (typeOf t few) l n → Going m t i w sum₀ n sum many
     going-product z len d =
         record {
           long = len;
           wide = g .wide;
           below = le-trans (le-of-lt (halves-fall t j e (no-unit z) h .1)) (g .below);
-          at = λ W S x y. let r = g .at W S x y in rest-product s r (typeOf t few) (typeOf t many) (product-parts z (r .ways)) d;
+          small = λ y. halves-small t j e (inr z) h (g .small y) .1;
+          at = λ y W S x u.
+              let r = g .at y W S x u in rest-product s r (typeOf t few) (typeOf t many) (product-parts z (r .ways)) (halves-small t j e (inr z) h (g .small y) .0) d;
         }

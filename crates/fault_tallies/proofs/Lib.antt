@@ -6,3 +6,5 @@ pub mod Lines
 pub mod Adding
 pub mod Patterns
 pub mod Ways
+pub mod Laying
+pub mod Flowing

@@ -1,10 +1,10 @@
 -- Loops over arrays of 128 numbers.
-use Prim.Native.Nat.{ℕ, suc, _+_, _-_, _<_, _≤_}
+use Prim.Native.Nat.{ℕ, zero, suc, _+_, _-_, _<_, _≤_}
 use native.Mathlib.Nat.{eq-or-lt-of-le}
 use native.Mathlib.Omega.{arith}
 use mathlib.Core.Path.{_≡_, refl, sym, ap, _∙_, subst}
 use mathlib.Core.Logic.{_⊎_, inl, inr}
-use mathlib.Core.List.{List}
+use mathlib.Core.List.{List, [], _∷_}
 use lib.ListN.{length, getD, set, length-set}
 use lib.Seq.{getD-set-same, getD-set-other}
 
@@ -75,3 +75,9 @@ each-one f k₀ o k i v z l e =
         subst (λ n. getD (set k i v) n 0 ≡ f (getD k₀ n 0) (getD o n 0)) r
         (getD-set-same k i v 0 (omega (arith, z .long)) ∙ e ∙ ap (λ x. f x (getD o i 0)) (z .kept i (omega arith)))
     at j (inr q) = getD-set-other k i j v 0 (λ same. absurd (omega arith)) ∙ z .done j (omega arith)
+
+-- nothing stands past the end
+pub past-end : (l : List ℕ) (x : ℕ) → length l ≤ x → 0 ≡ getD l x 0
+past-end [] x h = refl
+past-end (y ∷ l) zero h = absurd (omega arith)
+past-end (y ∷ l) (suc x) h = past-end l x (omega arith)

@@ -11,7 +11,6 @@ use lib.ListN.{length, take, drop, length-drop}
 use lib.Seq.{take-all}
 use Rattle.limits.specs.Limits.{maxClauses}
 use Rattle.calculus.specs.Trees.{Ty, Pat, Val, Iso}
-use Rattle.calculus.specs.Lists.{Finite}
 use Rattle.calculus.specs.Paper.{Apart}
 use Rattle.calculus.specs.Refusals.{Refusal, number}
 use Rattle.format.specs.Lines.{Row}
@@ -20,12 +19,10 @@ use Rattle.calculus.specs.Clauses.{lefts, rights, fault}
 use Rattle.model.specs.Services.{written}
 use Rattle.calculus.proofs.Basic.{and-true, leb-le}
 use Rattle.model.proofs.Files.{InForm}
-use Rattle.format.proofs.Listless.{isos-listless}
 use Rattle.law_witnesses.specs.Shapes.{Side}
-use Rattle.law_witnesses.specs.Showing.{Never, setting, twice, never, sided, shown, lettersOf?, showing}
-use Rattle.law_witnesses.proofs.Sides.{Sight, Found}
+use Rattle.law_witnesses.specs.Showing.{setting, twice, never, sided, shown, lettersOf?, showing}
+use Rattle.law_witnesses.proofs.Sides.{Found}
 use Rattle.law_witnesses.proofs.Showing.{refused-iso, showing-rows}
-use Rattle.law_witnesses.proofs.Listless.{never-large}
 use Rattle.table_trees.specs.Unfolding.{cellOf, typeOf}
 use Rattle.table_walks.specs.InTable.{patternsAt}
 use Rattle.table_walks.specs.Walk.{FileIn, tailAt}
@@ -45,21 +42,21 @@ overlapped {a} {ps} {out₀} {out} {r} v side = go (setting a (twice ps)) refl
     go none e = v .nothing side e
     go (some w) e = v .given side w e
 
-missed : {a : Ty} {ps : List Pat} {out₀ out : List ℕ} {r : ℕ} → Finite a → GapValue a ps out₀ out r → Side a ps → Apart ps → Sight a (Never ps) (setting a (never ps))
+missed : {a : Ty} {ps : List Pat} {out₀ out : List ℕ} {r : ℕ} → GapValue a ps out₀ out r → Side a ps → Apart ps
     → Given out₀ out r (lettersOf? (setting a (never ps)))
-missed {a} {ps} {out₀} {out} {r} f v side apart sight = go (setting a (never ps)) refl sight
+missed {a} {ps} {out₀} {out} {r} v side apart = go (setting a (never ps)) refl
   where
-    go : (x : Option Val) → setting a (never ps) ≡ x → Sight a (Never ps) x → Given out₀ out r (lettersOf? x)
-    go none e (Sight.unseen l) = absurd (never-large f (side .small) l)
-    go (some w) e (Sight.seen l h) = v .given side apart w e
+    go : (x : Option Val) → setting a (never ps) ≡ x → Given out₀ out r (lettersOf? x)
+    go none e = v .nothing side apart e
+    go (some w) e = v .given side apart w e
 
--- the search finds what the definition says; a gap of a type without lists has a value of at most 127 letters
-found-given : {o : Iso} {f : Refusal} {n : ℕ} {out₀ out : List ℕ} {r : ℕ} → Finite (o .from) × Finite (o .to) → Found o f → number f ≡ n
+-- the search finds what the definition says
+found-given : {o : Iso} {f : Refusal} {n : ℕ} {out₀ out : List ℕ} {r : ℕ} → Found o f → number f ≡ n
     → SideShown n (o .from) (o .to) (lefts o) (rights o) out₀ out r → Given out₀ out r (lettersOf? (shown f o))
-found-given {o} {out₀ = out₀} {out} {r} free (Found.overlapLeft side x) k s = overlapped (s .overlapLeft (sym k)) side
-found-given {o} {out₀ = out₀} {out} {r} free (Found.overlapRight side x) k s = overlapped (s .overlapRight (sym k)) side
-found-given {o} {out₀ = out₀} {out} {r} free (Found.gapLeft side a x) k s = missed (free .0) (s .gapLeft (sym k)) side a x
-found-given {o} {out₀ = out₀} {out} {r} free (Found.gapRight side a x) k s = missed (free .1) (s .gapRight (sym k)) side a x
+found-given {o} {out₀ = out₀} {out} {r} (Found.overlapLeft side x) k s = overlapped (s .overlapLeft (sym k)) side
+found-given {o} {out₀ = out₀} {out} {r} (Found.overlapRight side x) k s = overlapped (s .overlapRight (sym k)) side
+found-given {o} {out₀ = out₀} {out} {r} (Found.gapLeft side a x) k s = missed (s .gapLeft (sym k)) side a
+found-given {o} {out₀ = out₀} {out} {r} (Found.gapRight side a x) k s = missed (s .gapRight (sym k)) side a
 
 -- each of the four searches, x being the T line of the side
 module _ (t : List ℕ) {n x y : ℕ} {b : Ty} {ps qs : List Pat} {out₀ out : List ℕ} {r : ℕ} (e : x ≡ y) where
@@ -115,13 +112,12 @@ module _ (t : List ℕ) (base lines n place : ℕ) (out₀ out : List ℕ) (r : 
   shown-given s rs patterns form file f k e sd shows =
       let q = refused-iso s rs form f place e sd in
       let h = head file (q .iso) (q .mem) in
-      let free = isos-listless rs (q .iso) (q .mem) in
       let at : place ≡ suc (h .row) = q .line ∙ h .line in
       let up : place - 1 ≡ h .row = omega (arith, at) in
       let d = collected rs base patterns file (omega (arith, at, h .within)) in
       let same = h .clauses ∙ ap (λ m. tailAt rs m .clauses) (sym at) in
       subst (Given out₀ out r) (sym (showing-rows s rs form ∙ ap lettersOf? (q .first)))
-      (found-given (free .from, free .to) (q .found) k
+      (found-given (q .found) k
       (sides-same (ap (λ m. typeOf t (cellOf t m 1)) up ∙ sym (h .from)) (ap (λ m. typeOf t (cellOf t m 2)) up ∙ sym (h .to))
       (sym (ap (map (λ x. x .lhs)) same ∙ d .lefts)) (sym (ap (map (λ x. x .rhs)) same ∙ d .rights)) shows))
 

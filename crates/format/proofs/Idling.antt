@@ -13,8 +13,8 @@ use Rattle.calculus.specs.Tools.{all}
 use Rattle.calculus.specs.Refusals.{Kind, typeLine, patternLine, isoLine, clauseLine, letLine, Refusal, idle}
 use Rattle.format.specs.Lines.{Row}
 use Rattle.format.specs.Judge.{Seen, start, stage, typeTree, patternTree, typeNamesOf, patternNamesOf, judge, afterKind, after, afterAll}
-use Rattle.format.specs.Kinds.{TypeKind, unitType, sumType, productType, noType, typeKind, PatternKind, unitPattern, variablePattern, leftPattern}
-use Rattle.format.specs.Kinds.{rightPattern, pairPattern, noPattern, patternKind}
+use Rattle.format.specs.Kinds.{TypeKind, unitType, sumType, productType, listType, noType, typeKind, PatternKind, unitPattern, variablePattern}
+use Rattle.format.specs.Kinds.{leftPattern, rightPattern, pairPattern, emptyPattern, elementPattern, noPattern, patternKind}
 use Rattle.format.specs.Unfold.{exchange, turnFrom, turnRows}
 use Rattle.format.specs.Idle.{typeLines, typeReach, patternReach, reach, isRoot, Reached, NoneIdle, FirstIdle, member, Reach, reachRow, reachFrom, idleFault}
 use Rattle.calculus.proofs.Basic.{none≢some, some-inj, some-pair, or-true, true-or-left, true-or-right, not-both, eqb-eq, eq-eqb, leb-le, ltb-lt, true-and}
@@ -56,6 +56,7 @@ type-earlier : (n : ℕ) (k : TypeKind) (a b : ℕ) → typeNamesOf n k a b ≡ 
 type-earlier n unitType a b e = each-nil (λ i. i < n)
 type-earlier n sumType a b e = let h = both-named n a b e in each-cons (λ i. i < n) (h .0) (each-cons (λ i. i < n) (h .1) (each-nil (λ i. i < n)))
 type-earlier n productType a b e = let h = both-named n a b e in each-cons (λ i. i < n) (h .0) (each-cons (λ i. i < n) (h .1) (each-nil (λ i. i < n)))
+type-earlier n listType a b e = each-cons (λ i. i < n) (ltb-lt a n e) (each-nil (λ i. i < n))
 type-earlier n noType a b e = each-nil (λ i. i < n)
 
 one-earlier : {m : ℕ} (a : ℕ) → a < m → (i : ℕ) → List·Memᴰ i (a ∷ []) → i < m
@@ -70,6 +71,8 @@ pattern-earlier ts n variablePattern a b e = each-nil (λ i. i < ts + n)
 pattern-earlier ts n leftPattern a b e = let h = ltb-lt a n e in one-earlier (ts + a) (omega arith)
 pattern-earlier ts n rightPattern a b e = let h = ltb-lt a n e in one-earlier (ts + a) (omega arith)
 pattern-earlier ts n pairPattern a b e = let h = both-named n a b e in two-earlier (ts + a) (ts + b) (omega arith) (omega arith)
+pattern-earlier ts n emptyPattern a b e = each-nil (λ i. i < ts + n)
+pattern-earlier ts n elementPattern a b e = let h = both-named n a b e in two-earlier (ts + a) (ts + b) (omega arith) (omega arith)
 pattern-earlier ts n noPattern a b e = each-nil (λ i. i < ts + n)
 
 -- how many T and P lines the rows above tell of

@@ -9,4 +9,3 @@ pub mod Endings
 pub mod Printing
 pub mod Tables
 pub mod Sizes
-pub mod Listless

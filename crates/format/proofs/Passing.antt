@@ -74,12 +74,12 @@ clause-fit s r f =
     (ltb-lt (r .x) n (c .0), ltb-lt (r .y) n (c .1), ltb-lt (s .clauses) maxClauses (f .ceilings))
 
 pub let-fit : (s : Seen) (r : Row) → Fit s letLine r
-    → (r .x < length (s .patterns)) × (r .z < length (s .patterns)) × (suc (r .y) < s .isos) × (s .lets < maxLets)
+    → (r .x < length (s .patterns)) × (r .z < length (s .patterns)) × (r .y < s .isos) × (s .lets < maxLets)
 let-fit s r f =
     let n : ℕ = length (s .patterns) in
-    let c = and-true (ltb (r .x) n && ltb (r .z) n) (ltb (suc (r .y)) (s .isos)) (f .names) in
+    let c = and-true (ltb (r .x) n && ltb (r .z) n) (ltb (r .y) (s .isos)) (f .names) in
     let d = and-true (ltb (r .x) n) (ltb (r .z) n) (c .0) in
-    (ltb-lt (r .x) n (d .0), ltb-lt (r .z) n (d .1), ltb-lt (suc (r .y)) (s .isos) (c .1), ltb-lt (s .lets) maxLets (f .ceilings))
+    (ltb-lt (r .x) n (d .0), ltb-lt (r .z) n (d .1), ltb-lt (r .y) (s .isos) (c .1), ltb-lt (s .lets) maxLets (f .ceilings))
 
 -- ---- patterns
 
@@ -108,7 +108,9 @@ node-slots (suc zero) a b p q e f g n m =
 node-slots (suc (suc zero)) a b p q e f g n m = f .slots n m
 node-slots (suc (suc (suc zero))) a b p q e f g n m = f .slots n m
 node-slots (suc (suc (suc (suc zero)))) a b p q e f g n m = each-append (λ n. n < variables) (vars p) (f .slots) (g .slots) n m
-node-slots (suc (suc (suc (suc (suc k))))) a b p q e f g n m = absurd (false≢true e)
+node-slots (suc (suc (suc (suc (suc zero))))) a b p q e f g n m = absurd (List·Memᴰ·not-nil m)
+node-slots (suc (suc (suc (suc (suc (suc zero)))))) a b p q e f g n m = each-append (λ n. n < variables) (vars p) (f .slots) (g .slots) n m
+node-slots (suc (suc (suc (suc (suc (suc (suc k))))))) a b p q e f g n m = absurd (false≢true e)
 
 pattern-formed : (s : Seen) (r : Row) → AllFormed (s .patterns) → Fit s patternLine r → FormedPat (patternTree (s .patterns) r)
 pattern-formed s r h f =

@@ -229,7 +229,7 @@ exchange-fit s clauseLine r f =
     record { order = f .order; fields = refl; names = true-and (e .1) (e .0); ceilings = f .ceilings }
 exchange-fit s letLine r f =
     let n : ℕ = length (s .patterns) in
-    let d = and-true (ltb (r .x) n && ltb (r .z) n) (ltb (suc (r .y)) (s .isos)) (f .names) in
+    let d = and-true (ltb (r .x) n && ltb (r .z) n) (ltb (r .y) (s .isos)) (f .names) in
     let e = and-true (ltb (r .x) n) (ltb (r .z) n) (d .0) in
     record { order = f .order; fields = refl; names = true-and (true-and (e .1) (e .0)) (d .1); ceilings = f .ceilings }
 

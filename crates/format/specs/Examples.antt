@@ -5,9 +5,9 @@ use mathlib.Core.Bool.{true, false}
 use mathlib.Core.Option.{Option, none, some}
 use mathlib.Core.List.{List, [], _∷_, map}
 use lib.ListN.{replicate}
-use Rattle.calculus.specs.Trees.{Ty, tunit, tsum, tprod, left, right, Pat, pleaf, unitLeaf, pvar, pinj, pnode, pairNode}
+use Rattle.calculus.specs.Trees.{Ty, tunit, tlist, tsum, tprod, left, right, Pat, pleaf, unitLeaf, emptyLeaf, pvar, pinj, pnode, pairNode, elementNode}
 use Rattle.calculus.specs.Refusals.{Kind, typeLine, patternLine, isoLine, clauseLine, letLine, shortArea, tooLong, badLine, misplaced, badField, badName}
-use Rattle.calculus.specs.Refusals.{ceiling, variable, letShape, badType, overlap, gap, noIso, noValue, spent, tooMany, tooHigh, badList, idle, badScript}
+use Rattle.calculus.specs.Refusals.{ceiling, variable, letShape, badType, overlap, gap, noIso, noValue, spent, tooMany, tooHigh, badList, idle, badScript, recursion, tooLarge}
 use Rattle.format.specs.declared.Kind.the-variants as kinds
 use Rattle.format.specs.declared.Side.the-variants as sides
 use Rattle.format.specs.declared.Refusal.the-variants as refusals
@@ -38,10 +38,12 @@ refusal-views : map refusalView
     (refusals.Nothing ∷ refusals.ShortArea ∷ refusals.TooLong ∷ refusals.BadLine ∷ refusals.Misplaced kinds.Type ∷ refusals.BadField kinds.Pattern ∷ refusals.BadName kinds.Iso
     ∷ refusals.Ceiling kinds.Clause ∷ refusals.Variable kinds.Clause ∷ refusals.LetShape kinds.Clause ∷ refusals.BadType kinds.Clause ∷ refusals.Overlap kinds.Iso sides.Left
     ∷ refusals.Overlap kinds.Iso sides.Right ∷ refusals.Gap kinds.Iso sides.Left ∷ refusals.Gap kinds.Iso sides.Right ∷ refusals.NoIso ∷ refusals.NoValue ∷ refusals.Spent
-    ∷ refusals.TooMany ∷ refusals.TooHigh ∷ refusals.BadList ∷ refusals.Idle kinds.Pattern ∷ refusals.BadScript ∷ [])
+    ∷ refusals.TooMany ∷ refusals.TooHigh ∷ refusals.BadList ∷ refusals.Idle kinds.Pattern ∷ refusals.BadScript ∷ refusals.Recursion kinds.Clause
+    ∷ refusals.TooLarge ∷ [])
     ≡ none ∷ some shortArea ∷ some tooLong ∷ some badLine ∷ some (misplaced typeLine) ∷ some (badField patternLine) ∷ some (badName isoLine) ∷ some (ceiling clauseLine)
     ∷ some (variable clauseLine) ∷ some (letShape clauseLine) ∷ some (badType clauseLine) ∷ some (overlap isoLine left) ∷ some (overlap isoLine right) ∷ some (gap isoLine left)
-    ∷ some (gap isoLine right) ∷ some noIso ∷ some noValue ∷ some spent ∷ some tooMany ∷ some tooHigh ∷ some badList ∷ some (idle patternLine) ∷ some badScript ∷ []
+    ∷ some (gap isoLine right) ∷ some noIso ∷ some noValue ∷ some spent ∷ some tooMany ∷ some tooHigh ∷ some badList ∷ some (idle patternLine) ∷ some badScript
+    ∷ some (recursion clauseLine) ∷ some tooLarge ∷ []
 refusal-views = refl
 
 -- ---- lines and rows
@@ -53,11 +55,12 @@ abbrev bit : Ty
 bit = tsum tunit tunit
 
 -- the kinds of T and P lines by their numbers, and the tree of each over two earlier ones
-type-nodes : map (λ k. typeNode k bit tunit) (0 ∷ 1 ∷ 2 ∷ 3 ∷ []) ≡ tunit ∷ tsum bit tunit ∷ tprod bit tunit ∷ tunit ∷ []
+type-nodes : map (λ k. typeNode k bit tunit) (0 ∷ 1 ∷ 2 ∷ 3 ∷ 4 ∷ []) ≡ tunit ∷ tsum bit tunit ∷ tprod bit tunit ∷ tlist bit ∷ tunit ∷ []
 type-nodes = refl
 
-pattern-nodes : map (λ k. patternNode k 7 (pvar 1) (pvar 2)) (0 ∷ 1 ∷ 2 ∷ 3 ∷ 4 ∷ 5 ∷ [])
-    ≡ pleaf unitLeaf ∷ pvar 7 ∷ pinj left (pvar 1) ∷ pinj right (pvar 1) ∷ pnode pairNode (pvar 1) (pvar 2) ∷ pleaf unitLeaf ∷ []
+pattern-nodes : map (λ k. patternNode k 7 (pvar 1) (pvar 2)) (0 ∷ 1 ∷ 2 ∷ 3 ∷ 4 ∷ 5 ∷ 6 ∷ 7 ∷ [])
+    ≡ pleaf unitLeaf ∷ pvar 7 ∷ pinj left (pvar 1) ∷ pinj right (pvar 1) ∷ pnode pairNode (pvar 1) (pvar 2) ∷ pleaf emptyLeaf ∷ pnode elementNode (pvar 1) (pvar 2)
+    ∷ pleaf unitLeaf ∷ []
 pattern-nodes = refl
 
 line-trees : (typeTree (bit ∷ tunit ∷ []) (row typeLine 2 0 1) ≡ tprod bit tunit)
@@ -69,8 +72,18 @@ stages-so-far : map stage (none ∷ some typeLine ∷ some patternLine ∷ some 
 stages-so-far = refl
 
 -- a number that is no kind: 5 of its line, not 6 or 7
-no-kind : (typeFields 3 0 0 ∷ typeNames 0 3 9 9 ∷ patternFields 5 0 0 ∷ patternNames 0 5 9 9 ∷ [] ≡ false ∷ true ∷ false ∷ true ∷ [])
+no-kind : (typeFields 4 0 0 ∷ typeNames 0 4 9 9 ∷ patternFields 7 0 0 ∷ patternNames 0 7 9 9 ∷ [] ≡ false ∷ true ∷ false ∷ true ∷ [])
 no-kind = refl
+
+-- "T kind 3 (a the element, b 0), P kinds 5 empty (a = b = 0) and 6 an element before a list"
+list-fields : (typeFields 3 9 0 ∷ typeFields 3 0 1 ∷ patternFields 5 0 0 ∷ patternFields 5 1 0 ∷ patternFields 5 0 1 ∷ patternFields 6 9 9 ∷ []
+    ≡ true ∷ false ∷ true ∷ false ∷ false ∷ true ∷ [])
+list-fields = refl
+
+-- the lines that they name: a list's element, an element and the list behind it
+list-names : (typeNames 1 3 0 9 ∷ typeNames 1 3 1 0 ∷ patternNames 0 5 9 9 ∷ patternNames 2 6 1 0 ∷ patternNames 2 6 2 0 ∷ patternNames 2 6 0 2 ∷ []
+    ≡ true ∷ false ∷ true ∷ true ∷ false ∷ false ∷ [])
+list-names = refl
 
 -- "on each the lowest of 3 to 7": below 1,024 P lines a T line of no kind that names no line; P lines of no kind, with an idle field, with an absent name; and one that is
 -- only one too many

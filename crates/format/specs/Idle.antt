@@ -9,8 +9,8 @@ use lib.ListN.{length, getElem?}
 use Rattle.calculus.specs.Refusals.{Kind, typeLine, patternLine, isoLine, clauseLine, letLine, Refusal, idle}
 use Rattle.format.specs.Lines.{Row}
 use Rattle.format.specs.Judge.{start, afterAll}
-use Rattle.format.specs.Kinds.{TypeKind, unitType, sumType, productType, noType, typeKind, PatternKind, unitPattern, variablePattern, leftPattern}
-use Rattle.format.specs.Kinds.{rightPattern, pairPattern, noPattern, patternKind}
+use Rattle.format.specs.Kinds.{TypeKind, unitType, sumType, productType, listType, noType, typeKind, PatternKind, unitPattern, variablePattern}
+use Rattle.format.specs.Kinds.{leftPattern, rightPattern, pairPattern, emptyPattern, elementPattern, noPattern, patternKind}
 
 -- Lines by their places in the file, from 0. "All T lines come first, then all P lines": T line a stands at place a, and P line a at place
 -- ts + a, where ts is the number of T lines.
@@ -23,6 +23,7 @@ abbrev pub typeReach : TypeKind → ℕ → ℕ → List ℕ
 typeReach unitType a b = []
 typeReach sumType a b = a ∷ (b ∷ [])
 typeReach productType a b = a ∷ (b ∷ [])
+typeReach listType a b = a ∷ []
 typeReach noType a b = []
 
 abbrev pub patternReach : ℕ → PatternKind → ℕ → ℕ → List ℕ
@@ -31,6 +32,8 @@ patternReach ts variablePattern a b = []
 patternReach ts leftPattern a b = (ts + a) ∷ []
 patternReach ts rightPattern a b = (ts + a) ∷ []
 patternReach ts pairPattern a b = (ts + a) ∷ ((ts + b) ∷ [])
+patternReach ts emptyPattern a b = []
+patternReach ts elementPattern a b = (ts + a) ∷ ((ts + b) ∷ [])
 patternReach ts noPattern a b = []
 
 -- the places of the T and P lines that a line names; the iso number of an L line reaches nothing

@@ -8,11 +8,11 @@ use lib.Dec.{leb, ltb, eqb}
 use lib.ListN.{getD, length}
 use Rattle.limits.specs.Limits.{maxTypes, maxPatterns, maxIsos, maxClauses, maxLets, maxNodes, maxTags, variables}
 use Rattle.calculus.specs.Tools.{firstFailing}
-use Rattle.calculus.specs.Trees.{Ty, tunit, tsum, tprod, Pat, pleaf, unitLeaf, pvar, pinj, pnode, pairNode, left, right, typeNodes, nodes, tags}
+use Rattle.calculus.specs.Trees.{Ty, tunit, tlist, tsum, tprod, Pat, pleaf, unitLeaf, emptyLeaf, pvar, pinj, pnode, pairNode, elementNode, left, right, typeNodes, nodes, tags}
 use Rattle.calculus.specs.Refusals.{Kind, typeLine, patternLine, isoLine, clauseLine, letLine, Refusal, badLine, misplaced, badField, badName, ceiling}
 use Rattle.format.specs.Lines.{Row, rowOf}
-use Rattle.format.specs.Kinds.{TypeKind, unitType, sumType, productType, noType, typeKind, PatternKind, unitPattern, variablePattern, leftPattern}
-use Rattle.format.specs.Kinds.{rightPattern, pairPattern, noPattern, patternKind}
+use Rattle.format.specs.Kinds.{TypeKind, unitType, sumType, productType, listType, noType, typeKind, PatternKind, unitPattern, variablePattern}
+use Rattle.format.specs.Kinds.{leftPattern, rightPattern, pairPattern, emptyPattern, elementPattern, noPattern, patternKind}
 
 -- what the rows above tell: the kind of the last, the T and P lines as trees, how many I lines there are, how many C lines since
 -- the last I and L lines since the last C
@@ -33,6 +33,7 @@ abbrev pub typeNodeOf : TypeKind → Ty → Ty → Ty
 typeNodeOf unitType a b = tunit
 typeNodeOf sumType a b = tsum a b
 typeNodeOf productType a b = tprod a b
+typeNodeOf listType a b = tlist a
 typeNodeOf noType a b = tunit
 
 abbrev pub typeNode : ℕ → Ty → Ty → Ty
@@ -47,6 +48,8 @@ patternNodeOf variablePattern n p q = pvar n
 patternNodeOf leftPattern n p q = pinj left p
 patternNodeOf rightPattern n p q = pinj right p
 patternNodeOf pairPattern n p q = pnode pairNode p q
+patternNodeOf emptyPattern n p q = pleaf emptyLeaf
+patternNodeOf elementPattern n p q = pnode elementNode p q
 patternNodeOf noPattern n p q = pleaf unitLeaf
 
 abbrev pub patternNode : ℕ → ℕ → Pat → Pat → Pat
@@ -76,6 +79,7 @@ abbrev pub typeFieldsOf : TypeKind → ℕ → ℕ → Bool
 typeFieldsOf unitType a b = eqb a 0 && eqb b 0
 typeFieldsOf sumType a b = true
 typeFieldsOf productType a b = true
+typeFieldsOf listType a b = eqb b 0
 typeFieldsOf noType a b = false
 
 abbrev pub typeFields : ℕ → ℕ → ℕ → Bool
@@ -87,6 +91,8 @@ patternFieldsOf variablePattern a b = ltb a variables && eqb b 0
 patternFieldsOf leftPattern a b = eqb b 0
 patternFieldsOf rightPattern a b = eqb b 0
 patternFieldsOf pairPattern a b = true
+patternFieldsOf emptyPattern a b = eqb a 0 && eqb b 0
+patternFieldsOf elementPattern a b = true
 patternFieldsOf noPattern a b = false
 
 abbrev pub patternFields : ℕ → ℕ → ℕ → Bool
@@ -99,12 +105,13 @@ fieldsFit isoLine r = true
 fieldsFit clauseLine r = true
 fieldsFit letLine r = true
 
--- "A T or P line names only earlier lines of its own letter. An L line names an iso earlier than its own." A number that is no kind
--- names nothing; its fields do not fit.
+-- "A T or P line names only earlier lines of its own letter. An L line names an iso earlier than its own", or, request 14, its own. A number
+-- that is no kind names nothing; its fields do not fit.
 abbrev pub typeNamesOf : ℕ → TypeKind → ℕ → ℕ → Bool
 typeNamesOf n unitType a b = true
 typeNamesOf n sumType a b = ltb a n && ltb b n
 typeNamesOf n productType a b = ltb a n && ltb b n
+typeNamesOf n listType a b = ltb a n
 typeNamesOf n noType a b = true
 
 abbrev pub typeNames : ℕ → ℕ → ℕ → ℕ → Bool
@@ -116,6 +123,8 @@ patternNamesOf n variablePattern a b = true
 patternNamesOf n leftPattern a b = ltb a n
 patternNamesOf n rightPattern a b = ltb a n
 patternNamesOf n pairPattern a b = ltb a n && ltb b n
+patternNamesOf n emptyPattern a b = true
+patternNamesOf n elementPattern a b = ltb a n && ltb b n
 patternNamesOf n noPattern a b = true
 
 abbrev pub patternNames : ℕ → ℕ → ℕ → ℕ → Bool
@@ -126,7 +135,7 @@ named s typeLine r = typeNames (length (s .types)) (r .x) (r .y) (r .z)
 named s patternLine r = patternNames (length (s .patterns)) (r .x) (r .y) (r .z)
 named s isoLine r = ltb (r .x) (length (s .types)) && ltb (r .y) (length (s .types))
 named s clauseLine r = ltb (r .x) (length (s .patterns)) && ltb (r .y) (length (s .patterns))
-named s letLine r = ltb (r .x) (length (s .patterns)) && ltb (r .z) (length (s .patterns)) && ltb (suc (r .y)) (s .isos)
+named s letLine r = ltb (r .x) (length (s .patterns)) && ltb (r .z) (length (s .patterns)) && ltb (r .y) (s .isos)
 
 -- "any other ceiling passed"
 abbrev pub withinCeilings : Seen → Kind → Row → Bool

@@ -415,7 +415,8 @@ three-below : (n k a b : ℕ) → n ≤ fieldBound → typeFields k a b ≡ true
 three-below n zero a b l e h = let p = and-true (eqb a 0) (eqb b 0) e in let x = eqb-eq a 0 (p .0) in let y = eqb-eq b 0 (p .1) in (omega arith, omega arith, omega arith)
 three-below n (suc zero) a b l e h = let p = below-both n a b h in let x = p .0 in let y = p .1 in (omega arith, omega arith, omega arith)
 three-below n (suc (suc zero)) a b l e h = let p = below-both n a b h in let x = p .0 in let y = p .1 in (omega arith, omega arith, omega arith)
-three-below n (suc (suc (suc k))) a b l e h = absurd (false≢true e)
+three-below n (suc (suc (suc zero))) a b l e h = let x = ltb-lt a n h in let y = eqb-eq b 0 e in (omega arith, omega arith, omega arith)
+three-below n (suc (suc (suc (suc k)))) a b l e h = absurd (false≢true e)
 
 pub type-formed : (n : ℕ) (r : Row) → n ≤ fieldBound → TypeOk n r → WellFormed r
 type-formed n r l h =
@@ -428,7 +429,13 @@ pattern-below n (suc zero) a b l e h = let p = and-true (ltb a variables) (eqb b
 pattern-below n (suc (suc zero)) a b l e h = let x = ltb-lt a n h in let y = eqb-eq b 0 e in (omega arith, omega arith, omega arith)
 pattern-below n (suc (suc (suc zero))) a b l e h = let x = ltb-lt a n h in let y = eqb-eq b 0 e in (omega arith, omega arith, omega arith)
 pattern-below n (suc (suc (suc (suc zero)))) a b l e h = let p = below-both n a b h in let x = p .0 in let y = p .1 in (omega arith, omega arith, omega arith)
-pattern-below n (suc (suc (suc (suc (suc k))))) a b l e h = absurd (false≢true e)
+pattern-below n (suc (suc (suc (suc (suc zero))))) a b l e h =
+    let p = and-true (eqb a 0) (eqb b 0) e in
+    let x = eqb-eq a 0 (p .0) in
+    let y = eqb-eq b 0 (p .1) in
+    (omega arith, omega arith, omega arith)
+pattern-below n (suc (suc (suc (suc (suc (suc zero)))))) a b l e h = let p = below-both n a b h in let x = p .0 in let y = p .1 in (omega arith, omega arith, omega arith)
+pattern-below n (suc (suc (suc (suc (suc (suc (suc k))))))) a b l e h = absurd (false≢true e)
 
 pub pattern-formed : (n : ℕ) (r : Row) → n ≤ fieldBound → PatternOk n r → WellFormed r
 pattern-formed n r l h =

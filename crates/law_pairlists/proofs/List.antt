@@ -9,7 +9,7 @@ use mathlib.Core.Option.{some}
 use mathlib.Core.List.{List, [], _∷_, _++_, map, append-assoc, append-nil, List·Memᴰ, List·Memᴰ·head, List·Memᴰ·tail, List·Memᴰ·not-nil, Memᴰ·map, Memᴰ·of-map, Memᴰ·cast}
 use lib.Dec.{eqb, ltb}
 use lib.ListN.{length, getElem?, length-append}
-use Rattle.limits.specs.Limits.{budgetBound, comma, lineFeed, digitZero}
+use Rattle.limits.specs.Limits.{maxValues, budgetBound, comma, lineFeed, digitZero}
 use Rattle.calculus.specs.Tools.{guard, all, select, concat}
 use Rattle.calculus.specs.Trees.{Ty}
 use Rattle.format.specs.Lines.{lines, text, withoutReturns, isDigit, numeral, skip, ended, decimalOf, decimal}
@@ -24,7 +24,7 @@ use Rattle.calculus.proofs.Letters.{inhabits-of, of-inhabits}
 use Rattle.format.proofs.Numerals.{read-numeral, numeral-decimal, decimal-digits, digit-lower}
 use Rattle.format.proofs.Endings.{feed, NoReturn, Returnless, text-ended, text-feed, without-append, without-line}
 use Rattle.format.proofs.Printing.{skip-some, ended-some, lines-feed, NoFeed, Feedless}
-use Rattle.law_ranking.proofs.Numbering.{rank-below, unrank-rank, unrank-inhabits, rank-unrank}
+use Rattle.law_ranking.proofs.Numbering.{few-finite, rank-below, unrank-rank, unrank-inhabits, rank-unrank}
 use Rattle.law_pairlists.proofs.Iso.{Differ, alone, beside, Lists, firsts, seconds}
 use Rattle.law_endings.proofs.Printed.{decimal-plain}
 
@@ -192,6 +192,15 @@ pairs-taken a b fa fb ts e =
       below = λ t m. ltb-lt t (count b) (all-mem (λ u. ltb u (count b)) (r .0) m);
       once = none-twice ts (r .1);
     }
+
+-- few pairs leave no room for a list
+pub few-taken : (a b : Ty) (ts : List ℕ) → length ts ≤ maxValues → pairsUp a b ts ≡ true → Taken a b ts
+few-taken a b ts h e =
+    let p = and-true (eqb (length ts) (count a)) (eqb (length ts) (count b) && (all (λ t. ltb t (count b)) ts && noneTwice ts)) e in
+    let q = and-true (eqb (length ts) (count b)) (all (λ t. ltb t (count b)) ts && noneTwice ts) (p .1) in
+    let first : count a ≤ maxValues = subst (λ n. n ≤ maxValues) (eqb-eq (length ts) (count a) (p .0)) h in
+    let second : count b ≤ maxValues = subst (λ n. n ≤ maxValues) (eqb-eq (length ts) (count b) (q .0)) h in
+    pairs-taken a b (few-finite a first) (few-finite b second) ts e
 
 pub lefts-all : {a b : Ty} {ts : List ℕ} → Taken a b ts → Lists a (firsts (settings a b 0 ts))
 lefts-all {a} {b} {ts} h =

@@ -13,7 +13,7 @@ use Rattle.calculus.specs.Trees.{Ty, tunit, tsum, tprod, Tag, left, right, Val,
 use Rattle.calculus.specs.Lists.{Finite}
 use Rattle.calculus.specs.Refusals.{Kind, typeLine, patternLine, isoLine, clauseLine}
 use Rattle.format.specs.Lines.{Row}
-use Rattle.format.specs.Kinds.{PatternKind, unitPattern, variablePattern, leftPattern, rightPattern, pairPattern, noPattern, patternKind}
+use Rattle.format.specs.Kinds.{PatternKind, unitPattern, variablePattern, leftPattern, rightPattern, pairPattern, emptyPattern, elementPattern, noPattern, patternKind}
 use Rattle.format.specs.Idle.{typeLines, patternReach, reach, isRoot, Reached, NoneIdle}
 use Rattle.law_pairlists.specs.PairLists.{find, enter, Entry, entry, typeRow, patternRow, clauseRow, isoRow, writeType, writeValue, Written, writePairs, fileRows}
 use Rattle.calculus.proofs.Basic.{le-or-lt, mem-index, index-mem, each-nil, each-cons}
@@ -255,6 +255,8 @@ shift ts variablePattern a b m = absurd (List·Memᴰ·not-nil m)
 shift ts leftPattern a b m = shift-one ts a m
 shift ts rightPattern a b m = shift-one ts a m
 shift ts pairPattern a b m = shift-two ts a b m
+shift ts emptyPattern a b m = absurd (List·Memᴰ·not-nil m)
+shift ts elementPattern a b m = shift-two ts a b m
 shift ts noPattern a b m = absurd (List·Memᴰ·not-nil m)
 
 module _ (T P back : List Row) (counts : typeLines (T ++ (P ++ back)) ≡ length T) where

@@ -121,7 +121,7 @@ one-fault : (desk (bytes "T,0,0,0\nP,0,0,0\nP,1,0,0\nI,0,0\nC,1,0\nC,0,0\n") ≡
 unfolding desk
 one-fault = (refl, refl)
 
--- one fault of 3, 6 and 7, in a line that moved with its clause: a C line of another form, an L line that names its own iso, a ninth L line
+-- one fault of 3, 6 and 7, in a line that moved with its clause: a C line of another form, an L line that names a later iso, a ninth L line
 abbrev twoIsos : List ℕ
 twoIsos = bytes "T,0,0,0\nP,0,0,0\nP,1,0,0\nI,0,0\nC,1,1\nI,0,0\n"
 
@@ -130,8 +130,8 @@ nineSteps = bytes "C,0,0\nL,1,0,1\nL,1,0,1\nL,1,0,1\nL,1,0,1\nL,1,0,1\nL,1,0,1\n
 
 moved-fault : (desk (twoIsos ++ bytes "C,0\nC,0,0\n") ≡ bytes "3,7\n")
     × (desk (twoIsos ++ bytes "C,0,0\nC,0\n") ≡ bytes "3,8\n")
-    × (desk (twoIsos ++ bytes "C,0,0\nL,1,1,1\nC,0,0\n") ≡ bytes "6,8\n")
-    × (desk (twoIsos ++ bytes "C,0,0\nC,0,0\nL,1,1,1\n") ≡ bytes "6,9\n")
+    × (desk (twoIsos ++ bytes "C,0,0\nL,1,2,1\nC,0,0\n") ≡ bytes "6,8\n")
+    × (desk (twoIsos ++ bytes "C,0,0\nC,0,0\nL,1,2,1\n") ≡ bytes "6,9\n")
     × (desk (twoIsos ++ (nineSteps ++ bytes "C,0,0\n")) ≡ bytes "7,16\n")
     × (desk (twoIsos ++ (bytes "C,0,0\n" ++ nineSteps)) ≡ bytes "7,17\n")
 unfolding desk

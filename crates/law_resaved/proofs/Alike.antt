@@ -9,17 +9,18 @@ use lib.Dec.{ltb}
 use lib.ListN.{length}
 use Rattle.limits.specs.Limits.{maxBytes, maxLines, exportLength, importLength, maxUnits}
 use Rattle.calculus.specs.Tools.{_>>=_, guard}
+use Rattle.calculus.specs.Trees.{Iso}
 use Rattle.calculus.specs.Refusals.{Refusal, tooLong}
 use Rattle.format.specs.Lines.{Row, lines}
 use Rattle.format.specs.Unfold.{isosOf}
-use Rattle.model.specs.Services.{Verdict, accepted, refused, verdict, short, unless, serve, served, goOn, outputBy}
+use Rattle.model.specs.Services.{Verdict, accepted, refused, verdict, short, unless, gives, serve, served, goOn, outputBy}
 use Rattle.law_costs.specs.Bounds.{boundsRows, boundsBy, boundsService}
 use Rattle.law_endings.specs.Resaved.{SameLine, SameLines, done, next, Resaved}
 use Rattle.law_endings.proofs.Lines.{text-same, count-same}
 use Rattle.law_endings.proofs.Alike.{verdict-alike}
 use Rattle.law_pairlists.specs.PairLists.{exportRows, importRows, exportService, importService}
 use Rattle.law_pairlists.proofs.Endings as Lists
-use Rattle.law_units.specs.Units.{plannedIn, plannedOf, names, scriptOf, Units, unitsFault, onScript, onUnits, playRows, unequal, playVerdict, Tally, playBy, playService}
+use Rattle.law_units.specs.Units.{plannedIn, plannedOf, names, andThen, onLine, scriptOf, Units, unitsFault, onScript, onUnits, playRows, unequal, playVerdict, Tally, playBy, playService}
 use Rattle.check_overlap.specs.Overlap.{overlapRows, overlappedBy, overlapService}
 
 -- ---- a script
@@ -28,14 +29,14 @@ planned-alike : {l m : List ℕ} → SameLine l m → plannedOf l ≡ plannedOf 
 unfolding plannedOf
 planned-alike h = ap (λ x. x >>= λ t. plannedIn t) (text-same h)
 
-script-alike : (units isos : ℕ) {ls ms : List (List ℕ)} → SameLines ls ms → scriptOf units isos ls ≡ scriptOf units isos ms
-script-alike units isos done = refl
-script-alike units isos (next h hs) =
-    ap₂ (λ x y. (x >>= λ p. guard (names units isos p) >>= λ _. some p) >>= λ p. y >>= λ ps. some (p ∷ ps)) (planned-alike h) (script-alike units isos hs)
+script-alike : (units : ℕ) (os : List Iso) {ls ms : List (List ℕ)} → SameLines ls ms → scriptOf units os ls ≡ scriptOf units os ms
+script-alike units os done = refl
+script-alike units os (next h hs) =
+    ap₂ (λ x y. andThen (onLine os (x >>= λ p. guard (names units (length os) p) >>= λ _. some p)) (λ p. andThen y (λ ps. gives (p ∷ ps)))) (planned-alike h) (script-alike units os hs)
 
 units-alike : (rs : List Row) (budget : ℕ) (us : Units) (f : Option Refusal) {ls ms : List (List ℕ)} → SameLines ls ms → onUnits rs budget us ls f ≡ onUnits rs budget us ms f
 units-alike rs budget us (some f) h = refl
-units-alike rs budget us none h = ap (onScript rs budget us) (script-alike (length (us .types)) (length (isosOf rs)) h)
+units-alike rs budget us none h = ap (onScript rs budget us) (script-alike (length (us .types)) (isosOf rs) h)
 
 rows-alike : (us : Units) (script other : List ℕ) (budget : ℕ) (rs : List Row) → Resaved script other → playRows us script budget rs ≡ playRows us other budget rs
 unfolding playRows

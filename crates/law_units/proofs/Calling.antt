@@ -14,6 +14,7 @@ use Rattle.format.specs.Unfold.{isosOf}
 use Rattle.model.specs.Services.{accepted, verdict, short, Outcome, gives, served, serve, RunResult, ranBy, runService, toward, runOn}
 use Rattle.model.specs.Answers.{GoodRows}
 use Rattle.calculus.proofs.Basic.{some-inj, not-ltb}
+use Rattle.model.proofs.Outcomes.{gives-inj}
 use Rattle.model.proofs.Sheets.{long-enough}
 use Rattle.law_ranking.specs.Numbering.{numberRows, settingRows, Numbered, numberedBy, numberService, Lettered, letteredBy, settingService}
 use Rattle.law_units.specs.Units.{Planned, scriptOf, Units, Visited, done, endOf, otherEnd, visitTo, moved, unitsAfter, outcomes, Tally, nothingYet, withVisit, counted, playService}
@@ -93,17 +94,17 @@ module _ (file : List ℕ) (rs : List Row) (acc : verdict file ≡ accepted rs) 
   -- ---- a script
 
   script-served : (g : GoodRows rs) (budget : ℕ) (ls : List (List ℕ)) (ps : List Planned) (us : Units) (t : Tally) → AllHold rs us
-      → scriptOf (length (us .types)) (length (isosOf rs)) ls ≡ some ps → PlayServed file rs budget ls us t (unitsAfter rs budget ps us) (counted (outcomes rs budget ps us) t)
-  script-served g budget [] ps us t a e = PlayServed.ends (ap (λ qs. unitsAfter rs budget qs us) (some-inj e)) (ap (λ qs. counted (outcomes rs budget qs us) t) (some-inj e))
+      → scriptOf (length (us .types)) (isosOf rs) ls ≡ gives ps → PlayServed file rs budget ls us t (unitsAfter rs budget ps us) (counted (outcomes rs budget ps us) t)
+  script-served g budget [] ps us t a e = PlayServed.ends (ap (λ qs. unitsAfter rs budget qs us) (gives-inj e)) (ap (λ qs. counted (outcomes rs budget qs us) t) (gives-inj e))
   script-served g budget (l ∷ ls) ps us t a e =
-      let (p, qs, same, reads, here, low, rest) = script-first (length (us .types)) (length (isosOf rs)) l ls ps e in
+      let (p, qs, same, reads, here, low, rest, free) = script-first (length (us .types)) (isosOf rs) l ls ps e in
       let v : Visited = visitTo rs budget us p in
       let next : Units = moved v (p .unit) us in
-      let by = by-iso rs us a g budget p here low in
+      let by = by-iso rs us a g budget p here low free in
       subst (λ xs. PlayServed file rs budget (l ∷ ls) us t (unitsAfter rs budget xs us) (counted (outcomes rs budget xs us) t)) (sym same)
-      (PlayServed.visits p (by .0) v (line-shape l reads) here (by .1) (visit-served budget p g (by .1) (unit-is rs us a g budget p here low))
-      (script-served g budget ls qs next (withVisit v t) (visit-keeps rs us a g budget p here low)
-      (ap (λ k. scriptOf k (length (isosOf rs)) ls) (moved-length v (p .unit) us) ∙ rest)))
+      (PlayServed.visits p (by .0) v (line-shape l reads) here (by .1) (visit-served budget p g (by .1) (unit-is rs us a g budget p here low free))
+      (script-served g budget ls qs next (withVisit v t) (visit-keeps rs us a g budget p here low free)
+      (ap (λ k. scriptOf k (isosOf rs) ls) (moved-length v (p .unit) us) ∙ rest)))
 
 -- ---- the service
 

@@ -2,19 +2,20 @@
 use Prim.Native.Nat.{ℕ, suc, _+_, _≤_}
 use native.Mathlib.Omega.{arith}
 use mathlib.Core.Path.{_≡_, refl, sym, ap, _∙_}
-use mathlib.Core.Option.{some}
 use mathlib.Core.List.{List, [], _∷_, _++_}
 use lib.ListN.{length}
+use Rattle.calculus.specs.Trees.{Iso}
 use Rattle.format.specs.Lines.{Row}
-use Rattle.calculus.proofs.Basic.{some-inj}
+use Rattle.model.specs.Services.{gives}
+use Rattle.model.proofs.Outcomes.{gives-inj}
 use Rattle.law_units.specs.Units.{Planned, scriptOf, Units, Visited, done, skipped, spent, visitTo, moved, unitsAfter, outcomes, Tally, withVisit, counted}
 use Rattle.law_units.proofs.Playing.{moved-length, script-first}
 
 -- a visit a line
-pub script-length : (units isos : ℕ) (ls : List (List ℕ)) (ps : List Planned) → scriptOf units isos ls ≡ some ps → length ps ≡ length ls
-script-length units isos [] ps e = ap length (sym (some-inj e))
-script-length units isos (l ∷ ls) ps e =
-    let f = script-first units isos l ls ps e in ap length (f .2) ∙ ap suc (script-length units isos ls (f .1) (f .6))
+pub script-length : (units : ℕ) (os : List Iso) (ls : List (List ℕ)) (ps : List Planned) → scriptOf units os ls ≡ gives ps → length ps ≡ length ls
+script-length units os [] ps e = ap length (sym (gives-inj e))
+script-length units os (l ∷ ls) ps e =
+    let f = script-first units os l ls ps e in ap length (f .2) ∙ ap suc (script-length units os ls (f .1) (f .6))
 
 -- and something comes of each
 pub outcomes-length : (rs : List Row) (budget : ℕ) (ps : List Planned) (us : Units) → length (outcomes rs budget ps us) ≡ length ps

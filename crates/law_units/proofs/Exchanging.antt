@@ -1,4 +1,5 @@
--- Two scripts that name different units may be exchanged: playing the lines of the one and then those of the other gives the same answer, units and record either way round.
+-- Two scripts that name different units may be exchanged: playing the lines of the one and then those of the other gives the same units and record either way round, and the same
+-- answer, but that of a 22 and an 18 the first decides.
 use Prim.Native.Nat.{ℕ, _≤_}
 use native.Mathlib.Omega.{arith}
 use mathlib.Core.Path.{_≡_, refl, sym, ap, ap₂, _∙_, subst}
@@ -10,21 +11,24 @@ use lib.Dec.{ltb, eqb}
 use lib.ListN.{length, length-append}
 use lib.Seq.{getD-set-other, set-comm}
 use Rattle.limits.specs.Limits.{lineFeed, maxLines, maxUnits, tableLength, workLength}
-use Rattle.calculus.specs.Tools.{_>>=_}
-use Rattle.calculus.specs.Refusals.{Refusal, tooLong}
+use Rattle.calculus.specs.Trees.{Iso}
+use Rattle.calculus.specs.Refusals.{Refusal, tooLong, tooMany, badScript}
+use Rattle.calculus.specs.Lists.{isFree}
 use Rattle.format.specs.Lines.{Row, lines, ontoFirst}
 use Rattle.format.specs.Unfold.{isosOf}
 use Rattle.format.specs.Code.{numbered}
-use Rattle.model.specs.Services.{Verdict, accepted, refused, verdict, short, unless, tableAfter, workAfter, goOn, lineOf, Answer, Outcome, gives, refusalOf, refusalNumber, served, serve}
+use Rattle.model.specs.Services.{Verdict, accepted, refused, verdict, short, unless, goOn, Outcome, gives, fails, refusalOf, refusalNumber, served}
 use Rattle.calculus.proofs.Basic.{bool-cases, some-inj}
+use Rattle.model.proofs.Outcomes.{fails≢gives, gives-inj}
 use Rattle.model.proofs.Sheets.{long-enough}
-use Rattle.law_units.specs.Units.{Planned, plannedOf, plannedFor, scriptOf, Units, unitsFault, Visited, done, skipped, spent, visit, visitTo, moved}
+use Rattle.law_units.specs.Units.{Planned, plannedOf, plannedFor, andThen, onLine, lineOn, scriptOf, Units, unitsFault, Visited, done, skipped, spent, visit, visitTo, moved}
 use Rattle.law_units.specs.Units.{unitsAfter, outcomes, Tally, nothingYet, withVisit, counted, Played, played, onScript, onUnits, playRows, unequal}
 use Rattle.law_units.specs.Units.{playVerdict, unitsFrom, tallyFrom, Play, playBy, playService}
-use Rattle.law_units.specs.Apart.{Apart}
+use Rattle.law_units.specs.Apart.{Apart, SameAnswer, Exchanged}
 use Rattle.law_units.proofs.Playing.{script-first}
 use Rattle.law_units.proofs.Counts.{after-append, outcomes-append}
 use Rattle.law_units.proofs.Services.{nil≢cons}
+use Rattle.law_units.proofs.Faulting.{fails-inj}
 
 -- ---- lines of bytes behind bytes that end with a line feed
 
@@ -158,51 +162,79 @@ module _ (rs : List Row) (budget : ℕ) where
 
 -- ---- two scripts
 
-module _ (units isos : ℕ) where
-  script-append : (ls ms : List (List ℕ)) → scriptOf units isos (ls ++ ms) ≡ (scriptOf units isos ls >>= λ ps. scriptOf units isos ms >>= λ qs. some (ps ++ qs))
-  script-append [] ms = go (scriptOf units isos ms)
+module _ (units : ℕ) (os : List Iso) where
+  script-append : (ls ms : List (List ℕ))
+      → scriptOf units os (ls ++ ms) ≡ andThen (scriptOf units os ls) (λ ps. andThen (scriptOf units os ms) (λ qs. gives (ps ++ qs)))
+  script-append [] ms = go (scriptOf units os ms)
     where
-      go : (x : Option (List Planned)) → x ≡ (x >>= λ qs. some qs)
-      go none = refl
-      go (some qs) = refl
-  script-append (l ∷ ls) ms = ap (λ y. plannedFor units isos l >>= λ p. y >>= λ ps. some (p ∷ ps)) (script-append ls ms) ∙ go (plannedFor units isos l) (scriptOf units isos ls)
-      (scriptOf units isos ms)
+      go : (x : Outcome (List Planned)) → x ≡ andThen x (λ qs. gives qs)
+      go (gives qs) = refl
+      go (fails f) = refl
+  script-append (l ∷ ls) ms = ap (λ y. andThen (lineOn units os l) (λ p. andThen y (λ ps. gives (p ∷ ps)))) (script-append ls ms) ∙ go (lineOn units os l) (scriptOf units os ls)
+      (scriptOf units os ms)
     where
-      go : (x : Option Planned) (y z : Option (List Planned))
-          → (x >>= λ p. (y >>= λ ps. z >>= λ qs. some (ps ++ qs)) >>= λ rs. some (p ∷ rs))
-          ≡ ((x >>= λ p. y >>= λ ps. some (p ∷ ps)) >>= λ ps. z >>= λ qs. some (ps ++ qs))
-      go none y z = refl
-      go (some p) none z = refl
-      go (some p) (some ps) none = refl
-      go (some p) (some ps) (some qs) = refl
+      go : (x : Outcome Planned) (y z : Outcome (List Planned))
+          → andThen x (λ p. andThen (andThen y (λ ps. andThen z (λ qs. gives (ps ++ qs)))) (λ rs. gives (p ∷ rs)))
+          ≡ andThen (andThen x (λ p. andThen y (λ ps. gives (p ∷ ps)))) (λ ps. andThen z (λ qs. gives (ps ++ qs)))
+      go (fails f) y z = refl
+      go (gives p) (fails f) z = refl
+      go (gives p) (gives ps) (fails f) = refl
+      go (gives p) (gives ps) (gives qs) = refl
 
   -- a visit of a script is that of one of its lines
-  from-line : (ls : List (List ℕ)) (ps : List Planned) → scriptOf units isos ls ≡ some ps → (p : Planned) → List·Memᴰ p ps → (l : List ℕ) × List·Memᴰ l ls × (plannedOf l ≡ some p)
-  from-line [] ps e p m = absurd (List·Memᴰ·not-nil (subst (λ qs. List·Memᴰ p qs) (sym (some-inj e)) m))
+  from-line : (ls : List (List ℕ)) (ps : List Planned) → scriptOf units os ls ≡ gives ps → (p : Planned) → List·Memᴰ p ps → (l : List ℕ) × List·Memᴰ l ls × (plannedOf l ≡ some p)
+  from-line [] ps e p m = absurd (List·Memᴰ·not-nil (subst (λ qs. List·Memᴰ p qs) (sym (gives-inj e)) m))
   from-line (l ∷ ls) ps e p m =
-      let f = script-first units isos l ls ps e in go (f .0) (f .1) (f .3) (λ k. from-line ls (f .1) (f .6) p k) (subst (λ qs. List·Memᴰ p qs) (f .2) m)
+      let f = script-first units os l ls ps e in go (f .0) (f .1) (f .3) (λ k. from-line ls (f .1) (f .6) p k) (subst (λ qs. List·Memᴰ p qs) (f .2) m)
     where
       go : (q : Planned) (qs : List Planned) → plannedOf l ≡ some q → (List·Memᴰ p qs → (n : List ℕ) × List·Memᴰ n ls × (plannedOf n ≡ some p)) → List·Memᴰ p (q ∷ qs)
           → (n : List ℕ) × List·Memᴰ n (l ∷ ls) × (plannedOf n ≡ some p)
       go q qs reads ih (List·Memᴰ·head e) = (l, List·Memᴰ·head refl, reads ∙ ap some (sym e))
       go q qs reads ih (List·Memᴰ·tail k) = let (n, at, says) = ih k in (n, List·Memᴰ·tail at, says)
 
-module _ (us : Units) (budget : ℕ) (rs : List Row) (a b ab ba : List ℕ) (first : lines ab ≡ lines a ++ lines b) (second : lines ba ≡ lines b ++ lines a) (apart : Apart a b) where
-  abbrev readOf : List (List ℕ) → Option (List Planned)
-  readOf ls = scriptOf (length (us .types)) (length (isosOf rs)) ls
+  -- a script is refused 22 or 18
+  abbrev Either : Refusal → Type 0
+  Either f = (f ≡ badScript) ⊎ (f ≡ tooMany)
 
-  spared : (ps qs : List Planned) → readOf (lines a) ≡ some ps → readOf (lines b) ≡ some qs → AllSpare rs budget ps qs
+  line-either : (l : List ℕ) {f : Refusal} → lineOn units os l ≡ fails f → Either f
+  line-either l {f} = go (plannedFor units (length os) l)
+    where
+      free : (p : Planned) (b : Bool) → cond b (gives p) (fails tooMany) ≡ fails f → Either f
+      free p true e = absurd (fails≢gives (sym e))
+      free p false e = inr (sym (fails-inj e))
+
+      go : (x : Option Planned) → onLine os x ≡ fails f → Either f
+      go none e = inl (sym (fails-inj e))
+      go (some p) e = free p (isFree os (p .iso)) e
+
+  script-either : (ls : List (List ℕ)) {f : Refusal} → scriptOf units os ls ≡ fails f → Either f
+  script-either [] e = absurd (fails≢gives (sym e))
+  script-either (l ∷ ls) {f} e = go (lineOn units os l) (scriptOf units os ls) (λ g q. line-either l q) (λ g q. script-either ls q) e
+    where
+      go : (x : Outcome Planned) (y : Outcome (List Planned)) → ((g : Refusal) → x ≡ fails g → Either g) → ((g : Refusal) → y ≡ fails g → Either g)
+          → andThen x (λ p. andThen y (λ ps. gives (p ∷ ps))) ≡ fails f → Either f
+      go (fails g) y h k e = subst Either (fails-inj e) (h g refl)
+      go (gives p) (fails g) h k e = subst Either (fails-inj e) (k g refl)
+      go (gives p) (gives ps) h k e = absurd (fails≢gives (sym e))
+
+-- what two outcomes tell of the same units
+data Swapped (us : Units) (x y : Outcome Played) : Type 0 where
+  alike : refusalOf x ≡ refusalOf y → unitsFrom x us ≡ unitsFrom y us → ((t : Tally) → tallyFrom x t ≡ tallyFrom y t) → Swapped us x y
+  bad : x ≡ fails badScript → y ≡ fails tooMany → Swapped us x y
+  lists : x ≡ fails tooMany → y ≡ fails badScript → Swapped us x y
+
+module _ (us : Units) (budget : ℕ) (rs : List Row) (a b ab ba : List ℕ) (first : lines ab ≡ lines a ++ lines b) (second : lines ba ≡ lines b ++ lines a) (apart : Apart a b) where
+  abbrev readOf : List (List ℕ) → Outcome (List Planned)
+  readOf ls = scriptOf (length (us .types)) (isosOf rs) ls
+
+  spared : (ps qs : List Planned) → readOf (lines a) ≡ gives ps → readOf (lines b) ≡ gives qs → AllSpare rs budget ps qs
   spared ps qs e f p m q k same =
-      let (l, at, reads) = from-line (length (us .types)) (length (isosOf rs)) (lines a) ps e p m in
-      let (n, there, says) = from-line (length (us .types)) (length (isosOf rs)) (lines b) qs f q k in
+      let (l, at, reads) = from-line (length (us .types)) (isosOf rs) (lines a) ps e p m in
+      let (n, there, says) = from-line (length (us .types)) (isosOf rs) (lines b) qs f q k in
       apart .units l n at there p q reads says same
 
-  -- what is told of an outcome
-  abbrev toldOf : Tally → Outcome Played → Option Refusal × Units × Tally
-  toldOf t x = (refusalOf x, unitsFrom x us, tallyFrom x t)
-
-  played-either : (t : Tally) (ps qs : List Planned) → AllSpare rs budget ps qs → toldOf t (gives (played rs budget us (ps ++ qs))) ≡ toldOf t (gives (played rs budget us (qs ++ ps)))
-  played-either t ps qs h =
+  played-either : (ps qs : List Planned) → AllSpare rs budget ps qs → Swapped us (gives (played rs budget us (ps ++ qs))) (gives (played rs budget us (qs ++ ps)))
+  played-either ps qs h =
       let h₂ = spare-sym rs budget ps qs h in
       let u : unitsAfter rs budget (ps ++ qs) us ≡ unitsAfter rs budget (qs ++ ps) us =
       after-append rs budget ps qs us ∙ units-swap rs budget ps qs us h ∙ sym (after-append rs budget qs ps us) in
@@ -212,43 +244,40 @@ module _ (us : Units) (budget : ℕ) (rs : List Row) (a b ab ba : List ℕ) (fir
       outcomes-append rs budget qs ps us ∙ ap (λ vs. outcomes rs budget qs us ++ vs) (outcomes-alone rs budget ps qs us h) in
       let c : counted (outcomes rs budget (ps ++ qs) us) nothingYet ≡ counted (outcomes rs budget (qs ++ ps) us) nothingYet =
       ap (λ vs. counted vs nothingYet) o₁ ∙ counted-either (outcomes rs budget ps us) (outcomes rs budget qs us) nothingYet ∙ ap (λ vs. counted vs nothingYet) (sym o₂) in
-      ap₂ (λ x y. (none, x, y)) u c
+      alike refl u (λ t. c)
 
-  scripts-either : (t : Tally) → toldOf t (onScript rs budget us (readOf (lines ab))) ≡ toldOf t (onScript rs budget us (readOf (lines ba)))
-  scripts-either t =
-      ap (λ x. toldOf t (onScript rs budget us x)) (ap readOf first ∙ script-append (length (us .types)) (length (isosOf rs)) (lines a) (lines b))
-      ∙ go (readOf (lines a)) (readOf (lines b)) refl refl
-      ∙ ap (λ x. toldOf t (onScript rs budget us x)) (sym (ap readOf second ∙ script-append (length (us .types)) (length (isosOf rs)) (lines b) (lines a)))
+  -- both refused: by the same number, or the first decides
+  refused-either : {f g : Refusal} → (f ≡ badScript) ⊎ (f ≡ tooMany) → (g ≡ badScript) ⊎ (g ≡ tooMany) → Swapped us (fails f) (fails g)
+  refused-either (inl e) (inl k) = alike (ap some (e ∙ sym k)) refl (λ t. refl)
+  refused-either (inl e) (inr k) = bad (ap fails e) (ap fails k)
+  refused-either (inr e) (inl k) = lists (ap fails e) (ap fails k)
+  refused-either (inr e) (inr k) = alike (ap some (e ∙ sym k)) refl (λ t. refl)
+
+  scripts-either : Swapped us (onScript rs budget us (readOf (lines ab))) (onScript rs budget us (readOf (lines ba)))
+  scripts-either =
+      subst (λ x. Swapped us (onScript rs budget us x) (onScript rs budget us (readOf (lines ba))))
+      (sym (ap readOf first ∙ script-append (length (us .types)) (isosOf rs) (lines a) (lines b)))
+      (subst (λ x. Swapped us (onScript rs budget us (andThen (readOf (lines a)) (λ ps. andThen (readOf (lines b)) (λ qs. gives (ps ++ qs))))) (onScript rs budget us x))
+      (sym (ap readOf second ∙ script-append (length (us .types)) (isosOf rs) (lines b) (lines a)))
+      (go (readOf (lines a)) (readOf (lines b)) refl refl))
     where
-      go : (x y : Option (List Planned)) → readOf (lines a) ≡ x → readOf (lines b) ≡ y
-          → toldOf t (onScript rs budget us (x >>= λ ps. y >>= λ qs. some (ps ++ qs))) ≡ toldOf t (onScript rs budget us (y >>= λ ps. x >>= λ qs. some (ps ++ qs)))
-      go none none e f = refl
-      go none (some qs) e f = refl
-      go (some ps) none e f = refl
-      go (some ps) (some qs) e f = played-either t ps qs (spared ps qs e f)
+      go : (x y : Outcome (List Planned)) → readOf (lines a) ≡ x → readOf (lines b) ≡ y
+          → Swapped us (onScript rs budget us (andThen x (λ ps. andThen y (λ qs. gives (ps ++ qs))))) (onScript rs budget us (andThen y (λ ps. andThen x (λ qs. gives (ps ++ qs)))))
+      go (fails f) (fails g) e k =
+          refused-either (script-either (length (us .types)) (isosOf rs) (lines a) e) (script-either (length (us .types)) (isosOf rs) (lines b) k)
+      go (fails f) (gives qs) e k = alike refl refl (λ t. refl)
+      go (gives ps) (fails f) e k = alike refl refl (λ t. refl)
+      go (gives ps) (gives qs) e k = played-either ps qs (spared ps qs e k)
 
-  pub rows-either : (t : Tally) → toldOf t (playRows us ab budget rs) ≡ toldOf t (playRows us ba budget rs)
+  rows-either : Swapped us (playRows us ab budget rs) (playRows us ba budget rs)
   unfolding playRows
-  rows-either t = go (unitsFault rs (us .types) (us .settings))
+  rows-either = go (unitsFault rs (us .types) (us .settings))
     where
-      go : (x : Option Refusal) → toldOf t (onUnits rs budget us (lines ab) x) ≡ toldOf t (onUnits rs budget us (lines ba) x)
-      go none = scripts-either t
-      go (some f) = refl
+      go : (x : Option Refusal) → Swapped us (onUnits rs budget us (lines ab) x) (onUnits rs budget us (lines ba) x)
+      go none = scripts-either
+      go (some f) = alike refl refl (λ t. refl)
 
 -- ---- the service
-
--- what a play tells, but for the two areas
-abbrev pub told : Play → Option Refusal × Answer × Units × Tally
-told p = (p .refusal, p .answer, p .units, p .tally)
-
--- a play does not depend on which table and work area it is lent
-pub play-anywhere : (file t w t₂ w₂ : List ℕ) (us : Units) (script : List ℕ) (budget : ℕ) (tl : Tally) → short t w ≡ short t₂ w₂
-    → told (playService file t w us script budget tl) ≡ told (playService file t₂ w₂ us script budget tl)
-unfolding playService
-play-anywhere file t w t₂ w₂ us script budget tl e =
-    ap (λ b. let v : Verdict = unless (b || unequal us) (playVerdict us script (verdict file)) in
-    let x : Outcome Played = goOn v (playRows us script budget) in
-    (refusalOf x, record { number = refusalNumber x; line = lineOf v }, unitsFrom x us, tallyFrom x tl)) e
 
 module _ (us : Units) (budget : ℕ) (a b ab ba : List ℕ) (first : lines ab ≡ lines a ++ lines b) (second : lines ba ≡ lines b ++ lines a) (apart : Apart a b) where
   same-many : length (lines ab) ≡ length (lines ba)
@@ -259,37 +288,38 @@ module _ (us : Units) (budget : ℕ) (a b ab ba : List ℕ) (first : lines ab �
       let q = ap length second in
       omega (arith, n, m, p, q)
 
-  served-either : (t w : List ℕ) (tl : Tally) (v : Verdict) → playBy us tl (served v (goOn v (playRows us ab budget)) t w) ≡ playBy us tl (served v (goOn v (playRows us ba budget)) t w)
-  served-either t w tl (accepted rs) =
-      ap {B = Play}
-      (λ z. record {
-        refusal = z .0;
-        answer = record { number = numbered (z .0); line = 0 };
-        table = tableAfter (accepted rs) t;
-        work = workAfter (accepted rs) w;
-        units = z .1;
-        tally = z .2;
-      })
-      (rows-either us budget rs a b ab ba first second apart tl)
-  served-either t w tl (refused f n) = refl
+  module _ (t w t₂ w₂ : List ℕ) (tl : Tally) where
+    on-rows : (rs : List Row) {x y : Outcome Played} → Swapped us x y → Exchanged (playBy us tl (served (accepted rs) x t w)) (playBy us tl (served (accepted rs) y t₂ w₂))
+    on-rows rs (alike r u c) = record { answer = SameAnswer.same (ap (λ z. record { number = numbered z; line = 0 }) r); units = u; tally = c tl }
+    on-rows rs (bad e k) =
+        record {
+          answer = SameAnswer.bad-first (ap (λ z. record { number = refusalNumber z; line = 0 }) e) (ap (λ z. record { number = refusalNumber z; line = 0 }) k);
+          units = ap (λ z. unitsFrom z us) e ∙ sym (ap (λ z. unitsFrom z us) k);
+          tally = ap (λ z. tallyFrom z tl) e ∙ sym (ap (λ z. tallyFrom z tl) k);
+        }
+    on-rows rs (lists e k) =
+        record {
+          answer = SameAnswer.lists-first (ap (λ z. record { number = refusalNumber z; line = 0 }) e) (ap (λ z. record { number = refusalNumber z; line = 0 }) k);
+          units = ap (λ z. unitsFrom z us) e ∙ sym (ap (λ z. unitsFrom z us) k);
+          tally = ap (λ z. tallyFrom z tl) e ∙ sym (ap (λ z. tallyFrom z tl) k);
+        }
 
-  -- in the same areas the two plays are one
-  pub plays-either : (file t w : List ℕ) (tl : Tally) → playService file t w us ab budget tl ≡ playService file t w us ba budget tl
-  unfolding playService
-  plays-either file t w tl =
-      ap (λ n. playBy us tl (serve (short t w || unequal us) (cond (ltb maxUnits (length (us .types)) || ltb maxLines n) (refused tooLong 0) (verdict file)) (playRows us ab budget) t w)) same-many
-      ∙ served-either t w tl (unless (short t w || unequal us) (playVerdict us ba (verdict file)))
+    abbrev on : Verdict → List ℕ → List ℕ → List ℕ → Play
+    on v script t w = playBy us tl (served v (goOn v (playRows us script budget)) t w)
 
-  -- and in areas of their own they answer alike and leave the same units and record
+    served-either : (v : Verdict) → Exchanged (on v ab t w) (on v ba t₂ w₂)
+    served-either (accepted rs) = on-rows rs (rows-either us budget rs a b ab ba first second apart)
+    served-either (refused f n) = record { answer = SameAnswer.same refl; units = refl; tally = refl }
+
+    -- the two plays, in areas that are short or long enough alike
+    pub plays-either : (file : List ℕ) → short t w ≡ short t₂ w₂ → Exchanged (playService file t w us ab budget tl) (playService file t₂ w₂ us ba budget tl)
+    unfolding playService
+    plays-either file e =
+        let second-verdict : Verdict = unless (short t₂ w₂ || unequal us) (playVerdict us ba (verdict file)) in
+        let same : unless (short t w || unequal us) (playVerdict us ab (verdict file)) ≡ second-verdict =
+        ap₂ (λ c n. unless (c || unequal us) (cond (ltb maxUnits (length (us .types)) || ltb maxLines n) (refused tooLong 0) (verdict file))) e same-many in
+        subst (λ v. Exchanged (on v ab t w) (on second-verdict ba t₂ w₂)) (sym same) (served-either second-verdict)
+
   pub plays-exchanged : (file t w t₂ w₂ : List ℕ) (tl : Tally) → tableLength ≤ length t → workLength ≤ length w → tableLength ≤ length t₂ → workLength ≤ length w₂
-      → told (playService file t w us ab budget tl) ≡ told (playService file t₂ w₂ us ba budget tl)
-  plays-exchanged file t w t₂ w₂ tl l₁ w₁ l₂ v₂ =
-      ap told (plays-either file t w tl) ∙ play-anywhere file t w t₂ w₂ us ba budget tl (long-enough t w l₁ w₁ ∙ sym (long-enough t₂ w₂ l₂ v₂))
-
--- scripts that end with a line feed, one behind the other
-pub scripts-exchanged : (us : Units) (budget : ℕ) (c d : List ℕ) → Apart (c ++ (lineFeed ∷ [])) (d ++ (lineFeed ∷ [])) → (file t w : List ℕ) (tl : Tally)
-    → playService file t w us ((c ++ (lineFeed ∷ [])) ++ (d ++ (lineFeed ∷ []))) budget tl ≡ playService file t w us ((d ++ (lineFeed ∷ [])) ++ (c ++ (lineFeed ∷ []))) budget tl
-scripts-exchanged us budget c d apart file t w tl =
-    let a : List ℕ = c ++ (lineFeed ∷ []) in
-    let b : List ℕ = d ++ (lineFeed ∷ []) in
-    plays-either us budget a b (a ++ b) (b ++ a) (lines-behind c b) (lines-behind d a) apart file t w tl
+      → Exchanged (playService file t w us ab budget tl) (playService file t₂ w₂ us ba budget tl)
+  plays-exchanged file t w t₂ w₂ tl l₁ w₁ l₂ v₂ = plays-either t w t₂ w₂ tl file (long-enough t w l₁ w₁ ∙ sym (long-enough t₂ w₂ l₂ v₂))

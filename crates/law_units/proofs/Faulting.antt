@@ -5,27 +5,34 @@ use mathlib.Core.Path.{_≡_, refl, sym, ap, ap₂, _∙_, subst}
 use mathlib.Core.Logic.{_⊎_, inl, inr, _↔_}
 use mathlib.Core.Bool.{Bool, true, false, cond, not, _&&_, _||_}
 use mathlib.Core.Option.{Option, none, some}
-use mathlib.Core.List.{List, [], _∷_, _++_, append-nil, List·Memᴰ, List·Memᴰ·head, List·Memᴰ·tail, List·Memᴰ·not-nil}
+use mathlib.Core.List.{List, [], _∷_, _++_, append-nil, List·Memᴰ·tail}
 use lib.Dec.{ltb, eqb}
 use lib.ListN.{length, getD}
 use Rattle.limits.specs.Limits.{fieldBound, tableLength, workLength, maxLines, maxUnits, lineFeed, carriageReturn, letterS}
 use Rattle.calculus.specs.Tools.{_>>=_, guard, orElse}
-use Rattle.calculus.specs.Refusals.{Refusal, number, typeLine, tooLong, badScript}
+use Rattle.calculus.specs.Trees.{Iso}
+use Rattle.calculus.specs.Refusals.{Refusal, number, typeLine, tooLong, tooMany, badScript}
+use Rattle.calculus.specs.Lists.{isFree, ListFree}
 use Rattle.format.specs.Lines.{Row, lines, text, skip, fields, ended, printField}
 use Rattle.format.specs.Unfold.{isosOf}
-use Rattle.model.specs.Services.{Verdict, accepted, refused, verdict, short, unless, answerOf, Answer, check, Outcome, fails, refusalOf, refusalNumber, serve, answerFrom}
+use Rattle.model.specs.Services.{Verdict, accepted, refused, verdict, short, unless, answerOf, Answer, check, Outcome, gives, fails, refusalOf, refusalNumber, serve, answerFrom}
 use Rattle.calculus.proofs.Basic.{bind-some, some-bind, some-inj, none≢some, not-some, neither, or-true, ltb-lt, ltb-false, lt-ltb, not-ltb, eqb-eq, eq-eqb}
-use Rattle.calculus.proofs.Basic.{not-both, orElse-cases, each-cons, true-or-left, true-or-right}
+use Rattle.calculus.proofs.Basic.{not-both, orElse-cases, each-cons, true-or-left, true-or-right, and-true, true-and, guard-true, bool-cases, is-false}
+use Rattle.calculus.proofs.Lists.{EarlierOrOwn, free-iff}
 use Rattle.format.proofs.Endings.{Ended, by-feed, by-both, NoReturn, Returnless, text-ended, ended-text}
 use Rattle.format.proofs.Printing.{printFields, Bounds, FieldsBelow, fields-print, skip-some, read-fields, ended-some, returnless-body}
 use Rattle.model.proofs.Files.{accepted-iff, number-positive}
+use Rattle.model.proofs.Outcomes.{fails≢gives}
+use Rattle.model.proofs.Runs.{good, accepted-good}
 use Rattle.model.proofs.Sheets.{long-enough}
+use Rattle.model.proofs.Sizes.{near-of}
 use Rattle.law_ranking.specs.Answers.{SettingIs}
 use Rattle.law_ranking.proofs.Outcomes.{setting-in, setting-case}
-use Rattle.law_units.specs.Units.{Planned, plannedIn, plannedOf, names, plannedFor, scriptOf, Units, unitFault, unitsFault, Tally, onScript, onUnits, playRows, unequal, playVerdict, playService}
-use Rattle.law_units.specs.Faults.{visitText, VisitLine, BadLine, UnitFault, FirstUnit, Room, Few, PlayFault}
+use Rattle.law_units.specs.Units.{Planned, plannedIn, plannedOf, names, plannedFor, andThen, onLine, lineOn, scriptOf, Units, unitFault, unitsFault}
+use Rattle.law_units.specs.Units.{Tally, onScript, onUnits, playRows, unequal, playVerdict, playService}
+use Rattle.law_units.specs.Faults.{visitText, VisitLine, BadLine, Names, ScriptLine, Passing, FirstLine, UnitFault, FirstUnit, Room, Few, PlayFault}
 use Rattle.law_units.proofs.Visits.{no-fault, holds-fault}
-use Rattle.law_units.proofs.Playing.{all-hold, hold-all, script-first}
+use Rattle.law_units.proofs.Playing.{within, all-hold, hold-all}
 use Rattle.law_units.proofs.Services.{plays}
 
 -- ---- the form of a line
@@ -139,35 +146,87 @@ module _ (units isos : ℕ) where
       go none e h = BadLine.form (λ p v. none≢some (sym e ∙ shape-line v))
       go (some p) e h = tested p (line-shape l e) (ltb (p .unit) units) (ltb (p .iso) isos) refl refl h
 
-  -- "22": some line is bad
-  script-bad : (ls : List (List ℕ)) → scriptOf units isos ls ≡ none → (l : List ℕ) × List·Memᴰ l ls × BadLine units isos l
-  script-bad [] e = absurd (none≢some (sym e))
-  script-bad (l ∷ ls) e = go (plannedFor units isos l) (scriptOf units isos ls) refl (script-bad ls) e
+  -- and one that is
+  pub line-named : (l : List ℕ) {p : Planned} → plannedFor units isos l ≡ some p → Names units isos l p
+  line-named l {p} e =
+      let c = bind-some (plannedOf l) (λ q. guard (names units isos q) >>= λ _. some q) e in
+      let d = bind-some (guard (names units isos (c .0))) (λ _. some (c .0)) (c .2) in
+      let t = and-true (ltb (c .0 .unit) units) (ltb (c .0 .iso) isos) (guard-true (names units isos (c .0)) (d .1)) in
+      subst (Names units isos l) (some-inj (d .2))
+      (record { line = line-shape l (c .1); unit = ltb-lt (c .0 .unit) units (t .0); iso = ltb-lt (c .0 .iso) isos (t .1) })
+
+  named-line : {l : List ℕ} {p : Planned} → Names units isos l p → plannedFor units isos l ≡ some p
+  named-line {l} {p} n =
+      some-bind (λ q. guard (names units isos q) >>= λ _. some q) (shape-line (n .line))
+      ∙ ap (λ b. guard b >>= λ _. some p) (true-and (lt-ltb (n .unit)) (lt-ltb (n .iso)))
+
+  bad-line : {l : List ℕ} → BadLine units isos l → plannedFor units isos l ≡ none
+  bad-line {l} bad = not-some (plannedFor units isos l) (λ p e. not-named bad (line-named l e))
     where
-      go : (x : Option Planned) (y : Option (List Planned)) → plannedFor units isos l ≡ x → (y ≡ none → (m : List ℕ) × List·Memᴰ m ls × BadLine units isos m)
-          → (x >>= λ p. y >>= λ ps. some (p ∷ ps)) ≡ none → (m : List ℕ) × List·Memᴰ m (l ∷ ls) × BadLine units isos m
-      go none y f ih h = (l, List·Memᴰ·head refl, line-bad l f)
-      go (some p) none f ih h = let (m, at, bad) = ih refl in (m, List·Memᴰ·tail at, bad)
-      go (some p) (some ps) f ih h = absurd (none≢some (sym h))
+      not-named : BadLine units isos l → {p : Planned} → Names units isos l p → ⊥
+      not-named (BadLine.form h) {p} n = h p (n .line)
+      not-named (BadLine.unit q v h) n =
+          let same = ap (λ (x : Planned). x .unit) (some-inj (sym (shape-line (n .line)) ∙ shape-line v)) in
+          absurd (omega (arith, n .unit, h, same))
+      not-named (BadLine.iso q v h) n =
+          let same = ap (λ (x : Planned). x .iso) (some-inj (sym (shape-line (n .line)) ∙ shape-line v)) in
+          absurd (omega (arith, n .iso, h, same))
 
-  -- every line of a script is a visit of so many units and isos
-  line-good : (ls : List (List ℕ)) (ps : List Planned) → scriptOf units isos ls ≡ some ps → (l : List ℕ) → List·Memᴰ l ls
-      → (p : Planned) × (plannedOf l ≡ some p) × (p .unit < units) × (p .iso < isos)
-  line-good [] ps e l m = absurd (List·Memᴰ·not-nil m)
-  line-good (k ∷ ls) ps e l (List·Memᴰ·head q) =
-      let f = script-first units isos k ls ps e in (f .0, ap plannedOf q ∙ f .3, f .4, f .5)
-  line-good (k ∷ ls) ps e l (List·Memᴰ·tail m) = let f = script-first units isos k ls ps e in line-good ls (f .1) (f .6) l m
+pub fails-inj : {A : Type 0} {f g : Refusal} → _≡_ {A = Outcome A} (fails f) (fails g) → f ≡ g
+fails-inj e = some-inj (ap refusalOf e)
 
-  bad-not : {l : List ℕ} → BadLine units isos l → (p : Planned) → plannedOf l ≡ some p → p .unit < units → p .iso < isos → ⊥
-  bad-not {l} (BadLine.form h) p e u i = h p (line-shape l e)
-  bad-not (BadLine.unit q v h) p e u i =
-      let same = ap (λ (x : Planned). x .unit) (some-inj (sym e ∙ shape-line v)) in absurd (omega (arith, u, h, same))
-  bad-not (BadLine.iso q v h) p e u i =
-      let same = ap (λ (x : Planned). x .iso) (some-inj (sym e ∙ shape-line v)) in absurd (omega (arith, i, h, same))
+-- isos of which a test tells whether they have to do with lists
+module _ (units : ℕ) (os : List Iso) (near : EarlierOrOwn os) where
+  at-iso : (i : ℕ) → i < length os → (isFree os i ≡ true) ↔ ListFree os i
+  at-iso i h = let (o, e) = within os i h in free-iff os near i o e
 
-  bad-script : (ls : List (List ℕ)) (l : List ℕ) → List·Memᴰ l ls → BadLine units isos l → scriptOf units isos ls ≡ none
-  bad-script ls l m bad =
-      not-some (scriptOf units isos ls) (λ ps e. let (p, reads, u, i) = line-good ls ps e l m in bad-not bad p reads u i)
+  -- a line by what it plans
+  line-told : (l : List ℕ) (x : Option Planned) → plannedFor units (length os) l ≡ x
+      → Passing units os l ⊎ ((f : Refusal) × ScriptLine units os l f)
+  line-told l none e = inr (badScript, ScriptLine.bad (line-bad units (length os) l e))
+  line-told l (some p) e = go (bool-cases (isFree os (p .iso)))
+    where
+      n : Names units (length os) l p
+      n = line-named units (length os) l e
+
+      go : (isFree os (p .iso) ≡ true) ⊎ (isFree os (p .iso) ≡ false) → Passing units os l ⊎ ((f : Refusal) × ScriptLine units os l f)
+      go (inl y) = inl (record { planned = p; names = n; free = at-iso (p .iso) (n .iso) .0 y })
+      go (inr y) = inr (tooMany, ScriptLine.lists p n (λ free. not-both (at-iso (p .iso) (n .iso) .1 free) y))
+
+  line-passes : {l : List ℕ} (h : Passing units os l) → lineOn units os l ≡ gives (h .planned)
+  line-passes h =
+      ap (onLine os) (named-line units (length os) (h .names))
+      ∙ ap (λ b. cond b (gives (h .planned)) (fails tooMany)) (at-iso (h .planned .iso) (h .names .iso) .1 (h .free))
+
+  line-fails : {l : List ℕ} {f : Refusal} → ScriptLine units os l f → lineOn units os l ≡ fails f
+  line-fails (ScriptLine.bad b) = ap (onLine os) (bad-line units (length os) b)
+  line-fails (ScriptLine.lists p n h) =
+      ap (onLine os) (named-line units (length os) n)
+      ∙ ap (λ b. cond b (gives p) (fails tooMany)) (is-false (isFree os (p .iso)) (λ e. h (at-iso (p .iso) (n .iso) .0 e)))
+
+  -- "tested line by line": the refusal of a script is that of the first line that has one
+  pub fails-script : {ls : List (List ℕ)} {f : Refusal} → FirstLine units os ls f → scriptOf units os ls ≡ fails f
+  fails-script (FirstLine.here {ls = ls} s) =
+      ap (λ x. andThen x (λ p. andThen (scriptOf units os ls) (λ ps. gives (p ∷ ps)))) (line-fails s)
+  fails-script (FirstLine.later {ls = ls} h s) =
+      ap (λ x. andThen x (λ p. andThen (scriptOf units os ls) (λ ps. gives (p ∷ ps)))) (line-passes h)
+      ∙ ap (λ x. andThen x (λ ps. gives (h .planned ∷ ps))) (fails-script s)
+
+  pub script-fails : (ls : List (List ℕ)) {f : Refusal} → scriptOf units os ls ≡ fails f → FirstLine units os ls f
+  script-fails [] e = absurd (fails≢gives (sym e))
+  script-fails (l ∷ ls) {f} e = go (line-told l (plannedFor units (length os) l) refl) (script-fails ls)
+    where
+      rest : (p : Planned) (x : Outcome (List Planned)) → andThen x (λ ps. gives (p ∷ ps)) ≡ fails f → x ≡ fails f
+      rest p (gives ps) h = absurd (fails≢gives (sym h))
+      rest p (fails g) h = ap fails (fails-inj h)
+
+      go : Passing units os l ⊎ ((g : Refusal) × ScriptLine units os l g) → (scriptOf units os ls ≡ fails f → FirstLine units os ls f) → FirstLine units os (l ∷ ls) f
+      go (inl h) ih =
+          let next = sym (ap (λ x. andThen x (λ p. andThen (scriptOf units os ls) (λ ps. gives (p ∷ ps)))) (line-passes h)) ∙ e in
+          FirstLine.later h (ih (rest (h .planned) (scriptOf units os ls) next))
+      go (inr (g, s)) ih =
+          let same = fails-inj (sym (ap (λ x. andThen x (λ p. andThen (scriptOf units os ls) (λ ps. gives (p ∷ ps)))) (line-fails s)) ∙ e) in
+          FirstLine.here (subst (ScriptLine units os l) same s)
 
 -- ---- the units
 
@@ -261,14 +320,18 @@ module _ (file t w : List ℕ) (us : Units) (script : List ℕ) (budget : ℕ) (
   unfolding playRows
   by-units rs u = ap (onUnits rs budget us (lines script)) (first-fault rs u)
 
-  by-script : (rs : List Row) → unitsFault rs (us .types) (us .settings) ≡ none → scriptOf (length (us .types)) (length (isosOf rs)) (lines script) ≡ none
-      → playRows us script budget rs ≡ fails badScript
+  by-script : (rs : List Row) {f : Refusal} → unitsFault rs (us .types) (us .settings) ≡ none → scriptOf (length (us .types)) (isosOf rs) (lines script) ≡ fails f
+      → playRows us script budget rs ≡ fails f
   unfolding playRows
   by-script rs u s = ap (onUnits rs budget us (lines script)) u ∙ ap (onScript rs budget us) s
 
   refuses : (rs : List Row) (f : Refusal) → Room t w us → Few us script → verdict file ≡ accepted rs → playRows us script budget rs ≡ fails f → answered ≡ record { number = number f; line = 0 }
   refuses rs f r s acc e =
       by-tests false false (wide r) (fit s) (accepted rs) acc ∙ ap (λ x. record { number = refusalNumber x; line = 0 }) e
+
+  -- a let step of an accepted file names an earlier iso, or its own
+  near : (rs : List Row) → verdict file ≡ accepted rs → EarlierOrOwn (isosOf rs)
+  near rs acc = near-of (good rs (accepted-good file rs acc))
 
   -- what is judged is answered
   pub fault-answered : {n m : ℕ} → PlayFault file t w us script n m → answered ≡ record { number = n; line = m }
@@ -283,26 +346,25 @@ module _ (file t w : List ℕ) (us : Units) (script : List ℕ) (budget : ℕ) (
       let positive : 0 < answerOf (verdict file) .number = subst (λ (a : Answer). 0 < a .number) (sym same) h in
       by-tests false false (wide r) (fit s) (verdict file) refl ∙ by-file (verdict file) positive ∙ same
   fault-answered (PlayFault.unit rs f r s form ok u) = refuses rs f r s (accepted-iff file rs .1 (form, ok)) (by-units rs u)
-  fault-answered (PlayFault.script rs l r s form ok holds at bad) =
-      refuses rs badScript r s (accepted-iff file rs .1 (form, ok))
-      (by-script rs (hold-all rs us (record { long = r .equal; each = holds })) (bad-script (length (us .types)) (length (isosOf rs)) (lines script) l at bad))
+  fault-answered (PlayFault.script rs f r s form ok holds first) =
+      let acc = accepted-iff file rs .1 (form, ok) in
+      refuses rs f r s acc (by-script rs (hold-all rs us (record { long = r .equal; each = holds })) (fails-script (length (us .types)) (isosOf rs) (near rs acc) first))
 
   -- and there is a judgement for each answer that is not 0
   pub fault-or-none : (answered .number ≡ 0) ⊎ ((n : ℕ) × (m : ℕ) × PlayFault file t w us script n m)
   fault-or-none = tests narrow over refl refl
     where
-      on-script : (rs : List Row) → Room t w us → Few us script → verdict file ≡ accepted rs → unitsFault rs (us .types) (us .settings) ≡ none → (x : Option (List Planned))
-          → scriptOf (length (us .types)) (length (isosOf rs)) (lines script) ≡ x → (answered .number ≡ 0) ⊎ ((n : ℕ) × (m : ℕ) × PlayFault file t w us script n m)
-      on-script rs r s acc u none e =
-          let (l, at, bad) = script-bad (length (us .types)) (length (isosOf rs)) (lines script) e in
+      on-script : (rs : List Row) → Room t w us → Few us script → verdict file ≡ accepted rs → unitsFault rs (us .types) (us .settings) ≡ none → (x : Outcome (List Planned))
+          → scriptOf (length (us .types)) (isosOf rs) (lines script) ≡ x → (answered .number ≡ 0) ⊎ ((n : ℕ) × (m : ℕ) × PlayFault file t w us script n m)
+      on-script rs r s acc u (fails f) e =
           let (form, ok) = accepted-iff file rs .0 acc in
-          inr (22, 0, PlayFault.script rs l r s form ok (all-hold rs us (r .equal) u .each) at bad)
-      on-script rs r s acc u (some ps) e =
+          inr (number f, 0, PlayFault.script rs f r s form ok (all-hold rs us (r .equal) u .each) (script-fails (length (us .types)) (isosOf rs) (near rs acc) (lines script) e))
+      on-script rs r s acc u (gives ps) e =
           inl (ap (λ (a : Answer). a .number) (by-tests false false (wide r) (fit s) (accepted rs) acc) ∙ ap refusalNumber (plays rs us script budget ps u e))
 
       on-units : (rs : List Row) → Room t w us → Few us script → verdict file ≡ accepted rs → (x : Option Refusal) → unitsFault rs (us .types) (us .settings) ≡ x
           → (answered .number ≡ 0) ⊎ ((n : ℕ) × (m : ℕ) × PlayFault file t w us script n m)
-      on-units rs r s acc none u = on-script rs r s acc u (scriptOf (length (us .types)) (length (isosOf rs)) (lines script)) refl
+      on-units rs r s acc none u = on-script rs r s acc u (scriptOf (length (us .types)) (isosOf rs) (lines script)) refl
       on-units rs r s acc (some f) u =
           let (form, ok) = accepted-iff file rs .0 acc in inr (number f, 0, PlayFault.unit rs f r s form ok (fault-first rs (us .types) (us .settings) u))
 

@@ -5,30 +5,33 @@ use native.Mathlib.Omega.{arith}
 use mathlib.Core.Path.{_≡_, refl, sym, ap, ap₂, _∙_, subst}
 use mathlib.Core.Logic.{_⊎_, inl, inr}
 use mathlib.Core.Bool.{Bool, true, false, cond}
-use mathlib.Core.Option.{none, some}
+use mathlib.Core.Option.{Option, none, some}
 use mathlib.Core.List.{List, [], _∷_}
 use lib.Dec.{leb, eqb, ltb}
 use lib.ListN.{length, getD, getElem?, set, length-set, length-map}
 use lib.Seq.{getD-set-same, getD-set-other}
 use Rattle.calculus.specs.Tools.{_>>=_, guard, orElse}
 use Rattle.calculus.specs.Trees.{Iso, invert, sameType}
-use Rattle.calculus.specs.Refusals.{spent as overBudget}
+use Rattle.calculus.specs.Refusals.{spent as overBudget, tooMany}
+use Rattle.calculus.specs.Lists.{isFree}
 use Rattle.format.specs.Lines.{Row}
 use Rattle.format.specs.Judge.{start}
 use Rattle.format.specs.Unfold.{isosOf}
 use Rattle.calculus.specs.Letters.{letters}
-use Rattle.model.specs.Services.{gives, fails, toward, runOn}
+use Rattle.model.specs.Services.{Outcome, gives, fails, toward, runOn}
 use Rattle.model.specs.Answers.{GoodRows}
 use Rattle.calculus.proofs.Basic.{bind-some, some-inj, guard-true, and-true, ltb-lt, orElse-none, bool-cases, eqb-eq, eqb-false, sameType-eq, sameType-refl, not-both}
 use Rattle.format.proofs.Passing.{Passes}
+use Rattle.model.proofs.Outcomes.{fails≢gives, gives-inj}
 use Rattle.model.proofs.Runs.{toward-length}
 use Rattle.law_ranking.specs.Numbering.{rank, numberRows, settingRows}
-use Rattle.law_units.specs.Units.{Planned, plannedOf, names, plannedFor, scriptOf, Units, unitFault, Holds, unitsFault, Visited, done, skipped, spent, otherEnd, visit, visitTo, moved}
+use Rattle.law_units.specs.Units.{Planned, plannedOf, names, plannedFor, andThen, onLine, lineOn, scriptOf, Units, unitFault, Holds, unitsFault, Visited}
+use Rattle.law_units.specs.Units.{done, skipped, spent, otherEnd, visit, visitTo, moved}
 use Rattle.law_units.proofs.Visits.{no-fault, holds-fault, valueOf, spelled, end, visit-skips, reduced, ran, numbered, visit-sends, end-holds}
 
 -- ---- isos of either direction
 
-within : {A : Type 0} (xs : List A) (i : ℕ) → i < length xs → (x : A) × (getElem? xs i ≡ some x)
+pub within : {A : Type 0} (xs : List A) (i : ℕ) → i < length xs → (x : A) × (getElem? xs i ≡ some x)
 within [] i h = absurd (not-suc-le-zero h)
 within (x ∷ xs) zero h = (x, refl)
 within (x ∷ xs) (suc i) h = within xs i (le-of-suc-le-suc h)
@@ -48,28 +51,29 @@ pub data VisitIs (rs : List Row) (budget : ℕ) (p : Planned) (i n : ℕ) (o : I
       → VisitIs rs budget p i n o (done (otherEnd rs (p .back) (some o)) m)
 
 pub visit-is : (rs : List Row) → GoodRows rs → (budget : ℕ) (p : Planned) {i n : ℕ} → Holds rs i n → {o : Iso} → getElem? (isosOf (toward (p .back) rs)) (p .iso) ≡ some o
-    → VisitIs rs budget p i n o (visit rs budget p i n)
-visit-is rs g budget p {i} {n} h {o} e = go (bool-cases (sameType (h .type) (o .from)))
+    → isFree (isosOf rs) (p .iso) ≡ true → VisitIs rs budget p i n o (visit rs budget p i n)
+visit-is rs g budget p {i} {n} h {o} e free = go (bool-cases (sameType (h .type) (o .from)))
   where
-    on : (same : h .type ≡ o .from) (b : Bool) → leb (reduced rs g budget p h e same .1) budget ≡ b → visit rs budget p i n ≡ cond b
-        (done (end rs g budget p h e) (rank (reduced rs g budget p h e same .0) (o .to))) spent
+    on : (same : h .type ≡ o .from) (b : Bool) → leb (reduced rs g budget p h e free same .1) budget ≡ b → visit rs budget p i n ≡ cond b
+        (done (end rs g budget p h e free) (rank (reduced rs g budget p h e free same .0) (o .to))) spent
         → VisitIs rs budget p i n o (visit rs budget p i n)
     on same true d v =
         subst (VisitIs rs budget p i n o) (sym v)
-        (does h (letters (valueOf h)) (letters (reduced rs g budget p h e same .0)) (reduced rs g budget p h e same .1) (rank (reduced rs g budget p h e same .0) (o .to)) same (spelled h)
-        (ran rs g budget p h e same ∙ ap (λ c. cond c (gives (reduced rs g budget p h e same .1, letters (reduced rs g budget p h e same .0))) (fails overBudget)) d)
-        (numbered rs g budget p h e same) (end-holds rs g budget p h e same) refl)
+        (does h (letters (valueOf h)) (letters (reduced rs g budget p h e free same .0)) (reduced rs g budget p h e free same .1) (rank (reduced rs g budget p h e free same .0) (o .to)) same
+        (spelled h)
+        (ran rs g budget p h e free same ∙ ap (λ c. cond c (gives (reduced rs g budget p h e free same .1, letters (reduced rs g budget p h e free same .0))) (fails overBudget)) d)
+        (numbered rs g budget p h e free same) (end-holds rs g budget p h e free same) refl)
     on same false d v =
         subst (VisitIs rs budget p i n o) (sym v)
         (spends h (letters (valueOf h)) same (spelled h)
-        (ran rs g budget p h e same ∙ ap (λ c. cond c (gives (reduced rs g budget p h e same .1, letters (reduced rs g budget p h e same .0))) (fails overBudget)) d))
+        (ran rs g budget p h e free same ∙ ap (λ c. cond c (gives (reduced rs g budget p h e free same .1, letters (reduced rs g budget p h e free same .0))) (fails overBudget)) d))
 
     go : (sameType (h .type) (o .from) ≡ true) ⊎ (sameType (h .type) (o .from) ≡ false) → VisitIs rs budget p i n o (visit rs budget p i n)
     go (inl y) =
         let same = sameType-eq (h .type) (o .from) y in
-        on same (leb (reduced rs g budget p h e same .1) budget) refl (visit-sends rs g budget p h e same)
+        on same (leb (reduced rs g budget p h e free same .1) budget) refl (visit-sends rs g budget p h e free same)
     go (inr y) =
-        subst (VisitIs rs budget p i n o) (sym (visit-skips rs g budget p h e y))
+        subst (VisitIs rs budget p i n o) (sym (visit-skips rs g budget p h e free y))
         (skips h (λ q. not-both (ap (λ a. sameType a (o .from)) q ∙ sameType-refl (o .from)) y))
 
 -- ---- all units
@@ -118,13 +122,14 @@ module _ (rs : List Row) (us : Units) (a : AllHold rs us) where
           subst (λ z. Holds rs z (getD (set (us .settings) u m) k 0)) (sym (getD-set-other (us .types) u k j 0 ne))
           (subst (Holds rs (getD (us .types) k 0)) (sym (getD-set-other (us .settings) u k m 0 ne)) (a .each k l))
 
-  module _ (g : GoodRows rs) (budget : ℕ) (p : Planned) (here : p .unit < length (us .types)) (low : p .iso < length (isosOf rs)) where
+  module _ (g : GoodRows rs) (budget : ℕ) (p : Planned) (here : p .unit < length (us .types)) (low : p .iso < length (isosOf rs))
+      (free : isFree (isosOf rs) (p .iso) ≡ true) where
     -- the iso of a visit, and what comes of it
     pub by-iso : (o : Iso) × (getElem? (isosOf (toward (p .back) rs)) (p .iso) ≡ some o)
     by-iso = iso-there rs (g .passes) (p .back) (p .iso) low
 
     pub unit-is : VisitIs rs budget p (getD (us .types) (p .unit) 0) (getD (us .settings) (p .unit) 0) (by-iso .0) (visitTo rs budget us p)
-    unit-is = visit-is rs g budget p (a .each (p .unit) here) (by-iso .1)
+    unit-is = visit-is rs g budget p (a .each (p .unit) here) (by-iso .1) free
 
     moved-holds : {v : Visited} → VisitIs rs budget p (getD (us .types) (p .unit) 0) (getD (us .settings) (p .unit) 0) (by-iso .0) v → AllHold rs (moved v (p .unit) us)
     moved-holds (skips h d) = a
@@ -143,16 +148,38 @@ moved-length spent u us = refl
 
 -- ---- the script
 
+pub gives-then : {A B : Type 0} (x : Outcome A) (f : A → Outcome B) {b : B} → andThen x f ≡ gives b → (a : A) × (x ≡ gives a) × (f a ≡ gives b)
+gives-then (gives a) f e = (a, refl, e)
+gives-then (fails r) f e = absurd (fails≢gives e)
+
 -- the first line of a script, and the others
-pub script-first : (units isos : ℕ) (l : List ℕ) (ls : List (List ℕ)) (ps : List Planned) → scriptOf units isos (l ∷ ls) ≡ some ps
-    → (p : Planned) × (qs : List Planned) × (ps ≡ p ∷ qs) × (plannedOf l ≡ some p) × (p .unit < units) × (p .iso < isos) × (scriptOf units isos ls ≡ some qs)
-script-first units isos l ls ps e =
-    let a = bind-some (plannedFor units isos l) (λ p. scriptOf units isos ls >>= λ qs. some (p ∷ qs)) e in
-    let b = bind-some (scriptOf units isos ls) (λ qs. some (a .0 ∷ qs)) (a .2) in
-    let c = bind-some (plannedOf l) (λ p. guard (names units isos p) >>= λ _. some p) (a .1) in
-    let d = bind-some (guard (names units isos (c .0))) (λ _. some (c .0)) (c .2) in
+pub script-first : (units : ℕ) (os : List Iso) (l : List ℕ) (ls : List (List ℕ)) (ps : List Planned) → scriptOf units os (l ∷ ls) ≡ gives ps
+    → (p : Planned) × (qs : List Planned) × (ps ≡ p ∷ qs) × (plannedOf l ≡ some p) × (p .unit < units) × (p .iso < length os) × (scriptOf units os ls ≡ gives qs)
+    × (isFree os (p .iso) ≡ true)
+script-first units os l ls ps e =
+    let a = gives-then (lineOn units os l) (λ p. andThen (scriptOf units os ls) (λ qs. gives (p ∷ qs))) e in
+    let b = gives-then (scriptOf units os ls) (λ qs. gives (a .0 ∷ qs)) (a .2) in
+    let k = line-given (plannedFor units (length os) l) (a .1) in
+    let c = bind-some (plannedOf l) (λ p. guard (names units (length os) p) >>= λ _. some p) (k .0) in
+    let d = bind-some (guard (names units (length os) (c .0))) (λ _. some (c .0)) (c .2) in
     let same : c .0 ≡ a .0 = some-inj (d .2) in
-    let t = and-true (ltb (c .0 .unit) units) (ltb (c .0 .iso) isos) (guard-true (names units isos (c .0)) (d .1)) in
+    let t = and-true (ltb (c .0 .unit) units) (ltb (c .0 .iso) (length os)) (guard-true (names units (length os) (c .0)) (d .1)) in
     let u = ltb-lt (c .0 .unit) units (t .0) in
-    let w = ltb-lt (c .0 .iso) isos (t .1) in
-    (a .0, b .0, sym (some-inj (b .2)), c .1 ∙ ap some same, subst (λ (q : Planned). q .unit < units) same u, subst (λ (q : Planned). q .iso < isos) same w, b .1)
+    let w = ltb-lt (c .0 .iso) (length os) (t .1) in (
+      a .0,
+      b .0,
+      sym (gives-inj (b .2)),
+      c .1 ∙ ap some same,
+      subst (λ (q : Planned). q .unit < units) same u,
+      subst (λ (q : Planned). q .iso < length os) same w,
+      b .1,
+      k .1,
+    )
+  where
+    free-given : (p : Planned) (b : Bool) → isFree os (p .iso) ≡ b → {q : Planned} → cond b (gives p) (fails tooMany) ≡ gives q → (p ≡ q) × (isFree os (q .iso) ≡ true)
+    free-given p true f h = (gives-inj h, subst (λ (q : Planned). isFree os (q .iso) ≡ true) (gives-inj h) f)
+    free-given p false f h = absurd (fails≢gives h)
+
+    line-given : (x : Option Planned) {q : Planned} → onLine os x ≡ gives q → (x ≡ some q) × (isFree os (q .iso) ≡ true)
+    line-given none h = absurd (fails≢gives h)
+    line-given (some p) h = let r = free-given p (isFree os (p .iso)) refl h in (ap some (r .0), r .1)

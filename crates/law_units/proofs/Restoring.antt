@@ -8,6 +8,7 @@ use mathlib.Core.List.{List, [], _∷_, _++_, map, reverse-cons}
 use lib.ListN.{length, getD, getElem?, set, List·getD-map}
 use lib.Seq.{set-set, set-getD, getD-set-same}
 use Rattle.calculus.specs.Trees.{Iso, invert, sameType}
+use Rattle.calculus.specs.Lists.{isFree}
 use Rattle.format.specs.Lines.{Row}
 use Rattle.format.specs.Judge.{start}
 use Rattle.format.specs.Unfold.{isosOf, turnRows}
@@ -143,7 +144,8 @@ module _ (file : List ℕ) (rs : List Row) (acc : verdict file ≡ accepted rs) 
       }
 
   -- a visit that is done, and undone on units that are alike
-  module _ (us : Units) (a : AllHold rs us) (p : Planned) (here : p .unit < length (us .types)) (low : p .iso < length (isosOf rs)) {j m : ℕ} (d : visitTo rs budget us p ≡ done j m) where
+  module _ (us : Units) (a : AllHold rs us) (p : Planned) (here : p .unit < length (us .types)) (low : p .iso < length (isosOf rs))
+      (free : isFree (isosOf rs) (p .iso) ≡ true) {j m : ℕ} (d : visitTo rs budget us p ≡ done j m) where
     abbrev i : ℕ
     i = getD (us .types) (p .unit) 0
 
@@ -151,7 +153,7 @@ module _ (file : List ℕ) (rs : List Row) (acc : verdict file ≡ accepted rs) 
     n = getD (us .settings) (p .unit) 0
 
     way : (i₂ : ℕ) × (visit rs budget (opposite p) j m ≡ done i₂ n) × (treeAt rs i₂ ≡ treeAt rs i)
-    way = undone p (by-iso rs us a g budget p here low .1) (unit-is rs us a g budget p here low) d
+    way = undone p (by-iso rs us a g budget p here low free .1) (unit-is rs us a g budget p here low free) d
 
     abbrev after : Units
     after = moved (visitTo rs budget us p) (p .unit) us
@@ -187,18 +189,18 @@ module _ (file : List ℕ) (rs : List Row) (acc : verdict file ≡ accepted rs) 
           subst (λ z. Alike rs z (moved (visitTo rs budget vs (opposite p)) (p .unit) vs)) same
           (subst (Alike rs w) (sym (ap (λ v. moved v (p .unit) vs) undoes)) (set-alike after vs alike (p .unit) i (way .0) n (sym (way .2))))
 
-  -- every visit of a script names a unit and an iso
+  -- every visit of a script names a unit and an iso that has nothing to do with lists
   abbrev pub Named : ℕ → List Planned → Type 0
   Named units [] = Unit {0}
-  Named units (p ∷ ps) = (p .unit < units) × (p .iso < length (isosOf rs)) × Named units ps
+  Named units (p ∷ ps) = (p .unit < units) × (p .iso < length (isosOf rs)) × (isFree (isosOf rs) (p .iso) ≡ true) × Named units ps
 
   pub restores : (ps : List Planned) (us : Units) → AllHold rs us → Named (length (us .types)) ps → AllDone (outcomes rs budget ps us) → (vs : Units) → Alike rs (unitsAfter rs budget ps us) vs
       → Alike rs us (unitsAfter rs budget (backward ps) vs) × AllDone (outcomes rs budget (backward ps) vs)
   restores [] us a named dones vs alike = (alike, tt)
   restores (p ∷ ps) us a named dones vs alike =
       first (visitTo rs budget us p) refl dones
-      (λ rest. restores ps (moved (visitTo rs budget us p) (p .unit) us) (visit-keeps rs us a g budget p (named .0) (named .1))
-      (subst (λ k. Named k ps) (sym (moved-length (visitTo rs budget us p) (p .unit) us)) (named .2)) rest vs alike)
+      (λ rest. restores ps (moved (visitTo rs budget us p) (p .unit) us) (visit-keeps rs us a g budget p (named .0) (named .1) (named .2))
+      (subst (λ k. Named k ps) (sym (moved-length (visitTo rs budget us p) (p .unit) us)) (named .3)) rest vs alike)
     where
       us₁ : Units
       us₁ = moved (visitTo rs budget us p) (p .unit) us
@@ -212,8 +214,9 @@ module _ (file : List ℕ) (rs : List Row) (acc : verdict file ≡ accepted rs) 
       first (done j m) d rest ih =
           let h = ih rest in
           let vs₁ : Units = unitsAfter rs budget (backward ps) vs in
-          let undo = undoes us a p (named .0) (named .1) d vs₁ (h .0) in (
-            subst (Alike rs us) (sym (ap (λ qs. unitsAfter rs budget qs vs) last-one ∙ after-append rs budget (backward ps) (opposite p ∷ []) vs)) (restored us a p (named .0) (named .1) d vs₁ (h .0)),
+          let undo = undoes us a p (named .0) (named .1) (named .2) d vs₁ (h .0) in (
+            subst (Alike rs us) (sym (ap (λ qs. unitsAfter rs budget qs vs) last-one ∙ after-append rs budget (backward ps) (opposite p ∷ []) vs))
+                (restored us a p (named .0) (named .1) (named .2) d vs₁ (h .0)),
             subst AllDone (sym (ap (λ qs. outcomes rs budget qs vs) last-one ∙ outcomes-append rs budget (backward ps) (opposite p ∷ []) vs))
                 (done-append (outcomes rs budget (backward ps) vs) (visitTo rs budget vs₁ (opposite p) ∷ []) (h .1) (subst (λ v. AllDone (v ∷ [])) (sym undo) tt)),
           )

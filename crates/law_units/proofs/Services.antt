@@ -10,16 +10,18 @@ use lib.Dec.{ltb, eqb}
 use lib.ListN.{length, getD, drop, length-map, length-reverse}
 use Rattle.limits.specs.Limits.{tableLength, workLength, maxLines, maxUnits}
 use Rattle.calculus.specs.Tools.{_>>=_, guard}
-use Rattle.calculus.specs.Refusals.{Refusal, tooLong}
+use Rattle.calculus.specs.Trees.{Iso}
+use Rattle.calculus.specs.Refusals.{Refusal, tooLong, tooMany}
+use Rattle.calculus.specs.Lists.{isFree}
 use Rattle.format.specs.Lines.{Row, lines}
 use Rattle.format.specs.Unfold.{isosOf}
 use Rattle.model.specs.Services.{accepted, refused, verdict, short, unless, check, tableAfter, workAfter, Outcome, gives, fails, goOn, refusalNumber, served, serve}
 use Rattle.model.specs.Answers.{GoodRows}
-use Rattle.calculus.proofs.Basic.{some-inj, neither, ltb-false, not-ltb, lt-ltb, true-and, eqb-eq, eq-eqb, not-both, map-reverse, mem-reverse, each-map}
+use Rattle.calculus.proofs.Basic.{neither, ltb-false, not-ltb, lt-ltb, true-and, eqb-eq, eq-eqb, not-both, map-reverse, mem-reverse, each-map}
 use Rattle.model.proofs.Outcomes.{fails≢gives, gives-inj, given, past-short, given-accepted}
 use Rattle.model.proofs.Runs.{accepted-good}
 use Rattle.model.proofs.Sheets.{long-enough}
-use Rattle.law_units.specs.Units.{Planned, plannedOf, names, plannedFor, scriptOf, Units, unitsFault, done, skipped, spent, visitTo, moved, unitsAfter}
+use Rattle.law_units.specs.Units.{Planned, plannedOf, names, plannedFor, andThen, onLine, lineOn, scriptOf, Units, unitsFault, done, skipped, spent, visitTo, moved, unitsAfter}
 use Rattle.law_units.specs.Units.{outcomes, Tally, nothingYet, counted, Played, played, onScript, onUnits, playRows, unequal, playVerdict, unitsFrom}
 use Rattle.law_units.specs.Units.{tallyFrom, Play, playBy, playService}
 use Rattle.law_units.specs.Backward.{opposite, backward, Backward, Alike}
@@ -47,36 +49,36 @@ refused≢accepted e = fails≢gives {A = ℕ} {y = 0} (ap (λ v. goOn {A = ℕ}
 pub record PlayedOf (rs : List Row) (us : Units) (script : List ℕ) (budget : ℕ) (x : Played) : Type 0 where
   pub visits : List Planned
   pub units : unitsFault rs (us .types) (us .settings) ≡ none
-  pub reads : scriptOf (length (us .types)) (length (isosOf rs)) (lines script) ≡ some visits
+  pub reads : scriptOf (length (us .types)) (isosOf rs) (lines script) ≡ gives visits
   pub gives-it : x ≡ played rs budget us visits
 
 played-of : (rs : List Row) (us : Units) (script : List ℕ) (budget : ℕ) {x : Played} → playRows us script budget rs ≡ gives x → PlayedOf rs us script budget x
 unfolding playRows
 played-of rs us script budget {x} e = on (unitsFault rs (us .types) (us .settings)) refl e
   where
-    next : unitsFault rs (us .types) (us .settings) ≡ none → (y : Option (List Planned)) → scriptOf (length (us .types)) (length (isosOf rs)) (lines script) ≡ y
+    next : unitsFault rs (us .types) (us .settings) ≡ none → (y : Outcome (List Planned)) → scriptOf (length (us .types)) (isosOf rs) (lines script) ≡ y
         → onScript rs budget us y ≡ gives x → PlayedOf rs us script budget x
-    next u none s f = absurd (fails≢gives f)
-    next u (some ps) s f = record { visits = ps; units = u; reads = s; gives-it = sym (gives-inj f) }
+    next u (fails z) s f = absurd (fails≢gives f)
+    next u (gives ps) s f = record { visits = ps; units = u; reads = s; gives-it = sym (gives-inj f) }
 
     on : (y : Option Refusal) → unitsFault rs (us .types) (us .settings) ≡ y → onUnits rs budget us (lines script) y ≡ gives x → PlayedOf rs us script budget x
-    on none u f = next u (scriptOf (length (us .types)) (length (isosOf rs)) (lines script)) refl f
+    on none u f = next u (scriptOf (length (us .types)) (isosOf rs) (lines script)) refl f
     on (some z) u f = absurd (fails≢gives f)
 
 -- the other way round
 pub plays : (rs : List Row) (us : Units) (script : List ℕ) (budget : ℕ) (ps : List Planned) → unitsFault rs (us .types) (us .settings) ≡ none
-    → scriptOf (length (us .types)) (length (isosOf rs)) (lines script) ≡ some ps → playRows us script budget rs ≡ gives (played rs budget us ps)
+    → scriptOf (length (us .types)) (isosOf rs) (lines script) ≡ gives ps → playRows us script budget rs ≡ gives (played rs budget us ps)
 unfolding playRows
 plays rs us script budget ps u s = ap (onUnits rs budget us (lines script)) u ∙ ap (onScript rs budget us) s
 
 -- ---- the script's names
 
 script-named : (rs : List Row) (units : ℕ) (ls : List (List ℕ)) (ps : List Planned) → (file : List ℕ) (acc : verdict file ≡ accepted rs) (budget : ℕ)
-    → scriptOf units (length (isosOf rs)) ls ≡ some ps → Named file rs acc budget units ps
-script-named rs units [] ps file acc budget e = subst (Named file rs acc budget units) (some-inj e) tt
+    → scriptOf units (isosOf rs) ls ≡ gives ps → Named file rs acc budget units ps
+script-named rs units [] ps file acc budget e = subst (Named file rs acc budget units) (gives-inj e) tt
 script-named rs units (l ∷ ls) ps file acc budget e =
-    let f = script-first units (length (isosOf rs)) l ls ps e in
-    subst (Named file rs acc budget units) (sym (f .2)) (f .4, f .5, script-named rs units ls (f .1) file acc budget (f .6))
+    let f = script-first units (isosOf rs) l ls ps e in
+    subst (Named file rs acc budget units) (sym (f .2)) (f .4, f .5, f .7, script-named rs units ls (f .1) file acc budget (f .6))
 
 -- ---- the service
 
@@ -160,7 +162,7 @@ module _ (file t w : List ℕ) (us : Units) (script : List ℕ) (budget : ℕ) (
     abbrev pub visitsOf : List Planned
     visitsOf = play-of .visits
 
-    pub visits-read : scriptOf (length (us .types)) (length (isosOf fileRows)) (lines script) ≡ some visitsOf
+    pub visits-read : scriptOf (length (us .types)) (isosOf fileRows) (lines script) ≡ gives visitsOf
     visits-read = play-of .reads
 
     -- the units are those after all visits, and the record counts what came of each
@@ -175,7 +177,7 @@ module _ (file t w : List ℕ) (us : Units) (script : List ℕ) (budget : ℕ) (
     play-counts =
         let c = counted-total (outcomes fileRows budget visitsOf us) nothingYet in
         let l = outcomes-length fileRows budget visitsOf us in
-        let s = script-length (length (us .types)) (length (isosOf fileRows)) (lines script) visitsOf visits-read in
+        let s = script-length (length (us .types)) (isosOf fileRows) (lines script) visitsOf visits-read in
         ap total (play-gives .1) ∙ c ∙ zero-add (length (outcomes fileRows budget visitsOf us)) ∙ l ∙ s
 
     pub holds : AllHold fileRows us
@@ -191,8 +193,8 @@ module _ (file t w : List ℕ) (us : Units) (script : List ℕ) (budget : ℕ) (
     after-holds : (ps : List Planned) (vs : Units) → AllHold fileRows vs → Named file fileRows accepts budget (length (vs .types)) ps → AllHold fileRows (unitsAfter fileRows budget ps vs)
     after-holds [] vs a n = a
     after-holds (p ∷ ps) vs a n =
-        after-holds ps (moved (visitTo fileRows budget vs p) (p .unit) vs) (visit-keeps fileRows vs a goodRows budget p (n .0) (n .1))
-        (subst (λ k. Named file fileRows accepts budget k ps) (sym (moved-length (visitTo fileRows budget vs p) (p .unit) vs)) (n .2))
+        after-holds ps (moved (visitTo fileRows budget vs p) (p .unit) vs) (visit-keeps fileRows vs a goodRows budget p (n .0) (n .1) (n .2))
+        (subst (λ k. Named file fileRows accepts budget k ps) (sym (moved-length (visitTo fileRows budget vs p) (p .unit) vs)) (n .3))
 
     -- "the unit then holds …": at the end there are as many units, and every one passes the tests that precede a play
     pub play-many : length (answered .units .types) ≡ length (us .types)
@@ -206,43 +208,52 @@ module _ (file t w : List ℕ) (us : Units) (script : List ℕ) (budget : ℕ) (
 
 -- ---- the way back
 
--- lines that read as visits that name units and isos are a script
-reads-script : (units isos : ℕ) (ls : List (List ℕ)) (ps : List Planned) → map plannedOf ls ≡ map some ps → ((p : Planned) → List·Memᴰ p ps → names units isos p ≡ true)
-    → scriptOf units isos ls ≡ some ps
-reads-script units isos [] [] e n = refl
-reads-script units isos [] (p ∷ ps) e n = absurd (nil≢cons e)
-reads-script units isos (l ∷ ls) [] e n = absurd (nil≢cons (sym e))
-reads-script units isos (l ∷ ls) (p ∷ ps) e n =
-    let one : plannedFor units isos l ≡ some p =
-    ap (λ x. x >>= λ q. guard (names units isos q) >>= λ _. some q) (cons-head e) ∙ ap (λ b. guard b >>= λ _. some p) (n p (List·Memᴰ·head refl)) in
-    ap (λ x. x >>= λ q. scriptOf units isos ls >>= λ qs. some (q ∷ qs)) one
-    ∙ ap (λ x. x >>= λ qs. some (p ∷ qs)) (reads-script units isos ls ps (cons-tail e) (λ q m. n q (List·Memᴰ·tail m)))
+-- a visit that names a unit and an iso that has nothing to do with lists
+abbrev Passing : ℕ → List Iso → Planned → Type 0
+Passing units os p = (names units (length os) p ≡ true) × (isFree os (p .iso) ≡ true)
+
+-- lines that read as such visits are a script
+reads-script : (units : ℕ) (os : List Iso) (ls : List (List ℕ)) (ps : List Planned) → map plannedOf ls ≡ map some ps → ((p : Planned) → List·Memᴰ p ps → Passing units os p)
+    → scriptOf units os ls ≡ gives ps
+reads-script units os [] [] e n = refl
+reads-script units os [] (p ∷ ps) e n = absurd (nil≢cons e)
+reads-script units os (l ∷ ls) [] e n = absurd (nil≢cons (sym e))
+reads-script units os (l ∷ ls) (p ∷ ps) e n =
+    let here = n p (List·Memᴰ·head refl) in
+    let one : plannedFor units (length os) l ≡ some p =
+    ap (λ x. x >>= λ q. guard (names units (length os) q) >>= λ _. some q) (cons-head e) ∙ ap (λ b. guard b >>= λ _. some p) (here .0) in
+    let line : lineOn units os l ≡ gives p = ap (onLine os) one ∙ ap (λ b. cond b (gives p) (fails tooMany)) (here .1) in
+    ap (λ x. andThen x (λ q. andThen (scriptOf units os ls) (λ qs. gives (q ∷ qs)))) line
+    ∙ ap (λ x. andThen x (λ qs. gives (p ∷ qs))) (reads-script units os ls ps (cons-tail e) (λ q m. n q (List·Memᴰ·tail m)))
 
 -- what a script's lines read as
-planned-all : (units isos : ℕ) (ls : List (List ℕ)) (ps : List Planned) → scriptOf units isos ls ≡ some ps
+planned-all : (units : ℕ) (os : List Iso) (ls : List (List ℕ)) (ps : List Planned) → scriptOf units os ls ≡ gives ps
     → map (λ l. plannedOf l >>= λ p. some (opposite p)) ls ≡ map some (map opposite ps)
-planned-all units isos [] ps e = ap (λ qs. map some (map opposite qs)) (some-inj e)
-planned-all units isos (l ∷ ls) ps e =
-    let f = script-first units isos l ls ps e in
-    ap₂ _∷_ (ap (λ x. x >>= λ p. some (opposite p)) (f .3)) (planned-all units isos ls (f .1) (f .6)) ∙ ap (λ qs. map some (map opposite qs)) (sym (f .2))
+planned-all units os [] ps e = ap (λ qs. map some (map opposite qs)) (gives-inj e)
+planned-all units os (l ∷ ls) ps e =
+    let f = script-first units os l ls ps e in
+    ap₂ _∷_ (ap (λ x. x >>= λ p. some (opposite p)) (f .3)) (planned-all units os ls (f .1) (f .6)) ∙ ap (λ qs. map some (map opposite qs)) (sym (f .2))
 
 module _ (file : List ℕ) (rs : List Row) (acc : verdict file ≡ accepted rs) (budget units : ℕ) where
-  named-each : (ps : List Planned) → Named file rs acc budget units ps → (p : Planned) → List·Memᴰ p ps → names units (length (isosOf rs)) p ≡ true
+  named-each : (ps : List Planned) → Named file rs acc budget units ps → (p : Planned) → List·Memᴰ p ps → Passing units (isosOf rs) p
   named-each [] n p m = absurd (List·Memᴰ·not-nil m)
-  named-each (q ∷ ps) n p (List·Memᴰ·head e) = ap (names units (length (isosOf rs))) e ∙ true-and (lt-ltb (n .0)) (lt-ltb (n .1))
-  named-each (q ∷ ps) n p (List·Memᴰ·tail m) = named-each ps (n .2) p m
+  named-each (q ∷ ps) n p (List·Memᴰ·head e) = (
+    ap (names units (length (isosOf rs))) e ∙ true-and (lt-ltb (n .0)) (lt-ltb (n .1)),
+    ap (λ (x : Planned). isFree (isosOf rs) (x .iso)) e ∙ n .2,
+  )
+  named-each (q ∷ ps) n p (List·Memᴰ·tail m) = named-each ps (n .3) p m
 
   -- such a script, backward
-  backward-script : (script other : List ℕ) (ps : List Planned) → scriptOf units (length (isosOf rs)) (lines script) ≡ some ps → Named file rs acc budget units ps → Backward script other
-      → scriptOf units (length (isosOf rs)) (lines other) ≡ some (backward ps)
+  backward-script : (script other : List ℕ) (ps : List Planned) → scriptOf units (isosOf rs) (lines script) ≡ gives ps → Named file rs acc budget units ps → Backward script other
+      → scriptOf units (isosOf rs) (lines other) ≡ gives (backward ps)
   backward-script script other ps e n b =
-      reads-script units (length (isosOf rs)) (lines other) (backward ps)
-      (b .reads ∙ ap reverse (planned-all units (length (isosOf rs)) (lines script) ps e) ∙ sym (map-reverse some (map opposite ps)))
-      (λ q m. each-map (λ x. names units (length (isosOf rs)) x ≡ true) opposite ps (λ x k. named-each ps n x k) q (mem-reverse (map opposite ps) m))
+      reads-script units (isosOf rs) (lines other) (backward ps)
+      (b .reads ∙ ap reverse (planned-all units (isosOf rs) (lines script) ps e) ∙ sym (map-reverse some (map opposite ps)))
+      (λ q m. each-map (Passing units (isosOf rs)) opposite ps (λ x k. named-each ps n x k) q (mem-reverse (map opposite ps) m))
 
 -- an accepted file, areas of the stated lengths, units that pass and a script: the play
 goes : (file t w : List ℕ) (us : Units) (script : List ℕ) (budget : ℕ) (tl : Tally) (rs : List Row) → verdict file ≡ accepted rs → tableLength ≤ length t → workLength ≤ length w
-    → AllHold rs us → length (us .types) ≤ maxUnits → length (lines script) ≤ maxLines → (ps : List Planned) → scriptOf (length (us .types)) (length (isosOf rs)) (lines script) ≡ some ps
+    → AllHold rs us → length (us .types) ≤ maxUnits → length (lines script) ≤ maxLines → (ps : List Planned) → scriptOf (length (us .types)) (isosOf rs) (lines script) ≡ gives ps
     → playService file t w us script budget tl ≡ playBy us tl (served (accepted rs) (gives (played rs budget us ps)) t w)
 unfolding playService
 goes file t w us script budget tl rs acc long wide a few short-enough ps e =
@@ -286,10 +297,10 @@ module _ (file t w : List ℕ) (us : Units) (script : List ℕ) (budget : ℕ) (
       let size = after-length rs budget ps us in
       let dones = all-done (outcomes rs budget ps us) nothingYet (ap (λ (z : Tally). z .skipped) (sym (g .1)) ∙ none-skipped) (ap (λ (z : Tally). z .spent) (sym (g .1)) ∙ none-spent) in
       let r = restores file rs acc budget ps us (holds file t w us script budget tl ok) n dones us₁ (record { trees = refl; settings = refl }) in
-      let script₂ : scriptOf (length (us₁ .types)) (length (isosOf rs)) (lines other) ≡ some (backward ps) =
-      ap (λ k. scriptOf k (length (isosOf rs)) (lines other)) size ∙ backward-script file rs acc budget (length (us .types)) script other ps reads n b in
-      let l₂ = script-length (length (us₁ .types)) (length (isosOf rs)) (lines other) (backward ps) script₂ in
-      let l₁ = script-length (length (us .types)) (length (isosOf rs)) (lines script) ps reads in
+      let script₂ : scriptOf (length (us₁ .types)) (isosOf rs) (lines other) ≡ gives (backward ps) =
+      ap (λ k. scriptOf k (isosOf rs) (lines other)) size ∙ backward-script file rs acc budget (length (us .types)) script other ps reads n b in
+      let l₂ = script-length (length (us₁ .types)) (isosOf rs) (lines other) (backward ps) script₂ in
+      let l₁ = script-length (length (us .types)) (isosOf rs) (lines script) ps reads in
       let lr : length (backward ps) ≡ length ps = length-reverse (map opposite ps) ∙ length-map ps opposite in
       let play : second ≡ playBy us₁ tl₂ (served (accepted rs) (gives (played rs budget us₁ (backward ps))) t₂ w₂) =
       ap (λ z. playService file t₂ w₂ z other budget tl₂) (g .0)

@@ -15,14 +15,13 @@ use Rattle.format.specs.Unfold.{isosOf}
 use Rattle.calculus.specs.Reduction.{reduce}
 use Rattle.calculus.specs.Letters.{letters, inhabits}
 use Rattle.calculus.specs.Paper.{Of}
+use Rattle.calculus.specs.Lists.{isFree}
 use Rattle.model.specs.Services.{Outcome, gives, fails, refusalOf, within, argument, from, onIso, runRows, toward, runOn}
 use Rattle.model.specs.Answers.{GoodRows}
 use Rattle.calculus.proofs.Basic.{some-bind, none≢some, sameType-refl}
 use Rattle.calculus.proofs.Letters.{value-letters, of-inhabits, inhabits-of}
-use Rattle.format.proofs.Listless.{isos-free}
-use Rattle.calculus.proofs.Lists.{free-iff}
-use Rattle.model.proofs.Runs.{Good, good, good-toward, preserves}
-use Rattle.model.proofs.Sizes.{free-gives, near-of}
+use Rattle.model.proofs.Runs.{good-toward}
+use Rattle.model.proofs.Sizes.{free-ends, free-toward}
 use Rattle.law_ranking.specs.Numbering.{count, rank, unrank, numberRows, settingRows}
 use Rattle.law_ranking.specs.Answers.{LineOf, NumberIs, SettingIs}
 use Rattle.law_ranking.proofs.Numbering.{few-finite, rank-below, unrank-inhabits, rank-unrank}
@@ -58,7 +57,8 @@ module _ {rs : List Row} {i n : ℕ} where
 
 -- ---- a visit
 
-module _ (rs : List Row) (g : GoodRows rs) (budget : ℕ) (p : Planned) {i n : ℕ} (h : Holds rs i n) {o : Iso} (e : getElem? (isosOf (toward (p .back) rs)) (p .iso) ≡ some o) where
+module _ (rs : List Row) (g : GoodRows rs) (budget : ℕ) (p : Planned) {i n : ℕ} (h : Holds rs i n) {o : Iso} (e : getElem? (isosOf (toward (p .back) rs)) (p .iso) ≡ some o)
+    (free : isFree (isosOf rs) (p .iso) ≡ true) where
   abbrev os : List Iso
   os = isosOf (toward (p .back) rs)
 
@@ -80,24 +80,14 @@ module _ (rs : List Row) (g : GoodRows rs) (budget : ℕ) (p : Planned) {i n : �
     start-typed : Of (valueOf h) (o .from)
     start-typed = subst (Of (valueOf h)) same (typed h)
 
-    gt : GoodRows (toward (p .back) rs)
-    gt = good-toward (p .back) rs g
-
-    gs : Good os
-    gs = good (toward (p .back) rs) gt
-
     -- what the reduction gives, and with how many applications
     pub reduced : (w : Val) × (k : ℕ) × (reduce os (p .iso) (valueOf h) ≡ (some w, k)) × Of w (o .to)
-    reduced =
-        let rt : List Row = toward (p .back) rs in
-        let (w, k, r) = free-gives rt gt (p .iso) (isos-free rt (p .iso)) o e (valueOf h) start-typed in
-        (w, k, r, preserves os gs (p .iso) o e (valueOf h) w k start-typed r)
+    reduced = free-ends (p .back) rs g (p .iso) o e free (valueOf h) start-typed
 
     -- an iso is a bijection: the type at the other end has no more values, so its values are numbered too
     pub end-line : LineOf rs end (o .to)
     end-line =
-        let rt : List Row = toward (p .back) rs in
-        let c = counts-back rt gt (p .iso) o e (free-iff os (near-of gs) (p .iso) o e .1 (isos-free rt (p .iso))) in
+        let c = counts-back (toward (p .back) rs) (good-toward (p .back) rs g) (p .iso) o e (free-toward (p .back) rs g (p .iso) ∙ free) in
         let f = h .line .few in
         let q : count (h .type) ≡ count (o .from) = ap count same in
         record { there = end-type rs (g .passes) (p .back) (p .iso) e; few = omega (arith, c, f, q) }

@@ -2,14 +2,16 @@
 use Prim.Native.Nat.{ℕ}
 use mathlib.Core.Path.{_≡_, refl}
 use mathlib.Core.Bool.{true, false}
-use mathlib.Core.Option.{none, some}
+use mathlib.Core.Option.{Option, none, some}
 use mathlib.Core.List.{List, [], _∷_, map}
-use Rattle.calculus.specs.Trees.{Ty, tunit, tsum, Iso}
-use Rattle.calculus.specs.Refusals.{isoLine, shortArea, noIso, tooMany, tooHigh, badScript}
-use Rattle.format.specs.Lines.{decimal}
+use Rattle.calculus.specs.Trees.{Ty, tunit, tlist, tsum, pleaf, unitLeaf, Clause, Iso}
+use Rattle.calculus.specs.Lists.{freeIsos}
+use Rattle.calculus.specs.Refusals.{Refusal, isoLine, shortArea, noIso, tooMany, tooHigh, badScript}
+use Rattle.format.specs.Lines.{lines, decimal}
 use Rattle.model.specs.Services.{verdict, Outcome, gives, fails, refusalOf, goOn}
 use Rattle.model.specs.Cases.{bytes, fileS}
-use Rattle.law_units.specs.Units.{Planned, names, Units, done, skipped, spent, matches, endOf, otherEnd, moved, Tally, nothingYet, counted, Played, playRows, unequal, tallyFrom, playServed}
+use Rattle.law_units.specs.Units.{Planned, plannedOf, names, scriptOf, Units, done, skipped, spent, matches, endOf, otherEnd, moved, Tally, nothingYet}
+use Rattle.law_units.specs.Units.{counted, Played, playRows, unequal, tallyFrom, playServed}
 use Rattle.law_units.specs.Faults.{visitText}
 use Rattle.law_units.specs.Backward.{opposite, backward}
 
@@ -84,6 +86,32 @@ visit-texts = refl
 -- "naming an absent unit or iso"
 named-visits : map (names 3 4) (planned 2 3 ∷ planned 3 3 ∷ planned 2 4 ∷ []) ≡ true ∷ false ∷ false ∷ []
 named-visits = refl
+
+-- Request 14: "18 where … a type of the iso or of one it calls, holds a list". Iso 0 has to do with none; iso 1 goes from a list and iso 2 to one; iso 3 calls iso 2, iso 4
+-- calls iso 3, and iso 5 only itself.
+abbrev through : Ty → Ty → List ℕ → Iso
+through a b js =
+    let c : Clause = record { line = 0; lhs = pleaf unitLeaf; lets = map (λ j. record { p = pleaf unitLeaf; iso = j; q = pleaf unitLeaf }) js; rhs = pleaf unitLeaf } in
+    record { line = 0; from = a; to = b; clauses = c ∷ [] }
+
+abbrev zones : List Iso
+zones =
+    through tunit tunit [] ∷ through (tlist tunit) tunit [] ∷ through tunit (tsum tunit (tlist tunit)) [] ∷ through tunit tunit (0 ∷ 2 ∷ []) ∷ through tunit tunit (3 ∷ [])
+    ∷ through tunit tunit (5 ∷ 0 ∷ []) ∷ []
+
+abbrev testOf : List ℕ → Option Refusal
+testOf script = refusalOf (scriptOf 1 zones (lines script))
+
+line-tests : map testOf (bytes "S,0,0,0\n" ∷ bytes "S,0,1,1\n" ∷ bytes "S,0,2,0\n" ∷ bytes "S,0,3,0\n" ∷ bytes "S,0,4,0\n" ∷ bytes "S,0,5,0\n" ∷ bytes "S,0,6,0\n" ∷ [])
+    ≡ none ∷ some tooMany ∷ some tooMany ∷ some tooMany ∷ some tooMany ∷ none ∷ some badScript ∷ []
+unfolding plannedOf freeIsos
+line-tests = refl
+
+-- "a script is tested line by line, on each 22 before 18"
+order-tests : map testOf (bytes "S,0,1,0\nS,1,0,0\n" ∷ bytes "S,1,0,0\nS,0,1,0\n" ∷ bytes "S,1,1,0\n" ∷ bytes "S,0,1,2\n" ∷ bytes "S,0,0,0\nS,0,1,0\nS\n" ∷ [])
+    ≡ some tooMany ∷ some badScript ∷ some badScript ∷ some badScript ∷ some tooMany ∷ []
+unfolding plannedOf freeIsos
+order-tests = refl
 
 -- "last line first with directions exchanged"
 backward-visits : backward (planned 1 2 ∷ planned 3 4 ∷ []) ≡ record { unit = 3; iso = 4; back = false } ∷ record { unit = 1; iso = 2; back = false } ∷ []

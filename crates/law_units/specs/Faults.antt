@@ -3,12 +3,13 @@ use Prim.Native.Nat.{ℕ, _≤_, _<_}
 use mathlib.Core.Path.{_≡_}
 use mathlib.Core.Logic.{_⊎_}
 use mathlib.Core.Bool.{cond}
-use mathlib.Core.List.{List, [], _∷_, _++_, List·Memᴰ}
+use mathlib.Core.List.{List, [], _∷_, _++_}
 use lib.ListN.{length, getD}
 use Rattle.limits.specs.Limits.{fieldBound, tableLength, workLength, maxLines, maxUnits, lineFeed, carriageReturn, letterS}
-use Rattle.calculus.specs.Trees.{Ty}
-use Rattle.calculus.specs.Refusals.{Refusal, number, tooHigh}
+use Rattle.calculus.specs.Trees.{Ty, Iso}
+use Rattle.calculus.specs.Refusals.{Refusal, number, tooMany, tooHigh, badScript}
 use Rattle.calculus.specs.Paper.{FileOk}
+use Rattle.calculus.specs.Lists.{ListFree}
 use Rattle.format.specs.Lines.{Row, lines, printField}
 use Rattle.format.specs.Unfold.{isosOf}
 use Rattle.model.specs.Services.{check}
@@ -34,6 +35,28 @@ pub data BadLine (units isos : ℕ) (l : List ℕ) : Type 0 where
   form : ((p : Planned) → VisitLine l p → ⊥) → BadLine units isos l
   unit : (p : Planned) → VisitLine l p → units ≤ p .unit → BadLine units isos l
   iso : (p : Planned) → VisitLine l p → isos ≤ p .iso → BadLine units isos l
+
+-- a line that is none of these: a visit to a unit and by an iso that are there
+pub record Names (units isos : ℕ) (l : List ℕ) (p : Planned) : Type 0 where
+  pub line : VisitLine l p
+  pub unit : p .unit < units
+  pub iso : p .iso < isos
+
+-- "refuse 18 where … a type of the iso or of one it calls, holds a list; a script is tested line by line, on each 22 before 18" (request 14)
+pub data ScriptLine (units : ℕ) (os : List Iso) (l : List ℕ) : Refusal → Type 0 where
+  bad : BadLine units (length os) l → ScriptLine units os l badScript
+  lists : (p : Planned) → Names units (length os) l p → (ListFree os (p .iso) → ⊥) → ScriptLine units os l tooMany
+
+-- a line that passes
+pub record Passing (units : ℕ) (os : List Iso) (l : List ℕ) : Type 0 where
+  pub planned : Planned
+  pub names : Names units (length os) l planned
+  pub free : ListFree os (planned .iso)
+
+-- the first line at fault, all before it passing
+pub data FirstLine (units : ℕ) (os : List Iso) : List (List ℕ) → Refusal → Type 0 where
+  here : {l : List ℕ} {ls : List (List ℕ)} {f : Refusal} → ScriptLine units os l f → FirstLine units os (l ∷ ls) f
+  later : {l : List ℕ} {ls : List (List ℕ)} {f : Refusal} → Passing units os l → FirstLine units os ls f → FirstLine units os (l ∷ ls) f
 
 -- ---- the units
 
@@ -67,6 +90,6 @@ pub data PlayFault (file t w : List ℕ) (us : Units) (script : List ℕ) : ℕ 
   file : (n m : ℕ) → Room t w us → Few us script → 0 < n → check file t w .answer ≡ record { number = n; line = m } → PlayFault file t w us script n m
   unit : (rs : List Row) (f : Refusal) → Room t w us → Few us script → InForm file rs → FileOk (isosOf rs) → FirstUnit rs (us .types) (us .settings) f
       → PlayFault file t w us script (number f) 0
-  script : (rs : List Row) (l : List ℕ) → Room t w us → Few us script → InForm file rs → FileOk (isosOf rs)
+  script : (rs : List Row) (f : Refusal) → Room t w us → Few us script → InForm file rs → FileOk (isosOf rs)
       → ((k : ℕ) → k < length (us .types) → Holds rs (getD (us .types) k 0) (getD (us .settings) k 0))
-      → List·Memᴰ l (lines script) → BadLine (length (us .types)) (length (isosOf rs)) l → PlayFault file t w us script 22 0
+      → FirstLine (length (us .types)) (isosOf rs) (lines script) f → PlayFault file t w us script (number f) 0

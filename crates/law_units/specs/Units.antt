@@ -9,7 +9,8 @@ use lib.ListN.{length, getD, getElem?, set}
 use Rattle.limits.specs.Limits.{fieldBound, maxLines, maxUnits, letterS}
 use Rattle.calculus.specs.Tools.{_>>=_, guard, orElse}
 use Rattle.calculus.specs.Trees.{Ty, sameType, Iso}
-use Rattle.calculus.specs.Refusals.{Refusal, tooLong, badScript}
+use Rattle.calculus.specs.Refusals.{Refusal, tooLong, tooMany, badScript}
+use Rattle.calculus.specs.Lists.{freeIsos, isFree}
 use Rattle.format.specs.Lines.{Row, lines, text, skip, fields, ended}
 use Rattle.format.specs.Unfold.{isosOf, turnRows}
 use Rattle.model.specs.Services.{Verdict, refused, verdict, Answer, short, Outcome, gives, fails, refusalOf, Served, serve, answerFrom, toward, runRows, runOn}
@@ -43,10 +44,22 @@ names units isos p = ltb (p .unit) units && ltb (p .iso) isos
 abbrev pub plannedFor : ℕ → ℕ → List ℕ → Option Planned
 plannedFor units isos l = plannedOf l >>= λ p. guard (names units isos p) >>= λ _. some p
 
--- the visits of a script's lines, where each is one
-abbrev pub scriptOf : ℕ → ℕ → List (List ℕ) → Option (List Planned)
-scriptOf units isos [] = some []
-scriptOf units isos (l ∷ ls) = plannedFor units isos l >>= λ p. scriptOf units isos ls >>= λ ps. some (p ∷ ps)
+abbrev pub andThen : {A B : Type 0} → Outcome A → (A → Outcome B) → Outcome B
+andThen (gives a) f = f a
+andThen (fails r) f = fails r
+
+-- "on each 22 before 18": a line that plans no visit is 22; one by an iso that has to do with a list is 18 (request 14)
+abbrev pub onLine : List Iso → Option Planned → Outcome Planned
+onLine os none = fails badScript
+onLine os (some p) = cond (isFree os (p .iso)) (gives p) (fails tooMany)
+
+abbrev pub lineOn : ℕ → List Iso → List ℕ → Outcome Planned
+lineOn units os l = onLine os (plannedFor units (length os) l)
+
+-- "a script is tested line by line": the visits of its lines, or the refusal of the first line that has one
+abbrev pub scriptOf : ℕ → List Iso → List (List ℕ) → Outcome (List Planned)
+scriptOf units os [] = gives []
+scriptOf units os (l ∷ ls) = andThen (lineOn units os l) (λ p. andThen (scriptOf units os ls) (λ ps. gives (p ∷ ps)))
 
 -- ---- the units
 
@@ -92,10 +105,6 @@ endOf back (some r) = cond back (r .x) (r .y)
 abbrev pub otherEnd : List Row → Bool → Option Iso → ℕ
 otherEnd rs back none = 0
 otherEnd rs back (some o) = endOf back (getElem? rs (o .line - 1))
-
-abbrev pub andThen : {A B : Type 0} → Outcome A → (A → Outcome B) → Outcome B
-andThen (gives a) f = f a
-andThen (fails r) f = fails r
 
 -- "the number of the setting that the run gives": number to letters, run, letters to number, as the services have them; j is the T line at the other end
 abbrev pub sent : List Row → ℕ → Planned → ℕ → ℕ → ℕ → Outcome ℕ
@@ -166,18 +175,18 @@ pub record Played : Type 0 where
 abbrev pub played : List Row → ℕ → Units → List Planned → Played
 played rs budget us ps = record { units = unitsAfter rs budget ps us; visits = outcomes rs budget ps us }
 
--- "then the script"; 22 "bad script"
-abbrev pub onScript : List Row → ℕ → Units → Option (List Planned) → Outcome Played
-onScript rs budget us none = fails badScript
-onScript rs budget us (some ps) = gives (played rs budget us ps)
+-- "then the script"
+abbrev pub onScript : List Row → ℕ → Units → Outcome (List Planned) → Outcome Played
+onScript rs budget us (fails f) = fails f
+onScript rs budget us (gives ps) = gives (played rs budget us ps)
 
 -- "All tests precede the first visit, the units in order"
 abbrev pub onUnits : List Row → ℕ → Units → List (List ℕ) → Option Refusal → Outcome Played
 onUnits rs budget us ls (some f) = fails f
-onUnits rs budget us ls none = onScript rs budget us (scriptOf (length (us .types)) (length (isosOf rs)) ls)
+onUnits rs budget us ls none = onScript rs budget us (scriptOf (length (us .types)) (isosOf rs) ls)
 
 unfoldable pub playRows : Units → List ℕ → ℕ → List Row → Outcome Played
-unfolding visit plannedOf
+unfolding visit plannedOf freeIsos
 playRows us script budget rs = onUnits rs budget us (lines script) (unitsFault rs (us .types) (us .settings))
 
 -- "Unit areas of unequal length are 1"

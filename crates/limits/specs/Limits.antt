@@ -76,13 +76,20 @@ resultLength = maxNodes
 abbrev pub lengths : ℕ
 lengths = suc maxNodes
 
+-- request 14: "calls nested deeper than 40 (the outermost is 1)", and the most letters of an argument or a result
+abbrev pub maxDepth : ℕ
+maxDepth = 40
+
+abbrev pub maxLetters : ℕ
+maxLetters = 127
+
 -- the letters that one application keeps: its argument, the results of its let steps and its own result; and the part of the work area
--- that the frames of a run fill, one for each iso
+-- that the frames of a run fill, one for each call of those nested
 abbrev pub frame : ℕ
 frame = (maxLets + 2) * lengths
 
 abbrev pub runRoom : ℕ
-runRoom = maxIsos * frame
+runRoom = maxDepth * frame
 
 -- a query's bytes, its ending included
 abbrev pub queryLength : ℕ
@@ -113,13 +120,6 @@ importLength = maxBytes
 -- request 12: "Up to 1,000 units"
 abbrev pub maxUnits : ℕ
 maxUnits = 1000
-
--- request 14: "calls nested deeper than 40 (the outermost is 1)", and the most letters of an argument or a result
-abbrev pub maxDepth : ℕ
-maxDepth = 40
-
-abbrev pub maxLetters : ℕ
-maxLetters = 127
 
 abbrev pub lineFeed : ℕ
 lineFeed = 10

@@ -58,11 +58,16 @@ pub const RESULT_LENGTH: usize = MAX_NODES;
 // A value has fewer letters than this.
 pub const LENGTHS: usize = MAX_NODES + 1;
 
+// Request 14: how deep calls nest, the outermost being 1, and the most letters of an argument or a result.
+pub const MAX_DEPTH: usize = 40;
+
+pub const MAX_LETTERS: usize = 127;
+
 // The letters that one application keeps: its argument, the results of its let steps and its own result; and the part of the work area that
-// the frames of a run fill, one for each iso.
+// the frames of a run fill, one for each call of those nested.
 pub const FRAME: usize = (MAX_LETS + 2) * LENGTHS;
 
-pub const RUN_ROOM: usize = MAX_ISOS * FRAME;
+pub const RUN_ROOM: usize = MAX_DEPTH * FRAME;
 
 // A query's bytes, its ending included, and the most queries in one call.
 pub const QUERY_LENGTH: usize = 200;

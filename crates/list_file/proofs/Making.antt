@@ -12,7 +12,6 @@ use lib.ListN.{length, take, drop}
 use lib.Seq.{sets-eq, length-take-le}
 use Rattle.limits.specs.Limits.{maxNodes, maxTags, manyTags, maxValues, maxClauses, rowWidth, numeralBound}
 use Rattle.calculus.specs.Trees.{Ty, Val, typeNodes, mostTags}
-use Rattle.calculus.specs.Lists.{Finite}
 use Rattle.calculus.specs.Refusals.{typeLine, patternLine, clauseLine, ceiling}
 use Rattle.format.specs.Lines.{Row, printRows}
 use Rattle.format.specs.Judge.{start}
@@ -21,9 +20,9 @@ use Rattle.format.specs.Code.{refusalView}
 use Rattle.calculus.proofs.Basic.{bool-cases, leb-le, leb-false, is-false}
 use Rattle.law_ranking.specs.Numbering.{count}
 use Rattle.area_cells.specs.Areas.{Writes}
-use Rattle.law_pairlists.specs.PairLists.{writeType, writePairs, isoRow, settings, fileRows, withinAll, writing}
+use Rattle.law_pairlists.specs.PairLists.{pairsUp, writeType, writePairs, isoRow, settings, fileRows, withinAll, writing}
 use Rattle.law_pairlists.proofs.File.{type-room}
-use Rattle.law_pairlists.proofs.List.{Taken, pairs-taken}
+use Rattle.law_pairlists.proofs.List.{Taken, few-taken}
 use Rattle.law_pairlists.proofs.Imports.{Light, written-ceiling, written-room}
 use Rattle.list_entries.specs.Entries.{maxEntries, entriesAt, Tracks, Room, Follows}
 use Rattle.list_entries.proofs.Tracking.{entries-length}
@@ -83,7 +82,7 @@ file-rows : (a b : Ty) (cs : List (Val × Val)) {ts ps qs : List Row} {m n : ℕ
 unfolding fileRows
 file-rows a b cs et em en ep eq = λ i. et i ++ (ep i ++ (isoRow (em i) (en i) ∷ eq i))
 
-module _ (a b : Ty) (fa : Finite a) (fb : Finite b) (tos : List ℕ) (k : ℕ) (o : List ℕ) (most : k ≤ maxClauses) where
+module _ (a b : Ty) (tos : List ℕ) (k : ℕ) (o : List ℕ) (most : k ≤ maxClauses) where
   abbrev rows : List Row
   rows = fileRows a b (settings a b 0 (take k tos))
 
@@ -92,6 +91,9 @@ module _ (a b : Ty) (fa : Finite a) (fb : Finite b) (tos : List ℕ) (k : ℕ) (
 
   short-list : k ≤ length tos → length (take k tos) ≤ maxClauses
   short-list h = let l = length-take-le k tos h in omega arith
+
+  taken : k ≤ length tos → pairsUp a b (take k tos) ≡ true → Taken a b (take k tos)
+  taken h up = let l = short-list h in few-taken a b (take k tos) (omega arith) up
 
   counts : k ≤ length tos → Taken a b (take k tos) → (count a ≤ maxValues) × (count b ≤ maxValues)
   counts h t = let l = short-list h in let f = t .froms in let g = t .tos in (omega arith, omega arith)
@@ -102,7 +104,7 @@ module _ (a b : Ty) (fa : Finite a) (fb : Finite b) (tos : List ℕ) (k : ℕ) (
     file-over h r n l =
         record {
           does = λ ta tb ha hb le up room.
-              let t = pairs-taken a b fa fb (take k tos) up in
+              let t = taken le up in
               let c = counts le t in
               let d = pairs .does (c .0) (c .1) le (record { words = wide }) long in
               let no-room : withinAll start rows ≡ false = is-false (withinAll start rows) (λ w. tracks-many (d .0) h (written-ceiling a b (take k tos) ha hb (short-list le) t .0 w .few)) in
@@ -121,7 +123,7 @@ module _ (a b : Ty) (fa : Finite a) (fb : Finite b) (tos : List ℕ) (k : ℕ) (
     file-made {s} {s₁} {s₂} {m} {d} {n} {e} area f g h {o′} {len} w r j l =
         record {
           does = λ ta tb ha hb le up room.
-              let t = pairs-taken a b fa fb (take k tos) up in
+              let t = taken le up in
               let c = counts le t in
               let z = pairs .does (c .0) (c .1) le (record { words = wide }) long in
               let few = tracks-few (z .0) h in
@@ -148,7 +150,7 @@ module _ (a b : Ty) (fa : Finite a) (fb : Finite b) (tos : List ℕ) (k : ℕ) (
   file-heavy {x} light {n} e over r says =
       record {
         does = λ ha hb le up room.
-            let t = pairs-taken a b fa fb (take k tos) up in
+            let t = taken le up in
             let no-room : withinAll start rows ≡ false =
             is-false (withinAll start rows)
             (λ w. let l = written-ceiling a b (take k tos) ha hb (short-list le) t .0 w in let z = light (l .from) (l .to) in absurd (lt-irrefl 40 (omega arith))) in

@@ -23,31 +23,21 @@ use Rattle.format.specs.Code.{refusalView, numbered}
 use Rattle.calculus.proofs.Basic.{some-bind, isSome-true}
 use Rattle.calculus.proofs.Letters.{value-letters, of-inhabits, inhabits-of}
 use Rattle.model.proofs.Files.{number-positive}
-use Rattle.calculus.specs.Lists.{isFree}
-use Rattle.calculus.proofs.Lists.{free-iff}
-use Rattle.format.proofs.Listless.{isos-free}
-use Rattle.model.specs.Answers.{GoodRows}
-use Rattle.model.proofs.Runs.{good}
-use Rattle.model.proofs.Sizes.{near-of, free-ends}
+use Rattle.model.proofs.Sizes.{free-ends}
 use Rattle.law_ranking.specs.Numbering.{count, rank, unrank}
-use Rattle.law_ranking.proofs.Numbering.{rank-below, unrank-inhabits}
+use Rattle.law_ranking.proofs.Numbering.{few-finite, rank-below, unrank-inhabits}
 use Rattle.law_pairlists.specs.PairLists.{toIf, toFrom}
 use Rattle.law_pairlists.proofs.Exports.{counts-back}
 use Rattle.table_trees.specs.Unfolding.{cellOf, typeOf}
 use Rattle.run_index.specs.Index.{placeAt, isoAt}
 use Rattle.checker.proofs.Checks.{flag-none}
 use Rattle.run_values.specs.Texts.{At}
-use Rattle.run_values.proofs.Finite.{of-bare, iso-finite}
-use Rattle.run_values.proofs.Tracing.{traced}
+use Rattle.run_values.proofs.Tracing.{finite-fits}
 use Rattle.number_values.specs.Numbers.{Ranks, Unranks}
 use Rattle.run_reduction.proofs.Laying.{laid}
 use Rattle.runner.specs.RunSays.{answerFor, RanAs, Prepared}
 use Rattle.runner.specs.declared.run.Ran as R
 use Rattle.list_targets.specs.Targets.{Runnable, withTo, Stores}
-
--- no iso of a file has to do with lists, and the test of it says so
-pub list-free : (rs : List Row) → GoodRows rs → (i : ℕ) (o : Iso) → getElem? (isosOf rs) i ≡ some o → isFree (isosOf rs) i ≡ true
-list-free rs g i o e = free-iff (isosOf rs) (near-of (good rs g)) i o e .1 (isos-free rs i)
 
 -- ---- the iso's types, by the index
 
@@ -65,7 +55,7 @@ module _ {t : List ℕ} {base : ℕ} {index : List ℕ} {isos : ℕ} {rs : List 
   pub to-few : count (o .to) ≤ maxPairs
   to-few =
       let g = run .prepared .good in
-      let b = counts-back rs g i o (run .there) (list-free rs g i o (run .there)) in
+      let b = counts-back rs g i o (run .there) (run .free) in
       let f = run .few in
       omega (arith, b, f)
 
@@ -77,7 +67,9 @@ module _ {t : List ℕ} {base : ℕ} {index : List ℕ} {isos : ℕ} {rs : List 
     typed = inhabits-of v (o .from) (unrank-inhabits (o .from) k low)
 
     pub small : length (letters v) ≤ 127
-    small = traced rs (run .prepared .good) i o (run .there) v typed .4 .fits
+    small =
+        let f = run .few in
+        finite-fits rs (run .prepared .good) i o (run .there) v (few-finite (o .from) (omega (arith, f))) typed
 
     -- ---- the run of setting k
 
@@ -100,7 +92,7 @@ module _ {t : List ℕ} {base : ℕ} {index : List ℕ} {isos : ℕ} {rs : List 
     -- ---- its to
 
     sent : (w : Val) × (m : ℕ) × (reduce (isosOf rs) i v ≡ (some w, m)) × Of w (o .to)
-    sent = let g = run .prepared .good in free-ends false rs g i o (run .there) (list-free rs g i o (run .there)) v typed
+    sent = let g = run .prepared .good in free-ends false rs g i o (run .there) (run .free) v typed
 
     argued : argument o (letters v) ≡ some v
     argued = some-bind (λ u. guard (inhabits u (o .from)) >>= λ _. some u) (value-letters v)
@@ -149,7 +141,6 @@ module _ {t : List ℕ} {base : ℕ} {index : List ℕ} {isos : ℕ} {rs : List 
               record {
                 rest = drop (length bs) x;
                 spells = ran .result ∙ ap (λ z. written (z .letters) x) (answer-by budget true d);
-                bare = of-bare (iso-finite rs i o (run .there) .1) (sent .3);
               } in
               let inside = of-inhabits (sent .3) in
               let few = to-few in

@@ -1,13 +1,14 @@
 -- What finding the tos of an iso's pairs comes to.
 use Prim.Native.Nat.{ℕ, _≤_, _<_}
 use mathlib.Core.Path.{_≡_}
-use mathlib.Core.Bool.{Bool, false, cond}
+use mathlib.Core.Bool.{Bool, true, false, cond}
 use mathlib.Core.Option.{Option, none, some}
 use mathlib.Core.List.{List}
 use lib.ListN.{length, getElem?, take, set}
 use Rattle.limits.specs.Limits.{maxPairs}
 use Rattle.calculus.specs.Trees.{Iso}
 use Rattle.calculus.specs.Tools.{isSome}
+use Rattle.calculus.specs.Lists.{isFree}
 use Rattle.calculus.specs.Letters.{letters}
 use Rattle.format.specs.Lines.{Row}
 use Rattle.format.specs.Unfold.{isosOf}
@@ -16,10 +17,11 @@ use Rattle.law_pairlists.specs.PairLists.{toFrom, upwards}
 use Rattle.runner.specs.RunSays.{Prepared, InRoom, answerFor, RanInto}
 use Rattle.runner.specs.declared.run.Ran as R
 
--- iso i of a checked table, whose from-type has few enough values for a list
+-- iso i of a checked table, which has nothing to do with lists and whose from-type has few enough values for a pair list
 pub record Runnable (t : List ℕ) (base : ℕ) (index : List ℕ) (isos : ℕ) (rs : List Row) (i : ℕ) (o : Iso) : Type 0 where
   pub prepared : Prepared t base index isos rs
   pub there : getElem? (isosOf rs) i ≡ some o
+  pub free : isFree (isosOf rs) i ≡ true
   pub few : count (o .from) ≤ maxPairs
 
 -- numbers with the to of pair k among them, if it has one

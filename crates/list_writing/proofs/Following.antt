@@ -11,7 +11,7 @@ use lib.ListN.{length}
 use Rattle.limits.specs.Limits.{maxValues, rowWidth}
 use Rattle.calculus.specs.Refusals.{Kind, typeLine, patternLine}
 use Rattle.format.specs.Lines.{Row}
-use Rattle.calculus.specs.Trees.{Ty, tunit, tsum, tprod, Tag, left, right, Val, vleaf, unitLeaf, vinj, vnode, pairNode}
+use Rattle.calculus.specs.Trees.{Ty, tunit, tlist, tsum, tprod, Tag, left, right, Val, vleaf, unitLeaf, vinj, vnode, pairNode}
 use Rattle.law_ranking.specs.Numbering.{count, unrank}
 use Rattle.law_pairlists.specs.PairLists.{find, enter, Entry, entry, typeRow, writeType, writeValue}
 use Rattle.calculus.proofs.Basic.{bool-cases, leb-le, leb-false, lt-ltb, not-ltb}
@@ -130,6 +130,18 @@ follow-row {k} {s} {s₂} {s₃} x {y} {z} {y′} {z′} {n} {e} ws p q l h = go
           long = h .long ∙ l;
         }
 
+-- a list
+pub list-done : (a : Ty) {c : Ty} {s s₁ s₂ : List ℕ} {to n₁ e₁ n₂ e₂ : ℕ} → TypeDone a s s₁ to n₁ e₁ → c ≡ tlist a
+    → ((k : Kind) (rs : List Row) → Entering k s₁ s₂ e₁ 3 n₁ 0 n₂ e₂ rs) → TypeDone c s s₂ to n₂ e₂
+list-done a {s = s} {s₂ = s₂} {to = to} {n₂ = n₂} {e₂ = e₂} f p h =
+    subst (λ d. TypeDone d s s₂ to n₂ e₂) (sym p)
+    (record {
+      does = λ rs r t.
+          let F = f .does rs r t in
+          let ws : List Row = writeType a rs .rows in
+          follow-row 3 ws (F .number) (λ o. refl) (F .long) (h typeLine ws .does (omega arith) (omega (arith, F .bound)) (omega arith) (follow-room F r) (F .tracks));
+    })
+
 abbrev pub tagKind : Tag → ℕ
 tagKind left = 2
 tagKind right = 3
@@ -166,6 +178,10 @@ pair-value v w f g h =
 
 pub value-unit : {n : ℕ} {s s′ : List ℕ} {to m e : ℕ} → ((k : Kind) (rs : List Row) → Entering k s s′ to 0 0 0 m e rs) → ValueDone tunit n s s′ to m e
 value-unit h = record { does = λ c. unit-value h }
+
+-- the values of a list are not numbered
+pub value-list : (a : Ty) (n : ℕ) (s s′ : List ℕ) (to m e : ℕ) → ValueDone (tlist a) n s s′ to m e
+value-list a n s s′ to m e = record { does = λ c. absurd (omega (arith, c)) }
 
 module _ (n : ℕ) (a b : Ty) {s s₁ s₂ : List ℕ} {to n₁ e₁ n₂ e₂ : ℕ} where
   pub value-left : {c : ℕ} → Counts a c → n < c → ValueDone a n s s₁ to n₁ e₁ → ((k : Kind) (rs : List Row) → Entering k s₁ s₂ e₁ 2 n₁ 0 n₂ e₂ rs)

@@ -5,6 +5,7 @@ use area_words::word_at;
 use codes::FIRST;
 use codes::KIND;
 use codes::LEFT;
+use codes::LIST;
 use codes::PAIR;
 use codes::PRODUCT;
 use codes::RIGHT;
@@ -39,6 +40,10 @@ pub fn write_type(t: &[u16], i: usize, s: &mut [u16], to: usize) -> Entry
         let a = write_type(t, smaller(cell(t, i, FIRST), i), s, to);
         let b = write_type(t, smaller(cell(t, i, SECOND), i), s, a.end);
         return enter_entry(s, b.end, PRODUCT, a.number, b.number);
+    }
+    if kind == LIST {
+        let a = write_type(t, smaller(cell(t, i, FIRST), i), s, to);
+        return enter_entry(s, a.end, LIST, a.number, 0);
     }
     enter_entry(s, to, TYPE_UNIT, 0, 0)
 }

@@ -5,7 +5,7 @@ use mathlib.Core.Path.{_≡_, refl, sym, ap₂, _∙_, subst}
 use mathlib.Core.List.{List}
 use lib.ListN.{length, getD, length-append}
 use Rattle.limits.specs.Limits.{maxValues}
-use Rattle.calculus.specs.Trees.{Ty, tunit, tsum, tprod, Val, vleaf, unitLeaf, emptyLeaf, vinj, vnode, pairNode, elementNode, left, right}
+use Rattle.calculus.specs.Trees.{Ty, tunit, tlist, tsum, tprod, Val, vleaf, unitLeaf, emptyLeaf, vinj, vnode, pairNode, elementNode, left, right}
 use Rattle.calculus.specs.Letters.{letters, inhabits}
 use Rattle.law_ranking.specs.Numbering.{count}
 use Rattle.calculus.proofs.Basic.{not-both, and-true}
@@ -14,6 +14,10 @@ use Rattle.run_patterns.proofs.Spelling.{at-within, at-first, at-inj, at-left, 
 use Rattle.number_values.specs.Numbers.{Counts, Ranks}
 use Rattle.law_ranking.proofs.Numbering.{rank-below, count-left, count-right, count-first, count-second}
 use Rattle.number_values.proofs.Counting.{counted, times-plus-is}
+
+-- the values of a list are not numbered
+pub ranks-list : (a : Ty) (s : List ℕ) (at n e : ℕ) → Ranks (tlist a) s at n e
+ranks-list a s at n e v h i c = absurd (omega (arith, c))
 
 -- `next` is the place behind the letter at place `at`
 module _ (s : List ℕ) (at : ℕ) {next : ℕ} (p : at < length s → next ≡ at + 1) where

@@ -8,7 +8,7 @@ use mathlib.Core.List.{List, [], _∷_}
 use lib.ListN.{length, set}
 use borrow.Author.Tests.{lt-ltb, le-ltb}
 use Rattle.limits.specs.Limits.{maxValues}
-use Rattle.calculus.specs.Trees.{Ty, tunit, tsum, tprod, vinj, vnode, pairNode, left, right}
+use Rattle.calculus.specs.Trees.{Ty, tunit, tlist, tsum, tprod, vinj, vnode, pairNode, left, right}
 use Rattle.calculus.specs.Letters.{letters}
 use Rattle.law_ranking.specs.Numbering.{count, unrank}
 use Rattle.area_cells.specs.Areas.{Writes}
@@ -31,6 +31,10 @@ unranks a n f c h room = (f c h .area room, f c h .place room)
 -- no room
 pub unranks-none : (a : Ty) (n : ℕ) (l : List ℕ) (at : ℕ) → length l ≤ at → Unranks a n l l at at
 unranks-none a n l at h c k room = absurd (omega (arith, letters-some (unrank a n)))
+
+-- the values of a list are not numbered
+pub unranks-list : (a : Ty) (n : ℕ) (l l₂ : List ℕ) (at r : ℕ) → Unranks (tlist a) n l l₂ at r
+unranks-list a n l l₂ at r c k room = absurd (omega (arith, c))
 
 -- a letter is stored at place `at` of the area l
 module _ (n : ℕ) (l : List ℕ) (at : ℕ) (here : at < length l) where

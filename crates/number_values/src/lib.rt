@@ -8,6 +8,7 @@ use codes::LETTER_LEFT;
 use codes::LETTER_PAIR;
 use codes::LETTER_RIGHT;
 use codes::LETTER_UNIT;
+use codes::LIST;
 use codes::PRODUCT;
 use codes::SECOND;
 use codes::SUM;
@@ -30,6 +31,9 @@ pub struct Ranked {
 
 // Stands for all numbers above the most values that are numbered.
 const MANY: usize = MAX_VALUES + 1;
+
+// A list has more.
+const OF_LIST: usize = MANY;
 
 // The counts of as many T lines are kept at most.
 pub const COUNTS: usize = MAX_TYPES;
@@ -90,8 +94,8 @@ fn pairs(a: usize, b: usize) -> usize
     capped(a * b)
 }
 
-// How many closed values T line i has; 4,294,967,296 stands for all above. The counts of the first T lines are
-// known, as many as are lent.
+// How many closed values T line i has; 4,294,967,296 stands for all above, and for those of a list. The counts of
+// the first T lines are known, as many as are lent.
 pub fn count_values(t: &[u16], counts: &[usize], i: usize) -> usize
     requires { ⌜ Counted (now t) (now counts) ⌝ }
     ensures { λ r. ⌜ Counts (typeOf (now (t .entry)) i) r ⌝ }
@@ -109,6 +113,9 @@ pub fn count_values(t: &[u16], counts: &[usize], i: usize) -> usize
         let a = count_values(t, counts, smaller(cell(t, i, FIRST), i));
         let b = count_values(t, counts, smaller(cell(t, i, SECOND), i));
         return pairs(a, b);
+    }
+    if kind == LIST {
+        return OF_LIST;
     }
     1
 }

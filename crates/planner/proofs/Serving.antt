@@ -69,13 +69,13 @@ pub given-count : (rs : List Row) (budget : ℕ) (us : Units) (q : List ℕ) →
 unfolding playRows
 given-count rs budget us q = on (unitsFault rs (us .types) (us .settings))
   where
-    next : (y : Option (List Planned)) → scriptOf (length (us .types)) (length (isosOf rs)) (lines q) ≡ y
+    next : (y : Outcome (List Planned)) → scriptOf (length (us .types)) (isosOf rs) (lines q) ≡ y
         → length (marksFrom (onScript rs budget us y)) ≡ cond (isSome (refusalOf (onScript rs budget us y))) 0 (length (lines q))
-    next none e = refl
-    next (some ps) e = length-map (outcomes rs budget ps us) marked ∙ outcomes-length rs budget ps us ∙ script-length (length (us .types)) (length (isosOf rs)) (lines q) ps e
+    next (fails f) e = refl
+    next (gives ps) e = length-map (outcomes rs budget ps us) marked ∙ outcomes-length rs budget ps us ∙ script-length (length (us .types)) (isosOf rs) (lines q) ps e
 
     on : (y : Option Refusal) → length (marksFrom (onUnits rs budget us (lines q) y)) ≡ cond (isSome (refusalOf (onUnits rs budget us (lines q) y))) 0 (length (lines q))
-    on none = next (scriptOf (length (us .types)) (length (isosOf rs)) (lines q)) refl
+    on none = next (scriptOf (length (us .types)) (isosOf rs) (lines q)) refl
     on (some f) = refl
 
 given-flag : (x : Outcome Played) → not (isSome (refusalOf x)) ≡ isGiven x

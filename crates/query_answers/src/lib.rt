@@ -46,7 +46,7 @@ fn run_query(
 }
 
 // Answers a query's line on a table that holds a checked file, whose isos the index finds. The work area
-// needs 40,960 bytes and the result area 127; what these bytes of the work area then hold is left open, all
+// needs 51,200 bytes and the result area 127; what these bytes of the work area then hold is left open, all
 // behind them is as it was.
 pub fn answer_line(
     t: &[u16],

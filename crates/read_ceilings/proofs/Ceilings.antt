@@ -20,8 +20,8 @@ use Rattle.format.specs.declared.Row as R
 use Rattle.format.specs.Code.{kindView, rowView}
 use Rattle.calculus.proofs.Basic.{and-true, leb-le}
 use Rattle.table_trees.specs.Unfolding.{cellOf}
-use Rattle.table_trees.proofs.Cases.{Parted, sums, products, Whole, Injects, lefts, rights, Leaf}
-use Rattle.table_sizes.proofs.Counts.{whole-count, type-count, leaf-count, inj-count, pair-count, leaf-tags, inj-tags, pair-tags}
+use Rattle.table_trees.proofs.Cases.{Parted, sums, products, Whole, Injects, lefts, rights, Joins, pairs, elements, joins-pair, joins-element, Leaf, Plain}
+use Rattle.table_sizes.proofs.Counts.{whole-count, type-count, list-count, leaf-count, inj-count, pair-count, leaf-tags, empty-tags, inj-tags, pair-tags, element-tags}
 use Rattle.read_seen.specs.declared.Seen as C
 use Rattle.read_ceilings.specs.Reckoned.{TypeReckoned, PatternReckoned, TagsReckoned, CeilingsTold, SizeTold, TagsKept}
 use Rattle.read_seen.specs.Told.{PatternSizes, TagsAt, nextType, nextPattern, Weighed}
@@ -39,8 +39,12 @@ inj-named : {k : ℕ} (n a b : ℕ) → Injects k → patternNames n k a b ≡ t
 inj-named n a b lefts e = ltb-true a n e
 inj-named n a b rights e = ltb-true a n e
 
-pair-named : {k : ℕ} (n a b : ℕ) → k ≡ 4 → patternNames n k a b ≡ true → (a < n) × (b < n)
-pair-named n a b h e = two-named n a b (sym (ap (λ k. patternNames n k a b) h) ∙ e)
+pair-named : {k : ℕ} (n a b : ℕ) → Joins k → patternNames n k a b ≡ true → (a < n) × (b < n)
+pair-named n a b pairs e = two-named n a b e
+pair-named n a b elements e = two-named n a b e
+
+list-named : {k : ℕ} (n a b : ℕ) → k ≡ 3 → typeNames n k a b ≡ true → a < n
+list-named n a b h e = ltb-true a n (sym (ap (λ k. typeNames n k a b) h) ∙ e)
 
 -- ---- the nodes of a line that stands next
 
@@ -53,6 +57,10 @@ module _ (t : List ℕ) (k a b : ℕ) where
       let d = type-named (length ts) a b h names in
       ap₂ (λ x y. 1 + x + y) (p ∙ at a (d .0)) (q ∙ at b (d .1)) ∙ sym (type-count (getD ts a tunit) (getD ts b tunit) h)
 
+  pub next-type-list : {m : ℕ} → k ≡ 3 → m ≡ cellOf t a 4 → TypeReckoned t k a b (1 + m)
+  next-type-list h p ts at names =
+      ap (λ x. 1 + x) (p ∙ at a (list-named (length ts) a b h names)) ∙ sym (list-count (getD ts a tunit) (getD ts b tunit) h)
+
 module _ (t : List ℕ) (base k a b : ℕ) where
   pub next-leaf : Leaf k → PatternReckoned t base k a b 1
   next-leaf h ps at names = sym (leaf-count a (getD ps a (pleaf unitLeaf)) (getD ps b (pleaf unitLeaf)) h)
@@ -61,14 +69,17 @@ module _ (t : List ℕ) (base k a b : ℕ) where
   next-inj h p ps at names =
       ap (λ x. 1 + x) (p ∙ at a (inj-named (length ps) a b h names)) ∙ sym (inj-count a (getD ps a (pleaf unitLeaf)) (getD ps b (pleaf unitLeaf)) h)
 
-  pub next-pair : {m n : ℕ} → k ≡ 4 → m ≡ cellOf t (base + a) 4 → n ≡ cellOf t (base + b) 4 → PatternReckoned t base k a b (1 + m + n)
+  pub next-pair : {m n : ℕ} → Joins k → m ≡ cellOf t (base + a) 4 → n ≡ cellOf t (base + b) 4 → PatternReckoned t base k a b (1 + m + n)
   next-pair h p q ps at names =
       let d = pair-named (length ps) a b h names in
       ap₂ (λ x y. 1 + x + y) (p ∙ at a (d .0)) (q ∙ at b (d .1)) ∙ sym (pair-count a (getD ps a (pleaf unitLeaf)) (getD ps b (pleaf unitLeaf)) h)
 
 module _ (g : List ℕ) (k a b : ℕ) where
-  pub next-leaf-tags : Leaf k → TagsReckoned g k a b 0
+  pub next-leaf-tags : Plain k → TagsReckoned g k a b 0
   next-leaf-tags h ps at names = sym (leaf-tags a (getD ps a (pleaf unitLeaf)) (getD ps b (pleaf unitLeaf)) h)
+
+  pub next-empty-tags : k ≡ 5 → TagsReckoned g k a b 1
+  next-empty-tags h ps at names = sym (empty-tags a (getD ps a (pleaf unitLeaf)) (getD ps b (pleaf unitLeaf)) h)
 
   pub next-inj-tags : {m : ℕ} → Injects k → m ≡ getD g a 0 → TagsReckoned g k a b (1 + m)
   next-inj-tags h p ps at names =
@@ -76,8 +87,14 @@ module _ (g : List ℕ) (k a b : ℕ) where
 
   pub next-pair-tags : {m n : ℕ} → k ≡ 4 → m ≡ getD g a 0 → n ≡ getD g b 0 → TagsReckoned g k a b (m + n)
   next-pair-tags h p q ps at names =
-      let d = pair-named (length ps) a b h names in
+      let d = pair-named (length ps) a b (joins-pair h) names in
       ap₂ (λ x y. x + y) (p ∙ at a (d .0)) (q ∙ at b (d .1)) ∙ sym (pair-tags a (getD ps a (pleaf unitLeaf)) (getD ps b (pleaf unitLeaf)) h)
+
+  pub next-element-tags : {m n : ℕ} → k ≡ 6 → m ≡ getD g a 0 → n ≡ getD g b 0 → TagsReckoned g k a b (1 + m + n)
+  next-element-tags {m} {n} h p q ps at names =
+      let d = pair-named (length ps) a b (joins-element h) names in
+      let grouped : 1 + m + n ≡ 1 + (m + n) = omega arith in
+      grouped ∙ ap₂ (λ x y. 1 + (x + y)) (p ∙ at a (d .0)) (q ∙ at b (d .1)) ∙ sym (element-tags a (getD ps a (pleaf unitLeaf)) (getD ps b (pleaf unitLeaf)) h)
 
 -- ---- T lines
 
@@ -178,7 +195,7 @@ module _ (t : List ℕ) (c : C.Seen) (r : R.Row) where
   pub size-let : r .kind ≡ kinds.Let → SizeTold (kindView (r .kind)) t c r 0
   size-let q g s told names = ap (λ k. sizeOf (kindView k) s (rowView r)) (sym q)
 
--- ---- left and right nodes kept
+-- ---- tags kept
 
 -- one P line more, with its own behind the others
 tags-more : (g g′ : List ℕ) (ps : List Pat) (p : Pat) (n : ℕ) → TagsAt g ps → length ps < length g → g′ ≡ set g (length ps) n → n ≡ tags p → TagsAt g′ (ps ++ (p ∷ []))

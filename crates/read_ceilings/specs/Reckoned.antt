@@ -18,7 +18,7 @@ use Rattle.read_seen.specs.declared.Seen as S
 abbrev pub TypeReckoned : List ℕ → ℕ → ℕ → ℕ → ℕ → Type 0
 TypeReckoned t kind a b r = (ts : List Ty) → TypeSizes t ts → typeNames (length ts) kind a b ≡ true → r ≡ typeNodes (nextType ts kind a b)
 
--- the nodes of a P line that stands next, and its left and right nodes
+-- the nodes of a P line that stands next, and those that count towards the 40
 abbrev pub PatternReckoned : List ℕ → ℕ → ℕ → ℕ → ℕ → ℕ → Type 0
 PatternReckoned t base kind a b r =
     (ps : List Pat) → PatternSizes t base ps → patternNames (length ps) kind a b ≡ true → r ≡ nodes (nextPattern ps kind a b)
@@ -34,7 +34,7 @@ CeilingsTold k t g c r b = (s : Seen) → Weighed t g c s → named s k (rowView
 abbrev pub SizeTold : Kind → List ℕ → S.Seen → R.Row → ℕ → Type 0
 SizeTold k t c r n = (g : List ℕ) (s : Seen) → Weighed t g c s → named s k (rowView r) ≡ true → n ≡ sizeOf k s (rowView r)
 
--- the left and right nodes of the P lines, with a row of this kind more that keeps the ceilings
+-- the nodes of the P lines that count towards the 40, with a row of this kind more that keeps the ceilings
 pub record TagsKept (k : Kind) (g g′ : List ℕ) (c : S.Seen) (r : R.Row) : Type 0 where
   pub kept : (t : List ℕ) (s : Seen) → Weighed t g c s → named s k (rowView r) ≡ true → withinCeilings s k (rowView r) ≡ true → maxPatterns ≤ length g
       → TagsAt g′ (afterKind k s (rowView r) .patterns)

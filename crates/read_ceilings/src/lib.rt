@@ -1,11 +1,14 @@
-// The ceilings of a row whose names stand, by the rows above it: their sizes stand in the table, the left and right nodes of P line j in
-// byte j of an area.
+// The ceilings of a row whose names stand, by the rows above it: their sizes stand in the table, the left, right, empty and element
+// nodes of P line j, its tags, in byte j of an area.
 
 use area_cells::byte_at;
 use area_cells::narrow_byte;
 use area_cells::put_byte;
 use area_cells::wide_byte;
+use codes::ELEMENT;
+use codes::EMPTY;
 use codes::LEFT;
+use codes::LIST;
 use codes::PAIR;
 use codes::PRODUCT;
 use codes::RIGHT;
@@ -36,6 +39,7 @@ fn type_nodes(t: &[u16], kind: usize, a: usize, b: usize) -> usize
 {
     match kind {
         SUM | PRODUCT => 1 + cell(t, a, SIZE) + cell(t, b, SIZE),
+        LIST => 1 + cell(t, a, SIZE),
         _ => 1,
     }
 }
@@ -46,25 +50,27 @@ fn pattern_nodes(t: &[u16], base: usize, kind: usize, a: usize, b: usize) -> usi
 {
     match kind {
         LEFT | RIGHT => 1 + pattern_cell(t, base, a, SIZE),
-        PAIR => 1 + pattern_cell(t, base, a, SIZE) + pattern_cell(t, base, b, SIZE),
+        PAIR | ELEMENT => 1 + pattern_cell(t, base, a, SIZE) + pattern_cell(t, base, b, SIZE),
         _ => 1,
     }
 }
 
-// The left and right nodes of P line j.
+// The tags of P line j.
 fn tags_of(g: &[u8], j: usize) -> usize
     ensures { λ r. ⌜ (r ≡ getD (now (g .entry)) j 0) × (r < 256) ⌝ }
 {
     wide_byte(byte_at(g, j))
 }
 
-// The left and right nodes of a P line that stands next.
+// The tags of a P line that stands next.
 fn next_tags(g: &[u8], kind: usize, a: usize, b: usize) -> usize
     ensures { λ r. ⌜ TagsReckoned (now (g .entry)) kind a b r ⌝ }
 {
     match kind {
         LEFT | RIGHT => 1 + tags_of(g, a),
         PAIR => tags_of(g, a) + tags_of(g, b),
+        EMPTY => 1,
+        ELEMENT => 1 + tags_of(g, a) + tags_of(g, b),
         _ => 0,
     }
 }
@@ -79,7 +85,7 @@ fn type_within(c: Seen, t: &[u16], g: &[u8], r: Row) -> bool
     false
 }
 
-// A P line whose names stand: how many there are, its nodes, its left and right nodes.
+// A P line whose names stand: how many there are, its nodes, its tags.
 fn pattern_within(c: Seen, t: &[u16], g: &[u8], r: Row) -> bool
     ensures { λ b. ⌜ CeilingsTold patternLine (now (t .entry)) (now (g .entry)) c r b ⌝ }
 {
@@ -120,7 +126,7 @@ pub fn row_size(c: Seen, t: &[u16], r: Row) -> usize
     }
 }
 
-// Keeps the left and right nodes of a row that passed, where it is a P line.
+// Keeps the tags of a row that passed, where it is a P line.
 pub fn keep_tags(c: Seen, g: &mut [u8], r: Row)
     ensures { λ u. ⌜ TagsKept (kindView (r .kind)) (now (g .entry)) (now (g .exit)) c r ⌝ }
 {

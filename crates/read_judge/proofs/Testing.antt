@@ -1,6 +1,5 @@
 -- The tests of a row by its kind: its place in the order, its fields, the lines that it names.
 use Prim.Native.Nat.{ℕ, zero, suc, _+_, _<_, _≤_}
-use native.Mathlib.Numerals.{add-one}
 use native.Mathlib.Omega.{arith}
 use mathlib.Core.Path.{_≡_, refl, sym, ap, ap₂, _∙_}
 use mathlib.Core.Bool.{Bool, true, false, _&&_}
@@ -14,7 +13,7 @@ use Rattle.format.specs.declared.Kind as K
 use Rattle.format.specs.declared.Kind.the-variants as kinds
 use Rattle.format.specs.declared.Row as R
 use Rattle.format.specs.Code.{kindView, rowView}
-use Rattle.table_trees.proofs.Cases.{Parted, sums, products, Whole, units, others, Injects, lefts, rights, Leaf, unit, var, other}
+use Rattle.table_trees.proofs.Cases.{Parted, sums, products, Whole, units, others, Injects, lefts, rights, Joins, pairs, elements, Leaf, unit, var, empty, other}
 use Rattle.read_seen.specs.declared.Seen as C
 use Rattle.read_seen.specs.Told.{Counts}
 
@@ -58,22 +57,25 @@ no-variable-number {a} b h = sym (ap (λ t. t && eqb b 0) (le-ltb a variables h)
 pub type-listed : {k : ℕ} {r : Bool} (m a b : ℕ) → k ≡ m → r ≡ typeFields m a b → r ≡ typeFields k a b
 type-listed m a b e h = h ∙ sym (ap (λ k. typeFields k a b) e)
 
-pub type-unlisted : (k a b : ℕ) → (k ≡ 0 → ⊥) → (k ≡ 1 → ⊥) → (k ≡ 2 → ⊥) → false ≡ typeFields k a b
-type-unlisted zero a b u s p = absurd (u refl)
-type-unlisted (suc zero) a b u s p = absurd (s refl)
-type-unlisted (suc (suc zero)) a b u s p = absurd (p refl)
-type-unlisted (suc (suc (suc k))) a b u s p = refl
+pub type-unlisted : (k a b : ℕ) → (k ≡ 0 → ⊥) → (k ≡ 1 → ⊥) → (k ≡ 2 → ⊥) → (k ≡ 3 → ⊥) → false ≡ typeFields k a b
+type-unlisted zero a b u s p l = absurd (u refl)
+type-unlisted (suc zero) a b u s p l = absurd (s refl)
+type-unlisted (suc (suc zero)) a b u s p l = absurd (p refl)
+type-unlisted (suc (suc (suc zero))) a b u s p l = absurd (l refl)
+type-unlisted (suc (suc (suc (suc k)))) a b u s p l = refl
 
 pub pattern-listed : {k : ℕ} {r : Bool} (m a b : ℕ) → k ≡ m → r ≡ patternFields m a b → r ≡ patternFields k a b
 pattern-listed m a b e h = h ∙ sym (ap (λ k. patternFields k a b) e)
 
-pub pattern-unlisted : (k a b : ℕ) → (k ≡ 0 → ⊥) → (k ≡ 1 → ⊥) → (k ≡ 2 → ⊥) → (k ≡ 3 → ⊥) → (k ≡ 4 → ⊥) → false ≡ patternFields k a b
-pattern-unlisted zero a b u v l r p = absurd (u refl)
-pattern-unlisted (suc zero) a b u v l r p = absurd (v refl)
-pattern-unlisted (suc (suc zero)) a b u v l r p = absurd (l refl)
-pattern-unlisted (suc (suc (suc zero))) a b u v l r p = absurd (r refl)
-pattern-unlisted (suc (suc (suc (suc zero)))) a b u v l r p = absurd (p refl)
-pattern-unlisted (suc (suc (suc (suc (suc k))))) a b u v l r p = refl
+pub pattern-unlisted : (k a b : ℕ) → (k ≡ 0 → ⊥) → (k ≡ 1 → ⊥) → (k ≡ 2 → ⊥) → (k ≡ 3 → ⊥) → (k ≡ 4 → ⊥) → (k ≡ 5 → ⊥) → (k ≡ 6 → ⊥) → false ≡ patternFields k a b
+pattern-unlisted zero a b u v l r p n m = absurd (u refl)
+pattern-unlisted (suc zero) a b u v l r p n m = absurd (v refl)
+pattern-unlisted (suc (suc zero)) a b u v l r p n m = absurd (l refl)
+pattern-unlisted (suc (suc (suc zero))) a b u v l r p n m = absurd (r refl)
+pattern-unlisted (suc (suc (suc (suc zero)))) a b u v l r p n m = absurd (p refl)
+pattern-unlisted (suc (suc (suc (suc (suc zero))))) a b u v l r p n m = absurd (n refl)
+pattern-unlisted (suc (suc (suc (suc (suc (suc zero)))))) a b u v l r p n m = absurd (m refl)
+pattern-unlisted (suc (suc (suc (suc (suc (suc (suc k))))))) a b u v l r p n m = refl
 
 module _ (r : R.Row) {b : Bool} where
   pub type-fits : r .kind ≡ kinds.Type → b ≡ typeFields (r .x) (r .y) (r .z) → b ≡ fieldsFit (kindView (r .kind)) (rowView r)
@@ -101,25 +103,27 @@ type-node-names n a b products e = e
 pub leaf-names : {k : ℕ} (n a b : ℕ) → Leaf k → true ≡ patternNames n k a b
 leaf-names n a b unit = refl
 leaf-names n a b var = refl
+leaf-names n a b empty = refl
 leaf-names n a b (other k) = refl
 
 pub injection-names : {k : ℕ} (n a b : ℕ) → Injects k → ltb a n ≡ patternNames n k a b
 injection-names n a b lefts = refl
 injection-names n a b rights = refl
 
-pub pair-names : {k : ℕ} (n a b : ℕ) {r : Bool} → k ≡ 4 → r ≡ (ltb a n && ltb b n) → r ≡ patternNames n k a b
-pair-names n a b h e = e ∙ sym (ap (λ k. patternNames n k a b) h)
+pub pair-names : {k : ℕ} (n a b : ℕ) {r : Bool} → Joins k → r ≡ (ltb a n && ltb b n) → r ≡ patternNames n k a b
+pair-names n a b pairs e = e
+pair-names n a b elements e = e
+
+pub list-names : {k : ℕ} (n a b : ℕ) → k ≡ 3 → ltb a n ≡ typeNames n k a b
+list-names n a b h = sym (ap (λ k. typeNames n k a b) h)
 
 -- an L line: t says whether its patterns stand
 module _ {t p : Bool} (e : t ≡ p) (i isos : ℕ) where
-  pub let-iso : t ≡ true → ltb (i + 1) isos ≡ (p && ltb (suc i) isos)
-  let-iso h = ap (λ n. ltb n isos) (add-one i) ∙ sym (ap (λ x. x && ltb (suc i) isos) (sym e ∙ h))
+  pub let-iso : t ≡ true → ltb i isos ≡ (p && ltb i isos)
+  let-iso h = sym (ap (λ x. x && ltb i isos) (sym e ∙ h))
 
-  pub let-no-iso : t ≡ true → isos ≤ i → false ≡ (p && ltb (suc i) isos)
-  let-no-iso h l = sym (ap₂ _&&_ (sym e ∙ h) (le-ltb (suc i) isos (omega arith)))
-
-  pub let-no-pattern : t ≡ false → false ≡ (p && ltb (suc i) isos)
-  let-no-pattern h = sym (ap (λ x. x && ltb (suc i) isos) (sym e ∙ h))
+  pub let-no-pattern : t ≡ false → false ≡ (p && ltb i isos)
+  let-no-pattern h = sym (ap (λ x. x && ltb i isos) (sym e ∙ h))
 
 module _ (c : C.Seen) (r : R.Row) {b : Bool} where
   pub type-stands : r .kind ≡ kinds.Type → b ≡ typeNames (c .types) (r .x) (r .y) (r .z) → (s : Seen) → Counts c s → b ≡ named s (kindView (r .kind)) (rowView r)
@@ -134,9 +138,8 @@ module _ (c : C.Seen) (r : R.Row) {b : Bool} where
   pub clause-stands : r .kind ≡ kinds.Clause → b ≡ (ltb (r .x) (c .patterns) && ltb (r .y) (c .patterns)) → (s : Seen) → Counts c s → b ≡ named s (kindView (r .kind)) (rowView r)
   clause-stands q e s h = e ∙ ap (λ n. ltb (r .x) n && ltb (r .y) n) (h .patterns) ∙ sym (ap (λ k. named s (kindView k) (rowView r)) q)
 
-  pub let-stands : r .kind ≡ kinds.Let → b ≡ (ltb (r .x) (c .patterns) && ltb (r .z) (c .patterns) && ltb (suc (r .y)) (c .isos)) → (s : Seen) → Counts c s → b ≡ named s (kindView (r .kind))
-      (rowView r)
+  pub let-stands : r .kind ≡ kinds.Let → b ≡ (ltb (r .x) (c .patterns) && ltb (r .z) (c .patterns) && ltb (r .y) (c .isos)) → (s : Seen) → Counts c s → b ≡ named s (kindView (r .kind)) (rowView r)
   let-stands q e s h =
       e
-      ∙ ap₂ (λ n i. ltb (r .x) n && ltb (r .z) n && ltb (suc (r .y)) i) (h .patterns) (h .isos)
+      ∙ ap₂ (λ n i. ltb (r .x) n && ltb (r .z) n && ltb (r .y) i) (h .patterns) (h .isos)
       ∙ sym (ap (λ k. named s (kindView k) (rowView r)) q)

@@ -1,6 +1,9 @@
 // Refusals 4 to 7 of a row, by the rows above it.
 
+use codes::ELEMENT;
+use codes::EMPTY;
 use codes::LEFT;
+use codes::LIST;
 use codes::PAIR;
 use codes::PRODUCT;
 use codes::RIGHT;
@@ -65,6 +68,7 @@ fn type_fields(kind: usize, a: usize, b: usize) -> bool
         TYPE_UNIT => idle(a, b),
         SUM => true,
         PRODUCT => true,
+        LIST => b == 0,
         _ => false,
     }
 }
@@ -78,6 +82,8 @@ fn pattern_fields(kind: usize, a: usize, b: usize) -> bool
         LEFT => b == 0,
         RIGHT => b == 0,
         PAIR => true,
+        EMPTY => idle(a, b),
+        ELEMENT => true,
         _ => false,
     }
 }
@@ -111,6 +117,7 @@ fn type_names(n: usize, kind: usize, a: usize, b: usize) -> bool
 {
     match kind {
         SUM | PRODUCT => both_below(a, b, n),
+        LIST => a < n,
         _ => true,
     }
 }
@@ -120,20 +127,17 @@ fn pattern_names(n: usize, kind: usize, a: usize, b: usize) -> bool
 {
     match kind {
         LEFT | RIGHT => a < n,
-        PAIR => both_below(a, b, n),
+        PAIR | ELEMENT => both_below(a, b, n),
         _ => true,
     }
 }
 
-// An L line names patterns above, and an iso before its own, which is the last of `isos`.
+// An L line names patterns above, and an iso before its own or its own, which is the last of `isos`.
 fn let_names(patterns: usize, isos: usize, p: usize, i: usize, q: usize) -> bool
-    ensures { λ r. ⌜ r ≡ (ltb p patterns && ltb q patterns && ltb (suc i) isos) ⌝ }
+    ensures { λ r. ⌜ r ≡ (ltb p patterns && ltb q patterns && ltb i isos) ⌝ }
 {
     if both_below(p, q, patterns) {
-        if i < isos {
-            return i + 1 < isos;
-        }
-        return false;
+        return i < isos;
     }
     false
 }

@@ -110,7 +110,7 @@ passing-bad m x l ls e = ap (λ v. ahead v (λ q. passing (after m q) ls)) (sym 
 
 -- ---- the rows so far
 
--- t₀ is the table at first, t the table now, g keeps left and right nodes; n rows are read, the next line begins at `at`
+-- t₀ is the table at first, t the table now, g keeps the tags of P lines; n rows are read, the next line begins at `at`
 pub record SoFar (s t₀ t g : List ℕ) (at n : ℕ) (c : C.Seen) : Type 0 where
   pub file : List Row
   pub count : n ≡ length file

@@ -74,7 +74,7 @@ fn put_row(t: &mut [u16], n: usize, r: Row, size: usize)
 }
 
 // Reads a file of at most 4,096 lines into a table of at least 20,480 numbers. The rows of the lines before the
-// first that is refused are then in the table. Byte j of `g` keeps the left and right nodes of P line j.
+// first that is refused are then in the table. Byte j of `g` keeps the tags of P line j.
 fn read_rows(s: &[u8], t: &mut [u16], g: &mut [u8]) -> Read
     requires { ⌜ (tableLength ≤ length (now t)) × (length (lines (now s)) ≤ maxLines) × (maxPatterns ≤ length (now g)) ⌝ }
     ensures { λ r. ⌜ ReadSays (now (s .entry)) (now (t .entry)) (now (t .exit)) r ⌝ }

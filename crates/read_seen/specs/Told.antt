@@ -59,7 +59,7 @@ pub record Told (t : List ℕ) (c : C.Seen) (s : Seen) : Type 0 where
   pub types : TypesAt t (s .types)
   pub patterns : PatternsAt t (length (s .types)) (s .patterns)
 
--- the sizes that the table holds of its T lines, and of its P lines from a row on; the left and right nodes that an area holds of the P lines
+-- the sizes that the table holds of its T lines, and of its P lines from a row on; the nodes that count towards the 40, which an area holds of the P lines
 abbrev pub TypeSizes : List ℕ → List Ty → Type 0
 TypeSizes t ts = (i : ℕ) → i < length ts → cellOf t i sizeField ≡ typeNodes (getD ts i tunit)
 

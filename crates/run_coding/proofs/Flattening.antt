@@ -5,13 +5,15 @@ use mathlib.Core.Path.{_≡_, refl, sym, ap, ap₂, _∙_, subst}
 use mathlib.Core.List.{List, [], _∷_, _++_}
 use lib.ListN.{length, set, take, length-append, length-set}
 use lib.Seq.{sets, take-take, take-set-le}
-use Rattle.calculus.specs.Trees.{Tag, left, right, Pat, pleaf, unitLeaf, pvar, pinj, pnode, pairNode}
-use Rattle.calculus.specs.Letters.{letterOf}
+use Rattle.calculus.specs.Trees.{Leaf, Tag, Node, Pat, pleaf, pvar, pinj, pnode}
+use Rattle.calculus.specs.Letters.{leafLetter, letterOf, nodeLetter}
 use Rattle.area_cells.proofs.Writing.{sets-append}
 use Rattle.table_trees.specs.Unfolding.{cellOf, smallerOf, patternOf}
-use Rattle.table_trees.proofs.Unfolding.{pattern-var, pattern-left, pattern-right, pattern-pair, pattern-other}
+use Rattle.table_trees.proofs.Unfolding.{pattern-var}
+use Rattle.table_trees.proofs.Cases as cases
+use Rattle.table_trees.proofs.Cases.{Injects, Joins}
 use Rattle.run_values.specs.Texts.{letterFor}
-use Rattle.run_patterns.proofs.Lines.{letter-other, Node, lefts, rights, pairs, units, nodes-of}
+use Rattle.run_patterns.proofs.Lines.{leaf-line, inj-line, node-line}
 use Rattle.run_flat.specs.Flat.{flat, Few}
 use Rattle.run_coding.specs.Coded.{NumberPut, Flattened}
 
@@ -58,8 +60,8 @@ flat-var {n} {v} {at} {r} {code} h e w =
       few = λ z. h;
     }
 
-flat-unit : {at r : ℕ} {code code′ : List ℕ} → NumberPut code code′ at 85 r → Flattened (pleaf unitLeaf) code code′ at r
-flat-unit w = record { before = w .before; area = w .area; place = w .place; fits = w .fits; near = w .near; few = λ z. tt }
+flat-leaf : (l : Leaf) {at r : ℕ} {code code′ : List ℕ} → NumberPut code code′ at (leafLetter l) r → Flattened (pleaf l) code code′ at r
+flat-leaf l w = record { before = w .before; area = w .area; place = w .place; fits = w .fits; near = w .near; few = λ z. tt }
 
 -- the first number stands, the rest lies behind it
 first-before : {code c₁ : List ℕ} (c₂ : List ℕ) {at v m : ℕ} → NumberPut code c₁ at v m → 0 < m → take m c₂ ≡ take m c₁ → take at c₂ ≡ take at code
@@ -83,9 +85,10 @@ flat-inj t p {at} {m} {r} {code} {c₁} {c₂} w z f =
       few = f .few;
     }
 
-flat-pair : (p q : Pat) {at m n r : ℕ} {code c₁ c₂ c₃ : List ℕ} → NumberPut code c₁ at 80 m → 0 < m → Flattened p c₁ c₂ m n → 0 < n → Flattened q c₂ c₃ n r → length c₂ ≡ length c₁
-    → Flattened (pnode pairNode p q) code c₃ at r
-flat-pair p q {at} {m} {n} {r} {code} {c₁} {c₂} {c₃} w z f y g same =
+flat-node : (k : Node) (p q : Pat) {at m n r : ℕ} {code c₁ c₂ c₃ : List ℕ} → NumberPut code c₁ at (nodeLetter k) m → 0 < m → Flattened p c₁ c₂ m n → 0 < n → Flattened q c₂ c₃ n r → length c₂
+    ≡ length c₁
+    → Flattened (pnode k p q) code c₃ at r
+flat-node k p q {at} {m} {n} {r} {code} {c₁} {c₂} {c₃} w z f y g same =
     let l = kept-length w z in
     let pl = w .place z in
     let up : m ≡ suc at = omega (arith, pl) in
@@ -116,37 +119,20 @@ module _ (t : List ℕ) (base j : ℕ) {code : List ℕ} {at k : ℕ} (e : k ≡
   flatten-variable z f w = as-line (pattern-var t base j (sym e ∙ z) ∙ sym (ap pvar f)) w
 
   module _ {b m : ℕ} {c₁ : List ℕ} (f : b ≡ letterFor k) (w : NumberPut code c₁ at b m) where
-    flatten-unit : (k ≡ 1 → ⊥) → (k ≡ 4 → ⊥) → (k ≡ 2 → ⊥) → (k ≡ 3 → ⊥) → Flattened (patternOf t base j) code c₁ at m
-    flatten-unit n x y z =
-        as-line (pattern-other t base j (λ h. n (e ∙ h)) (λ h. y (e ∙ h)) (λ h. z (e ∙ h)) (λ h. x (e ∙ h)))
-        (flat-unit (subst (λ v. NumberPut code c₁ at v m) (f ∙ letter-other k x y z) w))
-
-    pub flatten-low : (k ≡ 1 → ⊥) → k < 2 → Flattened (patternOf t base j) code c₁ at m
-    flatten-low n h = flatten-unit n (λ z. absurd (omega arith)) (λ z. absurd (omega arith)) (λ z. absurd (omega arith))
-
-    pub flatten-high : (k ≡ 1 → ⊥) → 4 ≤ k → (k ≡ 4 → ⊥) → Flattened (patternOf t base j) code c₁ at m
-    flatten-high n h x = flatten-unit n x (λ z. absurd (omega arith)) (λ z. absurd (omega arith))
+    pub flatten-leaf : (k ≡ 1 → ⊥) → cases.Leaf k → Flattened (patternOf t base j) code c₁ at m
+    flatten-leaf n i = let (x, y, h) = leaf-line t base j e n i in as-line h (flat-leaf x (subst (λ v. NumberPut code c₁ at v m) (f ∙ y) w))
 
     module _ {a : ℕ} (o : 0 < m) (n : a ≡ smallerOf (cellOf t (base + j) 2) j) {c₂ : List ℕ} {i : ℕ} (g : Flattened (patternOf t base a) c₁ c₂ m i) where
-      pub flatten-tag : 2 ≤ k → k < 4 → Flattened (patternOf t base j) code c₂ at i
-      flatten-tag h g′ = go (nodes-of k)
-        where
-          go : Node k → Flattened (patternOf t base j) code c₂ at i
-          go (lefts z) =
-              as-line (pattern-left t base j (sym e ∙ z) ∙ ap (λ x. pinj left (patternOf t base x)) (sym n))
-              (flat-inj left (patternOf t base a) (subst (λ v. NumberPut code c₁ at v m) (f ∙ ap letterFor z) w) o g)
-          go (rights z) =
-              as-line (pattern-right t base j (sym e ∙ z) ∙ ap (λ x. pinj right (patternOf t base x)) (sym n))
-              (flat-inj right (patternOf t base a) (subst (λ v. NumberPut code c₁ at v m) (f ∙ ap letterFor z) w) o g)
-          go (pairs z) = absurd (omega arith)
-          go (units x y z) = absurd (omega arith)
+      pub flatten-tag : Injects k → Flattened (patternOf t base j) code c₂ at i
+      flatten-tag u =
+          let (x, y, h) = inj-line t base j e n u in
+          as-line h (flat-inj x (patternOf t base a) (subst (λ v. NumberPut code c₁ at v m) (f ∙ y) w) o g)
 
-      pub flatten-pair : {c r : ℕ} {c₃ : List ℕ} → k ≡ 4 → c ≡ smallerOf (cellOf t (base + j) 3) j → 0 < i → length c₂ ≡ length c₁
+      pub flatten-node : {c r : ℕ} {c₃ : List ℕ} → Joins k → c ≡ smallerOf (cellOf t (base + j) 3) j → 0 < i → length c₂ ≡ length c₁
           → Flattened (patternOf t base c) c₂ c₃ i r → Flattened (patternOf t base j) code c₃ at r
-      flatten-pair {c} h u y same v =
-          as-line
-          (pattern-pair t base j (sym e ∙ h) ∙ ap₂ (λ x y. pnode pairNode (patternOf t base x) (patternOf t base y)) (sym n) (sym u))
-          (flat-pair (patternOf t base a) (patternOf t base c) (subst (λ v. NumberPut code c₁ at v m) (f ∙ ap letterFor h) w) o g y v same)
+      flatten-node {c} u d z same v =
+          let (x, y, h) = node-line t base j e n d u in
+          as-line h (flat-node x (patternOf t base a) (patternOf t base c) (subst (λ v. NumberPut code c₁ at v m) (f ∙ y) w) o g z v same)
 
 pub positive : {n : ℕ} → (n ≡ 0 → ⊥) → 0 < n
 positive {n = zero} h = absurd (h refl)

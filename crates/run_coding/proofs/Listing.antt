@@ -129,31 +129,33 @@ line-flat p j {i} {v} {at} {end} {next} {code} {c₁} {c₂} {code′} f w z y e
 
 -- ---- all lines
 
--- the lines before line j have their numbers
-pub record Listing (t : List ℕ) (base : ℕ) (code : List ℕ) (at j : ℕ) : Type 0 where
+-- the lines from line j up to line n have their numbers
+pub record Listing (t : List ℕ) (base : ℕ) (code : List ℕ) (at j n : ℕ) : Type 0 where
   pub low : 1025 ≤ at
-  pub each : (k : ℕ) → k < j → Listed code at (patternOf t base k) (getD code (suc k) 0)
+  pub below : j ≤ n
+  pub each : (k : ℕ) → j ≤ k → k < n → Listed code at (patternOf t base k) (getD code (suc k) 0)
 
-pub listing-start : (t : List ℕ) (base : ℕ) (code : List ℕ) → Listing t base code 1025 0
-listing-start t base code = record { low = omega arith; each = λ k h. absurd (omega arith) }
+pub listing-start : (t : List ℕ) (base : ℕ) (code : List ℕ) (n : ℕ) → Listing t base code 1025 n n
+listing-start t base code n = record { low = omega arith; below = omega arith; each = λ k h g. absurd (omega arith) }
 
-pub listing-next : {t : List ℕ} {base : ℕ} {code code′ : List ℕ} {at next : ℕ} (j : ℕ) → Listing t base code at j → LineCoded (patternOf t base j) j code code′ at next → j < 1024
-    → Listing t base code′ next (j + 1)
-listing-next {t} {base} {code} {code′} {at} {next} j l c less =
+pub listing-next : {t : List ℕ} {base : ℕ} {code code′ : List ℕ} {at next : ℕ} (j : ℕ) {i n : ℕ} → Listing t base code at i n → 0 < i → j ≡ i - 1
+    → LineCoded (patternOf t base j) j code code′ at next → n ≤ 1024 → Listing t base code′ next j n
+listing-next {t} {base} {code} {code′} {at} {next} j {i} {n} l some′ before c few =
     let up = l .low in
     let on = c .onward in
-    record { low = omega (arith, up, on); each = λ k h. go k (le-or-lt j k) h }
+    let top = l .below in
+    record { low = omega (arith, up, on); below = omega (arith, top, before); each = λ k h g. go k (le-or-lt i k) h g }
   where
-    go : (k : ℕ) → (j ≤ k) ⊎ (k < j) → k < j + 1 → Listed code′ next (patternOf t base k) (getD code′ (suc k) 0)
-    go k (inl g) h =
+    go : (k : ℕ) → (i ≤ k) ⊎ (k < i) → j ≤ k → k < n → Listed code′ next (patternOf t base k) (getD code′ (suc k) 0)
+    go k (inr g) h r =
         let is : j ≡ k = omega arith in subst (λ x. Listed code′ next (patternOf t base x) (getD code′ (suc x) 0)) is (c .entry)
-    go k (inr g) h =
+    go k (inl g) h r =
         let up = l .low in
-        let here′ : suc k < at = omega (arith, up, less) in
+        let here′ : suc k < at = omega (arith, up, few) in
         let same : getD code (suc k) 0 ≡ getD code′ (suc k) 0 =
         sym (getD-take at code (suc k) 0 here′) ∙ ap (λ x. getD x (suc k) 0) (sym (c .before)) ∙ getD-take at (c .area) (suc k) 0 here′
-        ∙ sym (ap (λ x. getD x (suc k) 0) (c .stored) ∙ getD-set-other (c .area) (suc j) (suc k) (c .value) 0 (λ e. absurd (omega (arith, e)))) in
-        listed-keeps (c .area) (suc j) (c .value) (c .onward) (c .before) (c .stored) (omega (arith, less)) (l .low) same (l .each k g)
+        ∙ sym (ap (λ x. getD x (suc k) 0) (c .stored) ∙ getD-set-other (c .area) (suc j) (suc k) (c .value) 0 (λ e. absurd (omega (arith, e, before, some′, g)))) in
+        listed-keeps (c .area) (suc j) (c .value) (c .onward) (c .before) (c .stored) (omega (arith, few, r, h)) (l .low) same (l .each k g r)
 
 -- number 0 is 0: nothing is coded
 pub none-coded : (t : List ℕ) (base : ℕ) (code : List ℕ) {code′ : List ℕ} {v : ℕ} → v ≡ 0 → code′ ≡ set code 0 v → Coded t base code′
@@ -167,7 +169,7 @@ none-coded t base code {code′} {v} z e = record { entries = λ j. uncoded (ap 
     go j = ap (λ b. cond b (getD code′ (suc j) 0) 0) (le-ltb j 0 (omega arith))
 
 -- number 0 is the number of lines
-pub all-coded : (t : List ℕ) (base patterns : ℕ) {code code′ : List ℕ} {at v n : ℕ} → Listing t base code at n → patterns ≤ n → patterns ≤ 1024 → v ≡ patterns % 65536 → 1025 ≤ length code
+pub all-coded : (t : List ℕ) (base patterns : ℕ) {code code′ : List ℕ} {at v n : ℕ} → Listing t base code at n patterns → n ≤ 0 → patterns ≤ 1024 → v ≡ patterns % 65536 → 1025 ≤ length code
     → code′ ≡ set code 0 v → Coded t base code′
 all-coded t base patterns {code} {code′} {at} {v} {n} l past few ev long e = record { entries = λ j. go j (le-or-lt patterns j) }
   where
@@ -187,4 +189,4 @@ all-coded t base patterns {code} {code′} {at} {v} {n} l past few ev long e = r
     go : (j : ℕ) → (patterns ≤ j) ⊎ (j < patterns) → Entry code′ (patternOf t base j) (entryOf code′ j)
     go j (inl h) = uncoded (ap (λ n. cond (ltb j n) (getD code′ (suc j) 0) 0) is ∙ ap (λ b. cond b (getD code′ (suc j) 0) 0) (le-ltb j patterns h))
     go j (inr h) =
-        as-entry (sym (ap (λ n. cond (ltb j n) (getD code′ (suc j) 0) 0) is ∙ ap (λ b. cond b (getD code′ (suc j) 0) 0) (lt-ltb j patterns h) ∙ sym (same j))) (l .each j (omega (arith, h, past)))
+        as-entry (sym (ap (λ n. cond (ltb j n) (getD code′ (suc j) 0) 0) is ∙ ap (λ b. cond b (getD code′ (suc j) 0) 0) (lt-ltb j patterns h) ∙ sym (same j))) (l .each j (omega (arith, past)) h)

@@ -7,6 +7,7 @@ use area_words::store_word;
 use area_words::wide;
 use area_words::word_at;
 use area_words::word_of;
+use codes::ELEMENT;
 use codes::FIRST;
 use codes::KIND;
 use codes::LEFT;
@@ -107,14 +108,14 @@ fn flatten(t: &[u16], base: usize, j: usize, code: &mut [u16], at: usize) -> usi
     if next == 0 {
         return 0;
     }
-    if kind == PAIR {
-        let middle = flatten(t, base, part(t, base, j, FIRST), code, next);
-        if middle == 0 {
-            return 0;
-        }
-        return flatten(t, base, part(t, base, j, SECOND), code, middle);
-    }
     match kind {
+        PAIR | ELEMENT => {
+            let middle = flatten(t, base, part(t, base, j, FIRST), code, next);
+            if middle == 0 {
+                return 0;
+            }
+            flatten(t, base, part(t, base, j, SECOND), code, middle)
+        }
         LEFT | RIGHT => flatten(t, base, part(t, base, j, FIRST), code, next),
         _ => next,
     }
@@ -163,7 +164,8 @@ fn code_line(t: &[u16], base: usize, j: usize, code: &mut [u16], at: usize) -> u
     next
 }
 
-// Writes the P lines of a table flat, as far as there is room.
+// Writes the P lines of a table flat, from the last on, as far as there is room: lines name earlier ones, so
+// that the sides of clauses stand last.
 pub fn code_patterns(t: &[u16], base: usize, patterns: usize, code: &mut [u16])
     ensures { λ r. ⌜ Coded (now (t .entry)) base (now (code .exit)) ⌝ }
 {
@@ -175,16 +177,16 @@ pub fn code_patterns(t: &[u16], base: usize, patterns: usize, code: &mut [u16])
         return;
     }
     let mut at: usize = LISTED;
-    let mut j: usize = 0;
-    while j < patterns {
+    let mut j = patterns;
+    while 0 < j {
+        j -= 1;
         at = code_line(t, base, j, code, at);
-        j += 1;
     }
     store_word(code, 0, narrow(patterns));
 }
 
 // The number for P line j.
-fn entry(code: &[u16], j: usize) -> usize
+pub fn entry(code: &[u16], j: usize) -> usize
     ensures { λ r. ⌜ (r ≡ entryOf (now (code .entry)) j) × (r < wordBound) ⌝ }
 {
     if j < wide(word_at(code, 0)) {

@@ -9,9 +9,12 @@ use mathlib.Core.List.{List, [], _∷_, _++_, append-assoc}
 use lib.ListN.{length, getD, drop, length-append, length-drop}
 use lib.Seq.{getD-drop, drop-drop, drop-append-seam}
 use Rattle.limits.specs.Limits.{variables}
-use Rattle.calculus.specs.Trees.{unitLeaf, emptyLeaf, Tag, left, right, pairNode, elementNode, Pat, pleaf, pvar, pinj, pnode, Val, vleaf, vinj, vnode}
+use Rattle.calculus.specs.Trees.{Leaf, unitLeaf, emptyLeaf, Tag, Node, left, right, pairNode, elementNode, Pat, pleaf, pvar, pinj, pnode, Val, vleaf, vinj, vnode}
 use Rattle.calculus.specs.Letters.{letters, letterOf}
-use Rattle.run_values.specs.Texts.{Bare, At, alike, putRange, ranges}
+use Rattle.calculus.proofs.Basic.{sameLeaf-refl, sameTag-refl, sameNode-refl}
+use Rattle.run_values.specs.Texts.{At, alike, putRange, ranges}
+use Rattle.run_patterns.proofs.Spelling.{firstOf, at-first, with-leaf, with-tag, with-node}
+use Rattle.run_patterns.proofs.Matching.{Noded, letterIn, unlike}
 use Rattle.run_flat.specs.Flat.{flat, Few, stop, Stands}
 
 -- ---- a number at a place
@@ -42,10 +45,6 @@ abbrev pub Fews : Pairs → Type 0
 Fews [] = Unit
 Fews (x ∷ xs) = Few (x .0) × Fews xs
 
-abbrev pub Bares : Pairs → Type 0
-Bares [] = Unit
-Bares (x ∷ xs) = Bare (x .1) × Bares xs
-
 abbrev pub alikes : Pairs → Bool
 alikes [] = true
 alikes (x ∷ xs) = alike (x .0) (x .1) && alikes xs
@@ -64,7 +63,6 @@ pub record Before (code s : List ℕ) (end : ℕ) (hit : Bool) (final : List ℕ
   pub spells : drop at s ≡ texts due ++ more
   pub ends : at + length (texts due) ≡ end
   pub few : Fews due
-  pub bare : Bares due
   pub same : hit ≡ alikes due
   pub final′ : final ≡ left-by due at vars
 
@@ -89,7 +87,6 @@ before-start {code} {s} {k} {at} {end} {q} {v} vars c a e =
       spells = a .spells ∙ sym (append-assoc (letters v) [] (a .rest));
       ends = omega (arith, n, e);
       few = (c .few, tt);
-      bare = (a .bare, tt);
       same = and-true (alike q v);
       final′ = cond-same (alike q v) (ranges q v at vars);
     }
@@ -108,8 +105,8 @@ none-due code k rest ((pinj right p, v) ∷ xs) f c e = let n = number-here code
 none-due code k rest ((pnode pairNode p q, v) ∷ xs) f c e = let n = number-here code k _ _ c in absurd (omega (arith, n, e))
 
 -- the value of the first pair stands at the letter
-first-at : (s : List ℕ) (at : ℕ) (more : List ℕ) (v : Val) (ts : List ℕ) → Bare v → drop at s ≡ (letters v ++ ts) ++ more → At s at v
-first-at s at more v ts free e = record { rest = ts ++ more; spells = e ∙ append-assoc (letters v) ts more; bare = free }
+first-at : (s : List ℕ) (at : ℕ) (more : List ℕ) (v : Val) (ts : List ℕ) → drop at s ≡ (letters v ++ ts) ++ more → At s at v
+first-at s at more v ts e = record { rest = ts ++ more; spells = e ∙ append-assoc (letters v) ts more }
 
 -- ---- the stop
 
@@ -138,23 +135,23 @@ pub var-next : {code s : List ℕ} {end : ℕ} {hit : Bool} {final : List ℕ} {
     → vars′ ≡ putRange vars x at to → Before code s end hit final (k + 1) to vars′
 unfolding first-at
 var-next {code} {s} {end} {hit} {final} {k} {at} {vars} {o} {x} {to} {vars′} b eo small ex ends put =
-    go (b .due) (b .codes) (b .spells) (b .ends) (b .few) (b .bare) (b .same) (b .final′)
+    go (b .due) (b .codes) (b .spells) (b .ends) (b .few) (b .same) (b .final′)
   where
-    go : (xs : Pairs) → drop k code ≡ flats xs ++ (stop ∷ b .rest) → drop at s ≡ texts xs ++ b .more → at + length (texts xs) ≡ end → Fews xs → Bares xs → hit ≡ alikes xs
+    go : (xs : Pairs) → drop k code ≡ flats xs ++ (stop ∷ b .rest) → drop at s ≡ texts xs ++ b .more → at + length (texts xs) ≡ end → Fews xs → hit ≡ alikes xs
         → final ≡ left-by xs at vars → Before code s end hit final (k + 1) to vars′
-    go [] c t e f z h l = let n = number-here code k _ _ c in absurd (omega (arith, n, eo))
-    go ((pleaf unitLeaf, v) ∷ xs) c t e f z h l = let n = number-here code k _ _ c in absurd (omega (arith, n, eo))
-    go ((pleaf emptyLeaf, v) ∷ xs) c t e f z h l = let n = number-here code k _ _ c in absurd (omega (arith, n, eo))
-    go ((pnode elementNode p q, v) ∷ xs) c t e f z h l = let n = number-here code k _ _ c in absurd (omega (arith, n, eo))
-    go ((pinj left p, v) ∷ xs) c t e f z h l = let n = number-here code k _ _ c in absurd (omega (arith, n, eo))
-    go ((pinj right p, v) ∷ xs) c t e f z h l = let n = number-here code k _ _ c in absurd (omega (arith, n, eo))
-    go ((pnode pairNode p q, v) ∷ xs) c t e f z h l = let n = number-here code k _ _ c in absurd (omega (arith, n, eo))
-    go ((pvar m, v) ∷ xs) c t e f z h l =
+    go [] c t e f h l = let n = number-here code k _ _ c in absurd (omega (arith, n, eo))
+    go ((pleaf unitLeaf, v) ∷ xs) c t e f h l = let n = number-here code k _ _ c in absurd (omega (arith, n, eo))
+    go ((pleaf emptyLeaf, v) ∷ xs) c t e f h l = let n = number-here code k _ _ c in absurd (omega (arith, n, eo))
+    go ((pnode elementNode p q, v) ∷ xs) c t e f h l = let n = number-here code k _ _ c in absurd (omega (arith, n, eo))
+    go ((pinj left p, v) ∷ xs) c t e f h l = let n = number-here code k _ _ c in absurd (omega (arith, n, eo))
+    go ((pinj right p, v) ∷ xs) c t e f h l = let n = number-here code k _ _ c in absurd (omega (arith, n, eo))
+    go ((pnode pairNode p q, v) ∷ xs) c t e f h l = let n = number-here code k _ _ c in absurd (omega (arith, n, eo))
+    go ((pvar m, v) ∷ xs) c t e f h l =
         let n = number-here code k _ _ c in
         let is : x ≡ m = ex ∙ eo ∙ n in
         let next = behind-number code k _ _ c in
         let both = length-append (letters v) (texts xs) in
-        let a = first-at s at (b .more) v (texts xs) (z .0) t in
+        let a = first-at s at (b .more) v (texts xs) t in
         let last : getD code (k + 1) 0 ≡ 128 → end ≡ at + length (letters v) =
         λ y. let w = ap (λ ys. length (texts ys)) (none-due code (k + 1) (b .rest) xs (f .1) next y) in omega (arith, both, e, w) in
         let stops : to ≡ at + length (letters v) = ends v a last in
@@ -167,7 +164,6 @@ var-next {code} {s} {end} {hit} {final} {k} {at} {vars} {o} {x} {to} {vars′} b
               ∙ drop-append-seam (letters v) (texts xs ++ b .more);
           ends = omega (arith, both, e, stops);
           few = f .1;
-          bare = z .1;
           same = h;
           final′ = l ∙ sym (ap₂ (left-by xs) stops (put ∙ ap₂ (λ x y. putRange vars x at y) is stops));
         }
@@ -188,34 +184,28 @@ letter-within {code} {s} {k = k} {at = at} {o = o} b eo n = go (b .due) (b .code
 -- another letter: it does not match
 pub letter-differs : {code s : List ℕ} {end : ℕ} {hit : Bool} {final : List ℕ} {k at : ℕ} {vars : List ℕ} {o : ℕ} → Before code s end hit final k at vars
     → o ≡ getD code k 0 → 32 ≤ o → (o ≡ 128 → ⊥) → (getD s at 0 ≡ o → ⊥) → (false ≡ hit) × (vars ≡ final)
-letter-differs {code} {s} {end} {hit} {final} {k} {at} {vars} {o} b eo low n other =
+letter-differs {code} {s} {end} {hit} {final} {k} {at} {vars} {o} b eo low n differs =
     go (b .due) (b .codes) (b .spells) (b .few) (b .same) (b .final′)
   where
-    same-letter : (x : ℕ) (xs ys : List ℕ) → drop k code ≡ x ∷ xs → drop at s ≡ x ∷ ys → ⊥
-    same-letter x xs ys c t = other (number-here s at x ys t ∙ sym (number-here code k x xs c) ∙ sym eo)
+    apart : (p : Pat) → Noded p → (v : Val) (xs : Pairs) → getD code k 0 ≡ letterIn p → drop at s ≡ texts ((p, v) ∷ xs) ++ b .more
+        → hit ≡ alikes ((p, v) ∷ xs) → final ≡ left-by ((p, v) ∷ xs) at vars → (false ≡ hit) × (vars ≡ final)
+    apart p z v xs c t h l =
+        let a = first-at s at (b .more) v (texts xs) t in
+        let u = unlike p z v (λ e. differs (at-first a ∙ e ∙ sym c ∙ sym eo)) at vars in (
+          sym (h ∙ ap (λ x. x && alikes xs) (u .0)),
+          sym
+              (l
+              ∙ ap (λ x. cond x (left-by xs (at + length (letters v)) (ranges p v at vars)) (ranges p v at vars)) (u .0)
+              ∙ u .1),
+        )
 
     go : (xs : Pairs) → drop k code ≡ flats xs ++ (stop ∷ b .rest) → drop at s ≡ texts xs ++ b .more → Fews xs → hit ≡ alikes xs → final ≡ left-by xs at vars
         → (false ≡ hit) × (vars ≡ final)
     go [] c t f h l = absurd (n (eo ∙ number-here code k _ _ c))
     go ((pvar m, v) ∷ xs) c t f h l = let z = number-here code k _ _ c in let y = f .0 in absurd (omega (arith, z, eo, y))
-    go ((pleaf unitLeaf, vleaf unitLeaf) ∷ xs) c t f h l = absurd (same-letter _ _ _ c t)
-    go ((pleaf unitLeaf, vleaf emptyLeaf) ∷ xs) c t f h l = (sym h, sym l)
-    go ((pleaf emptyLeaf, vleaf unitLeaf) ∷ xs) c t f h l = (sym h, sym l)
-    go ((pleaf emptyLeaf, vleaf emptyLeaf) ∷ xs) c t f h l = absurd (same-letter _ _ _ c t)
-    go ((pleaf k, vinj g v) ∷ xs) c t f h l = (sym h, sym l)
-    go ((pleaf k, vnode m v w) ∷ xs) c t f h l = (sym h, sym l)
-    go ((pinj g p, vleaf k) ∷ xs) c t f h l = (sym h, sym l)
-    go ((pinj left p, vinj left v) ∷ xs) c t f h l = absurd (same-letter _ _ _ c t)
-    go ((pinj left p, vinj right v) ∷ xs) c t f h l = (sym h, sym l)
-    go ((pinj right p, vinj left v) ∷ xs) c t f h l = (sym h, sym l)
-    go ((pinj right p, vinj right v) ∷ xs) c t f h l = absurd (same-letter _ _ _ c t)
-    go ((pinj g p, vnode m v w) ∷ xs) c t f h l = (sym h, sym l)
-    go ((pnode m p q, vleaf k) ∷ xs) c t f h l = (sym h, sym l)
-    go ((pnode m p q, vinj g v) ∷ xs) c t f h l = (sym h, sym l)
-    go ((pnode pairNode p q, vnode pairNode v w) ∷ xs) c t f h l = absurd (same-letter _ _ _ c t)
-    go ((pnode pairNode p q, vnode elementNode v w) ∷ xs) c t f h l = (sym h, sym l)
-    go ((pnode elementNode p q, vnode pairNode v w) ∷ xs) c t f h l = (sym h, sym l)
-    go ((pnode elementNode p q, vnode elementNode v w) ∷ xs) c t f h l = absurd (same-letter _ _ _ c t)
+    go ((pleaf u, v) ∷ xs) c t f h l = apart (pleaf u) tt v xs (number-here code k _ _ c) t h l
+    go ((pinj g p, v) ∷ xs) c t f h l = apart (pinj g p) tt v xs (number-here code k _ _ c) t h l
+    go ((pnode m p q, v) ∷ xs) c t f h l = apart (pnode m p q) tt v xs (number-here code k _ _ c) t h l
 
 -- a pair's ranges, then those of the rest
 pair-left : (a b : Bool) (x : List ℕ → List ℕ) (g f : List ℕ) → cond (a && b) (x (cond a g f)) (cond a g f) ≡ cond a (cond b (x g) g) f
@@ -231,50 +221,19 @@ and-assoc false b c = refl
 pub letter-next : {code s : List ℕ} {end : ℕ} {hit : Bool} {final : List ℕ} {k at : ℕ} {vars : List ℕ} {o : ℕ} → Before code s end hit final k at vars
     → o ≡ getD code k 0 → 32 ≤ o → (o ≡ 128 → ⊥) → getD s at 0 ≡ o → Before code s end hit final (k + 1) (at + 1) vars
 letter-next {code} {s} {end} {hit} {final} {k} {at} {vars} {o} b eo low n same′ =
-    go (b .due) (b .codes) (b .spells) (b .ends) (b .few) (b .bare) (b .same) (b .final′)
+    go (b .due) (b .codes) (b .spells) (b .ends) (b .few) (b .same) (b .final′)
   where
-    other : {A : Type 0} (x : ℕ) (xs : List ℕ) (y : ℕ) (ys : List ℕ) → drop k code ≡ x ∷ xs → drop at s ≡ y ∷ ys → (x ≡ y → ⊥) → A
-    other x xs y ys c t d = absurd (d (sym (number-here code k x xs c) ∙ sym eo ∙ sym same′ ∙ number-here s at y ys t))
+    -- what is due with a value in front
+    Goes : Pat → Pairs → Val → Type 0
+    Goes p xs v = drop at s ≡ texts ((p, v) ∷ xs) ++ b .more → at + length (texts ((p, v) ∷ xs)) ≡ end → hit ≡ alikes ((p, v) ∷ xs)
+        → final ≡ left-by ((p, v) ∷ xs) at vars → Before code s end hit final (k + 1) (at + 1) vars
 
-    below : (p : Pat) (v : Val) (xs : Pairs) → drop (k + 1) code ≡ flats ((p, v) ∷ xs) ++ (stop ∷ b .rest) → drop (at + 1) s ≡ texts ((p, v) ∷ xs) ++ b .more
-        → at + suc (length (letters v ++ texts xs)) ≡ end → Fews ((p, v) ∷ xs) → Bares ((p, v) ∷ xs) → hit ≡ alike p v && alikes xs
-        → final ≡ cond (alike p v) (left-by xs (at + suc (length (letters v))) (ranges p v (suc at) vars)) (ranges p v (suc at) vars)
-        → Before code s end hit final (k + 1) (at + 1) vars
-    below p v xs c t e f z h l =
-        let up = add-one at in
-        let far : at + suc (length (letters v)) ≡ at + 1 + length (letters v) = omega arith in
-        record {
-          due = (p, v) ∷ xs;
-          rest = b .rest;
-          more = b .more;
-          codes = c;
-          spells = t;
-          ends = omega (arith, e);
-          few = f;
-          bare = z;
-          same = h;
-          final′ = l ∙ ap₂ (λ x y. cond (alike p v) (left-by xs x (ranges p v y vars)) (ranges p v y vars)) far (sym up);
-        }
+    -- the value begins with the pattern's letter
+    begins : (v : Val) (xs : Pairs) {x : ℕ} → getD code k 0 ≡ x → drop at s ≡ (letters v ++ texts xs) ++ b .more → firstOf v ≡ x
+    begins v xs c t = sym (at-first (first-at s at (b .more) v (texts xs) t)) ∙ same′ ∙ eo ∙ c
 
-    go : (xs : Pairs) → drop k code ≡ flats xs ++ (stop ∷ b .rest) → drop at s ≡ texts xs ++ b .more → at + length (texts xs) ≡ end → Fews xs → Bares xs → hit ≡ alikes xs
-        → final ≡ left-by xs at vars → Before code s end hit final (k + 1) (at + 1) vars
-    go [] c t e f z h l = absurd (n (eo ∙ number-here code k _ _ c))
-    go ((pvar m, v) ∷ xs) c t e f z h l = let x = number-here code k _ _ c in let y = f .0 in absurd (omega (arith, x, eo, y))
-    go ((pleaf emptyLeaf, vleaf unitLeaf) ∷ xs) c t e f z h l = other _ _ _ _ c t (λ y. absurd (omega (arith, y)))
-    go ((pleaf emptyLeaf, vinj left v) ∷ xs) c t e f z h l = other _ _ _ _ c t (λ y. absurd (omega (arith, y)))
-    go ((pleaf emptyLeaf, vinj right v) ∷ xs) c t e f z h l = other _ _ _ _ c t (λ y. absurd (omega (arith, y)))
-    go ((pleaf emptyLeaf, vnode pairNode v w) ∷ xs) c t e f z h l = other _ _ _ _ c t (λ y. absurd (omega (arith, y)))
-    go ((pnode elementNode p q, vleaf unitLeaf) ∷ xs) c t e f z h l = other _ _ _ _ c t (λ y. absurd (omega (arith, y)))
-    go ((pnode elementNode p q, vinj left v) ∷ xs) c t e f z h l = other _ _ _ _ c t (λ y. absurd (omega (arith, y)))
-    go ((pnode elementNode p q, vinj right v) ∷ xs) c t e f z h l = other _ _ _ _ c t (λ y. absurd (omega (arith, y)))
-    go ((pnode elementNode p q, vnode pairNode v w) ∷ xs) c t e f z h l = other _ _ _ _ c t (λ y. absurd (omega (arith, y)))
-    go ((pleaf k, vleaf emptyLeaf) ∷ xs) c t e f z h l = absurd (z .0)
-    go ((pleaf k, vnode elementNode v w) ∷ xs) c t e f z h l = absurd (z .0)
-    go ((pinj k p, vleaf emptyLeaf) ∷ xs) c t e f z h l = absurd (z .0)
-    go ((pinj k p, vnode elementNode v w) ∷ xs) c t e f z h l = absurd (z .0)
-    go ((pnode k p q, vleaf emptyLeaf) ∷ xs) c t e f z h l = absurd (z .0)
-    go ((pnode k p q, vnode elementNode v w) ∷ xs) c t e f z h l = absurd (z .0)
-    go ((pleaf unitLeaf, vleaf unitLeaf) ∷ xs) c t e f z h l =
+    leaf : (u : Leaf) (xs : Pairs) → drop k code ≡ flats ((pleaf u, vleaf u) ∷ xs) ++ (stop ∷ b .rest) → Fews xs → Goes (pleaf u) xs (vleaf u)
+    leaf u xs c f t e h l =
         record {
           due = xs;
           rest = b .rest;
@@ -282,30 +241,40 @@ letter-next {code} {s} {end} {hit} {final} {k} {at} {vars} {o} b eo low n same�
           codes = behind-number code k _ _ c;
           spells = behind-number s at _ _ t;
           ends = omega (arith, e);
-          few = f .1;
-          bare = z .1;
-          same = h;
-          final′ = l;
+          few = f;
+          same = h ∙ ap (λ x. x && alikes xs) (sameLeaf-refl u);
+          final′ = l ∙ ap (λ x. cond x (left-by xs (at + 1) vars) vars) (sameLeaf-refl u);
         }
-    go ((pleaf unitLeaf, vinj left v) ∷ xs) c t e f z h l = other _ _ _ _ c t (λ y. absurd (omega (arith, y)))
-    go ((pleaf unitLeaf, vinj right v) ∷ xs) c t e f z h l = other _ _ _ _ c t (λ y. absurd (omega (arith, y)))
-    go ((pleaf unitLeaf, vnode pairNode v w) ∷ xs) c t e f z h l = other _ _ _ _ c t (λ y. absurd (omega (arith, y)))
-    go ((pinj left p, vleaf unitLeaf) ∷ xs) c t e f z h l = other _ _ _ _ c t (λ y. absurd (omega (arith, y)))
-    go ((pinj right p, vleaf unitLeaf) ∷ xs) c t e f z h l = other _ _ _ _ c t (λ y. absurd (omega (arith, y)))
-    go ((pinj left p, vinj left v) ∷ xs) c t e f z h l = below p v xs (behind-number code k _ _ c) (behind-number s at _ _ t) e f z h l
-    go ((pinj left p, vinj right v) ∷ xs) c t e f z h l = other _ _ _ _ c t (λ y. absurd (omega (arith, y)))
-    go ((pinj right p, vinj left v) ∷ xs) c t e f z h l = other _ _ _ _ c t (λ y. absurd (omega (arith, y)))
-    go ((pinj right p, vinj right v) ∷ xs) c t e f z h l = below p v xs (behind-number code k _ _ c) (behind-number s at _ _ t) e f z h l
-    go ((pinj left p, vnode pairNode v w) ∷ xs) c t e f z h l = other _ _ _ _ c t (λ y. absurd (omega (arith, y)))
-    go ((pinj right p, vnode pairNode v w) ∷ xs) c t e f z h l = other _ _ _ _ c t (λ y. absurd (omega (arith, y)))
-    go ((pnode pairNode p q, vleaf unitLeaf) ∷ xs) c t e f z h l = other _ _ _ _ c t (λ y. absurd (omega (arith, y)))
-    go ((pnode pairNode p q, vinj left v) ∷ xs) c t e f z h l = other _ _ _ _ c t (λ y. absurd (omega (arith, y)))
-    go ((pnode pairNode p q, vinj right v) ∷ xs) c t e f z h l = other _ _ _ _ c t (λ y. absurd (omega (arith, y)))
-    go ((pnode pairNode p q, vnode pairNode v w) ∷ xs) c t e f z h l =
+
+    tag : (g : Tag) (p : Pat) (xs : Pairs) (v : Val) → drop k code ≡ flats ((pinj g p, vinj g v) ∷ xs) ++ (stop ∷ b .rest) → Few p × Fews xs → Goes (pinj g p) xs (vinj g v)
+    tag g p xs v c f t e h l =
+        let same″ = sameTag-refl g in
+        let far : at + suc (length (letters v)) ≡ at + 1 + length (letters v) = omega arith in
+        record {
+          due = (p, v) ∷ xs;
+          rest = b .rest;
+          more = b .more;
+          codes = behind-number code k _ _ c;
+          spells = behind-number s at _ _ t;
+          ends = omega (arith, e);
+          few = f;
+          same = h ∙ ap (λ x. (x && alike p v) && alikes xs) same″;
+          final′ =
+              l
+              ∙ ap (λ x. cond (x && alike p v) (left-by xs (at + suc (length (letters v))) (cond x (ranges p v (suc at) vars) vars)) (cond x (ranges p v (suc at) vars) vars)) same″
+              ∙ ap₂ (λ x y. cond (alike p v) (left-by xs x (ranges p v y vars)) (ranges p v y vars)) far (sym (add-one at));
+        }
+
+    node : (m : Node) (p q : Pat) (xs : Pairs) (v w : Val) → drop k code ≡ flats ((pnode m p q, vnode m v w) ∷ xs) ++ (stop ∷ b .rest) → (Few p × Few q) × Fews xs
+        → Goes (pnode m p q) xs (vnode m v w)
+    node m p q xs v w c f t e h l =
+        let same″ = sameNode-refl m in
         let one = length-append (letters v ++ letters w) (texts xs) in
         let two = length-append (letters v) (letters w) in
         let both = length-append (letters v) (letters w ++ texts xs) in
         let rest = length-append (letters w) (texts xs) in
+        let first = ranges p v (suc at) vars in
+        let second = ranges q w (suc at + length (letters v)) first in
         let u : suc at + length (letters v) ≡ at + 1 + length (letters v) = omega arith in
         let far : at + suc (length (letters v ++ letters w)) ≡ at + 1 + length (letters v) + length (letters w) = omega (arith, two) in
         record {
@@ -316,12 +285,12 @@ letter-next {code} {s} {end} {hit} {final} {k} {at} {vars} {o} b eo low n same�
           spells = behind-number s at _ _ t ∙ ap (λ ys. ys ++ b .more) (append-assoc (letters v) (letters w) (texts xs));
           ends = omega (arith, e, one, two, both, rest);
           few = (f .0 .0, (f .0 .1, f .1));
-          bare = (z .0 .0, (z .0 .1, z .1));
-          same = h ∙ and-assoc (alike p v) (alike q w) (alikes xs);
+          same = h ∙ ap (λ x. (x && (alike p v && alike q w)) && alikes xs) same″ ∙ and-assoc (alike p v) (alike q w) (alikes xs);
           final′ =
               l
-              ∙ pair-left (alike p v) (alike q w) (left-by xs (at + suc (length (letters v ++ letters w)))) (ranges q w (suc at + length (letters v)) (ranges p v (suc at) vars))
-              (ranges p v (suc at) vars)
+              ∙ ap (λ x. cond (x && (alike p v && alike q w)) (left-by xs (at + suc (length (letters v ++ letters w))) (cond x (cond (alike p v) second first) vars))
+              (cond x (cond (alike p v) second first) vars)) same″
+              ∙ pair-left (alike p v) (alike q w) (left-by xs (at + suc (length (letters v ++ letters w)))) second first
               ∙ ap₂ (λ x y. cond (alike p v)
               (cond (alike q w) (left-by xs x (ranges q w (suc at + length (letters v)) (ranges p v y vars))) (ranges q w (suc at + length (letters v)) (ranges p v y vars)))
               (ranges p v y vars)) far (sym (add-one at))
@@ -329,3 +298,11 @@ letter-next {code} {s} {end} {hit} {final} {k} {at} {vars} {o} b eo low n same�
               (cond (alike q w) (left-by xs (at + 1 + length (letters v) + length (letters w)) (ranges q w x (ranges p v (at + 1) vars))) (ranges q w x (ranges p v (at + 1) vars)))
               (ranges p v (at + 1) vars)) u;
         }
+
+    go : (xs : Pairs) → drop k code ≡ flats xs ++ (stop ∷ b .rest) → drop at s ≡ texts xs ++ b .more → at + length (texts xs) ≡ end → Fews xs → hit ≡ alikes xs
+        → final ≡ left-by xs at vars → Before code s end hit final (k + 1) (at + 1) vars
+    go [] c t e f h l = absurd (n (eo ∙ number-here code k _ _ c))
+    go ((pvar m, v) ∷ xs) c t e f h l = let x = number-here code k _ _ c in let y = f .0 in absurd (omega (arith, x, eo, y))
+    go ((pleaf u, v) ∷ xs) c t e f h l = with-leaf (Goes (pleaf u) xs) u (leaf u xs c (f .1)) v (begins v xs (number-here code k _ _ c) t) t e h l
+    go ((pinj g p, v) ∷ xs) c t e f h l = with-tag (Goes (pinj g p) xs) g (λ u. tag g p xs u c f) v (begins v xs (number-here code k _ _ c) t) t e h l
+    go ((pnode m p q, v) ∷ xs) c t e f h l = with-node (Goes (pnode m p q) xs) m (λ u w. node m p q xs u w c f) v (begins v xs (number-here code k _ _ c) t) t e h l

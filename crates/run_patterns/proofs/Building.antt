@@ -7,14 +7,16 @@ use mathlib.Core.List.{List, _∷_, _++_}
 use lib.Dec.{ltb}
 use lib.ListN.{length, getD, set, take, drop, length-append}
 use lib.Seq.{slice, take-take, take-set-le}
-use Rattle.calculus.specs.Trees.{Tag, left, right, Pat, pleaf, unitLeaf, pvar, pinj, pnode, pairNode}
-use Rattle.calculus.specs.Letters.{letterOf}
+use Rattle.calculus.specs.Trees.{Leaf, Tag, Node, Pat, pleaf, pvar, pinj, pnode}
+use Rattle.calculus.specs.Letters.{leafLetter, letterOf, nodeLetter}
 use Rattle.area_cells.specs.Areas.{Writes}
 use Rattle.area_cells.proofs.Writing.{writes-one, writes-both, writes-as}
 use Rattle.table_trees.specs.Unfolding.{cellOf, smallerOf, patternOf}
-use Rattle.table_trees.proofs.Unfolding.{pattern-var, pattern-left, pattern-right, pattern-pair, pattern-other}
+use Rattle.table_trees.proofs.Unfolding.{pattern-var}
+use Rattle.table_trees.proofs.Cases as cases
+use Rattle.table_trees.proofs.Cases.{Injects, Joins}
 use Rattle.run_values.specs.Texts.{letterFor, Below, rangeOf, built}
-use Rattle.run_patterns.proofs.Lines.{letter-other, Node, lefts, rights, pairs, units, nodes-of}
+use Rattle.run_patterns.proofs.Lines.{leaf-line, inj-line, node-line}
 use Rattle.run_values.proofs.Copying.{put-place}
 use Rattle.run_values.proofs.Agreeing.{take-sets}
 
@@ -27,9 +29,9 @@ abbrev Puts : List ℕ → List ℕ → ℕ → ℕ → ℕ → Type 0
 Puts l l′ at end b = (l′ ≡ set l at b) × (end ≡ cond (ltb at (length l)) (suc at) at)
 
 module _ {vars l : List ℕ} {at : ℕ} where
-  -- unit
-  builds-unit : {l′ : List ℕ} {r : ℕ} → Puts l l′ at r 85 → Builds vars l l′ at r (pleaf unitLeaf)
-  builds-unit w top b h = writes-one (w .0) (w .1)
+  -- unit and empty
+  builds-leaf : (u : Leaf) {l′ : List ℕ} {r : ℕ} → Puts l l′ at r (leafLetter u) → Builds vars l l′ at r (pleaf u)
+  builds-leaf u w top b h = writes-one (w .0) (w .1)
 
   -- a variable: its range lies below the place
   pub range-copied : (n : ℕ) {u v from to r : ℕ} {l′ : List ℕ} → u ≡ getD vars n 0 → from ≡ u → v ≡ getD vars (32 + n) 0 → to ≡ v → (to ≤ at → Writes l l′ at r (slice from to l))
@@ -47,29 +49,29 @@ module _ {vars l : List ℕ} {at : ℕ} where
       writes-both (writes-one (w .0) (w .1))
       (writes-as (ap (λ s. built p s vars) (ap (take top) (w .0) ∙ take-set-le top l at (letterOf t) h)) (f top b (omega arith)))
 
-  -- a pair: the letter, the first part, the second part
-  builds-pair : (p q : Pat) {l₁ l₂ l₃ : List ℕ} {m n r : ℕ} → Puts l l₁ at m 80 → Builds vars l₁ l₂ m n p → length l₃ ≡ length l₂ → Builds vars l₂ l₃ n r q
-      → Builds vars l l₃ at r (pnode pairNode p q)
-  builds-pair p q {l₁} {l₂} {l₃} {m} {n} {r} w f same g top b h =
-      record { kept = same ∙ before .kept; area = λ k. whole k .area k; place = λ k. whole k .place k }
+  -- a pair and an element: the letter, the first part, the second part
+  builds-node : (k : Node) (p q : Pat) {l₁ l₂ l₃ : List ℕ} {m n r : ℕ} → Puts l l₁ at m (nodeLetter k) → Builds vars l₁ l₂ m n p → length l₃ ≡ length l₂ → Builds vars l₂ l₃ n r q
+      → Builds vars l l₃ at r (pnode k p q)
+  builds-node k p q {l₁} {l₂} {l₃} {m} {n} {r} w f same g top b h =
+      record { kept = same ∙ before .kept; area = λ y. whole y .area y; place = λ y. whole y .place y }
     where
       -- the letter and the first part
-      before : Writes l l₂ at n (80 ∷ built p (take top l) vars)
+      before : Writes l l₂ at n (nodeLetter k ∷ built p (take top l) vars)
       before =
           let place = put-place l at (w .1) in
           writes-both (writes-one (w .0) (w .1))
-          (writes-as (ap (λ x. built p x vars) (ap (take top) (w .0) ∙ take-set-le top l at 80 h)) (f top b (omega arith)))
+          (writes-as (ap (λ x. built p x vars) (ap (take top) (w .0) ∙ take-set-le top l at (nodeLetter k) h)) (f top b (omega arith)))
 
-      fits : at + length (80 ∷ (built p (take top l) vars ++ built q (take top l) vars)) ≤ length l → at + length (80 ∷ built p (take top l) vars) ≤ length l
-      fits k = omega (arith, length-append (built p (take top l) vars) (built q (take top l) vars))
+      fits : at + length (nodeLetter k ∷ (built p (take top l) vars ++ built q (take top l) vars)) ≤ length l → at + length (nodeLetter k ∷ built p (take top l) vars) ≤ length l
+      fits y = omega (arith, length-append (built p (take top l) vars) (built q (take top l) vars))
 
       -- the second part, where all of it fits
-      whole : at + length (80 ∷ (built p (take top l) vars ++ built q (take top l) vars)) ≤ length l
-          → Writes l l₃ at r (80 ∷ (built p (take top l) vars ++ built q (take top l) vars))
-      whole k =
-          let place = before .place (fits k) in
+      whole : at + length (nodeLetter k ∷ (built p (take top l) vars ++ built q (take top l) vars)) ≤ length l
+          → Writes l l₃ at r (nodeLetter k ∷ (built p (take top l) vars ++ built q (take top l) vars))
+      whole y =
+          let place = before .place (fits y) in
           let still : take top l₂ ≡ take top l =
-          ap (take top) (before .area (fits k)) ∙ take-sets l (80 ∷ built p (take top l) vars) at top h in
+          ap (take top) (before .area (fits y)) ∙ take-sets l (nodeLetter k ∷ built p (take top l) vars) at top h in
           writes-both before (writes-as (ap (λ x. built q x vars) still) (g top b (omega arith)))
 
 -- ---- P lines: k is the kind, b its letter, a and c the lines that line j names
@@ -85,43 +87,18 @@ module _ (t : List ℕ) (base j : ℕ) {vars l : List ℕ} {at k : ℕ} (e : k �
   build-variable z f w = as-line (pattern-var t base j (sym e ∙ z) ∙ sym (ap pvar f)) w
 
   module _ {b m : ℕ} {l₁ : List ℕ} (f : b ≡ letterFor k) (w : Puts l l₁ at m b) where
-    -- a unit, or a number that is no kind
-    pub build-unit : (k ≡ 1 → ⊥) → (k ≡ 4 → ⊥) → (k ≡ 2 → ⊥) → (k ≡ 3 → ⊥) → Builds vars l l₁ at m (patternOf t base j)
-    build-unit n x y z =
-        as-line (pattern-other t base j (λ h. n (e ∙ h)) (λ h. y (e ∙ h)) (λ h. z (e ∙ h)) (λ h. x (e ∙ h)))
-        (builds-unit (subst (Puts l l₁ at m) (f ∙ letter-other k x y z) w))
-
-    pub build-low : (k ≡ 1 → ⊥) → k < 2 → Builds vars l l₁ at m (patternOf t base j)
-    build-low n h = build-unit n (λ z. absurd (omega arith)) (λ z. absurd (omega arith)) (λ z. absurd (omega arith))
-
-    pub build-high : (k ≡ 1 → ⊥) → 4 ≤ k → (k ≡ 4 → ⊥) → Builds vars l l₁ at m (patternOf t base j)
-    build-high n h x = build-unit n x (λ z. absurd (omega arith)) (λ z. absurd (omega arith))
+    -- a unit, an empty list, or a number that is no kind
+    pub build-leaf : (k ≡ 1 → ⊥) → cases.Leaf k → Builds vars l l₁ at m (patternOf t base j)
+    build-leaf n i = let (x, y, h) = leaf-line t base j e n i in as-line h (builds-leaf x (subst (Puts l l₁ at m) (f ∙ y) w))
 
     module _ {a : ℕ} (n : a ≡ smallerOf (cellOf t (base + j) 2) j) {l₂ : List ℕ} {i : ℕ} (g : Builds vars l₁ l₂ m i (patternOf t base a)) where
       -- left and right
-      pub build-left : k ≡ 2 → Builds vars l l₂ at i (patternOf t base j)
-      build-left z =
-          as-line (pattern-left t base j (sym e ∙ z) ∙ ap (λ x. pinj left (patternOf t base x)) (sym n))
-          (builds-inj left (patternOf t base a) (subst (Puts l l₁ at m) (f ∙ ap letterFor z) w) g)
+      pub build-tag : Injects k → Builds vars l l₂ at i (patternOf t base j)
+      build-tag o = let (x, y, h) = inj-line t base j e n o in as-line h (builds-inj x (patternOf t base a) (subst (Puts l l₁ at m) (f ∙ y) w) g)
 
-      pub build-right : k ≡ 3 → Builds vars l l₂ at i (patternOf t base j)
-      build-right z =
-          as-line (pattern-right t base j (sym e ∙ z) ∙ ap (λ x. pinj right (patternOf t base x)) (sym n))
-          (builds-inj right (patternOf t base a) (subst (Puts l l₁ at m) (f ∙ ap letterFor z) w) g)
-
-      pub build-tag : 2 ≤ k → k < 4 → Builds vars l l₂ at i (patternOf t base j)
-      build-tag h g′ = go (nodes-of k)
-        where
-          go : Node k → Builds vars l l₂ at i (patternOf t base j)
-          go (lefts z) = build-left z
-          go (rights z) = build-right z
-          go (pairs z) = absurd (omega arith)
-          go (units x y z) = absurd (omega arith)
-
-      -- a pair
-      pub build-pair : {c r : ℕ} {l₃ : List ℕ} → k ≡ 4 → c ≡ smallerOf (cellOf t (base + j) 3) j → length l₃ ≡ length l₂
+      -- a pair and an element
+      pub build-node : {c r : ℕ} {l₃ : List ℕ} → Joins k → c ≡ smallerOf (cellOf t (base + j) 3) j → length l₃ ≡ length l₂
           → Builds vars l₂ l₃ i r (patternOf t base c) → Builds vars l l₃ at r (patternOf t base j)
-      build-pair {c} h o same v =
-          as-line
-          (pattern-pair t base j (sym e ∙ h) ∙ ap₂ (λ x y. pnode pairNode (patternOf t base x) (patternOf t base y)) (sym n) (sym o))
-          (builds-pair (patternOf t base a) (patternOf t base c) (subst (Puts l l₁ at m) (f ∙ ap letterFor h) w) g same v)
+      build-node {c} o d same v =
+          let (x, y, h) = node-line t base j e n d o in
+          as-line h (builds-node x (patternOf t base a) (patternOf t base c) (subst (Puts l l₁ at m) (f ∙ y) w) g same v)

@@ -9,16 +9,20 @@ use mathlib.Core.List.{List}
 use lib.Dec.{eqb, ltb}
 use lib.ListN.{length, getD, set, length-append}
 use borrow.Author.Tests.{lt-ltb, le-ltb, eq-eqb, ne-eqb}
-use Rattle.calculus.specs.Trees.{unitLeaf, emptyLeaf, Tag, left, right, pairNode, elementNode, Pat, pleaf, pvar, pinj, pnode, Val, vleaf, vinj, vnode}
-use Rattle.calculus.specs.Letters.{letters}
-use Rattle.calculus.proofs.Basic.{and-true, eqb-eq}
+use mathlib.Core.Logic.{_⊎_, inl, inr}
+use Rattle.calculus.specs.Trees.{Leaf, unitLeaf, emptyLeaf, Tag, left, right, Node, pairNode, elementNode, Pat, pleaf, pvar, pinj, pnode, Val, vleaf, vinj, vnode}
+use Rattle.calculus.specs.Trees.{sameLeaf, sameTag, sameNode}
+use Rattle.calculus.specs.Letters.{letters, leafLetter, letterOf, nodeLetter}
+use Rattle.calculus.proofs.Basic.{and-true, eqb-eq, sameLeaf-refl, sameTag-refl, sameNode-refl}
 use Rattle.table_trees.specs.Unfolding.{cellOf, smallerOf, patternOf}
-use Rattle.table_trees.proofs.Unfolding.{pattern-var, pattern-left, pattern-right, pattern-pair, pattern-other}
+use Rattle.table_trees.proofs.Unfolding.{pattern-var}
+use Rattle.table_trees.proofs.Cases as cases
+use Rattle.table_trees.proofs.Cases.{Injects, Joins}
 use Rattle.run_values.specs.declared.Upto as U
 use Rattle.run_values.specs.declared.Upto.the-variants as upto
 use Rattle.run_values.specs.Texts.{At, Ends, letterFor, alike, matched, putRange, ranges}
-use Rattle.run_patterns.proofs.Spelling.{at-within, at-first, at-inj, at-left, at-right}
-use Rattle.run_patterns.proofs.Lines.{letter-other, Node, lefts, rights, pairs, units, nodes-of}
+use Rattle.run_patterns.proofs.Spelling.{firstOf, with-leaf, with-tag, with-node, at-within, at-first, at-inj, at-left, at-right}
+use Rattle.run_patterns.proofs.Lines.{kinds-of, leaf-line, inj-line, node-line}
 
 -- ---- the range of a variable
 
@@ -44,9 +48,9 @@ ends-none at v h = absurd (omega arith)
 ends-inj : {end : ℕ} (at : ℕ) (t : Tag) (v : Val) → Ends end at (vinj t v) → Ends end (at + 1) v
 ends-inj at t v d h = let e = d h in omega arith
 
--- the end of a pair is that of its second value
-ends-second : {end m : ℕ} (at : ℕ) (v w : Val) → Ends end at (vnode pairNode v w) → m ≡ at + 1 + length (letters v) → Ends end m w
-ends-second at v w d q h = let e = d h in omega (arith, length-append (letters v) (letters w))
+-- the end of a pair is that of its second value, the end of a list that of the list behind the element
+ends-second : {end m : ℕ} (at : ℕ) (k : Node) (v w : Val) → Ends end at (vnode k v w) → m ≡ at + 1 + length (letters v) → Ends end m w
+ends-second at k v w d q h = let e = d h in omega (arith, length-append (letters v) (letters w))
 
 -- a value's end, found where it is not told
 pub end-found : {s : List ℕ} {at end stop : ℕ} → ((v : Val) → At s at v → stop ≡ at + length (letters v)) → (v : Val) → At s at v → Ends end at v → stop ≡ at + length (letters v)
@@ -68,113 +72,10 @@ abbrev pub Told : List ℕ → ℕ → ℕ → Pat → List ℕ → List ℕ →
 Told s at end p vars vars′ r =
     ((v : Val) → At s at v → Ends end at v → r ≡ matched (alike p v) (at + length (letters v))) × ((v : Val) → At s at v → Ends end at v → vars′ ≡ ranges p v at vars)
 
-module _ {s : List ℕ} {at end : ℕ} {vars : List ℕ} where
-  -- a variable
-  matches-var : (n : ℕ) {stop : ℕ} {vars′ : List ℕ} → ((v : Val) → At s at v → Ends end at v → stop ≡ at + length (letters v)) → vars′ ≡ putRange vars n at stop
-      → Matches s at end (pvar n) vars vars′ (upto.Place stop)
-  matches-var n e p = record { answers = λ v a f. ap upto.Place (e v a f); leaves = λ v a f. p ∙ ap (putRange vars n at) (e v a f) }
-
-  -- unit
-  matches-unit : getD s at 0 ≡ 85 → Matches s at end (pleaf unitLeaf) vars vars (upto.Place (at + 1))
-  matches-unit e = record { answers = answer; leaves = λ v a f. refl }
-    where
-      answer : (v : Val) → At s at v → Ends end at v → upto.Place (at + 1) ≡ matched (alike (pleaf unitLeaf) v) (at + length (letters v))
-      answer (vleaf unitLeaf) a d = refl
-      answer (vleaf emptyLeaf) a d = absurd (a .bare)
-      answer (vnode elementNode v w) a d = absurd (a .bare)
-      answer (vinj left v) a d = absurd (omega (arith, at-first a))
-      answer (vinj right v) a d = absurd (omega (arith, at-first a))
-      answer (vnode pairNode v w) a d = absurd (omega (arith, at-first a))
-
-  -- another letter
-  misses-unit : (at < length s → getD s at 0 ≡ 85 → ⊥) → Matches s at end (pleaf unitLeaf) vars vars upto.Nothing
-  misses-unit n = record { answers = answer; leaves = λ v a f. refl }
-    where
-      answer : (v : Val) → At s at v → Ends end at v → upto.Nothing ≡ matched (alike (pleaf unitLeaf) v) (at + length (letters v))
-      answer (vleaf unitLeaf) a d = absurd (n (at-within a) (at-first a))
-      answer (vleaf emptyLeaf) a d = absurd (a .bare)
-      answer (vnode elementNode v w) a d = absurd (a .bare)
-      answer (vinj t v) a d = refl
-      answer (vnode pairNode v w) a d = refl
-
-  -- left and right
-  matches-left : {p : Pat} {vars′ : List ℕ} {r : U.Upto} → getD s at 0 ≡ 76 → Matches s (at + 1) end p vars vars′ r → Matches s at end (pinj left p) vars vars′ r
-  matches-left {p} {vars′} {r} e m = record { answers = answer; leaves = left-ranges }
-    where
-      answer : (v : Val) → At s at v → Ends end at v → r ≡ matched (alike (pinj left p) v) (at + length (letters v))
-      answer (vleaf unitLeaf) a d = absurd (omega (arith, at-first a))
-      answer (vleaf emptyLeaf) a d = absurd (a .bare)
-      answer (vnode elementNode v w) a d = absurd (a .bare)
-      answer (vinj left v) a d = m .answers v (at-inj a) (ends-inj at left v d) ∙ ap (matched (alike p v)) (omega arith)
-      answer (vinj right v) a d = absurd (omega (arith, at-first a))
-      answer (vnode pairNode v w) a d = absurd (omega (arith, at-first a))
-
-      left-ranges : (v : Val) → At s at v → Ends end at v → vars′ ≡ ranges (pinj left p) v at vars
-      left-ranges (vleaf unitLeaf) a d = absurd (omega (arith, at-first a))
-      left-ranges (vleaf emptyLeaf) a d = absurd (a .bare)
-      left-ranges (vnode elementNode v w) a d = absurd (a .bare)
-      left-ranges (vinj left v) a d = m .leaves v (at-inj a) (ends-inj at left v d) ∙ ap (λ k. ranges p v k vars) (add-one at)
-      left-ranges (vinj right v) a d = absurd (omega (arith, at-first a))
-      left-ranges (vnode pairNode v w) a d = absurd (omega (arith, at-first a))
-
-  -- a letter other than that of left
-  misses-left : {p : Pat} → (at < length s → getD s at 0 ≡ 76 → ⊥) → Matches s at end (pinj left p) vars vars upto.Nothing
-  misses-left {p} n = record { answers = answer; leaves = left-ranges }
-    where
-      answer : (v : Val) → At s at v → Ends end at v → upto.Nothing ≡ matched (alike (pinj left p) v) (at + length (letters v))
-      answer (vleaf unitLeaf) a d = refl
-      answer (vleaf emptyLeaf) a d = absurd (a .bare)
-      answer (vnode elementNode v w) a d = absurd (a .bare)
-      answer (vinj left v) a d = absurd (n (at-within a) (at-first a))
-      answer (vinj right v) a d = refl
-      answer (vnode pairNode v w) a d = refl
-
-      left-ranges : (v : Val) → At s at v → Ends end at v → vars ≡ ranges (pinj left p) v at vars
-      left-ranges (vleaf unitLeaf) a d = refl
-      left-ranges (vleaf emptyLeaf) a d = absurd (a .bare)
-      left-ranges (vnode elementNode v w) a d = absurd (a .bare)
-      left-ranges (vinj left v) a d = absurd (n (at-within a) (at-first a))
-      left-ranges (vinj right v) a d = refl
-      left-ranges (vnode pairNode v w) a d = refl
-
-  matches-right : {p : Pat} {vars′ : List ℕ} {r : U.Upto} → getD s at 0 ≡ 82 → Matches s (at + 1) end p vars vars′ r → Matches s at end (pinj right p) vars vars′ r
-  matches-right {p} {vars′} {r} e m = record { answers = answer; leaves = right-ranges }
-    where
-      answer : (v : Val) → At s at v → Ends end at v → r ≡ matched (alike (pinj right p) v) (at + length (letters v))
-      answer (vleaf unitLeaf) a d = absurd (omega (arith, at-first a))
-      answer (vleaf emptyLeaf) a d = absurd (a .bare)
-      answer (vnode elementNode v w) a d = absurd (a .bare)
-      answer (vinj left v) a d = absurd (omega (arith, at-first a))
-      answer (vinj right v) a d = m .answers v (at-inj a) (ends-inj at right v d) ∙ ap (matched (alike p v)) (omega arith)
-      answer (vnode pairNode v w) a d = absurd (omega (arith, at-first a))
-
-      right-ranges : (v : Val) → At s at v → Ends end at v → vars′ ≡ ranges (pinj right p) v at vars
-      right-ranges (vleaf unitLeaf) a d = absurd (omega (arith, at-first a))
-      right-ranges (vleaf emptyLeaf) a d = absurd (a .bare)
-      right-ranges (vnode elementNode v w) a d = absurd (a .bare)
-      right-ranges (vinj left v) a d = absurd (omega (arith, at-first a))
-      right-ranges (vinj right v) a d = m .leaves v (at-inj a) (ends-inj at right v d) ∙ ap (λ k. ranges p v k vars) (add-one at)
-      right-ranges (vnode pairNode v w) a d = absurd (omega (arith, at-first a))
-
-  -- a letter other than that of right
-  misses-right : {p : Pat} → (at < length s → getD s at 0 ≡ 82 → ⊥) → Matches s at end (pinj right p) vars vars upto.Nothing
-  misses-right {p} n = record { answers = answer; leaves = right-ranges }
-    where
-      answer : (v : Val) → At s at v → Ends end at v → upto.Nothing ≡ matched (alike (pinj right p) v) (at + length (letters v))
-      answer (vleaf unitLeaf) a d = refl
-      answer (vleaf emptyLeaf) a d = absurd (a .bare)
-      answer (vnode elementNode v w) a d = absurd (a .bare)
-      answer (vinj left v) a d = refl
-      answer (vinj right v) a d = absurd (n (at-within a) (at-first a))
-      answer (vnode pairNode v w) a d = refl
-
-      right-ranges : (v : Val) → At s at v → Ends end at v → vars ≡ ranges (pinj right p) v at vars
-      right-ranges (vleaf unitLeaf) a d = refl
-      right-ranges (vleaf emptyLeaf) a d = absurd (a .bare)
-      right-ranges (vnode elementNode v w) a d = absurd (a .bare)
-      right-ranges (vinj left v) a d = refl
-      right-ranges (vinj right v) a d = absurd (n (at-within a) (at-first a))
-      right-ranges (vnode pairNode v w) a d = refl
+-- both for each value that stands there
+matches-of : {s : List ℕ} {at end : ℕ} {p : Pat} {vars vars′ : List ℕ} {r : U.Upto}
+    → ((v : Val) → At s at v → Ends end at v → (r ≡ matched (alike p v) (at + length (letters v))) × (vars′ ≡ ranges p v at vars)) → Matches s at end p vars vars′ r
+matches-of h = record { answers = λ v a d. h v a d .0; leaves = λ v a d. h v a d .1 }
 
 -- a place is answered: the shapes are alike
 pub place-alike : (b : Bool) (m n : ℕ) → upto.Place m ≡ matched b n → (b ≡ true) × (m ≡ n)
@@ -186,82 +87,135 @@ pub nothing-alike : (b : Bool) (n : ℕ) → upto.Nothing ≡ matched b n → b 
 nothing-alike true n e = let z : _≡_ {A = ℕ} 0 1 = cc in absurd (omega arith)
 nothing-alike false n e = refl
 
-module _ {s : List ℕ} {at end : ℕ} {vars : List ℕ} {p q : Pat} where
-  -- a pair whose first part matches
-  matches-pair : {m : ℕ} {vars₁ vars₂ : List ℕ} {r : U.Upto} → getD s at 0 ≡ 80 → Matches s (at + 1) 0 p vars vars₁ (upto.Place m)
-      → Matches s m end q vars₁ vars₂ r → Matches s at end (pnode pairNode p q) vars vars₂ r
-  matches-pair {m} {vars₁} {vars₂} {r} e f g = record { answers = answer; leaves = pair-ranges }
-    where
-      -- the first part is alike, and the second stands behind it
-      seam : (v w : Val) → At s at (vnode pairNode v w) → (alike p v ≡ true) × (m ≡ at + 1 + length (letters v))
-      seam v w a = place-alike (alike p v) m (at + 1 + length (letters v)) (f .answers v (at-left {w = w} a) (ends-none (at + 1) v))
+-- what is answered and left for a value
+abbrev Says : List ℕ → ℕ → ℕ → Pat → List ℕ → List ℕ → U.Upto → Val → Type 0
+Says s at end p vars vars′ r v = At s at v → Ends end at v → (r ≡ matched (alike p v) (at + length (letters v))) × (vars′ ≡ ranges p v at vars)
 
-      second : (v w : Val) → At s at (vnode pairNode v w) → At s m w
-      second v w a = subst (λ k. At s k w) (sym (seam v w a .1)) (at-right {v = v} a)
+-- a node that has a letter, which no variable is
+abbrev pub Noded : Pat → Type 0
+Noded (pvar n) = ⊥
+Noded (pleaf l) = Unit
+Noded (pinj t p) = Unit
+Noded (pnode k p q) = Unit
 
-      answer : (v : Val) → At s at v → Ends end at v → r ≡ matched (alike (pnode pairNode p q) v) (at + length (letters v))
-      answer (vleaf unitLeaf) a d = absurd (omega (arith, at-first a))
-      answer (vleaf emptyLeaf) a d = absurd (a .bare)
-      answer (vnode elementNode v w) a d = absurd (a .bare)
-      answer (vinj left v) a d = absurd (omega (arith, at-first a))
-      answer (vinj right v) a d = absurd (omega (arith, at-first a))
-      answer (vnode pairNode v w) a d =
-          g .answers w (second v w a) (ends-second at v w d (seam v w a .1))
-          ∙ ap₂ matched (sym (ap (λ b. b && alike q w) (seam v w a .0))) (omega (arith, seam v w a .1, length-append (letters v) (letters w)))
+abbrev pub letterIn : Pat → ℕ
+letterIn (pvar n) = 0
+letterIn (pleaf l) = leafLetter l
+letterIn (pinj t p) = letterOf t
+letterIn (pnode k p q) = nodeLetter k
 
-      pair-ranges : (v : Val) → At s at v → Ends end at v → vars₂ ≡ ranges (pnode pairNode p q) v at vars
-      pair-ranges (vleaf unitLeaf) a d = absurd (omega (arith, at-first a))
-      pair-ranges (vleaf emptyLeaf) a d = absurd (a .bare)
-      pair-ranges (vnode elementNode v w) a d = absurd (a .bare)
-      pair-ranges (vinj left v) a d = absurd (omega (arith, at-first a))
-      pair-ranges (vinj right v) a d = absurd (omega (arith, at-first a))
-      pair-ranges (vnode pairNode v w) a d =
-          g .leaves w (second v w a) (ends-second at v w d (seam v w a .1))
-          ∙ ap₂ (ranges q w) (seam v w a .1 ∙ ap (λ k. k + length (letters v)) (add-one at)) (f .leaves v (at-left {w = w} a) (ends-none (at + 1) v) ∙ ap (λ k. ranges p v k vars) (add-one at))
-          ∙ sym (ap (λ b. cond b (ranges q w (suc at + length (letters v)) (ranges p v (suc at) vars)) (ranges p v (suc at) vars)) (seam v w a .0))
+other-leaf : (l k : Leaf) → (leafLetter k ≡ leafLetter l → ⊥) → sameLeaf l k ≡ false
+other-leaf unitLeaf unitLeaf n = absurd (n refl)
+other-leaf unitLeaf emptyLeaf n = refl
+other-leaf emptyLeaf unitLeaf n = refl
+other-leaf emptyLeaf emptyLeaf n = absurd (n refl)
 
-  -- a pair whose first part does not
-  misses-first : {vars₁ : List ℕ} → getD s at 0 ≡ 80 → Matches s (at + 1) 0 p vars vars₁ upto.Nothing → Matches s at end (pnode pairNode p q) vars vars₁ upto.Nothing
-  misses-first {vars₁} e f = record { answers = answer; leaves = pair-ranges }
-    where
-      unlike : (v w : Val) → At s at (vnode pairNode v w) → alike p v ≡ false
-      unlike v w a = nothing-alike (alike p v) (at + 1 + length (letters v)) (f .answers v (at-left {w = w} a) (ends-none (at + 1) v))
+other-tag : (s t : Tag) → (letterOf t ≡ letterOf s → ⊥) → sameTag s t ≡ false
+other-tag left left n = absurd (n refl)
+other-tag left right n = refl
+other-tag right left n = refl
+other-tag right right n = absurd (n refl)
 
-      answer : (v : Val) → At s at v → Ends end at v → upto.Nothing ≡ matched (alike (pnode pairNode p q) v) (at + length (letters v))
-      answer (vleaf unitLeaf) a d = refl
-      answer (vleaf emptyLeaf) a d = absurd (a .bare)
-      answer (vnode elementNode v w) a d = absurd (a .bare)
-      answer (vinj t v) a d = refl
-      answer (vnode pairNode v w) a d = sym (ap (λ b. matched (b && alike q w) (at + length (letters (vnode pairNode v w)))) (unlike v w a))
+other-node : (m k : Node) → (nodeLetter k ≡ nodeLetter m → ⊥) → sameNode m k ≡ false
+other-node pairNode pairNode n = absurd (n refl)
+other-node pairNode elementNode n = refl
+other-node elementNode pairNode n = refl
+other-node elementNode elementNode n = absurd (n refl)
 
-      pair-ranges : (v : Val) → At s at v → Ends end at v → vars₁ ≡ ranges (pnode pairNode p q) v at vars
-      pair-ranges (vleaf unitLeaf) a d = absurd (omega (arith, at-first a))
-      pair-ranges (vleaf emptyLeaf) a d = absurd (a .bare)
-      pair-ranges (vnode elementNode v w) a d = absurd (a .bare)
-      pair-ranges (vinj left v) a d = absurd (omega (arith, at-first a))
-      pair-ranges (vinj right v) a d = absurd (omega (arith, at-first a))
-      pair-ranges (vnode pairNode v w) a d =
-          f .leaves v (at-left {w = w} a) (ends-none (at + 1) v)
-          ∙ ap (λ k. ranges p v k vars) (add-one at)
-          ∙ sym (ap (λ b. cond b (ranges q w (suc at + length (letters v)) (ranges p v (suc at) vars)) (ranges p v (suc at) vars)) (unlike v w a))
+-- a value that begins with another letter is of another shape, and leaves the ranges
+pub unlike : (p : Pat) → Noded p → (v : Val) → (firstOf v ≡ letterIn p → ⊥) → (at : ℕ) (vars : List ℕ) → (alike p v ≡ false) × (ranges p v at vars ≡ vars)
+unlike (pvar n) z v d at vars = absurd z
+unlike (pleaf l) z (vleaf k) d at vars = (other-leaf l k d, refl)
+unlike (pleaf l) z (vinj t v) d at vars = (refl, refl)
+unlike (pleaf l) z (vnode k v w) d at vars = (refl, refl)
+unlike (pinj s p) z (vleaf k) d at vars = (refl, refl)
+unlike (pinj s p) z (vinj t v) d at vars =
+    let e = other-tag s t d in (ap (λ b. b && alike p v) e, ap (λ b. cond b (ranges p v (suc at) vars) vars) e)
+unlike (pinj s p) z (vnode k v w) d at vars = (refl, refl)
+unlike (pnode m p q) z (vleaf k) d at vars = (refl, refl)
+unlike (pnode m p q) z (vinj t v) d at vars = (refl, refl)
+unlike (pnode m p q) z (vnode k v w) d at vars =
+    let e = other-node m k d in
+    let first = ranges p v (suc at) vars in (
+      ap (λ b. b && (alike p v && alike q w)) e,
+      ap (λ b. cond b (cond (alike p v) (ranges q w (suc at + length (letters v)) first) first) vars) e,
+    )
+
+module _ {s : List ℕ} {at end : ℕ} {vars : List ℕ} where
+  -- a variable
+  matches-var : (n : ℕ) {stop : ℕ} {vars′ : List ℕ} → ((v : Val) → At s at v → Ends end at v → stop ≡ at + length (letters v)) → vars′ ≡ putRange vars n at stop
+      → Matches s at end (pvar n) vars vars′ (upto.Place stop)
+  matches-var n e p = record { answers = λ v a f. ap upto.Place (e v a f); leaves = λ v a f. p ∙ ap (putRange vars n at) (e v a f) }
 
   -- another letter
-  misses-pair : (at < length s → getD s at 0 ≡ 80 → ⊥) → Matches s at end (pnode pairNode p q) vars vars upto.Nothing
-  misses-pair n = record { answers = answer; leaves = pair-ranges }
-    where
-      answer : (v : Val) → At s at v → Ends end at v → upto.Nothing ≡ matched (alike (pnode pairNode p q) v) (at + length (letters v))
-      answer (vleaf unitLeaf) a d = refl
-      answer (vleaf emptyLeaf) a d = absurd (a .bare)
-      answer (vnode elementNode v w) a d = absurd (a .bare)
-      answer (vinj t v) a d = refl
-      answer (vnode pairNode v w) a d = absurd (n (at-within a) (at-first a))
+  misses : {p : Pat} → Noded p → (at < length s → getD s at 0 ≡ letterIn p → ⊥) → Matches s at end p vars vars upto.Nothing
+  misses {p} z n =
+      matches-of
+      (λ v a d. let u = unlike p z v (λ e. n (at-within a) (at-first a ∙ e)) at vars in (sym (ap (λ b. matched b (at + length (letters v))) (u .0)), sym (u .1)))
 
-      pair-ranges : (v : Val) → At s at v → Ends end at v → vars ≡ ranges (pnode pairNode p q) v at vars
-      pair-ranges (vleaf unitLeaf) a d = refl
-      pair-ranges (vleaf emptyLeaf) a d = absurd (a .bare)
-      pair-ranges (vnode elementNode v w) a d = absurd (a .bare)
-      pair-ranges (vinj t v) a d = refl
-      pair-ranges (vnode pairNode v w) a d = absurd (n (at-within a) (at-first a))
+  -- unit and empty
+  matches-leaf : (l : Leaf) → getD s at 0 ≡ leafLetter l → Matches s at end (pleaf l) vars vars (upto.Place (at + 1))
+  matches-leaf l e =
+      record {
+        answers = λ v a d.
+            with-leaf (λ u. upto.Place (at + 1) ≡ matched (alike (pleaf l) u) (at + length (letters u))) l
+            (sym (ap (λ b. matched b (at + 1)) (sameLeaf-refl l))) v (sym (at-first a) ∙ e);
+        leaves = λ v a d. refl;
+      }
+
+  -- left and right
+  matches-inj : (t : Tag) {p : Pat} {vars′ : List ℕ} {r : U.Upto} → getD s at 0 ≡ letterOf t → Matches s (at + 1) end p vars vars′ r → Matches s at end (pinj t p) vars vars′ r
+  matches-inj t {p} {vars′} {r} e m =
+      matches-of (λ v a d. with-tag (Says s at end (pinj t p) vars vars′ r) t
+      below v (sym (at-first a) ∙ e) a d)
+    where
+      below : (v : Val) → At s at (vinj t v) → Ends end at (vinj t v) → (r ≡ matched (sameTag t t && alike p v) (at + length (letters (vinj t v))))
+          × (vars′ ≡ cond (sameTag t t) (ranges p v (suc at) vars) vars)
+      below v a d = (
+        m .answers v (at-inj a) (ends-inj at t v d) ∙ ap₂ matched (sym (ap (λ b. b && alike p v) (sameTag-refl t))) (omega arith),
+        m .leaves v (at-inj a) (ends-inj at t v d)
+            ∙ ap (λ k. ranges p v k vars) (add-one at)
+            ∙ sym (ap (λ b. cond b (ranges p v (suc at) vars) vars) (sameTag-refl t)),
+      )
+
+module _ {s : List ℕ} {at end : ℕ} {vars : List ℕ} (k : Node) {p q : Pat} where
+  -- a pair or an element whose first part matches
+  matches-node : {m : ℕ} {vars₁ vars₂ : List ℕ} {r : U.Upto} → getD s at 0 ≡ nodeLetter k → Matches s (at + 1) 0 p vars vars₁ (upto.Place m)
+      → Matches s m end q vars₁ vars₂ r → Matches s at end (pnode k p q) vars vars₂ r
+  matches-node {m} {vars₁} {vars₂} {r} e f g = matches-of (λ v a d. with-node (Says s at end (pnode k p q) vars vars₂ r) k below v (sym (at-first a) ∙ e) a d)
+    where
+      -- the first part is alike, and the second stands behind it
+      seam : (v w : Val) → At s at (vnode k v w) → (alike p v ≡ true) × (m ≡ at + 1 + length (letters v))
+      seam v w a = place-alike (alike p v) m (at + 1 + length (letters v)) (f .answers v (at-left {w = w} a) (ends-none (at + 1) v))
+
+      second : (v w : Val) → At s at (vnode k v w) → At s m w
+      second v w a = subst (λ k. At s k w) (sym (seam v w a .1)) (at-right {v = v} a)
+
+      below : (v w : Val) → Says s at end (pnode k p q) vars vars₂ r (vnode k v w)
+      below v w a d =
+          let u = seam v w a in
+          let first = ranges p v (suc at) vars in (
+            g .answers w (second v w a) (ends-second at k v w d (u .1))
+                ∙ ap₂ matched (sym (ap₂ (λ x b. x && (b && alike q w)) (sameNode-refl k) (u .0))) (omega (arith, u .1, length-append (letters v) (letters w))),
+            g .leaves w (second v w a) (ends-second at k v w d (u .1))
+                ∙ ap₂ (ranges q w) (u .1 ∙ ap (λ k. k + length (letters v)) (add-one at))
+                (f .leaves v (at-left {w = w} a) (ends-none (at + 1) v) ∙ ap (λ k. ranges p v k vars) (add-one at))
+                ∙ sym (ap₂ (λ x b. cond x (cond b (ranges q w (suc at + length (letters v)) first) first) vars) (sameNode-refl k) (u .0)),
+          )
+
+  -- a pair or an element whose first part does not
+  misses-first : {vars₁ : List ℕ} → getD s at 0 ≡ nodeLetter k → Matches s (at + 1) 0 p vars vars₁ upto.Nothing → Matches s at end (pnode k p q) vars vars₁ upto.Nothing
+  misses-first {vars₁} e f = matches-of (λ v a d. with-node (Says s at end (pnode k p q) vars vars₁ upto.Nothing) k below v (sym (at-first a) ∙ e) a d)
+    where
+      below : (v w : Val) → Says s at end (pnode k p q) vars vars₁ upto.Nothing (vnode k v w)
+      below v w a d =
+          let u = nothing-alike (alike p v) (at + 1 + length (letters v)) (f .answers v (at-left {w = w} a) (ends-none (at + 1) v)) in
+          let first = ranges p v (suc at) vars in (
+            sym (ap₂ (λ x b. matched (x && (b && alike q w)) (at + length (letters (vnode k v w)))) (sameNode-refl k) u),
+            f .leaves v (at-left {w = w} a) (ends-none (at + 1) v)
+                ∙ ap (λ k. ranges p v k vars) (add-one at)
+                ∙ sym (ap₂ (λ x b. cond x (cond b (ranges q w (suc at + length (letters v)) first) first) vars) (sameNode-refl k) u),
+          )
 
 -- a variable, as the contract has it
 pub var-told : {s : List ℕ} {at end : ℕ} (vars : List ℕ) (n : ℕ) {stop : ℕ} {vars′ : List ℕ} → ((v : Val) → At s at v → Ends end at v → stop ≡ at + length (letters v))
@@ -312,23 +266,20 @@ module _ (t : List ℕ) (base j : ℕ) (s : List ℕ) (at end : ℕ) (vars : Lis
         → Told s at end (patternOf t base j) vars vars′ r
     match-variable {x} {vars′} {r} z f h = subst (λ p. Told s at end p vars vars′ r) (sym (pattern-var t base j (sym e ∙ z) ∙ sym (ap pvar f))) h
 
-    -- a unit, or a number that is no kind
-    unit-line : (k ≡ 1 → ⊥) → (k ≡ 4 → ⊥) → (k ≡ 2 → ⊥) → (k ≡ 3 → ⊥) → patternOf t base j ≡ pleaf unitLeaf
-    unit-line n x y z = pattern-other t base j (λ h. n (e ∙ h)) (λ h. y (e ∙ h)) (λ h. z (e ∙ h)) (λ h. x (e ∙ h))
-
     module _ {b : ℕ} {o : U.Upto} (l : b ≡ letterFor k) (u : o ≡ Found s at b) where
       -- another letter
       pub match-miss : (k ≡ 1 → ⊥) → o ≡ upto.Nothing → Told s at end (patternOf t base j) vars vars upto.Nothing
-      match-miss n q = go (nodes-of k)
+      match-miss n q = go (kinds-of k)
         where
-          not : {y : ℕ} → letterFor k ≡ y → at < length s → getD s at 0 ≡ y → ⊥
-          not m = subst (λ x. at < length s → getD s at 0 ≡ x → ⊥) (l ∙ m) (missed s at b (sym q ∙ u))
+          missing : (p : Pat) → Noded p → letterFor k ≡ letterIn p → patternOf t base j ≡ p → Told s at end (patternOf t base j) vars vars upto.Nothing
+          missing p z m h = as-line p h (misses z (subst (λ x. at < length s → getD s at 0 ≡ x → ⊥) (l ∙ m) (missed s at b (sym q ∙ u))))
 
-          go : Node k → Told s at end (patternOf t base j) vars vars upto.Nothing
-          go (lefts z) = as-line _ (pattern-left t base j (sym e ∙ z)) (misses-left (not (ap letterFor z)))
-          go (rights z) = as-line _ (pattern-right t base j (sym e ∙ z)) (misses-right (not (ap letterFor z)))
-          go (pairs z) = as-line _ (pattern-pair t base j (sym e ∙ z)) (misses-pair (not (ap letterFor z)))
-          go (units x y z) = as-line _ (unit-line n x y z) (misses-unit (not (letter-other k x y z)))
+          go : cases.Leaf k ⊎ (Injects k ⊎ Joins k) → Told s at end (patternOf t base j) vars vars upto.Nothing
+          go (inl f) = let (x, m, h) = leaf-line t base j e n f in missing (pleaf x) tt m h
+          go (inr (inl f)) = let (x, m, h) = inj-line t base j e refl f in missing (pinj x (patternOf t base (smallerOf (cellOf t (base + j) 2) j))) tt m h
+          go (inr (inr f)) =
+              let (x, m, h) = node-line t base j e refl refl f in
+              missing (pnode x (patternOf t base (smallerOf (cellOf t (base + j) 2) j)) (patternOf t base (smallerOf (cellOf t (base + j) 3) j))) tt m h
 
       module _ {next : ℕ} (q : o ≡ upto.Place next) where
         -- the letter is there
@@ -339,54 +290,29 @@ module _ (t : List ℕ) (base j : ℕ) (s : List ℕ) (at end : ℕ) (vars : Lis
         then : next ≡ at + 1
         then = found s at b (sym q ∙ u) .1
 
-        -- a unit, or a number that is no kind
-        pub match-unit : (k ≡ 1 → ⊥) → (k ≡ 4 → ⊥) → (k ≡ 2 → ⊥) → (k ≡ 3 → ⊥) → Told s at end (patternOf t base j) vars vars (upto.Place next)
-        match-unit n x y z =
-            as-line _ (unit-line n x y z)
-            (subst (λ n. Matches s at end (pleaf unitLeaf) vars vars (upto.Place n)) (sym then) (matches-unit (here (letter-other k x y z))))
-
-        pub match-low : (k ≡ 1 → ⊥) → k < 2 → Told s at end (patternOf t base j) vars vars (upto.Place next)
-        match-low n h = match-unit n (λ z. absurd (omega arith)) (λ z. absurd (omega arith)) (λ z. absurd (omega arith))
-
-        pub match-high : (k ≡ 1 → ⊥) → 4 ≤ k → (k ≡ 4 → ⊥) → Told s at end (patternOf t base j) vars vars (upto.Place next)
-        match-high n h x = match-unit n x (λ z. absurd (omega arith)) (λ z. absurd (omega arith))
+        -- a unit, an empty list, or a number that is no kind
+        pub match-leaf : (k ≡ 1 → ⊥) → cases.Leaf k → Told s at end (patternOf t base j) vars vars (upto.Place next)
+        match-leaf n f =
+            let (x, m, h) = leaf-line t base j e n f in
+            as-line _ h (subst (λ n. Matches s at end (pleaf x) vars vars (upto.Place n)) (sym then) (matches-leaf x (here m)))
 
         module _ {a : ℕ} (n : a ≡ smallerOf (cellOf t (base + j) 2) j) where
           -- left and right
-          pub match-left : {vars′ : List ℕ} {r : U.Upto} → k ≡ 2 → Told s next end (patternOf t base a) vars vars′ r → Told s at end (patternOf t base j) vars vars′ r
-          match-left z m =
-              as-line _ (pattern-left t base j (sym e ∙ z) ∙ ap (λ x. pinj left (patternOf t base x)) (sym n))
-              (matches-left (here (ap letterFor z)) (record-of then m))
+          pub match-tag : {vars′ : List ℕ} {r : U.Upto} → Injects k → Told s next end (patternOf t base a) vars vars′ r → Told s at end (patternOf t base j) vars vars′ r
+          match-tag f g = let (x, m, h) = inj-line t base j e n f in as-line _ h (matches-inj x (here m) (record-of then g))
 
-          pub match-right : {vars′ : List ℕ} {r : U.Upto} → k ≡ 3 → Told s next end (patternOf t base a) vars vars′ r → Told s at end (patternOf t base j) vars vars′ r
-          match-right z m =
-              as-line _ (pattern-right t base j (sym e ∙ z) ∙ ap (λ x. pinj right (patternOf t base x)) (sym n))
-              (matches-right (here (ap letterFor z)) (record-of then m))
-
-          pub match-tag : {vars′ : List ℕ} {r : U.Upto} → 2 ≤ k → k < 4 → Told s next end (patternOf t base a) vars vars′ r → Told s at end (patternOf t base j) vars vars′ r
-          match-tag {vars′} {r} h g m = go (nodes-of k)
-            where
-              go : Node k → Told s at end (patternOf t base j) vars vars′ r
-              go (lefts z) = match-left z m
-              go (rights z) = match-right z m
-              go (pairs z) = absurd (omega arith)
-              go (units x y z) = absurd (omega arith)
-
-          module _ (h : k ≡ 4) where
-            -- the tree of a pair line
-            pair-line : {c : ℕ} → c ≡ smallerOf (cellOf t (base + j) 3) j → patternOf t base j ≡ pnode pairNode (patternOf t base a) (patternOf t base c)
-            pair-line f = pattern-pair t base j (sym e ∙ h) ∙ ap₂ (λ x y. pnode pairNode (patternOf t base x) (patternOf t base y)) (sym n) (sym f)
-
-            -- a pair whose first part matches
-            pub match-pair : {c m : ℕ} {vars₁ vars₂ : List ℕ} {w r : U.Upto} → w ≡ upto.Place m → Told s next 0 (patternOf t base a) vars vars₁ w
+          module _ (i : Joins k) where
+            -- a pair or an element whose first part matches
+            pub match-node : {c m : ℕ} {vars₁ vars₂ : List ℕ} {w r : U.Upto} → w ≡ upto.Place m → Told s next 0 (patternOf t base a) vars vars₁ w
                 → c ≡ smallerOf (cellOf t (base + j) 3) j → Told s m end (patternOf t base c) vars₁ vars₂ r → Told s at end (patternOf t base j) vars vars₂ r
-            match-pair {vars₁} p f o v =
-                as-line _ (pair-line o)
-                (matches-pair (here (ap letterFor h)) (subst (Matches s (at + 1) 0 (patternOf t base a) vars vars₁) p (record-of then f)) (record-of refl v))
+            match-node {vars₁ = vars₁} p f o v =
+                let (x, y, h) = node-line t base j e n o i in
+                as-line _ h
+                (matches-node x (here y) (subst (Matches s (at + 1) 0 (patternOf t base a) vars vars₁) p (record-of then f)) (record-of refl v))
 
-            -- a pair whose first part does not
+            -- a pair or an element whose first part does not
             pub miss-first : {vars₁ : List ℕ} {w : U.Upto} → w ≡ upto.Nothing → Told s next 0 (patternOf t base a) vars vars₁ w
                 → Told s at end (patternOf t base j) vars vars₁ upto.Nothing
             miss-first {vars₁} p f =
-                as-line _ (pair-line refl)
-                (misses-first (here (ap letterFor h)) (subst (Matches s (at + 1) 0 (patternOf t base a) vars vars₁) p (record-of then f)))
+                let (x, y, h) = node-line t base j e n refl i in
+                as-line _ h (misses-first x (here y) (subst (Matches s (at + 1) 0 (patternOf t base a) vars vars₁) p (record-of then f)))

@@ -5,22 +5,81 @@ use native.Mathlib.Nat.{add-zero}
 use native.Mathlib.Omega.{arith}
 use mathlib.Core.Path.{_≡_, refl, sym, ap, ap₂, _∙_, subst}
 use mathlib.Core.Bool.{Bool, true, false, cond}
-use mathlib.Core.List.{List, [], _∷_, _++_, append-assoc}
+use mathlib.Core.Logic.{_⊎_, inl, inr}
+use mathlib.Core.Option.{Option, some}
+use mathlib.Core.List.{List, [], _∷_, _++_, append-assoc, append-nil}
 use lib.Dec.{eqb}
 use lib.ListN.{length, getD, drop, length-append, length-drop}
 use lib.Seq.{getD-drop, drop-drop, drop-append-seam}
-use borrow.Author.Tests.{eq-eqb, ne-eqb}
+use borrow.Author.Tests.{ne-eqb}
 use Rattle.calculus.specs.Trees.{Leaf, unitLeaf, emptyLeaf, Tag, left, right, Node, pairNode, elementNode, Val, vleaf, vinj, vnode}
 use Rattle.calculus.specs.Letters.{letters, leafLetter, letterOf, nodeLetter}
-use Rattle.run_values.specs.Texts.{Bare, At}
+use Rattle.calculus.proofs.Basic.{some-inj}
+use Rattle.run_values.specs.Texts.{At}
 
 -- ---- the first letter
 
+-- the node at the top of a value
+pub data Top : Type 0 where
+  leafTop : Leaf → Top
+  tagTop : Tag → Top
+  nodeTop : Node → Top
+
+abbrev pub topOf : Val → Top
+topOf (vleaf l) = leafTop l
+topOf (vinj t v) = tagTop t
+topOf (vnode k v w) = nodeTop k
+
+abbrev pub topLetter : Top → ℕ
+topLetter (leafTop l) = leafLetter l
+topLetter (tagTop t) = letterOf t
+topLetter (nodeTop k) = nodeLetter k
+
 -- the first letter of a value
 abbrev pub firstOf : Val → ℕ
-firstOf (vleaf l) = leafLetter l
-firstOf (vinj t v) = letterOf t
-firstOf (vnode k v w) = nodeLetter k
+firstOf v = topLetter (topOf v)
+
+-- letters tell nodes apart
+abbrev readTop : ℕ → Option Top
+readTop b =
+    cond (eqb b 85) (some (leafTop unitLeaf))
+    (cond (eqb b 78) (some (leafTop emptyLeaf))
+    (cond (eqb b 76) (some (tagTop left))
+    (cond (eqb b 82) (some (tagTop right))
+    (cond (eqb b 80) (some (nodeTop pairNode)) (some (nodeTop elementNode))))))
+
+read-top : (x : Top) → readTop (topLetter x) ≡ some x
+read-top (leafTop unitLeaf) = refl
+read-top (leafTop emptyLeaf) = refl
+read-top (tagTop left) = refl
+read-top (tagTop right) = refl
+read-top (nodeTop pairNode) = refl
+read-top (nodeTop elementNode) = refl
+
+same-top : (x y : Top) → topLetter x ≡ topLetter y → x ≡ y
+same-top x y e = some-inj (sym (read-top x) ∙ ap readTop e ∙ read-top y)
+
+-- what holds of each value with a node at the top holds of a value that begins with that node's letter
+pub with-leaf : (P : Val → Type 0) (l : Leaf) → P (vleaf l) → (v : Val) → firstOf v ≡ leafLetter l → P v
+with-leaf P l h (vleaf k) e = let q = same-top (leafTop k) (leafTop l) e in let r : l ≡ k = cc in subst (λ x. P (vleaf x)) r h
+with-leaf P l h (vinj t v) e =
+    let q = same-top (tagTop t) (leafTop l) e in let z : _≡_ {A = ℕ} 0 1 = cc in absurd (omega arith)
+with-leaf P l h (vnode k v w) e =
+    let q = same-top (nodeTop k) (leafTop l) e in let z : _≡_ {A = ℕ} 0 1 = cc in absurd (omega arith)
+
+pub with-tag : (P : Val → Type 0) (t : Tag) → ((v : Val) → P (vinj t v)) → (v : Val) → firstOf v ≡ letterOf t → P v
+with-tag P t h (vleaf k) e =
+    let q = same-top (leafTop k) (tagTop t) e in let z : _≡_ {A = ℕ} 0 1 = cc in absurd (omega arith)
+with-tag P t h (vinj s v) e = let q = same-top (tagTop s) (tagTop t) e in let r : t ≡ s = cc in subst (λ x. P (vinj x v)) r (h v)
+with-tag P t h (vnode k v w) e =
+    let q = same-top (nodeTop k) (tagTop t) e in let z : _≡_ {A = ℕ} 0 1 = cc in absurd (omega arith)
+
+pub with-node : (P : Val → Type 0) (m : Node) → ((v w : Val) → P (vnode m v w)) → (v : Val) → firstOf v ≡ nodeLetter m → P v
+with-node P m h (vleaf k) e =
+    let q = same-top (leafTop k) (nodeTop m) e in let z : _≡_ {A = ℕ} 0 1 = cc in absurd (omega arith)
+with-node P m h (vinj t v) e =
+    let q = same-top (tagTop t) (nodeTop m) e in let z : _≡_ {A = ℕ} 0 1 = cc in absurd (omega arith)
+with-node P m h (vnode k v w) e = let q = same-top (nodeTop k) (nodeTop m) e in let r : m ≡ k = cc in subst (λ x. P (vnode x v w)) r (h v w)
 
 -- the other letters
 abbrev restOf : Val → List ℕ
@@ -58,28 +117,26 @@ at-first {s} {at} {v} a = byte-here s at (firstOf v) (restOf v ++ a .rest) (a .s
 
 -- the value below a left or a right
 pub at-inj : {s : List ℕ} {at : ℕ} {t : Tag} {v : Val} → At s at (vinj t v) → At s (at + 1) v
-at-inj {s} {at} {t} {v} a = record { rest = a .rest; spells = behind-here s at (letterOf t) (letters v ++ a .rest) (a .spells); bare = a .bare }
+at-inj {s} {at} {t} {v} a = record { rest = a .rest; spells = behind-here s at (letterOf t) (letters v ++ a .rest) (a .spells) }
 
--- the first value of a pair
-pub at-left : {s : List ℕ} {at : ℕ} {v w : Val} → At s at (vnode pairNode v w) → At s (at + 1) v
-at-left {s} {at} {v} {w} a =
+-- the first value of a pair, and an element
+pub at-left : {s : List ℕ} {at : ℕ} {k : Node} {v w : Val} → At s at (vnode k v w) → At s (at + 1) v
+at-left {s} {at} {k} {v} {w} a =
     record {
       rest = letters w ++ a .rest;
-      spells = behind-here s at (nodeLetter pairNode) (letters v ++ letters w ++ a .rest) (a .spells) ∙ append-assoc (letters v) (letters w) (a .rest);
-      bare = a .bare .0;
+      spells = behind-here s at (nodeLetter k) (letters v ++ letters w ++ a .rest) (a .spells) ∙ append-assoc (letters v) (letters w) (a .rest);
     }
 
--- the second value of a pair
-pub at-right : {s : List ℕ} {at : ℕ} {v w : Val} → At s at (vnode pairNode v w) → At s (at + 1 + length (letters v)) w
-at-right {s} {at} {v} {w} a =
+-- the second value of a pair, and the list behind an element
+pub at-right : {s : List ℕ} {at : ℕ} {k : Node} {v w : Val} → At s at (vnode k v w) → At s (at + 1 + length (letters v)) w
+at-right {s} {at} {k} {v} {w} a =
     record {
       rest = a .rest;
       spells =
           sym (drop-drop (length (letters v)) (at + 1) s)
           ∙ ap (drop (length (letters v)))
-          (behind-here s at (nodeLetter pairNode) (letters v ++ letters w ++ a .rest) (a .spells) ∙ append-assoc (letters v) (letters w) (a .rest))
+          (behind-here s at (nodeLetter k) (letters v ++ letters w ++ a .rest) (a .spells) ∙ append-assoc (letters v) (letters w) (a .rest))
           ∙ drop-append-seam (letters v) (letters w ++ a .rest);
-      bare = a .bare .1;
     }
 
 -- ---- values that stand side by side
@@ -89,139 +146,146 @@ abbrev spell : List Val → List ℕ
 spell [] = []
 spell (v ∷ vs) = letters v ++ spell vs
 
-abbrev Bares : List Val → Type 0
-Bares [] = Unit
-Bares (v ∷ vs) = Bare v × Bares vs
-
--- at place i a value begins, and `more` values come behind it, up to place `end`
-pub record Going (s : List ℕ) (i more end : ℕ) : Type 0 where
-  pub first : Val
-  pub others : List Val
+-- at place i so many values begin that stand side by side up to place `end`
+pub record Going (s : List ℕ) (i n end : ℕ) : Type 0 where
+  pub values : List Val
   pub rest : List ℕ
-  pub count : length others ≡ more
-  pub spells : drop i s ≡ letters first ++ (spell others ++ rest)
-  pub bare : Bares (first ∷ others)
-  pub ends : i + (length (letters first) + length (spell others)) ≡ end
+  pub count : length values ≡ n
+  pub spells : drop i s ≡ spell values ++ rest
+  pub ends : i + length (spell values) ≡ end
 
--- where the value begins
-pub going-start : {s : List ℕ} {at : ℕ} {v : Val} → At s at v → Going s at 0 (at + length (letters v))
-going-start {v} a = record { first = v; others = []; rest = a .rest; count = refl; spells = a .spells; bare = (a .bare, tt); ends = omega arith }
+-- the value alone
+pub going-start : {s : List ℕ} {at : ℕ} {v : Val} → At s at v → Going s at 1 (at + length (letters v))
+going-start {at = at} {v = v} a =
+    record {
+      values = v ∷ [];
+      rest = a .rest;
+      count = refl;
+      spells = a .spells ∙ ap (λ l. l ++ a .rest) (sym (append-nil (letters v)));
+      ends = ap (λ l. at + length l) (append-nil (letters v));
+    }
 
--- the value that begins at i
-begun : {s : List ℕ} {i more end : ℕ} (g : Going s i more end) → At s i (g .first)
-begun g = record { rest = spell (g .others) ++ g .rest; spells = g .spells; bare = g .bare .0 }
+-- how many values are left, once a letter is read
+abbrev pub leftAfter : ℕ → ℕ → ℕ
+leftAfter b n = cond (eqb b 85) (n - 1) (cond (eqb b 78) (n - 1) (cond (eqb b 80) (n + 1) (cond (eqb b 75) (n + 1) n)))
 
--- there is a letter
-pub going-within : {s : List ℕ} {i more end : ℕ} → Going s i more end → i < length s
-going-within g = at-within (begun g)
+-- a unit and an empty list: one value less
+pub left-leaf : (b n : ℕ) → (b ≡ 78) ⊎ (b ≡ 85) → n - 1 ≡ leftAfter b n
+left-leaf b n (inl e) = sym (ap (λ c. leftAfter c n) e)
+left-leaf b n (inr e) = sym (ap (λ c. leftAfter c n) e)
 
--- a unit behind which nothing comes
-last-letter : (i : ℕ) {end : ℕ} (v : Val) (vs : List Val) → firstOf v ≡ 85 → length vs ≡ 0 → i + (length (letters v) + length (spell vs)) ≡ end → i + 1 ≡ end
-last-letter i (vleaf unitLeaf) [] e z h = h
-last-letter i (vleaf unitLeaf) (w ∷ vs) e z h = absurd (omega arith)
-last-letter i (vinj left v) vs e z h = absurd (omega arith)
-last-letter i (vinj right v) vs e z h = absurd (omega arith)
-last-letter i (vleaf emptyLeaf) vs e z h = absurd (omega arith)
-last-letter i (vnode pairNode v w) vs e z h = absurd (omega arith)
-last-letter i (vnode elementNode v w) vs e z h = absurd (omega arith)
+-- a pair and an element: one value more
+pub left-node : (b n : ℕ) → (b ≡ 75) ⊎ (b ≡ 80) → n + 1 ≡ leftAfter b n
+left-node b n (inl e) = sym (ap (λ c. leftAfter c n) e)
+left-node b n (inr e) = sym (ap (λ c. leftAfter c n) e)
 
--- a unit behind which nothing comes is the last letter
-pub going-last : {s : List ℕ} {i more end : ℕ} → Going s i more end → getD s i 0 ≡ 85 → more ≡ 0 → i + 1 ≡ end
-going-last {i} g e z = last-letter i (g .first) (g .others) (sym (at-first (begun g)) ∙ e) (g .count ∙ z) (g .ends)
+-- left, right and other bytes: as many
+pub left-other : (b n : ℕ) → ((b ≡ 78) ⊎ (b ≡ 85) → ⊥) → ((b ≡ 75) ⊎ (b ≡ 80) → ⊥) → n ≡ leftAfter b n
+left-other b n x y =
+    sym
+    (ap₂ (λ u e. cond u (n - 1) (cond e (n - 1) (cond (eqb b 80) (n + 1) (cond (eqb b 75) (n + 1) n)))) (ne-eqb b 85 (λ z. x (inr z))) (ne-eqb b 78 (λ z. x (inl z)))
+    ∙ ap₂ (λ p k. cond p (n + 1) (cond k (n + 1) n)) (ne-eqb b 80 (λ z. y (inr z))) (ne-eqb b 75 (λ z. y (inl z))))
 
--- how many values come behind, once a letter is read
-abbrev pub moreAfter : ℕ → ℕ → ℕ
-moreAfter b more = cond (eqb b 85) (more - 1) (cond (eqb b 80) (more + 1) more)
+after-leaf : (l : Leaf) (n : ℕ) → n - 1 ≡ leftAfter (leafLetter l) n
+after-leaf unitLeaf n = refl
+after-leaf emptyLeaf n = refl
 
--- a unit: one value less comes behind
-pub more-unit : (b more : ℕ) → b ≡ 85 → more - 1 ≡ moreAfter b more
-more-unit b more e = sym (ap (λ p. cond p (more - 1) (cond (eqb b 80) (more + 1) more)) (eq-eqb b 85 e))
+after-tag : (t : Tag) (n : ℕ) → n ≡ leftAfter (letterOf t) n
+after-tag left n = refl
+after-tag right n = refl
 
--- none is left where none came
-pub more-none : (b more : ℕ) → b ≡ 85 → more ≤ 0 → 0 ≡ moreAfter b more
-more-none b more e h = let z : 0 ≡ more - 1 = omega arith in z ∙ more-unit b more e
-
--- a pair: one value more
-pub more-pair : (b more : ℕ) → (b ≡ 85 → ⊥) → b ≡ 80 → more + 1 ≡ moreAfter b more
-more-pair b more n e = sym (ap₂ (λ p q. cond p (more - 1) (cond q (more + 1) more)) (ne-eqb b 85 n) (eq-eqb b 80 e))
-
--- left and right: as many
-pub more-tag : (b more : ℕ) → (b ≡ 85 → ⊥) → (b ≡ 80 → ⊥) → more ≡ moreAfter b more
-more-tag b more n m = sym (ap₂ (λ p q. cond p (more - 1) (cond q (more + 1) more)) (ne-eqb b 85 n) (ne-eqb b 80 m))
+after-node : (k : Node) (n : ℕ) → n + 1 ≡ leftAfter (nodeLetter k) n
+after-node pairNode n = refl
+after-node elementNode n = refl
 
 -- one letter further, by the value that begins
-next-letter : (s : List ℕ) (i : ℕ) {more end : ℕ} (v : Val) (vs : List Val) (rest : List ℕ) → Bares (v ∷ vs) → length vs ≡ more → drop i s ≡ letters v ++ (spell vs ++ rest)
-    → i + (length (letters v) + length (spell vs)) ≡ end → (firstOf v ≡ 85 → more ≡ 0 → ⊥) → Going s (i + 1) (moreAfter (firstOf v) more) end
-next-letter s i (vleaf emptyLeaf) vs rest f c e h n = absurd (f .0)
-next-letter s i (vleaf unitLeaf) [] rest f c e h n = absurd (n refl (sym c))
-next-letter s i (vleaf unitLeaf) (w ∷ vs) rest f c e h n =
+next-letter : (s : List ℕ) (i : ℕ) {n end : ℕ} (v : Val) (vs : List Val) (rest : List ℕ) → length (v ∷ vs) ≡ n → drop i s ≡ spell (v ∷ vs) ++ rest
+    → i + length (spell (v ∷ vs)) ≡ end → Going s (i + 1) (leftAfter (firstOf v) n) end
+next-letter s i {n} (vleaf l) vs rest c e h =
+    record { values = vs; rest = rest; count = let q : length vs ≡ n - 1 = omega arith in q ∙ after-leaf l n; spells = behind-here s i (leafLetter l) (spell vs ++ rest) e; ends = omega arith }
+next-letter s i {n} (vinj t v) vs rest c e h =
     record {
-      first = w;
-      others = vs;
+      values = v ∷ vs;
       rest = rest;
-      count = omega arith;
-      spells = behind-here s i (leafLetter unitLeaf) (letters w ++ spell vs ++ rest) e ∙ append-assoc (letters w) (spell vs) rest;
-      bare = f .1;
-      ends = omega (arith, length-append (letters w) (spell vs));
+      count = c ∙ after-tag t n;
+      spells = behind-here s i (letterOf t) (spell (v ∷ vs) ++ rest) e;
+      ends = omega arith;
     }
-next-letter s i (vinj left v) vs rest f c e h n =
-    record { first = v; others = vs; rest = rest; count = c; spells = behind-here s i 76 (letters v ++ (spell vs ++ rest)) e; bare = f; ends = omega arith }
-next-letter s i (vinj right v) vs rest f c e h n =
-    record { first = v; others = vs; rest = rest; count = c; spells = behind-here s i 82 (letters v ++ (spell vs ++ rest)) e; bare = f; ends = omega arith }
-next-letter s i (vnode elementNode v w) vs rest f c e h n = absurd (f .0)
-next-letter s i (vnode pairNode v w) vs rest f c e h n =
+next-letter s i {n} (vnode k v w) vs rest c e h =
     record {
-      first = v;
-      others = w ∷ vs;
+      values = v ∷ (w ∷ vs);
       rest = rest;
-      count = omega arith;
+      count = let q : length (v ∷ (w ∷ vs)) ≡ n + 1 = omega arith in q ∙ after-node k n;
       spells =
-          behind-here s i (nodeLetter pairNode) (letters v ++ letters w ++ (spell vs ++ rest)) e
-          ∙ append-assoc (letters v) (letters w) (spell vs ++ rest)
-          ∙ ap (λ l. letters v ++ l) (sym (append-assoc (letters w) (spell vs) rest));
-      bare = (f .0 .0, (f .0 .1, f .1));
-      ends = omega (arith, length-append (letters v) (letters w), length-append (letters w) (spell vs));
+          behind-here s i (nodeLetter k) (((letters v ++ letters w) ++ spell vs) ++ rest) e ∙ ap (λ l. l ++ rest) (append-assoc (letters v) (letters w) (spell vs));
+      ends = omega (arith, ap length (append-assoc (letters v) (letters w) (spell vs)));
     }
 
+-- the letter that stands there
+first-letter : (s : List ℕ) (i : ℕ) (v : Val) (vs : List Val) (rest : List ℕ) → drop i s ≡ spell (v ∷ vs) ++ rest → At s i v
+first-letter s i v vs rest e = record { rest = spell vs ++ rest; spells = e ∙ append-assoc (letters v) (spell vs) rest }
+
 -- one letter further, by the letter
-pub going-next : {s : List ℕ} {i more end : ℕ} → Going s i more end → (getD s i 0 ≡ 85 → more ≡ 0 → ⊥) → Going s (i + 1) (moreAfter (getD s i 0) more) end
-going-next {s} {i} {more} {end} g n =
-    let f = at-first (begun g) in
-    subst (λ b. Going s (i + 1) (moreAfter b more) end) (sym f)
-    (next-letter s i (g .first) (g .others) (g .rest) (g .bare) (g .count) (g .spells) (g .ends) (λ e. n (f ∙ e)))
+pub going-next : {s : List ℕ} {i n end : ℕ} → Going s i n end → 0 < n → Going s (i + 1) (leftAfter (getD s i 0) n) end
+going-next {s} {i} {n} {end} g some′ = go (g .values) (g .count) (g .spells) (g .ends)
+  where
+    go : (vs : List Val) → length vs ≡ n → drop i s ≡ spell vs ++ g .rest → i + length (spell vs) ≡ end → Going s (i + 1) (leftAfter (getD s i 0) n) end
+    go [] c e h = absurd (omega arith)
+    go (v ∷ vs) c e h =
+        subst (λ b. Going s (i + 1) (leftAfter b n) end) (sym (at-first (first-letter s i v vs (g .rest) e))) (next-letter s i v vs (g .rest) c e h)
+
+-- while values are left, there is a letter
+pub going-within : {s : List ℕ} {i n end : ℕ} → Going s i n end → 0 < n → i < length s
+going-within {s} {i} {n} g some′ = go (g .values) (g .count) (g .spells)
+  where
+    go : (vs : List Val) → length vs ≡ n → drop i s ≡ spell vs ++ g .rest → i < length s
+    go [] c e = absurd (omega arith)
+    go (v ∷ vs) c e = at-within (first-letter s i v vs (g .rest) e)
+
+-- none is left at the end
+pub going-last : {s : List ℕ} {i n end : ℕ} → Going s i n end → n ≡ 0 → i ≡ end
+going-last {i = i} {n} {end} g z = go (g .values) (g .count) (g .ends)
+  where
+    go : (vs : List Val) → length vs ≡ n → i + length (spell vs) ≡ end → i ≡ end
+    go [] c h = omega arith
+    go (v ∷ vs) c h = absurd (omega arith)
 
 -- ---- the search for a value's end
 
 -- what the search knows at place i, whatever the value is
-pub record Searching (s : List ℕ) (at i more : ℕ) : Type 0 where
-  pub few : more ≤ i
-  pub going : (v : Val) → At s at v → Going s i more (at + length (letters v))
+pub record Searching (s : List ℕ) (at i n : ℕ) : Type 0 where
+  pub some′ : 0 < n
+  pub few : n ≤ i + 1
+  pub going : (v : Val) → At s at v → Going s i n (at + length (letters v))
 
 -- the start
-pub search-start : (s : List ℕ) (at : ℕ) → Searching s at at 0
-search-start s at = record { few = omega arith; going = λ v a. going-start a }
+pub search-start : (s : List ℕ) (at : ℕ) → Searching s at at 1
+search-start s at = record { some′ = omega arith; few = omega arith; going = λ v a. going-start a }
 
--- no more values than letters read
-more-few : (b more i : ℕ) → more ≤ i → moreAfter b more ≤ i + 1
-more-few b more i h = go (eqb b 85) (eqb b 80)
+-- no more values than letters read, and one
+left-few : (b n i : ℕ) → n ≤ i + 1 → leftAfter b n ≤ i + 1 + 1
+left-few b n i h = go (eqb b 85) (eqb b 78) (eqb b 80) (eqb b 75)
   where
-    go : (p q : Bool) → cond p (more - 1) (cond q (more + 1) more) ≤ i + 1
-    go true q = omega arith
-    go false true = omega arith
-    go false false = omega arith
+    go : (u e p k : Bool) → cond u (n - 1) (cond e (n - 1) (cond p (n + 1) (cond k (n + 1) n))) ≤ i + 1 + 1
+    go true e p k = omega arith
+    go false true p k = omega arith
+    go false false true k = omega arith
+    go false false false true = omega arith
+    go false false false false = omega arith
 
--- one letter further
-pub search-next : {s : List ℕ} {at i more b r : ℕ} → Searching s at i more → b ≡ getD s i 0 → (b ≡ 85 → more ≡ 0 → ⊥) → r ≡ moreAfter b more → Searching s at (i + 1) r
-search-next {s} {at} {i} {more} {b} {r} g e n q =
-    record {
-      few = subst (λ k. k ≤ i + 1) (sym q) (more-few b more i (g .few));
-      going = λ v a. subst (λ k. Going s (i + 1) k (at + length (letters v))) (sym (q ∙ ap (λ c. moreAfter c more) e)) (going-next (g .going v a) (λ f. n (e ∙ f)));
-    }
+-- a letter further, as it is read
+after-read : {s : List ℕ} {at i n b r : ℕ} → Searching s at i n → b ≡ getD s i 0 → r ≡ leftAfter b n → (v : Val) → At s at v → Going s (i + 1) r (at + length (letters v))
+after-read {s} {at} {i} {n} g e q v a =
+    subst (λ k. Going s (i + 1) k (at + length (letters v))) (sym (q ∙ ap (λ c. leftAfter c n) e)) (going-next (g .going v a) (g .some′))
+
+pub search-next : {s : List ℕ} {at i n b r : ℕ} → Searching s at i n → b ≡ getD s i 0 → r ≡ leftAfter b n → (r ≡ 0 → ⊥) → Searching s at (i + 1) r
+search-next {i = i} {n} {b} {r} g e q z =
+    record { some′ = omega arith; few = subst (λ k. k ≤ i + 1 + 1) (sym q) (left-few b n i (g .few)); going = after-read g e q }
 
 -- the last letter is read
-pub search-last : {s : List ℕ} {at i more b : ℕ} → Searching s at i more → b ≡ getD s i 0 → b ≡ 85 → more ≡ 0 → (v : Val) → At s at v → i + 1 ≡ at + length (letters v)
-search-last g e f z v a = going-last (g .going v a) (sym e ∙ f) z
+pub search-last : {s : List ℕ} {at i n b r : ℕ} → Searching s at i n → b ≡ getD s i 0 → r ≡ leftAfter b n → r ≡ 0 → (v : Val) → At s at v → i + 1 ≡ at + length (letters v)
+search-last g e q z v a = going-last (after-read g e q v a) z
 
--- with the list at its end no value has begun
-pub search-end : {s : List ℕ} {at i more : ℕ} → Searching s at i more → length s ≤ i → (v : Val) → At s at v → i ≡ at + length (letters v)
-search-end {s} {at} {i} {more} g h v a = absurd (omega (arith, going-within (g .going v a)))
+-- the letters do not end before
+pub search-end : {s : List ℕ} {at i n : ℕ} → Searching s at i n → length s ≤ i → (v : Val) → At s at v → i ≡ at + length (letters v)
+search-end g h v a = absurd (omega (arith, going-within (g .going v a) (g .some′)))

@@ -7,9 +7,13 @@ use area_words::narrow;
 use area_words::store_word;
 use area_words::wide;
 use area_words::word_at;
+use codes::ELEMENT;
+use codes::EMPTY;
 use codes::FIRST;
 use codes::KIND;
 use codes::LEFT;
+use codes::LETTER_ELEMENT;
+use codes::LETTER_EMPTY;
 use codes::LETTER_LEFT;
 use codes::LETTER_PAIR;
 use codes::LETTER_RIGHT;
@@ -29,27 +33,25 @@ ghost use Prim.Native.Nat.{ℕ, _+_, _-_, _≤_, _<_};
 ghost use lib.Dec.{eqb, ltb};
 ghost use lib.ListN.{length, getD, take};
 ghost use Rattle.limits.specs.Limits.{fieldBound};
-ghost use Rattle.calculus.specs.Trees.{unitLeaf, pairNode, pvar, Val};
+ghost use Rattle.calculus.specs.Trees.{unitLeaf, emptyLeaf, pairNode, elementNode, pvar, Val};
 ghost use Rattle.calculus.specs.Letters.{letters, leafLetter, nodeLetter};
 ghost use Rattle.area_cells.specs.Areas.{Writes};
 ghost use Rattle.table_trees.specs.Unfolding.{cellOf, smallerOf, patternOf};
 ghost use Rattle.run_values.specs.Texts.{At, Ends, letterFor, alike, matched, putRange, ranges, rangeOf, built, Below};
 
-// How many values come behind the one that is begun, once a letter is read, where `more` came before.
-fn more_after(b: u8, more: usize) -> usize
-    requires { ⌜ more < 18446744073709551615 ⌝ }
-    ensures { λ r. ⌜ r ≡ cond (eqb b (leafLetter unitLeaf)) (more - 1) (cond (eqb b (nodeLetter pairNode)) (more + 1) more) ⌝ }
+// How many values are left to be read, once a letter is read, where `left` were before.
+fn left_after(b: u8, left: usize) -> usize
+    requires { ⌜ (0 < left) × (left < 18446744073709551615) ⌝ }
+    ensures { λ r. ⌜
+        r ≡ cond (eqb b (leafLetter unitLeaf)) (left - 1) (cond (eqb b (leafLetter emptyLeaf)) (left - 1)
+        (cond (eqb b (nodeLetter pairNode)) (left + 1) (cond (eqb b (nodeLetter elementNode)) (left + 1) left)))
+        ⌝ }
 {
-    if b == LETTER_UNIT {
-        if 0 < more {
-            return more - 1;
-        }
-        return 0;
+    match b {
+        LETTER_EMPTY | LETTER_UNIT => left - 1,
+        LETTER_ELEMENT | LETTER_PAIR => left + 1,
+        _ => left,
     }
-    if b == LETTER_PAIR {
-        return more + 1;
-    }
-    more
 }
 
 // Where the value ends that begins at a place.
@@ -57,16 +59,13 @@ pub fn value_end(s: &[u8], at: usize) -> usize
     ensures { λ r. ⌜ ((v : Val) → At (now (s .entry)) at v → r ≡ at + length (letters v)) ⌝ }
 {
     let mut i = at;
-    let mut more: usize = 0;
+    let mut left: usize = 1;
     while i < s.len() {
-        let b = s[i];
-        if b == LETTER_UNIT {
-            if more == 0 {
-                return i + 1;
-            }
-        }
-        more = more_after(b, more);
+        left = left_after(s[i], left);
         i += 1;
+        if left == 0 {
+            return i;
+        }
     }
     i
 }
@@ -116,6 +115,12 @@ pub fn letter(kind: usize) -> u8
     }
     if kind == RIGHT {
         return LETTER_RIGHT;
+    }
+    if kind == EMPTY {
+        return LETTER_EMPTY;
+    }
+    if kind == ELEMENT {
+        return LETTER_ELEMENT;
     }
     LETTER_UNIT
 }
@@ -167,7 +172,7 @@ pub fn match_at(
         return Upto::Nothing;
     };
     match kind {
-        PAIR => match match_at(t, base, part(t, base, j, FIRST), s, next, 0, vars) {
+        PAIR | ELEMENT => match match_at(t, base, part(t, base, j, FIRST), s, next, 0, vars) {
             Upto::Place(m) => match_at(t, base, part(t, base, j, SECOND), s, m, end, vars),
             Upto::Nothing => Upto::Nothing,
         },
@@ -202,11 +207,11 @@ pub fn build_at(t: &[u16], base: usize, j: usize, vars: &[u16], work: &mut [u8],
         return build_var(pattern_cell(t, base, j, FIRST), vars, work, at);
     }
     let next = put_byte(work, at, letter(kind));
-    if kind == PAIR {
-        let middle = build_at(t, base, part(t, base, j, FIRST), vars, work, next);
-        return build_at(t, base, part(t, base, j, SECOND), vars, work, middle);
-    }
     match kind {
+        PAIR | ELEMENT => {
+            let middle = build_at(t, base, part(t, base, j, FIRST), vars, work, next);
+            build_at(t, base, part(t, base, j, SECOND), vars, work, middle)
+        }
         LEFT | RIGHT => build_at(t, base, part(t, base, j, FIRST), vars, work, next),
         _ => next,
     }

@@ -1,38 +1,39 @@
 -- The reduction in the work area, function by function: what each assumes, what it finds, what it leaves.
-use Prim.Native.Nat.{ℕ, zero, suc, _+_, _-_, _*_, _≤_, _<_}
+use Prim.Native.Nat.{ℕ, zero, suc, _+_, _-_, _*_, _≤_, _<_, min}
 use native.Mathlib.Nat.{zero-add}
 use native.Mathlib.Omega.{arith}
-use mathlib.Core.Path.{_≡_, refl, sym, ap, ap₂, _∙_, subst}
-use mathlib.Core.Bool.{Bool, true, false, cond, true≢false}
-use mathlib.Core.Option.{some}
-use mathlib.Core.Logic.{_⊎_, inl, inr}
+use mathlib.Core.Path.{_≡_, refl, sym, ap, ap₂, _∙_, subst, subst₂}
+use mathlib.Core.Bool.{Bool, true, false, cond, _||_, true≢false}
+use mathlib.Core.Option.{Option, none, some}
+use mathlib.Core.Logic.{_⊎_, inl, inr, ⊎-elim}
 use mathlib.Core.List.{List, [], _∷_, _++_, append-assoc}
+use lib.Dec.{eqb, ltb}
 use lib.ListN.{length, getD, getElem?, take, drop, replicate, length-append, drop-of-length-le, take-append-drop}
 use lib.Seq.{sets, slice, sets-eq, length-take-le, length-slice, drop-at, take-take, drop-drop, drop-append-le}
-use Rattle.limits.specs.Limits.{variables, maxLets, resultLength, workLength, frame, wordBound}
+use Rattle.limits.specs.Limits.{variables, maxLets, maxLetters, resultLength, workLength, frame, wordBound}
 use Rattle.calculus.specs.Trees.{Pat, pvar, Val, Let, Clause, Iso}
 use Rattle.calculus.specs.Slots.{Slots, empty}
 use Rattle.calculus.specs.Letters.{letters}
 use Rattle.calculus.specs.Reduction.{bind, build}
-use Rattle.calculus.proofs.Basic.{not-both, index-below, le-or-lt}
+use Rattle.calculus.proofs.Basic.{none≢some, some-inj, not-both, index-below, le-or-lt, ltb-lt, ltb-false, eqb-eq, eqb-false, not-eqb, or-true}
 use Rattle.calculus.proofs.Binding.{bind-length, build-length}
 use Rattle.calculus.proofs.Letters.{letters-some}
 use Rattle.area_cells.specs.Areas.{Writes}
 use Rattle.table_trees.specs.Unfolding.{cellOf, patternOf}
 use Rattle.table_walks.specs.InTable.{letAt, clauseIn}
 use Rattle.run_index.specs.Index.{placeAt, isoAt}
-use Rattle.run_values.specs.Texts.{Bare, At, alike, Below, ranges, built}
+use Rattle.run_values.specs.Texts.{At, alike, Below, ranges, built}
 use Rattle.run_values.specs.Agrees.{Agrees}
-use Rattle.run_values.specs.Traces.{Small, LetsTrace, done, step, Runs}
+use Rattle.run_values.specs.Traces.{Fitting, Over, Calls, LetTrace, LetsTrace, EndTrace, ClauseTrace, Applies, Runs}
 use Rattle.run_values.proofs.Agreeing.{at-within, at-take, at-sets, take-sets, bind-alike, length-ranges, below-ranges, below-more, agrees-empty, agrees-more, agrees-bind, built-build, at-slice}
+use Rattle.run_values.proofs.Tracing.{runs-least}
 use Rattle.run_reduction.specs.declared.Given as G
 use Rattle.run_reduction.specs.declared.Given.the-variants as given
 use Rattle.run_reduction.specs.declared.Place as P
 use Rattle.run_reduction.specs.declared.Reduced as R
 use Rattle.run_reduction.specs.declared.Reduced.the-variants as reduced
-use Rattle.run_values.proofs.Tracing.{runs-least}
-use Rattle.run_reduction.specs.Frames.{EnvAt, Gave, Argued, GiveSays, ArgueSays, sided, sidedClause, sidedLet, sidedLets, sideAt, Laid, Chosen, Spares}
-use Rattle.run_reduction.specs.Frames.{Applied, Stepped, LetsRan, ChoiceSays, StepSays, LetsSay, ApplySays}
+use Rattle.run_reduction.specs.Frames.{sided, sidedClause, sidedLet, sidedLets, sideAt, Laid, EnvAt, Chosen, Spares, tooLarge, restOf, remaining, Result, Answers, Applied}
+use Rattle.run_reduction.specs.Frames.{Reached, Comes, Stepped, Gives, Gave, Stood, Handed, Argued, ChoiceSays, StepSays, LetsSay, ApplySays, SettleSays, GiveSays, ArgueSays}
 use Rattle.run_reduction.proofs.Laying.{inside, clause-at, lhs-at, rhs-at, lets-at, length-sided, let-at, let-q, let-p, let-iso}
 
 -- ---- answers
@@ -43,20 +44,28 @@ done-place {a} e = ap place e
     place : R.Reduced → ℕ
     place (reduced.Done x y) = x
     place reduced.Spent = a
+    place reduced.Large = a
 
 pub done-left : {a b c d : ℕ} → reduced.Done a b ≡ reduced.Done c d → b ≡ d
-done-left {a} {b} e = ap rest e
-  where
-    rest : R.Reduced → ℕ
-    rest (reduced.Done x y) = y
-    rest reduced.Spent = b
+done-left e = ap remaining e
+
+-- which of the three an answer is
+tells : R.Reduced → ℕ
+tells (reduced.Done x y) = 0
+tells reduced.Spent = 1
+tells reduced.Large = 2
 
 pub done≢spent : {a b : ℕ} → reduced.Done a b ≡ reduced.Spent → ⊥
-done≢spent e = true≢false (ap isDone e)
-  where
-    isDone : R.Reduced → Bool
-    isDone (reduced.Done x y) = true
-    isDone reduced.Spent = false
+unfolding tells
+done≢spent e = let h = ap tells e in omega (arith, h)
+
+pub done≢large : {a b : ℕ} → reduced.Done a b ≡ reduced.Large → ⊥
+unfolding tells
+done≢large e = let h = ap tells e in omega (arith, h)
+
+pub spent≢large : reduced.Spent ≡ reduced.Large → ⊥
+unfolding tells
+spent≢large e = let h = ap tells e in omega (arith, h)
 
 pub range-begin : {a b c d e f : ℕ} → given.Range a b c ≡ given.Range d e f → a ≡ d
 range-begin {a} e = ap first e
@@ -64,6 +73,7 @@ range-begin {a} e = ap first e
     first : G.Given → ℕ
     first (given.Range x y z) = x
     first given.Spent = a
+    first given.Large = a
 
 pub range-end : {a b c d e f : ℕ} → given.Range a b c ≡ given.Range d e f → b ≡ e
 range-end {b = b} e = ap second e
@@ -71,20 +81,27 @@ range-end {b = b} e = ap second e
     second : G.Given → ℕ
     second (given.Range x y z) = y
     second given.Spent = b
+    second given.Large = b
 
 pub range-left : {a b c d e f : ℕ} → given.Range a b c ≡ given.Range d e f → c ≡ f
-range-left {c = c} e = ap third e
-  where
-    third : G.Given → ℕ
-    third (given.Range x y z) = z
-    third given.Spent = c
+range-left e = ap restOf e
+
+shows : G.Given → ℕ
+shows (given.Range x y z) = 0
+shows given.Spent = 1
+shows given.Large = 2
 
 pub range≢spent : {a b c : ℕ} → given.Range a b c ≡ given.Spent → ⊥
-range≢spent e = true≢false (ap isRange e)
-  where
-    isRange : G.Given → Bool
-    isRange (given.Range x y z) = true
-    isRange given.Spent = false
+unfolding shows
+range≢spent e = let h = ap shows e in omega (arith, h)
+
+pub range≢large : {a b c : ℕ} → given.Range a b c ≡ given.Large → ⊥
+unfolding shows
+range≢large e = let h = ap shows e in omega (arith, h)
+
+pub no-budget≢large : given.Spent ≡ given.Large → ⊥
+unfolding shows
+no-budget≢large e = let h = ap shows e in omega (arith, h)
 
 -- ---- what is left alone
 
@@ -183,6 +200,11 @@ choosing-end c past v n a z b h hit miss = let r = c .notYet v n a z b h hit mis
 
 -- ---- a pattern built on top of the letters
 
+-- the slots that are left
+built-rest : {w vars : List ℕ} {top : ℕ} (p : Pat) {e f : Slots Val} {u : Val} → EnvAt w top vars e → build p e ≡ some (u, f) → EnvAt w top vars f
+built-rest {w} {vars} {top} p {e} env b =
+    record { agrees = built-build p e (take top w) vars b (env .agrees) .1; below = env .below; wide = env .wide; slots = build-length p e b ∙ env .slots }
+
 -- its letters stand at `top`, what is below is as it was
 pub record Ready (w₀ w₁ vars : List ℕ) (top end : ℕ) (u : Val) (f : Slots Val) : Type 0 where
   pub spelled : At w₁ top u
@@ -191,27 +213,27 @@ pub record Ready (w₀ w₁ vars : List ℕ) (top end : ℕ) (u : Val) (f : Slot
   pub wide : length w₁ ≡ length w₀
   pub rest : EnvAt w₀ top vars f
 
-pub ready : {w₀ w₁ vars : List ℕ} {top end : ℕ} (q : Pat) {e f : Slots Val} {u : Val} → Bare u → EnvAt w₀ top vars e → build q e ≡ some (u, f)
+pub ready : {w₀ w₁ vars : List ℕ} {top end : ℕ} (q : Pat) {e f : Slots Val} {u : Val} → EnvAt w₀ top vars e → build q e ≡ some (u, f)
     → top + length (letters u) ≤ length w₀ → ((n : ℕ) → Below vars n → n ≤ top → Writes w₀ w₁ top end (built q (take n w₀) vars))
     → Ready w₀ w₁ vars top end u f
-ready {w₀} {w₁} {vars} {top} {end} q {e} {f} {u} free env b room writes =
+ready {w₀} {w₁} {vars} {top} {end} q {e} {f} {u} env b room writes =
     let w = writes top (env .below) (omega arith) in
     let same = built-build q e (take top w₀) vars b (env .agrees) in
     let fits : top + length (built q (take top w₀) vars) ≤ length w₀ = subst (λ bs. top + length bs ≤ length w₀) (sym (same .0)) room in
     let is : w₁ ≡ sets w₀ top (letters u) = w .area fits ∙ ap (sets w₀ top) (same .0) in
     record {
-      spelled = subst (λ l. At l top u) (sym is) (at-sets w₀ (letters u) top u free refl room);
+      spelled = subst (λ l. At l top u) (sym is) (at-sets w₀ (letters u) top u refl room);
       ends = w .place fits ∙ ap (λ bs. top + length bs) (same .0);
       spares = subst (λ l. Spares w₀ l top (top + length (letters u))) (sym is) (spares-sets w₀ (letters u) top room);
       wide = w .kept;
-      rest = record { agrees = same .1; below = env .below; wide = env .wide; slots = build-length q e b ∙ env .slots };
+      rest = built-rest q env b;
     }
 
 -- ---- a variable's letters
 
 -- letters between two places
-pub range-at : (w : List ℕ) (from to : ℕ) (u : Val) → Bare u → to ≤ length w → slice from to w ≡ letters u → At w from u × (to ≡ from + length (letters u))
-range-at w from to u free h e =
+pub range-at : (w : List ℕ) (from to : ℕ) (u : Val) → to ≤ length w → slice from to w ≡ letters u → At w from u × (to ≡ from + length (letters u))
+range-at w from to u h e =
     let n = length-slice from to w h in
     let m = ap length e in
     let some′ = letters-some u in
@@ -220,7 +242,6 @@ range-at w from to u free h e =
       record {
         rest = drop to w;
         spells = ap (drop from) (sym (take-append-drop to w)) ∙ drop-append-le from (take to w) (drop to w) (omega (arith, front, place)) ∙ ap (λ x. x ++ drop to w) e;
-        bare = free;
       },
       place,
     )
@@ -237,305 +258,367 @@ record Ranged (w vars : List ℕ) (top n : ℕ) (u : Val) (f : Slots Val) : Type
   pub bytes : slice (getD vars n 0) (getD vars (32 + n) 0) w ≡ letters u
   pub rest : EnvAt w top vars f
 
-ranged : {w vars : List ℕ} {top : ℕ} (p : Pat) (n : ℕ) {e f : Slots Val} {u : Val} → p ≡ pvar n → Bare u → EnvAt w top vars e → build p e ≡ some (u, f) → top ≤ length w → Ranged w vars top n u f
-ranged {w} {vars} {top} p n {e} {f} {u} is free env b room =
+ranged : {w vars : List ℕ} {top : ℕ} (p : Pat) (n : ℕ) {e f : Slots Val} {u : Val} → p ≡ pvar n → EnvAt w top vars e → build p e ≡ some (u, f) → top ≤ length w → Ranged w vars top n u f
+ranged {w} {vars} {top} p n {e} {f} {u} is env b room =
     let b′ : build (pvar n) e ≡ some (u, f) = subst (λ q. build q e ≡ some (u, f)) is b in
     let same = built-build (pvar n) e (take top w) vars b′ (env .agrees) in
     let low = env .below .ends n in
     let bytes : slice (getD vars n 0) (getD vars (32 + n) 0) w ≡ letters u = ap (drop (getD vars n 0)) (sym (take-take (getD vars (32 + n) 0) top w low)) ∙ same .0 in
-    let r = range-at w (getD vars n 0) (getD vars (32 + n) 0) u free (omega (arith, low, room)) bytes in
+    let r = range-at w (getD vars n 0) (getD vars (32 + n) 0) u (omega (arith, low, room)) bytes in
     record {
       stands = r .0;
       ends = r .1;
       low = low;
       bytes = bytes;
-      rest = record { agrees = same .1; below = env .below; wide = env .wide; slots = build-length (pvar n) e b′ ∙ env .slots };
+      rest = built-rest p env b;
     }
+
+-- ---- how many letters a pattern builds
+
+-- as measured: the number of letters up to the first that is too large
+pub measured-letters : {w vars : List ℕ} {top r : ℕ} (p : Pat) {e f : Slots Val} {u : Val} → EnvAt w top vars e → build p e ≡ some (u, f) → top ≤ length w
+    → ((s : List ℕ) → Below vars (length s) → r ≡ min (length (built p s vars)) (suc maxLetters)) → r ≡ min (length (letters u)) (suc maxLetters)
+measured-letters {w} {vars} {top} p {e} env b room says =
+    let same = built-build p e (take top w) vars b (env .agrees) .0 in
+    let long : length (take top w) ≡ top = length-take-le top w room in
+    says (take top w) (subst (Below vars) (sym long) (env .below)) ∙ ap (λ bs. min (length bs) (suc maxLetters)) same
 
 -- ---- the argument of a let step
 
 pub argue-var : (p : Pat) (n : ℕ) {vars work : List ℕ} {top : ℕ} (a : P.Place) → p ≡ pvar n → a .at ≡ getD vars n 0 → a .end ≡ getD vars (32 + n) 0 → a .free ≡ top
     → ArgueSays p vars work work top a
-argue-var p n {vars} {work} {top} a is ea ez ef e f u b small env room =
-    let r = ranged p n is (small .bare) env b (omega arith) in
+argue-var p n {vars} {work} {top} a is ea ez ef e f u b env room =
+    let r = ranged p n is env b (omega arith) in
     let ends = r .ends in
     let low = r .low in
+    let place : a .end ≡ a .at + length (letters u) = ez ∙ ends ∙ ap (λ k. k + length (letters u)) (sym ea) in
     record {
-      stands = subst (λ k. At work k u) (sym ea) (r .stands);
-      ends = ez ∙ ends ∙ ap (λ k. k + length (letters u)) (sym ea);
-      low = omega (arith, ez, ef, low);
-      over = omega (arith, ef);
-      near = omega (arith, ef);
-      spares = spares-none work top (top + length (letters u));
+      handed = record {
+        large = λ h. omega (arith, place, h);
+        fits = λ h. record {
+          stands = subst (λ k. At work k u) (sym ea) (r .stands);
+          ends = place;
+          low = omega (arith, ez, ef, low);
+          over = omega (arith, ef);
+          near = omega (arith, ef);
+        };
+      };
+      spares = spares-none work top (top + resultLength);
       rest = r .rest;
     }
 
-pub argue-built : (p : Pat) {vars w₀ w₁ : List ℕ} {top end : ℕ} (a : P.Place) → a .at ≡ top → a .end ≡ end → a .free ≡ end
+-- too large to be built
+pub argue-large : (p : Pat) {vars work : List ℕ} {top r : ℕ} (a : P.Place) → a .at ≡ 0 → a .end ≡ r → maxLetters < r
+    → ((s : List ℕ) → Below vars (length s) → r ≡ min (length (built p s vars)) (suc maxLetters)) → ArgueSays p vars work work top a
+argue-large p {vars} {work} {top} {r} a ea ez over says e f u b env room =
+    let n = measured-letters p env b (omega arith) says in
+    record {
+      handed = record { large = λ h. omega (arith, ea, ez, over); fits = λ h. absurd (omega (arith, n, over, h)) };
+      spares = spares-none work top (top + resultLength);
+      rest = built-rest p env b;
+    }
+
+pub argue-built : (p : Pat) {vars w₀ w₁ : List ℕ} {top end r : ℕ} (a : P.Place) → a .at ≡ top → a .end ≡ end → a .free ≡ end → r ≤ maxLetters
+    → ((s : List ℕ) → Below vars (length s) → r ≡ min (length (built p s vars)) (suc maxLetters))
     → ((n : ℕ) → Below vars n → n ≤ top → Writes w₀ w₁ top end (built p (take n w₀) vars)) → ArgueSays p vars w₀ w₁ top a
-argue-built p {vars} {w₀} {w₁} {top} {end} a ea ez ef writes e f u b small env room =
-    let rd = ready p (small .bare) env b (omega (arith, small .fits, room)) writes in
+argue-built p {vars} {w₀} {w₁} {top} {end} {r} a ea ez ef less says writes e f u b env room =
+    let n = measured-letters p env b (omega arith) says in
+    let fits : length (letters u) ≤ maxLetters = omega (arith, n, less) in
+    let rd = ready p env b (omega (arith, fits, room)) writes in
     let ends = rd .ends in
     record {
-      stands = subst (λ k. At w₁ k u) (sym ea) (rd .spelled);
-      ends = ez ∙ ends ∙ ap (λ k. k + length (letters u)) (sym ea);
-      low = omega (arith, ez, ef);
-      over = omega (arith, ef, ends);
-      near = omega (arith, ef, ends, small .fits);
-      spares = rd .spares;
+      handed = record {
+        large = λ h. absurd (omega (arith, fits, h));
+        fits = λ h. record {
+          stands = subst (λ k. At w₁ k u) (sym ea) (rd .spelled);
+          ends = ez ∙ ends ∙ ap (λ k. k + length (letters u)) (sym ea);
+          low = omega (arith, ez, ef);
+          over = omega (arith, ef, ends);
+          near = omega (arith, ef, ends, fits);
+        };
+      };
+      spares = spares-more top (top + length (letters u)) top (top + resultLength) (rd .spares) (omega arith) (omega (arith, fits));
       rest = rd .rest;
     }
 
 -- ---- the result of a clause
 
 -- a variable's letters where they stand
-pub give-place : (p : Pat) (n : ℕ) {vars work : List ℕ} {top dest left from to : ℕ} → p ≡ pvar n → from ≡ getD vars n 0 → to ≡ getD vars (32 + n) 0 → to ≤ dest
-    → GiveSays p vars work work top dest left (given.Range from to left)
-give-place p n {vars} {work} {top} {dest} {left} {from} {to} is ea ez h e f w b small env low room =
-    let r = ranged p n is (small .bare) env b (omega (arith, room)) in
-    let ends = r .ends in
-    record {
-      begin = from;
-      gives = ap (λ k. given.Range from k left) (ez ∙ ends ∙ ap (λ k. k + length (letters w)) (sym ea));
-      stands = subst (λ k. At work k w) (sym ea) (r .stands);
-      near = omega (arith, ends, ea, ez, h);
-      spares = spares-none work dest (top + resultLength);
-    }
+pub settle-place : (p : Pat) (n : ℕ) {vars work : List ℕ} {top dest left from to : ℕ} → p ≡ pvar n → from ≡ getD vars n 0 → to ≡ getD vars (32 + n) 0 → to ≤ dest
+    → SettleSays p vars work work top dest left (given.Range from to left)
+settle-place p n {vars} {work} {top} {dest} {left} {from} {to} is ea ez h e f w b fits env low room =
+    let r = ranged p n is env b (omega (arith, room)) in
+    let ends = r .ends in (
+      record {
+        begin = from;
+        gives = ap (λ k. given.Range from k left) (ez ∙ ends ∙ ap (λ k. k + length (letters w)) (sym ea));
+        stands = subst (λ k. At work k w) (sym ea) (r .stands);
+        near = omega (arith, ends, ea, ez, h);
+      },
+      spares-none work dest (top + resultLength),
+    )
 
 -- copied to `dest`
-pub give-copied : (p : Pat) (n : ℕ) {vars work work′ : List ℕ} {top dest left from to end : ℕ} → p ≡ pvar n → from ≡ getD vars n 0 → to ≡ getD vars (32 + n) 0 → dest ≤ from
-    → (dest ≤ from → to ≤ length work → Writes work work′ dest end (slice from to work)) → GiveSays p vars work work′ top dest left (given.Range dest end left)
-give-copied p n {vars} {work} {work′} {top} {dest} {left} {from} {to} {end} is ea ez h copy e f w b small env low room =
-    let r = ranged p n is (small .bare) env b (omega (arith, room)) in
+pub settle-copied : (p : Pat) (n : ℕ) {vars work work′ : List ℕ} {top dest left from to end : ℕ} → p ≡ pvar n → from ≡ getD vars n 0 → to ≡ getD vars (32 + n) 0 → dest ≤ from
+    → (dest ≤ from → to ≤ length work → Writes work work′ dest end (slice from to work)) → SettleSays p vars work work′ top dest left (given.Range dest end left)
+settle-copied p n {vars} {work} {work′} {top} {dest} {left} {from} {to} {end} is ea ez h copy e f w b fits env low room =
+    let r = ranged p n is env b (omega (arith, room)) in
     let ends = r .ends in
     let under = r .low in
     let bytes : slice from to work ≡ letters w = ap₂ (λ x y. slice x y work) ea ez ∙ r .bytes in
     let c = copy h (omega (arith, under, ez, room)) in
     let far : dest + length (letters w) ≤ top = omega (arith, ends, ea, ez, h, under) in
-    let fits : dest + length (slice from to work) ≤ length work = subst (λ bs. dest + length bs ≤ length work) (sym bytes) (omega (arith, far, room)) in
-    let final : work′ ≡ sets work dest (letters w) = c .area fits ∙ ap (sets work dest) bytes in
-    let stops : end ≡ dest + length (letters w) = c .place fits ∙ ap (λ bs. dest + length bs) bytes in
-    let room′ : dest + length (letters w) ≤ length work = omega (arith, far, room) in
-    record {
-      begin = dest;
-      gives = ap (λ k. given.Range dest k left) stops;
-      stands = subst (λ l. At l dest w) (sym final) (at-sets work (letters w) dest w (small .bare) refl room′);
-      near = omega (arith, small .fits);
-      spares = subst (λ z. Spares work z dest (top + resultLength)) (sym final)
-          (spares-more dest (dest + length (letters w)) dest (top + resultLength) (spares-sets work (letters w) dest room′) (omega arith) (omega (arith, far)));
-    }
+    let fits′ : dest + length (slice from to work) ≤ length work = subst (λ bs. dest + length bs ≤ length work) (sym bytes) (omega (arith, far, room)) in
+    let final : work′ ≡ sets work dest (letters w) = c .area fits′ ∙ ap (sets work dest) bytes in
+    let stops : end ≡ dest + length (letters w) = c .place fits′ ∙ ap (λ bs. dest + length bs) bytes in
+    let room′ : dest + length (letters w) ≤ length work = omega (arith, far, room) in (
+      record {
+        begin = dest;
+        gives = ap (λ k. given.Range dest k left) stops;
+        stands = subst (λ l. At l dest w) (sym final) (at-sets work (letters w) dest w refl room′);
+        near = omega (arith, fits);
+      },
+      subst (λ z. Spares work z dest (top + resultLength)) (sym final)
+          (spares-more dest (dest + length (letters w)) dest (top + resultLength) (spares-sets work (letters w) dest room′) (omega arith) (omega (arith, far))),
+    )
 
 -- built at `dest`
-pub give-built : (p : Pat) {vars work work′ : List ℕ} {top dest left last : ℕ} → top ≡ dest
-    → ((n : ℕ) → Below vars n → n ≤ top → Writes work work′ top last (built p (take n work) vars)) → GiveSays p vars work work′ top dest left (given.Range dest last left)
-give-built p {vars} {work} {work′} {top} {dest} {left} {last} here writes e f w b small env low room =
-    let rd = ready p (small .bare) env b (omega (arith, small .fits, room)) writes in
-    let ends = rd .ends in
-    record {
-      begin = dest;
-      gives = ap (λ k. given.Range dest k left) (ends ∙ ap (λ k. k + length (letters w)) here);
-      stands = subst (λ k. At work′ k w) here (rd .spelled);
-      near = omega (arith, small .fits);
-      spares = spares-more top (top + length (letters w)) dest (top + resultLength) (rd .spares) (omega (arith, here)) (omega (arith, small .fits));
-    }
+pub settle-built : (p : Pat) {vars work work′ : List ℕ} {top dest left last : ℕ} → top ≡ dest
+    → ((n : ℕ) → Below vars n → n ≤ top → Writes work work′ top last (built p (take n work) vars)) → SettleSays p vars work work′ top dest left (given.Range dest last left)
+settle-built p {vars} {work} {work′} {top} {dest} {left} {last} here writes e f w b fits env low room =
+    let rd = ready p env b (omega (arith, fits, room)) writes in
+    let ends = rd .ends in (
+      record {
+        begin = dest;
+        gives = ap (λ k. given.Range dest k left) (ends ∙ ap (λ k. k + length (letters w)) here);
+        stands = subst (λ k. At work′ k w) here (rd .spelled);
+        near = omega (arith, fits);
+      },
+      spares-more top (top + length (letters w)) dest (top + resultLength) (rd .spares) (omega (arith, here)) (omega (arith, fits)),
+    )
 
 -- built at `top`, and copied to `dest`
-pub give-moved : (p : Pat) {vars work w₁ work′ : List ℕ} {top dest left last end : ℕ} → ((n : ℕ) → Below vars n → n ≤ top → Writes work w₁ top last (built p (take n work) vars))
-    → (dest ≤ top → last ≤ length w₁ → Writes w₁ work′ dest end (slice top last w₁)) → GiveSays p vars work work′ top dest left (given.Range dest end left)
-give-moved p {vars} {work} {w₁} {work′} {top} {dest} {left} {last} {end} writes copy e f w b small env low room =
-    let rd = ready p (small .bare) env b (omega (arith, small .fits, room)) writes in
+pub settle-moved : (p : Pat) {vars work w₁ work′ : List ℕ} {top dest left last end : ℕ} → ((n : ℕ) → Below vars n → n ≤ top → Writes work w₁ top last (built p (take n work) vars))
+    → (dest ≤ top → last ≤ length w₁ → Writes w₁ work′ dest end (slice top last w₁)) → SettleSays p vars work work′ top dest left (given.Range dest end left)
+settle-moved p {vars} {work} {w₁} {work′} {top} {dest} {left} {last} {end} writes copy e f w b fits env low room =
+    let rd = ready p env b (omega (arith, fits, room)) writes in
     let stop = rd .ends in
     let long = rd .wide in
-    let c = copy low (omega (arith, stop, small .fits, room, long)) in
+    let c = copy low (omega (arith, stop, fits, room, long)) in
     let bytes : slice top last w₁ ≡ letters w = ap (λ k. slice top k w₁) stop ∙ at-slice (rd .spelled) in
-    let room′ : dest + length (letters w) ≤ length w₁ = omega (arith, low, small .fits, room, long) in
-    let fits : dest + length (slice top last w₁) ≤ length w₁ = subst (λ bs. dest + length bs ≤ length w₁) (sym bytes) room′ in
-    let final : work′ ≡ sets w₁ dest (letters w) = c .area fits ∙ ap (sets w₁ dest) bytes in
-    let stops : end ≡ dest + length (letters w) = c .place fits ∙ ap (λ bs. dest + length bs) bytes in
-    record {
-      begin = dest;
-      gives = ap (λ k. given.Range dest k left) stops;
-      stands = subst (λ l. At l dest w) (sym final) (at-sets w₁ (letters w) dest w (small .bare) refl room′);
-      near = omega (arith, small .fits);
-      spares = spares-both (spares-more top (top + length (letters w)) dest (top + resultLength) (rd .spares) low (omega (arith, small .fits)))
+    let room′ : dest + length (letters w) ≤ length w₁ = omega (arith, low, fits, room, long) in
+    let fits′ : dest + length (slice top last w₁) ≤ length w₁ = subst (λ bs. dest + length bs ≤ length w₁) (sym bytes) room′ in
+    let final : work′ ≡ sets w₁ dest (letters w) = c .area fits′ ∙ ap (sets w₁ dest) bytes in
+    let stops : end ≡ dest + length (letters w) = c .place fits′ ∙ ap (λ bs. dest + length bs) bytes in (
+      record {
+        begin = dest;
+        gives = ap (λ k. given.Range dest k left) stops;
+        stands = subst (λ l. At l dest w) (sym final) (at-sets w₁ (letters w) dest w refl room′);
+        near = omega (arith, fits);
+      },
+      spares-both (spares-more top (top + length (letters w)) dest (top + resultLength) (rd .spares) low (omega (arith, fits)))
           (subst (λ z. Spares w₁ z dest (top + resultLength)) (sym final)
-          (spares-more dest (dest + length (letters w)) dest (top + resultLength) (spares-sets w₁ (letters w) dest room′) (omega arith) (omega (arith, low, small .fits))));
-    }
+          (spares-more dest (dest + length (letters w)) dest (top + resultLength) (spares-sets w₁ (letters w) dest room′) (omega arith) (omega (arith, low, fits)))),
+    )
+
+-- measured before
+pub give-large : (p : Pat) {vars work : List ℕ} {top dest left r : ℕ} → maxLetters < r
+    → ((s : List ℕ) → Below vars (length s) → r ≡ min (length (built p s vars)) (suc maxLetters)) → GiveSays p vars work work top dest left given.Large
+give-large p {vars} {work} {top} {dest} over says e f w b env low room =
+    let n = measured-letters p env b (omega (arith, room)) says in
+    record { gives = Gives.large (omega (arith, n, over)) refl; spares = spares-none work dest (top + resultLength) }
+
+pub give-settled : (p : Pat) {vars work work′ : List ℕ} {top dest left r : ℕ} {g : G.Given} → r ≤ maxLetters
+    → ((s : List ℕ) → Below vars (length s) → r ≡ min (length (built p s vars)) (suc maxLetters)) → SettleSays p vars work work′ top dest left g
+    → GiveSays p vars work work′ top dest left g
+give-settled p less says settles e f w b env low room =
+    let n = measured-letters p env b (omega (arith, room)) says in
+    let fits : length (letters w) ≤ maxLetters = omega (arith, n, less) in
+    let r = settles e f w b fits env low room in
+    record { gives = Gives.gives fits (r .0); spares = r .1 }
 
 -- ---- a let step
 
--- q's letters and an earlier iso's frames are within the frames of the isos below i
-step-spares : {w₀ w₁ w₂ : List ℕ} (top i j : ℕ) (u : Val) → Small u → j < i → Spares w₀ w₁ top (top + length (letters u)) → Spares w₁ w₂ top (top + suc j * frame)
-    → Spares w₀ w₂ top (top + i * frame)
-step-spares top i j u small less a b =
-    spares-both
-    (spares-more top (top + length (letters u)) top (top + i * frame) a (omega arith) (omega (arith, small .fits, less)))
-    (spares-more top (top + suc j * frame) top (top + i * frame) b (omega arith) (omega (arith, less)))
-
--- a let step that names no earlier iso is in no trace
-pub stepped-late : {P : Type 0} (t : List ℕ) (base : ℕ) (back : Bool) (i j row : ℕ) (l : Let) → l ≡ sidedLet back (letAt t base row) → l .iso < i → j ≡ cellOf t row 2 → i ≤ j → P
-stepped-late t base back i j row l is less e late =
-    let same : l .iso ≡ j = ap (λ x. x .iso) is ∙ let-iso t base back row ∙ sym e in absurd (omega (arith, same))
+-- a call that gives something is not too deep
+runs-deep : (d : ℕ) (os : List Iso) (i : ℕ) (v w : Val) (m : ℕ) → Runs d os i v (some w) m → 1 ≤ d
+runs-deep zero os i v w m r = absurd (none≢some (sym (r .0)))
+runs-deep (suc d) os i v w m r = omega arith
 
 -- its argument, and the iso applied to it
-record Called (w₀ w₁ w₂ vars : List ℕ) (top i j left : ℕ) (u w : Val) (f : Slots Val) (m : ℕ) (a : P.Place) (r : G.Given) : Type 0 where
-  pub below : j < i
+record Called (w₀ w₁ w₂ vars : List ℕ) (top depth left : ℕ) (u : Val) (f : Slots Val) (x : Option Val) (m : ℕ) (a : P.Place) (r : G.Given) : Type 0 where
   pub argued : Argued w₀ w₁ vars top u f a
-  pub applied : Applied w₁ w₂ top j left w m r
+  pub applied : Applied w₁ w₂ top depth left x m r
+  -- q's letters and the frames of the calls
+  pub spares : Spares w₀ w₂ top (top + 1 * resultLength + depth * frame)
 
-called : (t : List ℕ) (base : ℕ) (index : List ℕ) (back : Bool) (row i j : ℕ) {jq : ℕ} {w₀ w₁ w₂ vars : List ℕ} {top left : ℕ} {a : P.Place} {r : G.Given} → j ≡ cellOf t row 2
-    → jq ≡ cellOf t row (cond back 1 3) → ArgueSays (patternOf t base jq) vars w₀ w₁ top a → length w₁ ≡ length w₀
-    → ApplySays t base index back j w₁ w₂ (a .at) (a .end) top (a .free) left r
-    → (os : List Iso) (d : ℕ) (l : Let) (e f : Slots Val) (u w : Val) (m : ℕ) → Laid t base index back os → l ≡ sidedLet back (letAt t base row) → l .iso < i
-    → build (l .q) e ≡ some (u, f) → Small u → Runs d os (l .iso) u w m → EnvAt w₀ top vars e → top + i * frame ≤ length w₀ → length w₀ ≤ workLength
-    → Called w₀ w₁ w₂ vars top i j left u w f m a r
-called t base index back row i j {jq} {top = top} cell cellq argues wide says os d l e f u w m laid is less b small run env room most =
+called : (t : List ℕ) (base : ℕ) (index : List ℕ) (back : Bool) (row depth : ℕ) {jq j : ℕ} {w₀ w₁ w₂ vars : List ℕ} {top left : ℕ} {a : P.Place} {r : G.Given}
+    → jq ≡ cellOf t row (cond back 1 3) → ArgueSays (patternOf t base jq) vars w₀ w₁ top a → length w₁ ≡ length w₀ → j ≡ cellOf t row 2
+    → ApplySays t base index back j depth w₁ w₂ (a .at) (a .end) top (a .free) left r
+    → (os : List Iso) (l : Let) (e : Slots Val) {f : Slots Val} {u : Val} (x : Option Val) (m : ℕ) → Laid t base index back os → l ≡ sidedLet back (letAt t base row)
+    → build (l .q) e ≡ some (u, f) → Runs depth os (l .iso) u x m → EnvAt w₀ top vars e → top + 1 * resultLength + depth * frame ≤ length w₀ → length w₀ ≤ workLength
+    → Called w₀ w₁ w₂ vars top depth left u f x m a r
+called t base index back row depth {jq} {j} {top = top} cellq argues wide cell says os l e {f} {u} x m laid is b run env room most =
     let same : l .iso ≡ j = ap (λ x. x .iso) is ∙ let-iso t base back row ∙ sym cell in
     let q : l .q ≡ patternOf t base jq = ap (λ x. x .q) is ∙ let-q t base back row ∙ ap (patternOf t base) (sym cellq) in
-    let a = argues e f u (subst (λ p. build p e ≡ some (u, f)) q b) small env (omega (arith, room, less)) in
+    let a = argues e f u (subst (λ p. build p e ≡ some (u, f)) q b) env (omega (arith, room)) in
+    let p = says os u x m laid (subst (λ k. Runs depth os k u x m) same run) (a .handed) (omega (arith, room, wide)) (omega (arith, wide, most)) in
     record {
-      below = omega (arith, same, less);
       argued = a;
-      applied = says os d u w m laid (subst (λ k. Runs d os k u w m) same run) (a .stands) (a .ends) (a .low) (a .over) (a .near) (omega (arith, room, wide, same, less)) (omega (arith, wide, most));
+      applied = p;
+      spares = spares-both
+          (spares-more top (top + resultLength) top (top + 1 * resultLength + depth * frame) (a .spares) (omega arith) (omega arith))
+          (spares-more top (top + depth * frame) top (top + 1 * resultLength + depth * frame) (p .spares) (omega arith) (omega arith));
     }
 
-pub step-done : (t : List ℕ) (base : ℕ) (index : List ℕ) (back : Bool) (row i j : ℕ) {jq jp : ℕ} {w₀ w₁ w₂ vars vars′ : List ℕ} {top left b x y next : ℕ} {a : P.Place} {r : G.Given} → j ≡
-    cellOf t row 2
-    → jq ≡ cellOf t row (cond back 1 3) → ArgueSays (patternOf t base jq) vars w₀ w₁ top a → length w₁ ≡ length w₀
-    → ApplySays t base index back j w₁ w₂ (a .at) (a .end) top (a .free) left r → length w₂ ≡ length w₁ → r ≡ given.Range b x y → jp ≡ cellOf t row (cond back 3 1)
-    → ((v : Val) → At w₂ b v → x ≡ b + length (letters v) → vars′ ≡ ranges (patternOf t base jp) v b vars) → (top ≤ next) × (x ≤ next) × ((next ≡ top) ⊎ (next ≡ x))
-    → StepSays t base index back i row w₀ w₂ top vars vars′ left (reduced.Done next y)
-step-done t base index back row i j {jq} {jp} {w₀} {w₁} {w₂} {vars} {vars′} {top} {left} {b} {x} {y} {next} {a} {r} cell cellq argues wide says kept told cellp range far os d l e f g u w m
-    laid is less bu small run little bound env room most =
-    let c = called t base index back row i j cell cellq argues wide says os d l e f u w m laid is less bu small run env room most in
-    go c (le-or-lt m left)
-  where
-    go : Called w₀ w₁ w₂ vars top i j left u w f m a r → (m ≤ left) ⊎ (left < m) → Stepped w₀ w₂ vars′ top i left g m (reduced.Done next y)
-    go c (inr h) = absurd (range≢spent (sym told ∙ c .applied .spent h))
-    go c (inl h) =
-        let p : Pat = patternOf t base jp in
-        let same : l .p ≡ p = ap (λ z. z .p) is ∙ let-p t base back row ∙ ap (patternOf t base) (sym cellp) in
-        let done = sym told ∙ c .applied .done h in
-        let eb = range-begin done in
-        let ex = range-end done in
-        let ey = range-left done in
-        let near = c .applied .near h in
-        let place : x ≡ b + length (letters w) = ex ∙ ap (λ k. k + length (letters w)) (sym eb) in
-        let at : At w₂ b w = subst (λ k. At w₂ k w) (sym eb) (c .applied .stands h) in
-        let ranged′ = range w at place in
-        let low = far .0 in
-        let over = far .1 in
-        let rest = c .argued .rest in
-        let alone : take top w₀ ≡ take top w₂ = sym (c .applied .spares .before ∙ c .argued .spares .before) in
-        let older : Agrees (take next w₂) vars f = agrees-more w₂ vars f top next (subst (λ z. Agrees z vars f) alone (rest .agrees)) (rest .below) low in
-        let top′ : next ≤ top + resultLength = bounded (far .2) (omega (arith, ex, near)) in
-        let long = length-take-le next w₂ (omega (arith, top′, room, kept, wide, less)) in
-        record {
-          next = next;
-          further = low;
-          near = top′;
-          done = λ _. ap (reduced.Done next) ey;
-          env = λ _.
-              record {
-                agrees = subst (λ z. Agrees (take next w₂) z g) (sym ranged′)
-                    (agrees-bind p w f (take next w₂) vars b (rest .wide) (rest .slots) (omega (arith, long, top′, room, most, less)) (at-take w₂ b next w at (omega (arith, place, over)))
-                    (subst (λ z. bind z w f ≡ some g) same bound) older);
-                below = subst (λ z. Below z next) (sym ranged′) (below-ranges p w b vars next (below-more vars top next (rest .below) low) (omega (arith, place, over)));
-                wide = ap length ranged′ ∙ length-ranges p w b vars ∙ rest .wide;
-                slots = bind-length p w f (subst (λ z. bind z w f ≡ some g) same bound) ∙ rest .slots;
-              };
-          spent = λ k. absurd (omega (arith, h, k));
-          spares = step-spares top i j u small (c .below) (c .argued .spares) (c .applied .spares);
-        }
-      where
-        bounded : (next ≡ top) ⊎ (next ≡ x) → x ≤ top + resultLength → next ≤ top + resultLength
-        bounded (inl z) k = omega (arith, z)
-        bounded (inr z) k = omega (arith, z, k)
+module _ (t : List ℕ) (base : ℕ) (index : List ℕ) (back : Bool) (row depth : ℕ) {jq j : ℕ} {w₀ w₁ w₂ vars : List ℕ} {top left : ℕ} {a : P.Place} {r : G.Given}
+    (cellq : jq ≡ cellOf t row (cond back 1 3)) (argues : ArgueSays (patternOf t base jq) vars w₀ w₁ top a) (wide : length w₁ ≡ length w₀) (cell : j ≡ cellOf t row 2)
+    (says : ApplySays t base index back j depth w₁ w₂ (a .at) (a .end) top (a .free) left r) where
+  -- a result, which p binds
+  bound-by : {jp b x y next : ℕ} {vars′ : List ℕ} → length w₂ ≡ length w₁ → jp ≡ cellOf t row (cond back 3 1)
+      → ((v : Val) → At w₂ b v → x ≡ b + length (letters v) → vars′ ≡ ranges (patternOf t base jp) v b vars) → (top ≤ next) × (x ≤ next) × ((next ≡ top) ⊎ (next ≡ x))
+      → (l : Let) {u w : Val} {f g : Slots Val} {z : Option Val} {m rest : ℕ} → 1 ≤ depth → l ≡ sidedLet back (letAt t base row)
+      → Called w₀ w₁ w₂ vars top depth left u f z m a r → Result w₂ top rest w r → r ≡ given.Range b x y → bind (l .p) w f ≡ some g
+      → top + 1 * resultLength + depth * frame ≤ length w₀ → length w₀ ≤ workLength → Reached w₂ vars′ top 1 rest g (reduced.Done next y)
+  bound-by {jp} {b} {x} {y} {next} {vars′} kept cellp range far l {u} {w} {f} {g} deep is c res told bound room most =
+      let p : Pat = patternOf t base jp in
+      let same : l .p ≡ p = ap (λ z. z .p) is ∙ let-p t base back row ∙ ap (patternOf t base) (sym cellp) in
+      let done = sym told ∙ res .gives in
+      let eb = range-begin done in
+      let ex = range-end done in
+      let near = res .near in
+      let place : x ≡ b + length (letters w) = ex ∙ ap (λ k. k + length (letters w)) (sym eb) in
+      let at : At w₂ b w = subst (λ k. At w₂ k w) (sym eb) (res .stands) in
+      let ranged′ = range w at place in
+      let low = far .0 in
+      let over = far .1 in
+      let rest = c .argued .rest in
+      let alone : take top w₀ ≡ take top w₂ = sym (c .applied .spares .before ∙ c .argued .spares .before) in
+      let older : Agrees (take next w₂) vars f = agrees-more w₂ vars f top next (subst (λ z. Agrees z vars f) alone (rest .agrees)) (rest .below) low in
+      let top′ : next ≤ top + resultLength = bounded (far .2) (omega (arith, ex, near)) in
+      let long = length-take-le next w₂ (omega (arith, top′, room, kept, wide)) in
+      record {
+        next = next;
+        further = low;
+        near = omega (arith, top′);
+        done = ap (reduced.Done next) (range-left done);
+        env = record {
+          agrees = subst (λ z. Agrees (take next w₂) z g) (sym ranged′)
+              (agrees-bind p w f (take next w₂) vars b (rest .wide) (rest .slots) (omega (arith, long, top′, room, most, deep)) (at-take w₂ b next w at (omega (arith, place, over)))
+              (subst (λ z. bind z w f ≡ some g) same bound) older);
+          below = subst (λ z. Below z next) (sym ranged′) (below-ranges p w b vars next (below-more vars top next (rest .below) low) (omega (arith, place, over)));
+          wide = ap length ranged′ ∙ length-ranges p w b vars ∙ rest .wide;
+          slots = bind-length p w f (subst (λ z. bind z w f ≡ some g) same bound) ∙ rest .slots;
+        };
+      }
+    where
+      bounded : (next ≡ top) ⊎ (next ≡ x) → x ≤ top + resultLength → next ≤ top + resultLength
+      bounded (inl z) k = omega (arith, z)
+      bounded (inr z) k = omega (arith, z, k)
 
-pub step-spent : (t : List ℕ) (base : ℕ) (index : List ℕ) (back : Bool) (row i j : ℕ) {jq : ℕ} {w₀ w₁ w₂ vars vars′ : List ℕ} {top left : ℕ} {a : P.Place} {r : G.Given} → j ≡ cellOf t row 2
-    → jq ≡ cellOf t row (cond back 1 3) → ArgueSays (patternOf t base jq) vars w₀ w₁ top a → length w₁ ≡ length w₀
-    → ApplySays t base index back j w₁ w₂ (a .at) (a .end) top (a .free) left r → r ≡ given.Spent → StepSays t base index back i row w₀ w₂ top vars vars′ left reduced.Spent
-step-spent t base index back row i j {top = top} cell cellq argues wide says told os d l e f g u w m laid is less b small run little bound env room most =
-    let c = called t base index back row i j cell cellq argues wide says os d l e f u w m laid is less b small run env room most in
-    record {
-      next = top;
-      further = omega arith;
-      near = omega arith;
-      done = λ h. absurd (range≢spent (sym (c .applied .done h) ∙ told));
-      env = λ h. absurd (range≢spent (sym (c .applied .done h) ∙ told));
-      spent = λ h. refl;
-      spares = step-spares top i j u small (c .below) (c .argued .spares) (c .applied .spares);
-    }
+  pub step-done : {jp b x y next : ℕ} {vars′ : List ℕ} → length w₂ ≡ length w₁ → r ≡ given.Range b x y → jp ≡ cellOf t row (cond back 3 1)
+      → ((v : Val) → At w₂ b v → x ≡ b + length (letters v) → vars′ ≡ ranges (patternOf t base jp) v b vars) → (top ≤ next) × (x ≤ next) × ((next ≡ top) ⊎ (next ≡ x))
+      → StepSays t base index back depth row w₀ w₂ top vars vars′ left (reduced.Done next y)
+  step-done {jp} {b} {x} {y} {next} {vars′} kept told cellp range far os l e z m laid is trace env room most = go trace
+    where
+      go : {z : Option (Slots Val)} {m : ℕ} → LetTrace (Runs depth os) l e z m → Stepped w₀ w₂ vars′ top 1 depth left z m (reduced.Done next y)
+      go (LetTrace.stops {m = m} bu run) =
+          let c = called t base index back row depth cellq argues wide cell says os l e none m laid is bu run env room most in
+          record { comes = nothing (c .applied .answers); spares = c .spares }
+        where
+          nothing : Answers w₂ top left none m r → Comes w₂ vars′ top 1 left none m (reduced.Done next y)
+          nothing (Answers.spent h k) = absurd (range≢spent (sym told ∙ k))
+          nothing (Answers.large h n k) = absurd (range≢large (sym told ∙ k))
+          nothing (Answers.gives w h n k) = absurd (none≢some n)
+      go (LetTrace.gives {f = f} {g = g} {u = u} {w = w} {m = m} bu run bound) =
+          let c = called t base index back row depth cellq argues wide cell says os l e (some w) m laid is bu run env room most in
+          record { comes = something c (c .applied .answers); spares = c .spares }
+        where
+          something : Called w₀ w₁ w₂ vars top depth left u f (some w) m a r → Answers w₂ top left (some w) m r → Comes w₂ vars′ top 1 left (some g) m (reduced.Done next y)
+          something c (Answers.spent h k) = absurd (range≢spent (sym told ∙ k))
+          something c (Answers.large h n k) = absurd (none≢some (sym n))
+          something c (Answers.gives v h n k) =
+              let k′ : Result w₂ top (left - m) w r = subst (λ v. Result w₂ top (left - m) v r) (sym (some-inj n)) k in
+              Comes.ends g h refl (bound-by kept cellp range far l (runs-deep depth os (l .iso) u w m run) is c k′ told bound room most)
+
+  pub step-spent : {vars′ : List ℕ} → r ≡ given.Spent → StepSays t base index back depth row w₀ w₂ top vars vars′ left reduced.Spent
+  step-spent {vars′} told os l e z m laid is trace env room most = go trace
+    where
+      passed : {z : Option (Slots Val)} (x : Option Val) {m : ℕ} → Answers w₂ top left x m r → Comes w₂ vars′ top 1 left z m reduced.Spent
+      passed x (Answers.spent h k) = Comes.spent h refl
+      passed x (Answers.large h n k) = absurd (no-budget≢large (sym told ∙ k))
+      passed x (Answers.gives w h n k) = absurd (range≢spent (sym (k .gives) ∙ told))
+
+      go : {z : Option (Slots Val)} {m : ℕ} → LetTrace (Runs depth os) l e z m → Stepped w₀ w₂ vars′ top 1 depth left z m reduced.Spent
+      go (LetTrace.stops {m = m} bu run) =
+          let c = called t base index back row depth cellq argues wide cell says os l e none m laid is bu run env room most in
+          record { comes = passed none (c .applied .answers); spares = c .spares }
+      go (LetTrace.gives {w = w} {m = m} bu run bound) =
+          let c = called t base index back row depth cellq argues wide cell says os l e (some w) m laid is bu run env room most in
+          record { comes = passed (some w) (c .applied .answers); spares = c .spares }
+
+  pub step-large : {vars′ : List ℕ} → r ≡ given.Large → StepSays t base index back depth row w₀ w₂ top vars vars′ left reduced.Large
+  step-large {vars′} told os l e z m laid is trace env room most = go trace
+    where
+      met : {z : Option (Slots Val)} (x : Option Val) {m : ℕ} → (x ≡ none → z ≡ none) → Answers w₂ top left x m r → Comes w₂ vars′ top 1 left z m reduced.Large
+      met x f (Answers.spent h k) = absurd (no-budget≢large (sym k ∙ told))
+      met x f (Answers.large h n k) = Comes.large h (f n) refl
+      met x f (Answers.gives w h n k) = absurd (range≢large (sym (k .gives) ∙ told))
+
+      go : {z : Option (Slots Val)} {m : ℕ} → LetTrace (Runs depth os) l e z m → Stepped w₀ w₂ vars′ top 1 depth left z m reduced.Large
+      go (LetTrace.stops {m = m} bu run) =
+          let c = called t base index back row depth cellq argues wide cell says os l e none m laid is bu run env room most in
+          record { comes = met none (λ h. refl) (c .applied .answers); spares = c .spares }
+      go (LetTrace.gives {w = w} {m = m} bu run bound) =
+          let c = called t base index back row depth cellq argues wide cell says os l e (some w) m laid is bu run env room most in
+          record { comes = met (some w) (λ h. absurd (none≢some (sym h))) (c .applied .answers); spares = c .spares }
 
 -- ---- the let steps of a clause
 
--- the first of some let steps
-pub record FirstLet (call : ℕ → Val → Val → ℕ → Type 0) (i : ℕ) (l : Let) (ls : List Let) (e g : Slots Val) (m : ℕ) : Type 0 where
-  pub earlier : l .iso < i
-  pub given : Val
-  pub rest : Slots Val
-  pub built : build (l .q) e ≡ some (given, rest)
-  pub small : Small given
-  pub gives : Val
-  pub count : ℕ
-  pub called : call (l .iso) given gives count
-  pub less : Small gives
-  pub next : Slots Val
-  pub bound : bind (l .p) gives rest ≡ some next
-  pub after : ℕ
-  pub follows : LetsTrace call i ls next g after
-  pub counts : count + after ≡ m
+-- the first of some let steps: it gives something and others follow, or it stops
+data FirstLet (call : Calls) (l : Let) (ls : List Let) (e : Slots Val) (x : Option (Slots Val)) (m : ℕ) : Type 0 where
+  goes : {g : Slots Val} {j k : ℕ} → LetTrace call l e (some g) j → LetsTrace call ls g x k → j + k ≡ m → FirstLet call l ls e x m
+  stops : LetTrace call l e none m → x ≡ none → FirstLet call l ls e x m
 
-first-let : {call : ℕ → Val → Val → ℕ → Type 0} {i : ℕ} {l : Let} {ls : List Let} {e g : Slots Val} {m : ℕ} → LetsTrace call i (l ∷ ls) e g m → FirstLet call i l ls e g m
-first-let (step h b s c z n t) =
-    record {
-      earlier = h;
-      given = _;
-      rest = _;
-      built = b;
-      small = s;
-      gives = _;
-      count = _;
-      called = c;
-      less = z;
-      next = _;
-      bound = n;
-      after = _;
-      follows = t;
-      counts = refl;
-    }
+first-let : {call : Calls} {l : Let} {ls : List Let} {e : Slots Val} {x : Option (Slots Val)} {m : ℕ} → LetsTrace call (l ∷ ls) e x m → FirstLet call l ls e x m
+first-let (LetsTrace.step a t) = FirstLet.goes a t refl
+first-let (LetsTrace.stop a) = FirstLet.stops a refl
 
 -- no let steps
-no-lets : {call : ℕ → Val → Val → ℕ → Type 0} {i : ℕ} {e g : Slots Val} {m : ℕ} → LetsTrace call i [] e g m → (e ≡ g) × (m ≡ 0)
-no-lets done = (refl, refl)
+no-lets : {call : Calls} {e : Slots Val} {x : Option (Slots Val)} {m : ℕ} → LetsTrace call [] e x m → (x ≡ some e) × (m ≡ 0)
+no-lets LetsTrace.done = (refl, refl)
 
 -- what let steps have come to before step k
-pub record LetsAt (call : ℕ → Val → Val → ℕ → Type 0) (i : ℕ) (ls : List Let) (g : Slots Val) (m budget end : ℕ) (w₀ : List ℕ) (k top left : ℕ) (work vars : List ℕ) : Type 0 where
+pub record LetsAt (call : Calls) (ls : List Let) (x : Option (Slots Val)) (m budget end : ℕ) (w₀ : List ℕ) (depth k top left : ℕ) (work vars : List ℕ) : Type 0 where
   pub now : Slots Val
   pub past : ℕ
   pub rest : ℕ
   pub counts : past + rest ≡ m
   pub paid : past + left ≡ budget
-  pub trace : LetsTrace call i (drop k ls) now g rest
+  pub trace : LetsTrace call (drop k ls) now x rest
   pub env : EnvAt work top vars now
-  pub spares : Spares w₀ work end (end + length ls * resultLength + i * frame)
+  pub spares : Spares w₀ work end (end + length ls * resultLength + depth * frame)
   pub further : end ≤ top
   pub near : top ≤ end + k * resultLength
 
--- the same for whatever trace there is
-pub record Letting (t : List ℕ) (base : ℕ) (index : List ℕ) (back : Bool) (i from n end budget : ℕ) (w₀ vars₀ : List ℕ) (k top left : ℕ) (work vars : List ℕ) : Type 0 where
+-- what holds of whatever trace there is of n let steps from row `from` on
+abbrev pub ForLets : List ℕ → ℕ → List ℕ → Bool → ℕ → ℕ → ℕ → ℕ → List ℕ → List ℕ → (List Iso → List Let → Option (Slots Val) → ℕ → Type 0) → Type 0
+ForLets t base index back depth from n end w₀ vars₀ P =
+    (os : List Iso) (ls : List Let) (e : Slots Val) (x : Option (Slots Val)) (m : ℕ) → Laid t base index back os → ls ≡ sidedLets back t base from n
+    → LetsTrace (Runs depth os) ls e x m → EnvAt w₀ end vars₀ e → end + length ls * resultLength + depth * frame ≤ length w₀ → length w₀ ≤ workLength → P os ls x m
+
+-- the same before step k of them
+pub record Letting (t : List ℕ) (base : ℕ) (index : List ℕ) (back : Bool) (depth from n end budget : ℕ) (w₀ vars₀ : List ℕ) (k top left : ℕ) (work vars : List ℕ) : Type 0 where
   pub within : k ≤ n
   pub wide : length work ≡ length w₀
-  pub holds : (os : List Iso) (d : ℕ) (ls : List Let) (e g : Slots Val) (m : ℕ) → Laid t base index back os → ls ≡ sidedLets back t base from n
-      → LetsTrace (Runs d os) i ls e g m → EnvAt w₀ end vars₀ e → end + length ls * resultLength + i * frame ≤ length w₀ → length w₀ ≤ workLength
-      → LetsAt (Runs d os) i ls g m budget end w₀ k top left work vars
+  pub holds : ForLets t base index back depth from n end w₀ vars₀ (λ os ls x m. LetsAt (Runs depth os) ls x m budget end w₀ depth k top left work vars)
 
-pub letting-start : (t : List ℕ) (base : ℕ) (index : List ℕ) (back : Bool) (i from n end budget : ℕ) (w₀ vars₀ : List ℕ)
-    → Letting t base index back i from n end budget w₀ vars₀ 0 end budget w₀ vars₀
-letting-start t base index back i from n end budget w₀ vars₀ =
+pub letting-start : (t : List ℕ) (base : ℕ) (index : List ℕ) (back : Bool) (depth from n end budget : ℕ) (w₀ vars₀ : List ℕ)
+    → Letting t base index back depth from n end budget w₀ vars₀ 0 end budget w₀ vars₀
+letting-start t base index back depth from n end budget w₀ vars₀ =
     record {
       within = omega arith;
       wide = refl;
-      holds = λ os d ls e g m laid is trace env room most.
+      holds = λ os ls e x m laid is trace env room most.
           record {
             now = e;
             past = 0;
@@ -544,161 +627,195 @@ letting-start t base index back i from n end budget w₀ vars₀ =
             paid = zero-add budget;
             trace = trace;
             env = env;
-            spares = spares-none w₀ end (end + length ls * resultLength + i * frame);
+            spares = spares-none w₀ end (end + length ls * resultLength + depth * frame);
             further = omega arith;
             near = omega arith;
           };
     }
 
 -- the let step at k, in a trace
-record OneStep (call : ℕ → Val → Val → ℕ → Type 0) (i : ℕ) (ls : List Let) (g : Slots Val) (m budget end : ℕ) (w₀ : List ℕ) (k top left : ℕ) (work work′ vars vars′ : List ℕ) (r : R.Reduced)
+record OneStep (call : Calls) (ls : List Let) (x : Option (Slots Val)) (m budget end : ℕ) (w₀ : List ℕ) (depth k top left : ℕ) (work work′ vars vars′ : List ℕ) (r : R.Reduced)
     : Type 0 where
-  pub before : LetsAt call i ls g m budget end w₀ k top left work vars
+  pub before : LetsAt call ls x m budget end w₀ depth k top left work vars
   pub l : Let
-  pub first : FirstLet call i l (drop (suc k) ls) (before .now) g (before .rest)
-  pub says : Stepped work work′ vars′ top i left (first .next) (first .count) r
-  pub spares : Spares w₀ work′ end (end + length ls * resultLength + i * frame)
+  pub first : FirstLet call l (drop (suc k) ls) (before .now) x (before .rest)
+  pub says : {z : Option (Slots Val)} {j : ℕ} → LetTrace call l (before .now) z j
+      → Comes work′ vars′ top 1 left z j r × Spares w₀ work′ end (end + length ls * resultLength + depth * frame)
 
-one-step : {t : List ℕ} {base : ℕ} {index : List ℕ} {back : Bool} {i from n end budget : ℕ} {w₀ vars₀ : List ℕ} {k top left row : ℕ} {work work′ vars vars′ : List ℕ} {r : R.Reduced}
-    → Letting t base index back i from n end budget w₀ vars₀ k top left work vars → k < n → row ≡ from + cond back (n - suc k) k
-    → StepSays t base index back i row work work′ top vars vars′ left r
-    → (os : List Iso) (d : ℕ) (ls : List Let) (e g : Slots Val) (m : ℕ) → Laid t base index back os → ls ≡ sidedLets back t base from n
-    → LetsTrace (Runs d os) i ls e g m → EnvAt w₀ end vars₀ e → end + length ls * resultLength + i * frame ≤ length w₀ → length w₀ ≤ workLength
-    → OneStep (Runs d os) i ls g m budget end w₀ k top left work work′ vars vars′ r
-one-step {t} {base} {index} {back} {i} {from} {n} {end} {budget} {w₀} {vars₀} {k} {top} {left} {row} {work} {work′} {vars} {vars′} {r} inv below where′ says os d ls e g m laid is trace env room most =
-    let b = inv .holds os d ls e g m laid is trace env room most in
-    let l : Let = sidedLet back (letAt t base (from + cond back (n - suc k) k)) in
-    let parts : drop k ls ≡ l ∷ drop (suc k) ls = ap (drop k) is ∙ let-at back t base from n k below ∙ ap (λ x. l ∷ drop (suc k) x) (sym is) in
-    let f = first-let (subst (λ x. LetsTrace (Runs d os) i x (b .now) g (b .rest)) parts (b .trace)) in
-    let many : length ls ≡ n = ap length is ∙ length-sided back t base from n in
-    let near = b .near in
-    let wide = inv .wide in
-    let further = b .further in
-    let stepped = says os d l (b .now) (f .rest) (f .next) (f .given) (f .gives) (f .count) laid (ap (λ x. sidedLet back (letAt t base x)) (sym where′)) (f .earlier) (f .built)
-    (f .small) (f .called) (f .less) (f .bound) (b .env) (omega (arith, near, wide, many)) (omega (arith, wide)) in
-    record {
-      before = b;
-      l = l;
-      first = f;
-      says = stepped;
-      spares = spares-both (b .spares) (spares-more top (top + i * frame) end (end + length ls * resultLength + i * frame) (stepped .spares) further (omega (arith, near, many)));
-    }
+module _ {t : List ℕ} {base : ℕ} {index : List ℕ} {back : Bool} {depth from n end budget : ℕ} {w₀ vars₀ : List ℕ} {k top left row : ℕ} {work work′ vars vars′ : List ℕ} {r : R.Reduced}
+    (inv : Letting t base index back depth from n end budget w₀ vars₀ k top left work vars) (below : k < n) (where′ : row ≡ from + cond back (n - suc k) k)
+    (says : StepSays t base index back depth row work work′ top vars vars′ left r) where
+  one-step : ForLets t base index back depth from n end w₀ vars₀ (λ os ls x m. OneStep (Runs depth os) ls x m budget end w₀ depth k top left work work′ vars vars′ r)
+  one-step os ls e x m laid is trace env room most =
+      let b = inv .holds os ls e x m laid is trace env room most in
+      let l : Let = sidedLet back (letAt t base (from + cond back (n - suc k) k)) in
+      let parts : drop k ls ≡ l ∷ drop (suc k) ls = ap (drop k) is ∙ let-at back t base from n k below ∙ ap (λ x. l ∷ drop (suc k) x) (sym is) in
+      let many : length ls ≡ n = ap length is ∙ length-sided back t base from n in
+      let near = b .near in
+      let wide = inv .wide in
+      let further = b .further in
+      record {
+        before = b;
+        l = l;
+        first = first-let (subst (λ z. LetsTrace (Runs depth os) z (b .now) x (b .rest)) parts (b .trace));
+        says = λ {z} {j} lt.
+            let s = says os l (b .now) z j laid (ap (λ x. sidedLet back (letAt t base x)) (sym where′)) lt (b .env) (omega (arith, near, wide, many)) (omega (arith, wide)) in (
+              s .comes,
+              spares-both (b .spares) (spares-more top (top + 1 * resultLength + depth * frame) end (end + length ls * resultLength + depth * frame) (s .spares) further
+                  (omega (arith, near, many))),
+            );
+      }
 
-pub letting-next : {t : List ℕ} {base : ℕ} {index : List ℕ} {back : Bool} {i from n end budget : ℕ} {w₀ vars₀ : List ℕ} {k top left row x y : ℕ} {work work′ vars vars′ : List ℕ}
-    {r : R.Reduced} → r ≡ reduced.Done x y
-    → Letting t base index back i from n end budget w₀ vars₀ k top left work vars → k < n → row ≡ from + cond back (n - suc k) k → length work′ ≡ length work
-    → StepSays t base index back i row work work′ top vars vars′ left r
-    → Letting t base index back i from n end budget w₀ vars₀ (k + 1) x y work′ vars′
-letting-next {t} {base} {index} {back} {i} {from} {n} {end} {budget} {w₀} {vars₀} {k} {top} {left} {row} {x} {y} {work} {work′} {vars} {vars′} {r} told inv below where′ wide says′ =
-    let says = subst (StepSays t base index back i row work work′ top vars vars′ left) told says′ in
-    record {
-      within = omega arith;
-      wide = wide ∙ inv .wide;
-      holds = λ os d ls e g m laid is trace env room most.
-          onward os d ls g m (one-step inv below where′ says os d ls e g m laid is trace env room most);
-    }
-  where
-    onward : (os : List Iso) (d : ℕ) (ls : List Let) (g : Slots Val) (m : ℕ) → OneStep (Runs d os) i ls g m budget end w₀ k top left work work′ vars vars′ (reduced.Done x y)
-        → LetsAt (Runs d os) i ls g m budget end w₀ (k + 1) x y work′ vars′
-    onward os d ls g m o = go (le-or-lt (o .first .count) left)
-      where
-        go : (o .first .count ≤ left) ⊎ (left < o .first .count) → LetsAt (Runs d os) i ls g m budget end w₀ (k + 1) x y work′ vars′
-        go (inr h) = absurd (done≢spent (o .says .spent h))
-        go (inl h) =
-            let place = done-place (o .says .done h) in
-            let rest = done-left (o .says .done h) in
-            let b = o .before in
-            let counts = b .counts in
-            let paid = b .paid in
-            let split = o .first .counts in
-            let near = b .near in
-            let further = b .further in
-            let on = o .says .further in
-            let close = o .says .near in
-            let up : suc k ≡ k + 1 = omega arith in
-            record {
-              now = o .first .next;
-              past = b .past + o .first .count;
-              rest = o .first .after;
-              counts = omega (arith, counts, split);
-              paid = omega (arith, paid, rest);
-              trace = subst (λ q. LetsTrace (Runs d os) i (drop q ls) (o .first .next) g (o .first .after)) up (o .first .follows);
-              env = subst (λ q. EnvAt work′ q vars′ (o .first .next)) (sym place) (o .says .env h);
-              spares = o .spares;
-              further = omega (arith, further, place, on);
-              near = omega (arith, near, place, close);
-            }
+  pub letting-next : {x y : ℕ} → r ≡ reduced.Done x y → length work′ ≡ length work → Letting t base index back depth from n end budget w₀ vars₀ (k + 1) x y work′ vars′
+  letting-next {x} {y} told wide =
+      record {
+        within = omega arith;
+        wide = wide ∙ inv .wide;
+        holds = λ os ls e z m laid is trace env room most. onward os ls z m (one-step os ls e z m laid is trace env room most);
+      }
+    where
+      onward : (os : List Iso) (ls : List Let) (z : Option (Slots Val)) (m : ℕ) → OneStep (Runs depth os) ls z m budget end w₀ depth k top left work work′ vars vars′ r
+          → LetsAt (Runs depth os) ls z m budget end w₀ depth (k + 1) x y work′ vars′
+      onward os ls z m o = go (o .first)
+        where
+          ahead : {g : Slots Val} {j q : ℕ} → LetsTrace (Runs depth os) (drop (suc k) ls) g z q → j + q ≡ o .before .rest
+              → Comes work′ vars′ top 1 left (some g) j r → Spares w₀ work′ end (end + length ls * resultLength + depth * frame)
+              → LetsAt (Runs depth os) ls z m budget end w₀ depth (k + 1) x y work′ vars′
+          ahead follows split (Comes.spent h e) spares = absurd (done≢spent (sym told ∙ e))
+          ahead follows split (Comes.large h e f) spares = absurd (none≢some (sym e))
+          ahead {g} {j} {q} follows split (Comes.ends g′ h e reached) spares =
+              let same = some-inj e in
+              let place = done-place (sym told ∙ reached .done) in
+              let rest = done-left (sym told ∙ reached .done) in
+              let b = o .before in
+              let counts = b .counts in
+              let paid = b .paid in
+              let near = b .near in
+              let further = b .further in
+              let on = reached .further in
+              let close = reached .near in
+              let up : suc k ≡ k + 1 = omega arith in
+              record {
+                now = g;
+                past = b .past + j;
+                rest = q;
+                counts = omega (arith, counts, split);
+                paid = omega (arith, paid, rest, h);
+                trace = subst (λ i. LetsTrace (Runs depth os) (drop i ls) g z q) up follows;
+                env = subst₂ (λ i f. EnvAt work′ i vars′ f) (sym place) (sym same) (reached .env);
+                spares = spares;
+                further = omega (arith, further, place, on);
+                near = omega (arith, near, place, close);
+              }
 
-pub lets-spent : {t : List ℕ} {base : ℕ} {index : List ℕ} {back : Bool} {i from n end budget : ℕ} {w₀ vars₀ : List ℕ} {k top left row : ℕ} {work work′ vars vars′ : List ℕ} {r : R.Reduced} →
-    r ≡ reduced.Spent
-    → Letting t base index back i from n end budget w₀ vars₀ k top left work vars → k < n → row ≡ from + cond back (n - suc k) k
-    → StepSays t base index back i row work work′ top vars vars′ left r
-    → (os : List Iso) (d : ℕ) (ls : List Let) (e g : Slots Val) (m : ℕ) → Laid t base index back os → ls ≡ sidedLets back t base from n
-    → LetsTrace (Runs d os) i ls e g m → EnvAt w₀ end vars₀ e → end + length ls * resultLength + i * frame ≤ length w₀ → length w₀ ≤ workLength
-    → LetsRan w₀ work′ vars′ end i budget (length ls) g m reduced.Spent
-lets-spent {t} {base} {index} {back} {i} {from} {n} {end} {budget} {w₀} {vars₀} {k} {top} {left} {row} {work} {work′} {vars} {vars′} {r} told inv below where′ says′ os d ls e g m laid is
-    trace env room most =
-    let says = subst (StepSays t base index back i row work work′ top vars vars′ left) told says′ in
-    let o = one-step inv below where′ says os d ls e g m laid is trace env room most in
-    let counts = o .before .counts in
-    let paid = o .before .paid in
-    let split = o .first .counts in
-    let more : m ≤ budget → o .first .count ≤ left = λ h. omega (arith, counts, paid, split) in
-    let not : m ≤ budget → ⊥ = λ h. done≢spent (sym (o .says .done (more h))) in
-    record {
-      top = end;
-      further = omega arith;
-      near = omega arith;
-      done = λ h. absurd (not h);
-      env = λ h. absurd (not h);
-      spent = λ h. refl;
-      spares = o .spares;
-    }
+          stuck : {P : Type 0} {j : ℕ} → Comes work′ vars′ top 1 left none j r → P
+          stuck (Comes.spent h e) = absurd (done≢spent (sym told ∙ e))
+          stuck (Comes.large h e f) = absurd (done≢large (sym told ∙ f))
+          stuck (Comes.ends g h e reached) = absurd (none≢some e)
 
-pub lets-end : {t : List ℕ} {base : ℕ} {index : List ℕ} {back : Bool} {i from n end budget : ℕ} {w₀ vars₀ : List ℕ} {k top left : ℕ} {work vars : List ℕ}
-    → Letting t base index back i from n end budget w₀ vars₀ k top left work vars → n ≤ k
-    → (os : List Iso) (d : ℕ) (ls : List Let) (e g : Slots Val) (m : ℕ) → Laid t base index back os → ls ≡ sidedLets back t base from n
-    → LetsTrace (Runs d os) i ls e g m → EnvAt w₀ end vars₀ e → end + length ls * resultLength + i * frame ≤ length w₀ → length w₀ ≤ workLength
-    → LetsRan w₀ work vars end i budget (length ls) g m (reduced.Done top left)
-lets-end {t} {base} {index} {back} {i} {from} {n} {end} {budget} {w₀} {vars₀} {k} {top} {left} {work} {vars} inv past os d ls e g m laid is trace env room most =
-    let b = inv .holds os d ls e g m laid is trace env room most in
+          go : FirstLet (Runs depth os) (o .l) (drop (suc k) ls) (o .before .now) z (o .before .rest)
+              → LetsAt (Runs depth os) ls z m budget end w₀ depth (k + 1) x y work′ vars′
+          go (FirstLet.goes lt follows split) = let s = o .says lt in ahead follows split (s .0) (s .1)
+          go (FirstLet.stops lt e) = stuck (o .says lt .0)
+
+  pub lets-spent : r ≡ reduced.Spent
+      → ForLets t base index back depth from n end w₀ vars₀ (λ os ls x m. Stepped w₀ work′ vars′ end (length ls) depth budget x m reduced.Spent)
+  lets-spent told os ls e x m laid is trace env room most = go (one-step os ls e x m laid is trace env room most)
+    where
+      passed : {z : Option (Slots Val)} (p q : ℕ) {j : ℕ} → Comes work′ vars′ top 1 left z j r → p + q ≡ m → p + left ≡ budget → j ≤ q
+          → Comes work′ vars′ end (length ls) budget x m reduced.Spent
+      passed p q (Comes.spent h e) a b c = Comes.spent (omega (arith, h, a, b, c)) refl
+      passed p q (Comes.large h e f) a b c = absurd (spent≢large (sym told ∙ f))
+      passed p q (Comes.ends g h e reached) a b c = absurd (done≢spent (sym (reached .done) ∙ told))
+
+      go : OneStep (Runs depth os) ls x m budget end w₀ depth k top left work work′ vars vars′ r → Stepped w₀ work′ vars′ end (length ls) depth budget x m reduced.Spent
+      go o = first (o .first)
+        where
+          first : FirstLet (Runs depth os) (o .l) (drop (suc k) ls) (o .before .now) x (o .before .rest) → Stepped w₀ work′ vars′ end (length ls) depth budget x m reduced.Spent
+          first (FirstLet.goes lt follows split) =
+              let s = o .says lt in record { comes = passed (o .before .past) (o .before .rest) (s .0) (o .before .counts) (o .before .paid) (omega (arith, split)); spares = s .1 }
+          first (FirstLet.stops lt f) =
+              let s = o .says lt in record { comes = passed (o .before .past) (o .before .rest) (s .0) (o .before .counts) (o .before .paid) (omega arith); spares = s .1 }
+
+  pub lets-large : r ≡ reduced.Large
+      → ForLets t base index back depth from n end w₀ vars₀ (λ os ls x m. Stepped w₀ work′ vars′ end (length ls) depth budget x m reduced.Large)
+  lets-large told os ls e x m laid is trace env room most = go (one-step os ls e x m laid is trace env room most)
+    where
+      met : {z : Option (Slots Val)} (p : ℕ) {j : ℕ} → (z ≡ none → (x ≡ none) × (p + j ≡ m)) → Comes work′ vars′ top 1 left z j r → p + left ≡ budget
+          → Comes work′ vars′ end (length ls) budget x m reduced.Large
+      met p f (Comes.spent h e) b = absurd (spent≢large (sym e ∙ told))
+      met p f (Comes.large h e g) b = let y = f e in let a = y .1 in Comes.large (omega (arith, h, a, b)) (y .0) refl
+      met p f (Comes.ends g h e reached) b = absurd (done≢large (sym (reached .done) ∙ told))
+
+      go : OneStep (Runs depth os) ls x m budget end w₀ depth k top left work work′ vars vars′ r → Stepped w₀ work′ vars′ end (length ls) depth budget x m reduced.Large
+      go o = first (o .first)
+        where
+          first : FirstLet (Runs depth os) (o .l) (drop (suc k) ls) (o .before .now) x (o .before .rest) → Stepped w₀ work′ vars′ end (length ls) depth budget x m reduced.Large
+          first (FirstLet.goes lt follows split) =
+              let s = o .says lt in record { comes = met (o .before .past) (λ h. absurd (none≢some (sym h))) (s .0) (o .before .paid); spares = s .1 }
+          first (FirstLet.stops lt f) =
+              let s = o .says lt in record { comes = met (o .before .past) (λ h. (f, o .before .counts)) (s .0) (o .before .paid); spares = s .1 }
+
+pub lets-end : {t : List ℕ} {base : ℕ} {index : List ℕ} {back : Bool} {depth from n end budget : ℕ} {w₀ vars₀ : List ℕ} {k top left : ℕ} {work vars : List ℕ}
+    → Letting t base index back depth from n end budget w₀ vars₀ k top left work vars → n ≤ k
+    → ForLets t base index back depth from n end w₀ vars₀ (λ os ls x m. Stepped w₀ work vars end (length ls) depth budget x m (reduced.Done top left))
+lets-end {t} {base} {index} {back} {depth} {from} {n} {end} {budget} {w₀} {vars₀} {k} {top} {left} {work} {vars} inv past os ls e x m laid is trace env room most =
+    let b = inv .holds os ls e x m laid is trace env room most in
     let many : length ls ≡ n = ap length is ∙ length-sided back t base from n in
     let within = inv .within in
     let short : length ls ≤ k = omega (arith, many) in
     let none′ : drop k ls ≡ [] = drop-of-length-le ls short in
-    let z = no-lets (subst (λ q. LetsTrace (Runs d os) i q (b .now) g (b .rest)) none′ (b .trace)) in
+    let z = no-lets (subst (λ q. LetsTrace (Runs depth os) q (b .now) x (b .rest)) none′ (b .trace)) in
     let zero′ = z .1 in
     let counts = b .counts in
     let paid = b .paid in
     let near = b .near in
     let left′ : left ≡ budget - m = omega (arith, counts, paid, zero′) in
     record {
-      top = top;
-      further = b .further;
-      near = omega (arith, near, many, within);
-      done = λ h. ap (reduced.Done top) left′;
-      env = λ h. subst (EnvAt work top vars) (z .0) (b .env);
-      spent = λ h. absurd (omega (arith, counts, paid, zero′));
+      comes = Comes.ends (b .now) (omega (arith, counts, paid, zero′)) (z .0)
+          (record { next = top; further = b .further; near = omega (arith, near, many, within); done = ap (reduced.Done top) left′; env = b .env });
       spares = b .spares;
     }
 
 -- ---- an application
 
+neither : (a b : Bool) → (a || b) ≡ false → (a ≡ false) × (b ≡ false)
+neither true b e = absurd (true≢false e)
+neither false b e = (refl, e)
+
+-- what is measured before it
+pub not-large : (depth at end : ℕ) → tooLarge depth at end ≡ false → (depth ≡ suc (depth - 1)) × (end - at ≤ maxLetters)
+not-large depth at end e =
+    let r = neither (eqb depth 0) (ltb maxLetters (end - at)) e in
+    (above depth (eqb-false (r .0)), ltb-false maxLetters (end - at) (r .1))
+  where
+    above : (n : ℕ) → (n ≡ 0 → ⊥) → n ≡ suc (n - 1)
+    above zero h = absurd (h refl)
+    above (suc n) h = omega arith
+
+pub large-deep : (depth at end : ℕ) → depth ≡ 0 → true ≡ tooLarge depth at end
+large-deep depth at end e = sym (ap (λ n. eqb n 0 || ltb maxLetters (end - at)) e)
+
+pub large-argument : (depth at end : ℕ) {n : ℕ} → (depth ≡ 0 → ⊥) → n ≡ end - at → ltb maxLetters n ≡ tooLarge depth at end
+large-argument depth at end some′ e =
+    ap (ltb maxLetters) e ∙ sym (ap (λ b. b || ltb maxLetters (end - at)) (not-eqb some′))
+
+is-large : (depth at end : ℕ) → tooLarge depth at end ≡ true → (depth ≡ 0) ⊎ (maxLetters < end - at)
+is-large depth at end e =
+    ⊎-elim (λ z. inl (eqb-eq depth 0 z)) (λ z. inr (ltb-lt maxLetters (end - at) z)) (or-true (eqb depth 0) (ltb maxLetters (end - at)) e)
+
 -- the clause that is chosen for a trace, as the code finds it: its C row at `row`, its L rows up to row `below`, the environment that matching
--- left
-pub record Picked (t : List ℕ) (base : ℕ) (back : Bool) (os : List Iso) (i row below : ℕ) (w₀ : List ℕ) (end : ℕ) (vars : List ℕ) (w : Val) (m : ℕ) : Type 0 where
-  pub depth : ℕ
+-- left; its let steps' calls nest at most d deep
+pub record Picked (t : List ℕ) (base : ℕ) (back : Bool) (os : List Iso) (d row below : ℕ) (w₀ : List ℕ) (end : ℕ) (vars : List ℕ) (x : Option Val) (m : ℕ) : Type 0 where
   pub lets : List Let
   pub rows : lets ≡ sidedLets back t base (row + 1) (below - (row + 1))
   pub few : length lets ≤ maxLets
   pub first : Slots Val
   pub env : EnvAt w₀ end vars first
-  pub last : Slots Val
+  pub last : Option (Slots Val)
   pub count : ℕ
-  pub trace : LetsTrace (Runs depth os) i lets first last count
-  pub rest : Slots Val
-  pub built : build (patternOf t base (cellOf t row (cond back 1 2))) last ≡ some (w, rest)
-  pub small : Small w
+  pub trace : LetsTrace (Runs d os) lets first last count
+  pub ends : EndTrace (patternOf t base (cellOf t row (cond back 1 2))) last x
   pub counts : suc count ≡ m
 
 getD-zeros : (k n : ℕ) → _≡_ {A = ℕ} (getD (replicate {A = ℕ} k 0) n 0) 0
@@ -740,17 +857,39 @@ placed t base index back i o v place c {first} e chosen bound before =
         let there = clause-at t base index back i k (subst (λ x. getElem? (x .clauses) k ≡ some (b .0)) e (b .1)) in
         subst (λ p. alike p v ≡ false) (ap (λ x. x .lhs) (there .1) ∙ lhs-at t base back _ _) (before k (b .0) h (b .1))
 
+-- what a right pattern came to, by its slots
+record Ended (p : Pat) (e : Slots Val) (x : Option Val) : Type 0 where
+  pub value : Val
+  pub rest : Slots Val
+  pub built : build p e ≡ some (value, rest)
+  pub large : Over value → x ≡ none
+  pub fits : Fitting value → x ≡ some value
+
+ends-some : {p : Pat} {y : Option (Slots Val)} {x : Option Val} {e : Slots Val} → EndTrace p y x → y ≡ some e → Ended p e x
+ends-some EndTrace.stopped n = absurd (none≢some n)
+ends-some {p} (EndTrace.large {f = rest} {w = w} b o) n =
+    record { value = w; rest = rest; built = subst (λ e. build p e ≡ some (w, rest)) (some-inj n) b; large = λ h. refl; fits = λ h. absurd (omega (arith, o, h)) }
+ends-some {p} (EndTrace.gives {f = rest} {w = w} b f) n =
+    record { value = w; rest = rest; built = subst (λ e. build p e ≡ some (w, rest)) (some-inj n) b; large = λ h. absurd (omega (arith, f, h)); fits = λ h. refl }
+
+ends-none : {p : Pat} {y : Option (Slots Val)} {x : Option Val} → EndTrace p y x → y ≡ none → x ≡ none
+ends-none EndTrace.stopped n = refl
+ends-none (EndTrace.large b o) n = refl
+ends-none (EndTrace.gives b f) n = absurd (none≢some (sym n))
+
+-- a budget that is not spent
+one-or-more : (n : ℕ) → (n ≡ 0 → ⊥) → 1 ≤ n
+one-or-more zero h = absurd (h refl)
+one-or-more (suc n) h = omega arith
+
 -- the choice comes out at the trace's clause
-picked : {t : List ℕ} {base : ℕ} {index : List ℕ} {back : Bool} {i first stop r row below at end : ℕ} {w₀ vars′ : List ℕ}
+picked : (t : List ℕ) (base : ℕ) (index : List ℕ) (back : Bool) (i first stop r row below at end : ℕ) {w₀ vars′ : List ℕ}
     → ChoiceSays t base index back first stop w₀ at end (replicate 64 0) vars′ r → first ≡ placeAt index i + 1 → stop ≡ placeAt index (i + 1)
-    → row ≡ placeAt index r → below ≡ placeAt index (r + 1)
-    → (os : List Iso) (d : ℕ) (v w : Val) (m : ℕ) → Laid t base index back os → Runs d os i v w m → At w₀ at v → end ≡ at + length (letters v) → end < 65536
-    → (r < stop) × Picked t base back os i row below w₀ end vars′ w m
-picked says f s row′ below′ os zero v w m laid run a e small = absurd run
-picked {t} {base} {index} {back} {i} {first} {stop} {r} {row} {below} {at} {end} {w₀} {vars′} says f s row′ below′ os (suc d) v w m laid run a e small =
-    let o = run .0 in
-    let c = run .2 in
-    let p = placed t base index back i o v (c .place) (c .clause) (laid .isos i o (run .1)) (c .chosen) (c .bound) (c .before) in
+    → row ≡ placeAt index r → below ≡ placeAt index (r + 1) → (os : List Iso) (d : ℕ) (v : Val) → Laid t base index back os → At w₀ at v
+    → end ≡ at + length (letters v) → end < 65536 → {x : Option Val} {m : ℕ} (o : Iso) → getElem? os i ≡ some o → ClauseTrace (Runs d os) o v x m
+    → (r < stop) × Picked t base back os d row below w₀ end vars′ x m
+picked t base index back i first stop r row below at end {w₀} {vars′} says f s row′ below′ os d v laid a e small {x} o known c =
+    let p = placed t base index back i o v (c .place) (c .clause) (laid .isos i o known) (c .chosen) (c .bound) (c .before) in
     let n : ℕ = c .place in
     let same : placeAt index i + 1 + n ≡ first + n = ap (λ x. x + n) (sym f) in
     let stops : placeAt index (suc i) ≡ stop = ap (placeAt index) (omega arith) ∙ sym s in
@@ -768,7 +907,6 @@ picked {t} {base} {index} {back} {i} {first} {stop} {r} {row} {below} {at} {end}
     let q : Pat = sideAt t base index back (first + n) in (
       subst (λ x. x < stop) (sym (ch .place)) inside,
       record {
-        depth = d;
         lets = c .clause .lets;
         rows = lets′;
         few = c .few;
@@ -785,138 +923,184 @@ picked {t} {base} {index} {back} {i} {first} {stop} {r} {row} {below} {at} {end}
         last = c .last;
         count = c .count;
         trace = c .lets;
-        rest = c .rest;
-        built = subst (λ x. build x (c .last) ≡ some (w, c .rest)) (ap (λ x. x .rhs) is ∙ rhs-at t base back row below) (c .built);
-        small = c .small;
+        ends = subst (λ p. EndTrace p (c .last) x) (ap (λ x. x .rhs) is ∙ rhs-at t base back row below) (c .ends);
         counts = c .counts;
       },
     )
 
+-- an argument that is not too large stands in the area
+fits-handed : {work : List ℕ} {at end dest free : ℕ} {v : Val} → Handed work at end dest free v → end - at ≤ maxLetters → Fitting v
+fits-handed {at = at} {end = end} {v = v} h small = go (le-or-lt (length (letters v)) maxLetters)
+  where
+    go : (Fitting v) ⊎ (Over v) → Fitting v
+    go (inl f) = f
+    go (inr o) = let far = h .large o in absurd (omega (arith, far, small))
+
 -- no budget
-pub applied-none : {work : List ℕ} {dest left : ℕ} {w : Val} → left ≡ 0 → (os : List Iso) (d i : ℕ) (v : Val) (m : ℕ) → Runs d os i v w m → Applied work work dest i left w m given.Spent
-applied-none {work} {dest} z os d i v m run =
-    let least = runs-least d os i v _ m run in
-    record {
-      begin = 0;
-      done = λ h. absurd (omega (arith, z, least));
-      stands = λ h. absurd (omega (arith, z, least));
-      near = λ h. absurd (omega (arith, z, least));
-      spent = λ h. refl;
-      spares = spares-none work dest (dest + suc i * frame);
-    }
+pub applied-none : (t : List ℕ) (base : ℕ) (index : List ℕ) (back : Bool) (i depth at end dest free left : ℕ) {work : List ℕ} → left ≡ 0
+    → ApplySays t base index back i depth work work at end dest free left given.Spent
+applied-none t base index back i depth at end dest free left {work} z os v x m laid run handed room most =
+    let least = runs-least depth os i v x m run in
+    record { answers = Answers.spent (omega (arith, z, least)) refl; spares = spares-none work dest (dest + depth * frame) }
 
--- the let steps of the picked clause
-ran : {t : List ℕ} {base : ℕ} {index : List ℕ} {back : Bool} {os : List Iso} {i row below end free left : ℕ} {w₀ w₁ vars vars′ : List ℕ} {w : Val} {m : ℕ} {r : R.Reduced} (dest : ℕ)
-    → Laid t base index back os → LetsSay t base index back i (row + 1) below w₀ w₁ free vars vars′ left r → (p : Picked t base back os i row below w₀ end vars w m)
-    → end ≤ free → free ≤ dest + resultLength → dest + suc i * frame ≤ length w₀ → length w₀ ≤ workLength → LetsRan w₀ w₁ vars′ free i left (length (p .lets)) (p .last) (p .count) r
-ran {i = i} {free = free} dest laid says p low near room most =
-    let few = p .few in
-    let more : suc i * frame ≡ frame + i * frame = suc-mul-frame i in
-    says _ (p .depth) (p .lets) (p .first) (p .last) (p .count) laid (p .rows) (p .trace) (env-more free (p .env) low) (omega (arith, few, near, room, more)) most
+-- too deep, or too large an argument
+pub applied-large : (t : List ℕ) (base : ℕ) (index : List ℕ) (back : Bool) (i depth at end dest free left : ℕ) {work : List ℕ} → (left ≡ 0 → ⊥)
+    → tooLarge depth at end ≡ true → ApplySays t base index back i depth work work at end dest free left given.Large
+applied-large t base index back i depth at end dest free left {work} some′ large os v x m laid run handed room most =
+    record { answers = go depth (is-large depth at end large) run; spares = spares-none work dest (dest + depth * frame) }
   where
-    suc-mul-frame : (n : ℕ) → suc n * frame ≡ frame + n * frame
-    suc-mul-frame n = omega arith
+    measured : (d : ℕ) {x : Option Val} {m : ℕ} → Applies (Runs d os) os i v x m → maxLetters < end - at → Answers work dest left x m given.Large
+    measured d (Applies.large o) far = Answers.large (one-or-more left some′) refl refl
+    measured d (Applies.runs fits o e c) far = let ends = handed .fits fits .ends in absurd (omega (arith, ends, fits, far))
 
--- let results and the frames below are within the frames of an application
-within-frames : {w₀ w₁ : List ℕ} (dest free i n : ℕ) → n ≤ maxLets → dest ≤ free → free ≤ dest + resultLength
-    → Spares w₀ w₁ free (free + n * resultLength + i * frame) → Spares w₀ w₁ dest (dest + suc i * frame)
-within-frames dest free i n few low near k =
-    spares-more free (free + n * resultLength + i * frame) dest (dest + suc i * frame) k low (omega (arith, few, near))
+    go : (n : ℕ) → (n ≡ 0) ⊎ (maxLetters < end - at) → Runs n os i v x m → Answers work dest left x m given.Large
+    go zero h r = Answers.large (let one = r .1 in let least = one-or-more left some′ in omega (arith, one, least)) (r .0) refl
+    go (suc d) (inl z) r = absurd (omega (arith, z))
+    go (suc d) (inr far) r = measured d r far
 
-applied-spent : {t : List ℕ} {base : ℕ} {back : Bool} {os : List Iso} {i row below end free left rest : ℕ} {w₀ w₁ vars vars′ : List ℕ} {w : Val} {m n : ℕ} {r : R.Reduced} (dest : ℕ)
-    → (p : Picked t base back os i row below w₀ end vars w m) → LetsRan w₀ w₁ vars′ free i rest n (p .last) (p .count) r → r ≡ reduced.Spent → rest + 1 ≡ left
-    → n ≤ maxLets → dest ≤ free → free ≤ dest + resultLength → Applied w₀ w₁ dest i left w m given.Spent
-applied-spent {i = i} {free = free} {left = left} {m = m} {n = n} dest p l is e few low near =
-    let counts = p .counts in
-    let not : m ≤ left → ⊥ = λ h. done≢spent (sym (l .done (omega (arith, counts, e))) ∙ is) in
-    record {
-      begin = 0;
-      done = λ h. absurd (not h);
-      stands = λ h. absurd (not h);
-      near = λ h. absurd (not h);
-      spent = λ h. refl;
-      spares = within-frames dest free i n few low near (l .spares);
-    }
+-- let results and the frames of deeper calls are within the frames of an application
+within-frames : {w₀ w₁ : List ℕ} (dest free n : ℕ) {depth d : ℕ} → depth ≡ suc d → n ≤ maxLets → dest ≤ free → free ≤ dest + resultLength
+    → Spares w₀ w₁ free (free + n * resultLength + d * frame) → Spares w₀ w₁ dest (dest + depth * frame)
+within-frames dest free n {depth} {d} up few low near k =
+    spares-more free (free + n * resultLength + d * frame) dest (dest + depth * frame) k low (omega (arith, few, near, up))
 
-applied-done : {t : List ℕ} {base : ℕ} {back : Bool} {os : List Iso} {i row below end free left rest top x : ℕ} {w₀ w₁ w₂ vars vars′ : List ℕ} {w : Val} {m n : ℕ} {r : R.Reduced}
-    {z : G.Given} (dest : ℕ)
-    → (p : Picked t base back os i row below w₀ end vars w m) → LetsRan w₀ w₁ vars′ free i rest n (p .last) (p .count) r → r ≡ reduced.Done top x → rest + 1 ≡ left
-    → n ≤ maxLets → dest ≤ free → free ≤ dest + resultLength → dest + suc i * frame ≤ length w₀ → length w₁ ≡ length w₀
-    → GiveSays (patternOf t base (cellOf t row (cond back 1 2))) vars′ w₁ w₂ top dest x z → Applied w₀ w₂ dest i left w m z
-applied-done {i = i} {free = free} {left = left} {rest = rest} {top = top} {x = x} {w₀ = w₀} {w₁ = w₁} {w₂ = w₂} {vars′ = vars′} {w = w} {m = m} {n = n} {z = z} dest p l is e few low near
-    room wide gives = go (le-or-lt (p .count) rest)
-  where
-    go : (p .count ≤ rest) ⊎ (rest < p .count) → Applied w₀ w₂ dest i left w m z
-    go (inr h) = absurd (done≢spent (sym is ∙ l .spent h))
-    go (inl h) =
-        let place = done-place (sym is ∙ l .done h) in
-        let paid = done-left (sym is ∙ l .done h) in
-        let counts = p .counts in
-        let close = l .near in
-        let further = l .further in
-        let env : EnvAt w₁ top vars′ (p .last) = subst (λ k. EnvAt w₁ k vars′ (p .last)) (sym place) (l .env h) in
-        let g = gives (p .last) (p .rest) w (p .built) (p .small) env (omega (arith, place, further, low)) (omega (arith, close, place, few, near, room, wide)) in
-        let left′ : x ≡ left - m = omega (arith, paid, counts, e) in
+-- an application whose let steps were run: the clause, and what they came to
+record Ran (t : List ℕ) (base : ℕ) (back : Bool) (os : List Iso) (d row below dest free rest : ℕ) (w₀ w₁ : List ℕ) (end : ℕ) (vars vars′ : List ℕ) (x : Option Val) (m : ℕ) (r : R.Reduced)
+    : Type 0 where
+  pub picked : Picked t base back os d row below w₀ end vars x m
+  pub steps : Stepped w₀ w₁ vars′ free (length (picked .lets)) d rest (picked .last) (picked .count) r
+  pub over : dest ≤ free
+  pub near : free ≤ dest + resultLength
+
+module _ (t : List ℕ) (base : ℕ) (index : List ℕ) (back : Bool) (i depth r row below at end dest free left : ℕ) {h stop : ℕ} {w₀ vars : List ℕ}
+    (says : ChoiceSays t base index back (h + 1) stop w₀ at end (replicate 64 0) vars r) (eh : h ≡ placeAt index i) (es : stop ≡ placeAt index (i + 1))
+    (row′ : row ≡ placeAt index r) (below′ : below ≡ placeAt index (r + 1)) (measured : tooLarge depth at end ≡ false) where
+  -- the choice: its clause, by the places read
+  choice : (os : List Iso) (v : Val) (x : Option Val) (m : ℕ) → Laid t base index back os → Runs depth os i v x m → Handed w₀ at end dest free v
+      → dest + depth * frame ≤ length w₀ → length w₀ ≤ workLength
+      → (r < stop) × Picked t base back os (depth - 1) row below w₀ end vars x m × Stood w₀ at end dest free v
+  choice os v x m laid run handed room most =
+      let up = not-large depth at end measured in
+      go (subst (λ k. Runs k os i v x m) (up .0) run) (up .1)
+    where
+      go : {x : Option Val} {m : ℕ} → Applies (Runs (depth - 1) os) os i v x m → end - at ≤ maxLetters
+          → (r < stop) × Picked t base back os (depth - 1) row below w₀ end vars x m × Stood w₀ at end dest free v
+      go (Applies.large o) short = let f = fits-handed handed short in absurd (omega (arith, f, o))
+      go (Applies.runs fits o e c) short =
+          let s = handed .fits fits in
+          let low = s .low in
+          let near = s .near in
+          let up = not-large depth at end measured .0 in
+          let p = picked t base index back i (h + 1) stop r row below at end says (ap (λ x. x + 1) eh) es row′ below′ os (depth - 1) v laid (s .stands) (s .ends)
+          (omega (arith, low, near, room, most, up)) o e c in
+          (p .0, p .1, s)
+
+  pub unmatched : stop ≤ r → ApplySays t base index back i depth w₀ w₀ at end dest free left given.Spent
+  unmatched past os v x m laid run handed room most = let c = choice os v x m laid run handed room most in let c₀ = c .0 in absurd (omega (arith, c₀))
+
+  module _ {w₁ vars′ : List ℕ} {z : R.Reduced} (some′ : left ≡ 0 → ⊥) (lets : LetsSay t base index back (depth - 1) (row + 1) below w₀ w₁ free vars vars′ (left - 1) z) where
+    -- its let steps
+    ran : (os : List Iso) (v : Val) (x : Option Val) (m : ℕ) → Laid t base index back os → Runs depth os i v x m → Handed w₀ at end dest free v
+        → dest + depth * frame ≤ length w₀ → length w₀ ≤ workLength → Ran t base back os (depth - 1) row below dest free (left - 1) w₀ w₁ end vars vars′ x m z
+    ran os v x m laid run handed room most =
+        let c = choice os v x m laid run handed room most in
+        let p = c .1 in
+        let s = c .2 in
+        let few = p .few in
+        let near = s .near in
+        let up = not-large depth at end measured .0 in
         record {
-          begin = g .begin;
-          done = λ _. g .gives ∙ ap (given.Range (g .begin) (g .begin + length (letters w))) left′;
-          stands = λ _. g .stands;
-          near = λ _. g .near;
-          spent = λ k. absurd (omega (arith, counts, e, h, k));
-          spares = spares-both (within-frames dest free i n few low near (l .spares))
-              (spares-more dest (top + resultLength) dest (dest + suc i * frame) (g .spares) (omega arith) (omega (arith, close, place, few, near)));
+          picked = p;
+          steps = lets os (p .lets) (p .first) (p .last) (p .count) laid (p .rows) (p .trace) (env-more free (p .env) (s .low)) (omega (arith, few, near, room, up)) most;
+          over = s .over;
+          near = near;
         }
 
--- a budget that is not spent, less one and one more
-one-left : (n : ℕ) → (n ≡ 0 → ⊥) → n - 1 + 1 ≡ n
-one-left zero h = absurd (h refl)
-one-left (suc n) h = omega arith
+    -- what is left alone
+    alone : {os : List Iso} {x : Option Val} {m : ℕ} → Ran t base back os (depth - 1) row below dest free (left - 1) w₀ w₁ end vars vars′ x m z
+        → Spares w₀ w₁ dest (dest + depth * frame)
+    alone q =
+        within-frames dest free (length (q .picked .lets)) (not-large depth at end measured .0) (q .picked .few) (q .over) (q .near) (q .steps .spares)
 
--- the choice in an application: its clause, by the places read
-choice : (t : List ℕ) (base : ℕ) (index : List ℕ) (back : Bool) (i r row below at end dest free : ℕ) {h stop : ℕ} {w₀ vars′ : List ℕ}
-    → ChoiceSays t base index back (h + 1) stop w₀ at end (replicate 64 0) vars′ r → h ≡ placeAt index i → stop ≡ placeAt index (i + 1)
-    → row ≡ placeAt index r → below ≡ placeAt index (r + 1)
-    → (os : List Iso) (d : ℕ) (v w : Val) (m : ℕ) → Laid t base index back os → Runs d os i v w m → At w₀ at v → end ≡ at + length (letters v) → end ≤ free → free ≤ dest + resultLength
-    → dest + suc i * frame ≤ length w₀ → length w₀ ≤ workLength → (r < stop) × Picked t base back os i row below w₀ end vars′ w m
-choice t base index back i r row below at end dest free says h s row′ below′ os d v w m laid run a e low near room most =
-    picked says (ap (λ x. x + 1) h) s row′ below′ os d v w m laid run a e (omega (arith, low, near, room, most))
+    pub apply-spent : z ≡ reduced.Spent → ApplySays t base index back i depth w₀ w₁ at end dest free left given.Spent
+    apply-spent told os v x m laid run handed room most =
+        let q = ran os v x m laid run handed room most in record { answers = go (q .picked) (q .steps .comes); spares = alone q }
+      where
+        go : (p : Picked t base back os (depth - 1) row below w₀ end vars x m) → Comes w₁ vars′ free (length (p .lets)) (left - 1) (p .last) (p .count) z
+            → Answers w₁ dest left x m given.Spent
+        go p (Comes.spent h e) = let counts = p .counts in Answers.spent (omega (arith, h, counts)) refl
+        go p (Comes.large h n e) = absurd (spent≢large (sym told ∙ e))
+        go p (Comes.ends g h n e) = absurd (done≢spent (sym (e .done) ∙ told))
 
-pub unmatched : (t : List ℕ) (base : ℕ) (index : List ℕ) (back : Bool) (i r at end dest free left : ℕ) {h stop : ℕ} {w₀ vars′ : List ℕ}
-    → ChoiceSays t base index back (h + 1) stop w₀ at end (replicate 64 0) vars′ r → h ≡ placeAt index i → stop ≡ placeAt index (i + 1) → stop ≤ r
-    → ApplySays t base index back i w₀ w₀ at end dest free left given.Spent
-unmatched t base index back i r at end dest free left says h s past os d v w m laid run a e low over near room most =
-    let c = choice t base index back i r (placeAt index r) (placeAt index (r + 1)) at end dest free says h s refl refl os d v w m laid run a e low near room most in let c₀ = c .0 in absurd
-    (omega (arith, c₀))
+    pub apply-large : z ≡ reduced.Large → ApplySays t base index back i depth w₀ w₁ at end dest free left given.Large
+    apply-large told os v x m laid run handed room most =
+        let q = ran os v x m laid run handed room most in record { answers = go (q .picked) (q .steps .comes); spares = alone q }
+      where
+        go : (p : Picked t base back os (depth - 1) row below w₀ end vars x m) → Comes w₁ vars′ free (length (p .lets)) (left - 1) (p .last) (p .count) z
+            → Answers w₁ dest left x m given.Large
+        go p (Comes.spent h e) = absurd (spent≢large (sym e ∙ told))
+        go p (Comes.large h n e) =
+            let counts = p .counts in
+            let least = one-or-more left some′ in
+            Answers.large (omega (arith, h, counts, least)) (ends-none (p .ends) n) refl
+        go p (Comes.ends g h n e) = absurd (done≢large (sym (e .done) ∙ told))
 
-pub apply-spent : (t : List ℕ) (base : ℕ) (index : List ℕ) (back : Bool) (i r row below at end dest free left : ℕ) {h stop : ℕ} {w₀ w₁ vars vars′ : List ℕ} {z : R.Reduced}
-    → ChoiceSays t base index back (h + 1) stop w₀ at end (replicate 64 0) vars r → h ≡ placeAt index i → stop ≡ placeAt index (i + 1)
-    → row ≡ placeAt index r → below ≡ placeAt index (r + 1) → (left ≡ 0 → ⊥)
-    → LetsSay t base index back i (row + 1) below w₀ w₁ free vars vars′ (left - 1) z → z ≡ reduced.Spent → ApplySays t base index back i w₀ w₁ at end dest free left given.Spent
-apply-spent t base index back i r row below at end dest free left says h s row′ below′ some′ lets told os d v w m laid run a e low over near room most =
-    let p = choice t base index back i r row below at end dest free says h s row′ below′ os d v w m laid run a e low near room most .1 in
-    applied-spent dest p (ran dest laid lets p low near room most) told (one-left left some′) (p .few) over near
+    pub apply-done : {top y jr : ℕ} {w₂ : List ℕ} {g : G.Given} → z ≡ reduced.Done top y → length w₁ ≡ length w₀
+        → jr ≡ cellOf t row (cond back 1 2) → GiveSays (patternOf t base jr) vars′ w₁ w₂ top dest y g → ApplySays t base index back i depth w₀ w₂ at end dest free left g
+    apply-done {top} {y} {jr} {w₂} {g} told wide er gives′ os v x m laid run handed room most =
+        let q = ran os v x m laid run handed room most in go q (q .picked) (q .steps .comes)
+      where
+        up : depth ≡ suc (depth - 1)
+        up = not-large depth at end measured .0
 
-pub apply-done : (t : List ℕ) (base : ℕ) (index : List ℕ) (back : Bool) (i r row below at end dest free left : ℕ) {h stop top x jr : ℕ} {w₀ w₁ w₂ vars vars′ : List ℕ} {z : R.Reduced} {g : G.Given}
-    → ChoiceSays t base index back (h + 1) stop w₀ at end (replicate 64 0) vars r → h ≡ placeAt index i → stop ≡ placeAt index (i + 1)
-    → row ≡ placeAt index r → below ≡ placeAt index (r + 1) → (left ≡ 0 → ⊥)
-    → LetsSay t base index back i (row + 1) below w₀ w₁ free vars vars′ (left - 1) z → z ≡ reduced.Done top x → length w₁ ≡ length w₀
-    → jr ≡ cellOf t row (cond back 1 2) → GiveSays (patternOf t base jr) vars′ w₁ w₂ top dest x g → ApplySays t base index back i w₀ w₂ at end dest free left g
-apply-done t base index back i r row below at end dest free left {top = top} {x = x} {w₁ = w₁} {w₂ = w₂} {vars′ = vars′} {g = g} says h s row′ below′ some′ lets told wide er gives os d v w m
-    laid run a e low over near room most =
-    let p = choice t base index back i r row below at end dest free says h s row′ below′ os d v w m laid run a e low near room most .1 in
-    applied-done dest p (ran dest laid lets p low near room most) told (one-left left some′) (p .few) over near room wide
-    (subst (λ j. GiveSays (patternOf t base j) vars′ w₁ w₂ top dest x g) er gives)
+        p′ : Pat
+        p′ = patternOf t base (cellOf t row (cond back 1 2))
 
--- ---- the measures of the cycle, three for each iso
+        go : Ran t base back os (depth - 1) row below dest free (left - 1) w₀ w₁ end vars vars′ x m z → (p : Picked t base back os (depth - 1) row below w₀ end vars x m)
+            → Comes w₁ vars′ free (length (p .lets)) (left - 1) (p .last) (p .count) z → Applied w₀ w₂ dest depth left x m g
+        go q p (Comes.spent h e) = absurd (done≢spent (sym told ∙ e))
+        go q p (Comes.large h n e) = absurd (done≢large (sym told ∙ e))
+        go q p (Comes.ends s h n e) =
+            let place = done-place (sym told ∙ e .done) in
+            let paid = done-left (sym told ∙ e .done) in
+            let counts = p .counts in
+            let few = p .few in
+            let close = e .near in
+            let further = e .further in
+            let low = q .over in
+            let near = q .near in
+            let least = one-or-more left some′ in
+            let env : EnvAt w₁ top vars′ s = subst (λ k. EnvAt w₁ k vars′ s) (sym place) (e .env) in
+            let b = ends-some (p .ends) n in
+            let v = subst (λ j. GiveSays (patternOf t base j) vars′ w₁ w₂ top dest y g) er gives′ s (b .rest) (b .value) (b .built) env (omega (arith, place, further, low))
+            (omega (arith, close, place, few, near, room, wide, up)) in
+            record {
+              answers = ended b v (omega (arith, counts, h, least)) (omega (arith, paid, counts, h, least));
+              spares = spares-both (alone q)
+                  (spares-more dest (top + resultLength) dest (dest + depth * frame) (v .spares) (omega arith) (omega (arith, close, place, few, near, up)));
+            }
+          where
+            ended : (b : Ended p′ s x) → Gave w₁ w₂ top dest y (b .value) g → m ≤ left → y ≡ left - m → Answers w₂ dest left x m g
+            ended b v h e = answers (v .gives)
+              where
+                answers : Gives w₂ dest y (b .value) g → Answers w₂ dest left x m g
+                answers (Gives.large o k) = Answers.large h (b .large o) k
+                answers (Gives.gives f k) = Answers.gives (b .value) h (b .fits f) (subst (λ n. Result w₂ dest n (b .value) g) e k)
 
-pub lets-fall : (i : ℕ) {t : ℕ} → 3 * i + 2 ≡ t → 3 * i + 1 < t
-lets-fall i {t} e = omega arith
+-- ---- the budget that is left, which falls with each application: three for each in the measures of the cycle
 
-pub step-falls : (i : ℕ) {t : ℕ} → 3 * i + 1 ≡ t → 3 * i < t
-step-falls i {t} e = omega arith
+-- each let step against what is left
+pub step-falls : (n k : ℕ) {t : ℕ} → 3 * n + 2 ≡ t → k ≤ n → 3 * k + 1 < t
+step-falls n k {t} e h = omega arith
 
-pub apply-falls : (i j : ℕ) {t : ℕ} → 3 * i ≡ t → j < i → 3 * j + 2 < t
-apply-falls i j {t} e h = omega arith
+pub rest-falls : (g : G.Given) {z : R.Reduced} {top y left : ℕ} → restOf g ≤ y → remaining z ≤ left - 1 → z ≡ reduced.Done top y → restOf g ≤ left
+rest-falls g a b e = let n = ap remaining e in omega (arith, a, b, n)
+
+pub range-falls : {r : G.Given} {b x y left : ℕ} → restOf r ≤ left → r ≡ given.Range b x y → y ≤ left
+range-falls a e = let n = ap restOf e in omega (arith, a, n)
+
+pub steps-fall : {z : R.Reduced} {top y left budget : ℕ} → remaining z ≤ left → z ≡ reduced.Done top y → left ≤ budget → y ≤ budget
+steps-fall a e b = let n = ap remaining e in omega (arith, a, b, n)
 
 -- the rows of a clause's L lines
 pub rows-in : {row : ℕ} → row < wordBound → row + 1 ≤ wordBound

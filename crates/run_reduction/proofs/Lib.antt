@@ -2,3 +2,4 @@
 pub mod Laying
 -- The reduction in the work area.
 pub mod Framing
+pub mod Lengths

@@ -5,48 +5,73 @@ use area_words::wide;
 use area_words::word_at;
 use codes::CLAUSE_LEFT;
 use codes::CLAUSE_RIGHT;
+use codes::ELEMENT;
+use codes::FIRST;
+use codes::KIND;
+use codes::LEFT;
 use codes::LET_ISO;
 use codes::LET_P;
 use codes::LET_Q;
+use codes::PAIR;
+use codes::RIGHT;
+use codes::SECOND;
+use codes::VARIABLE;
+use limits::MAX_LETTERS;
 use limits::VARIABLES;
 use run_coding::build_again;
 use run_coding::build_line;
+use run_coding::entry;
 use run_coding::match_again;
 use run_coding::match_line;
 use run_coding::variable;
 use run_direction::place;
 use run_direction::side;
+use run_flat::STOP;
 use run_values::copy_range;
 use table_trees::cell;
+use table_trees::pattern_cell;
+use table_trees::smaller;
 ghost use mathlib.Core.Path.{_≡_};
-ghost use mathlib.Core.Bool.{cond};
-ghost use Prim.Native.Nat.{suc, _+_, _-_, _≤_, _<_};
-ghost use Rattle.limits.specs.Limits.{variables, wordBound};
-ghost use Rattle.table_trees.specs.Unfolding.{cellOf, patternOf};
+ghost use mathlib.Core.Bool.{cond, _||_};
+ghost use Prim.Native.Nat.{ℕ, suc, _+_, _-_, _≤_, _<_, min};
+ghost use Rattle.limits.specs.Limits.{variables, wordBound, maxLetters};
+ghost use Rattle.calculus.specs.Trees.{Pat};
+ghost use Rattle.table_trees.specs.Unfolding.{cellOf, smallerOf, patternOf};
+ghost use Rattle.run_values.specs.Texts.{Below, built};
+ghost use Rattle.run_flat.specs.Flat.{Stands};
 ghost use Rattle.run_coding.specs.Coded.{Coded};
 ghost use Rattle.run_index.specs.Index.{placeAt};
-ghost use Rattle.run_reduction.specs.Frames.{GiveSays, ArgueSays, ChoiceSays, StepSays, LetsSay, ApplySays};
+ghost use Rattle.run_reduction.specs.Frames.{restOf, remaining, tooLarge, SettleSays, GiveSays, ArgueSays, ChoiceSays, StepSays, LetsSay, ApplySays};
 ghost use mathlib.Core.Logic.{_⊎_};
-ghost use lib.ListN.{getD};
+ghost use mathlib.Core.List.{List};
+ghost use lib.Dec.{eqb, ltb};
+ghost use lib.ListN.{getD, length};
 
-// Where a result begins and ends, and what is left of the budget.
+// Where a result begins and ends, and what is left of the budget; or what the reduction met first: a
+// spent budget, or what is too large.
 pub enum Given {
     Range(usize, usize, u32),
     Spent,
+    Large,
 }
 
-// Where the letters that let steps leave end, and what is left of the budget.
+// Where the letters that let steps leave end, and what is left of the budget; or what they met.
 pub enum Reduced {
     Done(usize, u32),
     Spent,
+    Large,
 }
 
-// Where an argument begins and ends, and where the area is free behind it.
+// Where an argument begins and ends, and where the area is free behind it. One of over 127 letters stands
+// nowhere: then the ends tell no more than that.
 pub struct Place {
     pub at: usize,
     pub end: usize,
     pub free: usize,
 }
+
+// Numbers of a flat pattern below this are variables; letters stand above.
+const LETTERS_FROM: u16 = VARIABLES as u16;
 
 // Number m + 1 of the index.
 fn next_place(index: &[u16], m: usize) -> usize
@@ -133,9 +158,120 @@ fn range_to(vars: &[u16], n: usize) -> usize
     wide(word_at(vars, VARIABLES + n))
 }
 
-// The result of a clause: a variable's letters where they stand, if that is before `dest`, or copied to
-// `dest`; or else built at `top` and copied.
-fn give(
+// A number of letters, up to the first that is too large.
+fn capped(n: usize) -> usize
+    ensures { λ r. ⌜ r ≡ min n (suc maxLetters) ⌝ }
+{
+    if MAX_LETTERS < n {
+        return MAX_LETTERS + 1;
+    }
+    n
+}
+
+// How many letters variable n has, up to the first that is too large.
+fn range_length(vars: &[u16], n: usize) -> usize
+    requires { ⌜ n < wordBound ⌝ }
+    ensures { λ r. ⌜ r ≡ min (getD (now (vars .entry)) (variables + n) 0 - getD (now (vars .entry)) n 0) (suc maxLetters) ⌝ }
+{
+    capped(span(range_from(vars, n), range_to(vars, n)))
+}
+
+// How many letters the pattern that stands flat from place p on has with its variables' values put in.
+fn flat_length(code: &[u16], p: usize, vars: &[u16]) -> usize
+    ensures { λ r. ⌜
+        ((q : Pat) (s : List ℕ) → Stands (now (code .entry)) p q → Below (now (vars .entry)) (length s)
+        → r ≡ min (length (built q s (now (vars .entry)))) (suc maxLetters))
+        ⌝ }
+{
+    let mut k = p;
+    let mut n: usize = 0;
+    while k < code.len() {
+        let o = code[k];
+        k += 1;
+        if o < LETTERS_FROM {
+            n = capped(n + range_length(vars, wide(o)));
+            continue;
+        }
+        if o == STOP {
+            return n;
+        }
+        n = capped(n + 1);
+    }
+    n
+}
+
+// The P line that number k of P line j names.
+fn part(t: &[u16], base: usize, j: usize, k: usize) -> usize
+    ensures { λ r. ⌜ r ≡ smallerOf (cellOf (now (t .entry)) (base + j) k) j ⌝ }
+{
+    smaller(pattern_cell(t, base, j, k), j)
+}
+
+// Whether a P line of this kind names two parts: a pair, or an element before a list.
+fn two_parts(kind: usize) -> bool
+    ensures { λ r. ⌜ r ≡ (eqb kind 4 || eqb kind 6) ⌝ }
+{
+    if kind == PAIR {
+        return true;
+    }
+    kind == ELEMENT
+}
+
+// The same for P line j by its rows.
+fn line_length(t: &[u16], base: usize, j: usize, vars: &[u16]) -> usize
+    ensures { λ r. ⌜ r ≤ suc maxLetters ⌝ }
+    ensures { λ r. ⌜
+        ((s : List ℕ) → Below (now (vars .entry)) (length s)
+        → r ≡ min (length (built (patternOf (now (t .entry)) base j) s (now (vars .entry)))) (suc maxLetters))
+        ⌝ }
+{
+    let kind = pattern_cell(t, base, j, KIND);
+    if kind == VARIABLE {
+        return range_length(vars, pattern_cell(t, base, j, FIRST));
+    }
+    if two_parts(kind) {
+        let a = line_length(t, base, part(t, base, j, FIRST), vars);
+        let b = line_length(t, base, part(t, base, j, SECOND), vars);
+        return capped(1 + a + b);
+    }
+    match kind {
+        LEFT | RIGHT => capped(1 + line_length(t, base, part(t, base, j, FIRST), vars)),
+        _ => 1,
+    }
+}
+
+// How many letters P line j, which is no variable, has with its variables' values put in, up to the first
+// that is too large: by its flat pattern, where there is one.
+fn other_length(t: &[u16], base: usize, code: &[u16], j: usize, vars: &[u16]) -> usize
+    ensures { λ r. ⌜
+        (Coded (now (t .entry)) base (now (code .entry)) → (s : List ℕ) → Below (now (vars .entry)) (length s)
+        → r ≡ min (length (built (patternOf (now (t .entry)) base j) s (now (vars .entry)))) (suc maxLetters))
+        ⌝ }
+{
+    let d = entry(code, j);
+    if VARIABLES < d {
+        return flat_length(code, d, vars);
+    }
+    line_length(t, base, j, vars)
+}
+
+// The same for any P line.
+fn built_length(t: &[u16], base: usize, code: &[u16], j: usize, vars: &[u16]) -> usize
+    ensures { λ r. ⌜
+        (Coded (now (t .entry)) base (now (code .entry)) → (s : List ℕ) → Below (now (vars .entry)) (length s)
+        → r ≡ min (length (built (patternOf (now (t .entry)) base j) s (now (vars .entry)))) (suc maxLetters))
+        ⌝ }
+{
+    let n = variable(code, j);
+    if n < VARIABLES {
+        return range_length(vars, n);
+    }
+    other_length(t, base, code, j, vars)
+}
+
+// The result of a clause that is not too large: a variable's letters where they stand, if that is before
+// `dest`, or copied to `dest`; or else built at `top` and copied.
+fn settle(
     t: &[u16],
     base: usize,
     code: &[u16],
@@ -146,8 +282,9 @@ fn give(
     dest: usize,
     left: u32,
 ) -> Given
+    ensures { λ r. ⌜ restOf r ≤ left ⌝ }
     ensures { λ r. ⌜
-        (Coded (now (t .entry)) base (now (code .entry)) → GiveSays (patternOf (now (t .entry)) base j)
+        (Coded (now (t .entry)) base (now (code .entry)) → SettleSays (patternOf (now (t .entry)) base j)
         (now (vars .entry)) (now (work .entry)) (now (work .exit)) top dest left r)
         ⌝ }
 {
@@ -171,7 +308,32 @@ fn give(
     Given::Range(dest, end, left)
 }
 
-// The argument of a let step: a variable's letters where they stand, or q built at `top`.
+// The result of a clause, measured before it is built or copied.
+fn give(
+    t: &[u16],
+    base: usize,
+    code: &[u16],
+    j: usize,
+    vars: &[u16],
+    work: &mut [u8],
+    top: usize,
+    dest: usize,
+    left: u32,
+) -> Given
+    ensures { λ r. ⌜ restOf r ≤ left ⌝ }
+    ensures { λ r. ⌜
+        (Coded (now (t .entry)) base (now (code .entry)) → GiveSays (patternOf (now (t .entry)) base j)
+        (now (vars .entry)) (now (work .entry)) (now (work .exit)) top dest left r)
+        ⌝ }
+{
+    if MAX_LETTERS < built_length(t, base, code, j, vars) {
+        return Given::Large;
+    }
+    settle(t, base, code, j, vars, work, top, dest, left)
+}
+
+// The argument of a let step: a variable's letters where they stand, or q built at `top`, unless it is
+// too large.
 fn argument(
     t: &[u16],
     base: usize,
@@ -196,6 +358,14 @@ fn argument(
             free: top,
         };
     }
+    let size = other_length(t, base, code, j, vars);
+    if MAX_LETTERS < size {
+        return Place {
+            at: 0,
+            end: size,
+            free: top,
+        };
+    }
     let end = build_line(t, base, code, j, vars, work, top);
     Place {
         at: top,
@@ -214,29 +384,37 @@ fn further(a: usize, b: usize) -> usize
     a
 }
 
-// One let step: builds q at `top`, applies the iso to it, and matches what comes out with p.
+// Whether an application with so much depth left, or its argument from `at` up to `end`, is too large.
+fn too_large(depth: usize, at: usize, end: usize) -> bool
+    ensures { λ r. ⌜ r ≡ tooLarge depth at end ⌝ }
+{
+    if depth == 0 {
+        return true;
+    }
+    MAX_LETTERS < span(at, end)
+}
+
+// One let step: builds q at `top`, applies the iso to it with so much depth left, and matches what comes
+// out with p.
 fn let_step(
     t: &[u16],
     base: usize,
     index: &[u16],
     code: &[u16],
     back: bool,
-    i: usize,
+    depth: usize,
     row: usize,
     work: &mut [u8],
     top: usize,
     vars: &mut [u16],
     left: u32,
 ) -> Reduced
+    ensures { λ r. ⌜ remaining r ≤ left ⌝ }
     ensures { λ r. ⌜
-        (Coded (now (t .entry)) base (now (code .entry)) → StepSays (now (t .entry)) base (now (index .entry)) back i row (now (work .entry))
+        (Coded (now (t .entry)) base (now (code .entry)) → StepSays (now (t .entry)) base (now (index .entry)) back depth row (now (work .entry))
         (now (work .exit)) top (now (vars .entry)) (now (vars .exit)) left r)
         ⌝ }
 {
-    let j = cell(t, row, LET_ISO);
-    if i <= j {
-        return Reduced::Spent;
-    }
     let q = line(t, row, back, LET_Q, LET_P);
     let a = argument(t, base, code, q, vars, work, top);
     match apply(
@@ -245,7 +423,8 @@ fn let_step(
         index,
         code,
         back,
-        j,
+        cell(t, row, LET_ISO),
+        depth,
         work,
         a.at,
         a.end,
@@ -259,17 +438,18 @@ fn let_step(
             Reduced::Done(further(top, e), l)
         }
         Given::Spent => Reduced::Spent,
+        Given::Large => Reduced::Large,
     }
 }
 
-// The let steps of a clause of iso i, whose L rows stand from row `from` up to row `to`.
+// The let steps of a clause, whose L rows stand from row `from` up to row `to`.
 fn run_lets(
     t: &[u16],
     base: usize,
     index: &[u16],
     code: &[u16],
     back: bool,
-    i: usize,
+    depth: usize,
     from: usize,
     to: usize,
     work: &mut [u8],
@@ -278,8 +458,9 @@ fn run_lets(
     budget: u32,
 ) -> Reduced
     requires { ⌜ (from ≤ wordBound) × (to < wordBound) ⌝ }
+    ensures { λ r. ⌜ remaining r ≤ budget ⌝ }
     ensures { λ r. ⌜
-        (Coded (now (t .entry)) base (now (code .entry)) → LetsSay (now (t .entry)) base (now (index .entry)) back i from to (now (work .entry))
+        (Coded (now (t .entry)) base (now (code .entry)) → LetsSay (now (t .entry)) base (now (index .entry)) back depth from to (now (work .entry))
         (now (work .exit)) end (now (vars .entry)) (now (vars .exit)) budget r)
         ⌝ }
 {
@@ -294,7 +475,7 @@ fn run_lets(
             index,
             code,
             back,
-            i,
+            depth,
             let_row(back, from, n, k),
             work,
             top,
@@ -309,13 +490,18 @@ fn run_lets(
             Reduced::Spent => {
                 return Reduced::Spent;
             }
+            Reduced::Large => {
+                return Reduced::Large;
+            }
         }
     }
     Reduced::Done(top, left)
 }
 
-// Applies iso i to the value from `at` up to `end`, which lies before `free`. Its result stands before `dest`
-// or begins there; the area before `dest` and behind i + 1 frames from there on is left alone.
+// Applies iso i to the value from `at` up to `end`, which lies before `free`, with calls nested at most
+// `depth` deep: counts it against the budget, measures its argument and the depth, then its result. That
+// stands before `dest` or begins there; the area before `dest` and behind `depth` frames from there on is
+// left alone.
 pub fn apply(
     t: &[u16],
     base: usize,
@@ -323,6 +509,7 @@ pub fn apply(
     code: &[u16],
     back: bool,
     i: usize,
+    depth: usize,
     work: &mut [u8],
     at: usize,
     end: usize,
@@ -330,13 +517,17 @@ pub fn apply(
     free: usize,
     left: u32,
 ) -> Given
+    ensures { λ r. ⌜ restOf r ≤ left ⌝ }
     ensures { λ r. ⌜
         (Coded (now (t .entry)) base (now (code .entry)) → ApplySays (now (t .entry)) base
-        (now (index .entry)) back i (now (work .entry)) (now (work .exit)) at end dest free left r)
+        (now (index .entry)) back i depth (now (work .entry)) (now (work .exit)) at end dest free left r)
         ⌝ }
 {
     if left == 0 {
         return Given::Spent;
+    }
+    if too_large(depth, at, end) {
+        return Given::Large;
     }
     let mut v = [0u16; 2 * VARIABLES];
     let low = place(index, i) + 1;
@@ -353,7 +544,7 @@ pub fn apply(
         index,
         code,
         back,
-        i,
+        depth - 1,
         row + 1,
         below,
         work,
@@ -366,5 +557,6 @@ pub fn apply(
             give(t, base, code, p, &v, work, top, dest, l)
         }
         Reduced::Spent => Given::Spent,
+        Reduced::Large => Given::Large,
     }
 }

@@ -5,7 +5,7 @@ use native.Mathlib.Nat.{suc-add, zero-add, mod-eq-of-lt}
 use native.Mathlib.Numerals.{add-one}
 use native.Mathlib.Decide.{ℕ-discrete}
 use native.Mathlib.Omega.{arith}
-use mathlib.Core.Path.{_≡_, refl, sym, ap, ap₂, _∙_, subst}
+use mathlib.Core.Path.{_≡_, refl, sym, ap, ap₂, _∙_, subst, subst₂}
 use mathlib.Core.Bool.{Bool, true, false, cond}
 use mathlib.Core.Option.{none, some}
 use mathlib.Core.List.{List, [], _∷_, _++_, append-assoc, append-nil}
@@ -18,7 +18,6 @@ use Rattle.calculus.specs.Trees.{Ty, tunit, tlist, tsum, tprod, Leaf, unitLeaf,
 use Rattle.calculus.specs.Trees.{vnode, sameLeaf, sameTag, sameNode}
 use Rattle.calculus.specs.Slots.{Slots, put, empty}
 use Rattle.calculus.specs.Letters.{letters, leafLetter, letterOf, nodeLetter, valueOf, inhabits}
-use Rattle.calculus.specs.Lists.{Finite}
 use Rattle.calculus.specs.Reduction.{bind, build}
 use Rattle.calculus.specs.Paper.{Of}
 use Rattle.model.specs.Services.{valueIn}
@@ -26,7 +25,7 @@ use Rattle.calculus.proofs.Basic.{bind-some, some-bind, none≢some, some-inj, 
 use Rattle.calculus.proofs.Slots.{slot, put-of-get, put-length, Filled, put-filled, filled-keeps, slot-empty}
 use Rattle.calculus.proofs.Binding.{bind-length}
 use Rattle.calculus.proofs.Letters.{value-letters, letters-value, inhabits-of, of-inhabits, letters-some}
-use Rattle.run_values.specs.Texts.{Bare, At, behind, alike, putRange, ranges, rangeOf, built, Below}
+use Rattle.run_values.specs.Texts.{At, behind, behindList, alike, putRange, ranges, rangeOf, built, Below}
 use Rattle.run_values.specs.Agrees.{Agrees}
 
 -- ---- where a value's letters stand
@@ -48,24 +47,23 @@ at-within {s} {at} {v} h =
 
 -- a tag's value stands behind the tag
 pub at-inj : {s : List ℕ} {at : ℕ} {t : Tag} {v : Val} → At s at (vinj t v) → At s (suc at) v
-at-inj {s} {at} h = record { rest = h .rest; spells = drop-suc s at (h .spells); bare = h .bare }
+at-inj {s} {at} h = record { rest = h .rest; spells = drop-suc s at (h .spells) }
 
--- what follows the letter of pairs
-pair-spells : {s : List ℕ} {at : ℕ} {v w : Val} (h : At s at (vnode pairNode v w)) → drop (suc at) s ≡ letters v ++ (letters w ++ h .rest)
-pair-spells {s} {at} {v} {w} h = drop-suc s at (h .spells) ∙ append-assoc (letters v) (letters w) (h .rest)
+-- what follows the letter of a pair or of an element
+node-spells : {s : List ℕ} {at : ℕ} {k : Node} {v w : Val} (h : At s at (vnode k v w)) → drop (suc at) s ≡ letters v ++ (letters w ++ h .rest)
+node-spells {s} {at} {v = v} {w = w} h = drop-suc s at (h .spells) ∙ append-assoc (letters v) (letters w) (h .rest)
 
--- a pair's first value stands behind the letter of pairs
-pub at-first : {s : List ℕ} {at : ℕ} {v w : Val} → At s at (vnode pairNode v w) → At s (suc at) v
-at-first {w} h = record { rest = letters w ++ h .rest; spells = pair-spells h; bare = h .bare .0 }
+-- the first value stands behind that letter
+pub at-first : {s : List ℕ} {at : ℕ} {k : Node} {v w : Val} → At s at (vnode k v w) → At s (suc at) v
+at-first {w = w} h = record { rest = letters w ++ h .rest; spells = node-spells h }
 
--- and its second behind the first
-pub at-second : {s : List ℕ} {at : ℕ} {v w : Val} → At s at (vnode pairNode v w) → At s (suc at + length (letters v)) w
-at-second {s} {at} {v} {w} h =
+-- and the second behind the first
+pub at-second : {s : List ℕ} {at : ℕ} {k : Node} {v w : Val} → At s at (vnode k v w) → At s (suc at + length (letters v)) w
+at-second {s} {at} {v = v} {w = w} h =
     record {
       rest = h .rest;
-      spells = sym (drop-drop (length (letters v)) (suc at) s) ∙ ap (drop (length (letters v))) (pair-spells h)
+      spells = sym (drop-drop (length (letters v)) (suc at) s) ∙ ap (drop (length (letters v))) (node-spells h)
           ∙ drop-append-seam (letters v) (letters w ++ h .rest);
-      bare = h .bare .1;
     }
 
 -- the slice from its place to its end is the value's letters
@@ -82,19 +80,17 @@ at-take s at top v h b =
     record {
       rest = take m (h .rest);
       spells = ap (λ k. drop at (take k s)) e ∙ drop-take at (n + m) s ∙ ap (take (n + m)) (h .spells) ∙ take-append-add (letters v) (h .rest) m;
-      bare = h .bare;
     }
 
 -- letters written to a place stand there
-pub at-sets : (l bs : List ℕ) (at : ℕ) (v : Val) → Bare v → bs ≡ letters v → at + length bs ≤ length l → At (sets l at bs) at v
-at-sets l bs at v free e h =
+pub at-sets : (l bs : List ℕ) (at : ℕ) (v : Val) → bs ≡ letters v → at + length bs ≤ length l → At (sets l at bs) at v
+at-sets l bs at v e h =
     let rest = drop (at + length bs) l in
     record {
       rest = rest;
       spells = ap (drop at) (sets-eq bs l at h ∙ append-assoc (take at l) bs rest)
           ∙ drop-at (take at l) (bs ++ rest) at (length-take-le at l (omega arith))
           ∙ ap (λ r. r ++ rest) e;
-      bare = free;
     }
 
 -- and leave what is before them
@@ -283,12 +279,12 @@ agrees-bind (pinj u p) (vinj t v) e {e′} s vars at size slots room a h g =
 agrees-bind (pinj u p) (vnode k v w) e s vars at size slots room a h g = absurd (none≢some h)
 agrees-bind (pnode m p q) (vleaf k) e s vars at size slots room a h g = absurd (none≢some h)
 agrees-bind (pnode m p q) (vinj t v) e s vars at size slots room a h g = absurd (none≢some h)
-agrees-bind (pnode m p q) (vnode elementNode v w) e s vars at size slots room a h g = absurd (a .bare)
-agrees-bind (pnode elementNode p q) (vnode pairNode v w) e s vars at size slots room a h g = absurd (none≢some h)
-agrees-bind (pnode pairNode p q) (vnode pairNode v w) e {e′} s vars at size slots room a h g =
-    let d = bind-some (bind p v e) (bind q w) h in
+agrees-bind (pnode m p q) (vnode k v w) e {e′} s vars at size slots room a h g =
+    let c = bind-some (guard (sameNode m k)) (λ _. bind p v e >>= λ d. bind q w d) h in
+    let d = bind-some (bind p v e) (bind q w) (c .2) in
     let first = ranges p v (suc at) vars in
-    subst (λ b. Agrees s (cond b (ranges q w (suc at + length (letters v)) first) first) e′) (sym (bind-alike p v e (d .1)))
+    let both = ranges q w (suc at + length (letters v)) first in
+    subst₂ (λ x b. Agrees s (cond x (cond b both first) vars) e′) (sym (guard-true (sameNode m k) (c .1))) (sym (bind-alike p v e (d .1)))
     (agrees-bind q w (d .0) s first (suc at + length (letters v)) (length-ranges p v (suc at) vars ∙ size) (bind-length p v e (d .1) ∙ slots) room
     (at-second a) (d .2) (agrees-bind p v e s vars (suc at) size slots room (at-first a) (d .1) g))
 
@@ -321,10 +317,33 @@ behind-unit (b ∷ bs) h =
     let d = bind-some (guard (eqb b (leafLetter unitLeaf))) (λ _. some bs) h in
     ap₂ _∷_ (eqb-eq b (leafLetter unitLeaf) (guard-true (eqb b (leafLetter unitLeaf)) (d .1))) (some-inj (d .2))
 
+-- a list of values that the test of their type finds
+list-value : (a : Ty) → ((bs cs : List ℕ) → behind a bs ≡ some cs → (v : Val) × Of v a × (bs ≡ letters v ++ cs)) → (n : ℕ) (bs cs : List ℕ)
+    → behindList (behind a) n bs ≡ some cs → (v : Val) × Of v (tlist a) × (bs ≡ letters v ++ cs)
+list-value a found zero bs cs h = absurd (none≢some h)
+list-value a found (suc n) [] cs h = absurd (none≢some h)
+list-value a found (suc n) (b ∷ bs) cs h = go (eqb b (leafLetter emptyLeaf)) refl (λ ds k. list-value a found n ds cs k) h
+  where
+    go : (p : Bool) → eqb b (leafLetter emptyLeaf) ≡ p
+        → ((ds : List ℕ) → behindList (behind a) n ds ≡ some cs → (v : Val) × Of v (tlist a) × (ds ≡ letters v ++ cs))
+        → cond p (some bs) (guard (eqb b (nodeLetter elementNode)) >>= λ _. behind a bs >>= λ ds. behindList (behind a) n ds) ≡ some cs
+        → (v : Val) × Of v (tlist a) × (b ∷ bs ≡ letters v ++ cs)
+    go true e again k = (vleaf emptyLeaf, Of.nil, ap₂ _∷_ (eqb-eq b (leafLetter emptyLeaf) e) (some-inj k))
+    go false e again k =
+        let g = bind-some (guard (eqb b (nodeLetter elementNode))) (λ _. behind a bs >>= λ ds. behindList (behind a) n ds) k in
+        let d = bind-some (behind a bs) (λ ds. behindList (behind a) n ds) (g .2) in
+        let l = found bs (d .0) (d .1) in
+        let r = again (d .0) (d .2) in (
+          vnode elementNode (l .0) (r .0),
+          Of.cons (l .1) (r .1),
+          ap₂ _∷_ (eqb-eq b (nodeLetter elementNode) (guard-true (eqb b (nodeLetter elementNode)) (g .1)))
+              (l .2 ∙ ap (λ y. letters (l .0) ++ y) (r .2) ∙ sym (append-assoc (letters (l .0)) (letters (r .0)) cs)),
+        )
+
 -- letters that pass the test of a type are those of a value of that type, before what is behind it
 pub behind-value : (a : Ty) (bs : List ℕ) {cs : List ℕ} → behind a bs ≡ some cs → (v : Val) × Of v a × (bs ≡ letters v ++ cs)
 behind-value tunit bs h = (vleaf unitLeaf, Of.unit, behind-unit bs h)
-behind-value (tlist a) bs h = absurd (none≢some h)
+behind-value (tlist a) bs {cs} h = list-value a (λ ds es k. behind-value a ds k) (length bs) bs cs h
 behind-value (tsum a b) [] h = absurd (none≢some h)
 behind-value (tsum a b) (x ∷ bs) {cs} h = go (eqb x (letterOf left)) (eqb x (letterOf right)) refl refl (λ k. behind-value a bs k) (λ k. behind-value b bs k) h
   where
@@ -348,15 +367,33 @@ behind-value (tprod a b) (x ∷ bs) {cs} h =
           (l .2 ∙ ap (λ y. letters (l .0) ++ y) (r .2) ∙ sym (append-assoc (letters (l .0)) (letters (r .0)) cs)),
     )
 
--- and the letters of a value of a type without lists pass it
-pub value-behind : {v : Val} {a : Ty} → Finite a → Of v a → (cs : List ℕ) → behind a (letters v ++ cs) ≡ some cs
-value-behind Finite.unit Of.unit cs = refl
-value-behind (Finite.sum f g) (Of.inj {t = left} h) cs = value-behind f h cs
-value-behind (Finite.sum f g) (Of.inj {t = right} h) cs = value-behind g h cs
-value-behind (Finite.product f g) (Of.pair {v} {w} {a} {b} h k) cs =
+-- what is behind it is shorter
+pub behind-shorter : (a : Ty) (bs : List ℕ) {cs : List ℕ} → behind a bs ≡ some cs → length cs < length bs
+behind-shorter a bs {cs} h =
+    let (v, t, e) = behind-value a bs h in omega (arith, letters-some v, length-append (letters v) cs, ap length e)
+
+-- the letters of a list of values whose letters pass the test of their type
+list-behind : (a : Ty) → ((v : Val) → Of v a → (cs : List ℕ) → behind a (letters v ++ cs) ≡ some cs) → {w : Val} → Of w (tlist a)
+    → (n : ℕ) → length (letters w) ≤ n → (cs : List ℕ) → behindList (behind a) n (letters w ++ cs) ≡ some cs
+list-behind a passes Of.nil zero l cs = absurd (omega arith)
+list-behind a passes Of.nil (suc n) l cs = refl
+list-behind a passes (Of.cons h k) zero l cs = absurd (omega arith)
+list-behind a passes (Of.cons {v} {w} h k) (suc n) l cs =
+    ap (λ l. behind a l >>= λ ds. behindList (behind a) n ds) (append-assoc (letters v) (letters w) cs)
+    ∙ some-bind (λ ds. behindList (behind a) n ds) (passes v h (letters w ++ cs))
+    ∙ list-behind a passes k n (omega (arith, length-append (letters v) (letters w))) cs
+
+-- and the letters of a value of that type pass it
+pub value-behind : {v : Val} (a : Ty) → Of v a → (cs : List ℕ) → behind a (letters v ++ cs) ≡ some cs
+value-behind tunit Of.unit cs = refl
+value-behind {v} (tlist a) h cs =
+    list-behind a (λ u k ds. value-behind a k ds) h (length (letters v ++ cs)) (omega (arith, length-append (letters v) cs)) cs
+value-behind (tsum a b) (Of.inj {t = left} h) cs = value-behind a h cs
+value-behind (tsum a b) (Of.inj {t = right} h) cs = value-behind b h cs
+value-behind (tprod a b) (Of.pair {v} {w} h k) cs =
     ap (λ l. behind a l >>= λ ds. behind b ds) (append-assoc (letters v) (letters w) cs)
-    ∙ some-bind (λ ds. behind b ds) (value-behind f h (letters w ++ cs))
-    ∙ value-behind g k cs
+    ∙ some-bind (λ ds. behind b ds) (value-behind a h (letters w ++ cs))
+    ∙ value-behind b k cs
 
 -- ---- letters that are a value of a type
 
@@ -374,12 +411,12 @@ value-some a bs h =
     )
 
 -- and where they do not, there is none
-pub value-none : (a : Ty) (bs : List ℕ) → Finite a → (behind a bs ≡ some [] → ⊥) → valueIn bs a ≡ none
-value-none a bs free h =
+pub value-none : (a : Ty) (bs : List ℕ) → (behind a bs ≡ some [] → ⊥) → valueIn bs a ≡ none
+value-none a bs h =
     not-some (valueIn bs a)
     (λ u k.
     let d = bind-some (valueOf bs) (λ v. guard (inhabits v a) >>= λ _. some v) k in
     let v = d .0 in
     let g = bind-some (guard (inhabits v a)) (λ _. some v) (d .2) in
     h (ap (behind a) (letters-value bs v (d .1) ∙ sym (append-nil (letters v)))
-    ∙ value-behind free (inhabits-of v a (guard-true (inhabits v a) (g .1))) []))
+    ∙ value-behind a (inhabits-of v a (guard-true (inhabits v a) (g .1))) []))

@@ -4,8 +4,6 @@ pub mod Copying
 pub mod Typing
 -- A value with nothing behind it.
 pub mod Alone
--- Types, values and isos without lists.
-pub mod Finite
 -- The environment in ranges of letters against slots of values.
 pub mod Agreeing
 -- The reduction as the code makes it.

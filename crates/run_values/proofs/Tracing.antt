@@ -1,39 +1,40 @@
--- A reduction of an accepted file is a trace as the code makes it: the first clause of the value's shape, let steps that name earlier
--- isos, and values whose letters fit.
+-- A reduction of an accepted file is a trace as the code makes it: the first clause of the value's shape, its let steps, and where something is
+-- too large.
 use Prim.Native.Nat.{ℕ, zero, suc, _+_, _≤_, _<_}
 use native.Mathlib.Nat.{not-suc-le-zero, le-of-suc-le-suc}
 use native.Mathlib.Omega.{arith}
 use mathlib.Core.Path.{_≡_, refl, sym, ap, _∙_, subst, subst₂}
-use mathlib.Core.Bool.{true, false, _&&_, false≢true}
-use mathlib.Core.Option.{some}
+use mathlib.Core.Bool.{Bool, true, false, _&&_, false≢true}
+use mathlib.Core.Option.{Option, none, some}
 use mathlib.Core.List.{List, [], _∷_, map, List·Memᴰ, List·Memᴰ·head, List·Memᴰ·tail, Memᴰ·map}
 use lib.ListN.{length, getElem?}
-use Rattle.limits.specs.Limits.{maxNodes, maxLets, maxDepth, variables}
-use Rattle.calculus.specs.Tools.{select}
-use Rattle.calculus.specs.Trees.{Ty, Pat, pleaf, pvar, pinj, pnode, Val, vleaf, vinj, vnode, Let, Clause, Iso, sameLeaf, sameTag, sameNode, typeNodes}
+use Rattle.limits.specs.Limits.{maxLets, maxDepth, maxLetters, variables}
+use Rattle.calculus.specs.Tools.{_>>=_}
+use Rattle.calculus.specs.Trees.{Ty, Pat, pleaf, pvar, pinj, pnode, Val, vleaf, vinj, vnode, Let, Clause, Iso, sameLeaf, sameTag, sameNode}
 use Rattle.calculus.specs.Slots.{Slots, empty}
+use Rattle.calculus.specs.Letters.{letters}
 use Rattle.calculus.specs.Refusals.{Kind, typeLine, patternLine, isoLine, clauseLine, letLine}
 use Rattle.format.specs.Lines.{Row}
 use Rattle.format.specs.Judge.{Seen, start, afterKind, afterAll}
 use Rattle.format.specs.Unfold.{Tail, place, tailFrom, isosOf}
-use Rattle.calculus.specs.Reduction.{bind, build, Call, runLets, runClause, hits, only, apply, small, reduceTo, reduce}
-use Rattle.calculus.specs.Lists.{Finite}
+use Rattle.calculus.specs.Reduction.{bind, build, given, _>>>_, Call, runLets, wholly, runClause, apply, measured, small, reduceTo, reduce}
 use Rattle.calculus.specs.Clauses.{sigsOf}
-use Rattle.calculus.specs.Paper.{Of, Fits, Chain, Product, Orth, Apart}
+use Rattle.calculus.specs.Lists.{Finite}
+use Rattle.calculus.specs.Paper.{Of, Fits, Chain, Product, Orth, Apart, ExactlyOne}
 use Rattle.calculus.proofs.Basic.{none≢some, some-inj, is-false, and-true, sameLeaf-eq, sameTag-eq, sameNode-eq, each-nil, each-cons, mem-index, index-mem, index-of-map}
+use Rattle.calculus.proofs.Basic.{leb-le, leb-false, counted, some-then}
 use Rattle.format.proofs.Passing.{Passes, done, next, Fit, judge-fit, let-fit}
 use Rattle.calculus.proofs.Orthogonal.{Alike, matched-alike, orth-alike, apart-head, apart-tail}
 use Rattle.calculus.proofs.Matching.{bind-matched}
-use Rattle.calculus.proofs.Running.{given-some, let-run, ClauseRun, clause-run, application, hit-only}
+use Rattle.calculus.proofs.Running.{some-given, run-clause}
 use Rattle.calculus.proofs.Inverse.{reduce-unfold}
-use Rattle.calculus.proofs.Joins.{EnvOf, build-total, build-all, bind-total, lhs-total}
-use Rattle.calculus.proofs.Totality.{Sound}
-use Rattle.model.proofs.Runs.{GoodRows, good, preserves, sound}
-use Rattle.model.proofs.Sizes.{of-small, small-types, free-gives}
+use Rattle.calculus.proofs.Joins.{EnvOf, BoundTo, build-total, build-all, bind-total, lhs-total}
+use Rattle.calculus.proofs.Totality.{Sound, Keeps, chain-first, chain-last, exactly-one, one-mem, takes-one, reduction-keeps}
+use Rattle.calculus.proofs.Stopping.{none-then, measured-true, measured-false, reduce-argument, reduce-stop, reduce-result}
+use Rattle.model.proofs.Runs.{GoodRows, good, sound}
+use Rattle.model.proofs.Sizes.{of-small, small-types}
 use Rattle.run_values.specs.Texts.{alike}
-use Rattle.run_values.specs.Traces.{Small, LetsTrace, ClauseTrace, Runs}
-use Rattle.table_trees.proofs.Lists.{isos-free}
-use Rattle.run_values.proofs.Finite.{of-bare, iso-finite, rows-earlier}
+use Rattle.run_values.specs.Traces.{Fitting, Over, Calls, LetTrace, LetsTrace, EndTrace, ClauseTrace, Applies, Runs}
 
 -- ---- a clause that matches
 
@@ -78,143 +79,197 @@ FewLets c = length (c .lets) ≤ maxLets
 abbrev pub AllFewLets : List Iso → Type 0
 AllFewLets os = (o : Iso) → List·Memᴰ o os → (c : Clause) → List·Memᴰ c (o .clauses) → FewLets c
 
--- a value of a type without lists has no more letters than its type has nodes
-small-of : {v : Val} {a : Ty} → Finite a → typeNodes a ≤ maxNodes → Of v a → Small v
-small-of f n h = let k = of-small f h in record { fits = omega arith; bare = of-bare f h }
+-- a value that passes the test fits, one that does not is too large
+fitting : (v : Val) → small v ≡ true → Fitting v
+fitting v e = leb-le (length (letters v)) maxLetters e
 
--- so are the values of every iso's types
-abbrev pub SmallValues : List Iso → Type 0
-SmallValues os = (i : ℕ) (o : Iso) → getElem? os i ≡ some o → (v : Val) → (Of v (o .from) → Small v) × (Of v (o .to) → Small v)
-
--- every let step names an earlier iso
-abbrev pub Earlier : List Iso → Type 0
-Earlier os = (i : ℕ) (o : Iso) → getElem? os i ≡ some o → (c : Clause) → List·Memᴰ c (o .clauses) → (l : Let) → List·Memᴰ l (c .lets) → l .iso < i
+over : (v : Val) → small v ≡ false → Over v
+over v e = leb-false (length (letters v)) maxLetters e
 
 -- ---- let steps
 
--- the relation holds of what a call gives for a value of the iso's from-type, and that is of the to-type
-abbrev pub CallTraces : List Iso → Call → (ℕ → Val → Val → ℕ → Type 0) → Type 0
-CallTraces os call rel = (j : ℕ) (n : Iso) → getElem? os j ≡ some n → (u w : Val) (k : ℕ) → Of u (n .from) → call j u ≡ (some w, k)
-    → rel j u w k × Of w (n .to)
+-- what a call comes to for a value of the iso's from-type is a trace
+abbrev pub CallTraces : List Iso → Call → Calls → Type 0
+CallTraces os call rel = (j : ℕ) (n : Iso) → getElem? os j ≡ some n → (u : Val) → Of u (n .from) → rel j u (call j u .0) (call j u .1)
 
--- what an application of iso j tells, where its types are s
-record Told (rel : ℕ → Val → Val → ℕ → Type 0) (j : ℕ) (s : Ty × Ty) (u w : Val) (k : ℕ) : Type 0 where
-  called : rel j u w k
-  given : Small u
-  gives : Small w
-  typed : Of w (s .1)
+-- let steps as they run: their trace, and values of the context's types where they come to their end
+record LetsTold (call : Call) (rel : Calls) (ls : List Let) (e : Slots Val) (p : Pat) (b : Ty) : Type 0 where
+  result : Option (Slots Val)
+  count : ℕ
+  runs : runLets call ls e ≡ (result, count)
+  trace : LetsTrace rel ls e result count
+  typed : (d : Slots Val) → result ≡ some d → (c : Slots Ty) × EnvOf d c × Fits c p b
 
--- a call for a value of the from-type tells that
-called-told : (os : List Iso) {call : Call} {rel : ℕ → Val → Val → ℕ → Type 0} → SmallValues os → CallTraces os call rel
-    → (j : ℕ) {s : Ty × Ty} {u w : Val} {k : ℕ} → getElem? (sigsOf os) j ≡ some s → Of u (s .0) → call j u ≡ (some w, k) → Told rel j s u w k
-called-told os {call} {rel} fit h j {s} {u} {w} {k} e t c =
-    let n = index-of-map (λ o. (o .from, o .to)) os j e in
-    subst (λ x. Told rel j x u w k) (n .2) (told (n .0) (n .1) (subst (λ x. Of u (x .0)) (sym (n .2)) t))
-  where
-    told : (n : Iso) → getElem? os j ≡ some n → Of u (n .from) → Told rel j (n .from, n .to) u w k
-    told n f o =
-        let r = h j n f u w k o c in
-        record { called = r .0; given = fit j n f u .0 o; gives = fit j n f w .1 (r .1); typed = r .1 }
+module _ (os : List Iso) (call : Call) (rel : Calls) (keeps : Keeps (sigsOf os) call) (h : CallTraces os call rel) where
+  -- an iso by its types
+  by-sig : (j : ℕ) {s : Ty × Ty} {u : Val} → getElem? (sigsOf os) j ≡ some s → Of u (s .0) → rel j u (call j u .0) (call j u .1)
+  by-sig j {s} {u} e t =
+      let n = index-of-map (λ o. (o .from, o .to)) os j e in h j (n .0) (n .1) u (subst (λ x. Of u (x .0)) (sym (n .2)) t)
 
--- let steps that have run, with values of the context's types before and after
-record LetsTold (rel : ℕ → Val → Val → ℕ → Type 0) (i : ℕ) (ls : List Let) (e d : Slots Val) (k : ℕ) (p : Pat) (b : Ty) : Type 0 where
-  trace : LetsTrace rel i ls e d k
-  context : Slots Ty
-  env : EnvOf d context
-  fits : Fits context p b
-
-module _ (os : List Iso) (call : Call) (rel : ℕ → Val → Val → ℕ → Type 0) (fit : SmallValues os) (h : CallTraces os call rel) (i : ℕ) where
-  -- let steps that run from values of the context's types
-  lets-told : (ls : List Let) {d : Slots Ty} {p : Pat} {b : Ty} {ε δ : Slots Val} {k : ℕ} → Chain (sigsOf os) d ls p b → EnvOf ε d
-      → ((l : Let) → List·Memᴰ l ls → Product (l .p)) → ((l : Let) → List·Memᴰ l ls → l .iso < i)
-      → runLets call ls ε ≡ (some δ, k) → LetsTold rel i ls ε δ k p b
-  lets-told [] {d} {p} {b} {ε} {δ} {k} (Chain.value x) r g a e =
-      subst₂ (λ (z : Slots Val) (n : ℕ). LetsTold rel i [] ε z n p b) (some-inj (ap (λ r. r .0) e)) (ap (λ r. r .1) e)
-      (record { trace = LetsTrace.done; context = d; env = r; fits = x })
-  lets-told (l ∷ ls) {d} {p} {b} {ε} {δ} {k} (Chain.step {f = Φ} {h = Η} s known parts uses binds joins chain) r g a e =
-      let m = let-run call l ls ε e in
-      let q = build-total uses parts r in
-      let same = some-inj (sym (q .builds) ∙ m .built) in
-      let t = called-told os fit h (l .iso) known (subst (λ (z : Val × Slots Val). Of (z .0) (s .0)) same (q .typed)) (m .called) in
-      let x = bind-total binds (g l (List·Memᴰ·head refl)) (t .typed) joins (subst (λ (z : Val × Slots Val). EnvOf (z .1) Φ) same (q .env)) in
-      let n = lets-told ls chain (subst (λ z. EnvOf z Η) (some-inj (sym (x .binds) ∙ m .bound)) (x .env))
-      (λ y j. g y (List·Memᴰ·tail j)) (λ y j. a y (List·Memᴰ·tail j)) (m .follows) in
+  -- a let step that stops
+  told-stop : (l : Let) (ls : List Let) {p : Pat} {b : Ty} {ε φ : Slots Val} {u : Val} → build (l .q) ε ≡ some (u, φ)
+      → rel (l .iso) u none (call (l .iso) u .1) → call (l .iso) u .0 ≡ none → LetsTold call rel (l ∷ ls) ε p b
+  told-stop l ls {ε = ε} {φ = φ} {u = u} built r e =
       record {
-        trace = subst (LetsTrace rel i (l ∷ ls) ε δ) (m .counts)
-            (LetsTrace.step (a l (List·Memᴰ·head refl)) (m .built) (t .given) (t .called) (t .gives) (m .bound) (n .trace));
-        context = n .context;
-        env = n .env;
-        fits = n .fits;
+        result = none;
+        count = call (l .iso) u .1;
+        runs = some-given (λ r. call (l .iso) (r .0) >>> λ w. given (bind (l .p) w (r .1)) >>> λ d. runLets call ls d) built
+            (none-then (λ w. given (bind (l .p) w φ) >>> λ d. runLets call ls d) (counted e refl));
+        trace = LetsTrace.stop (LetTrace.stops built r);
+        typed = λ d e. absurd (none≢some e);
       }
+
+  -- one that gives something, and what follows it
+  told-step : (l : Let) (ls : List Let) {p : Pat} {b : Ty} {ε φ η : Slots Val} {u w : Val} {j : ℕ} → build (l .q) ε ≡ some (u, φ)
+      → rel (l .iso) u (some w) j → call (l .iso) u ≡ (some w, j) → bind (l .p) w φ ≡ some η → LetsTold call rel ls η p b → LetsTold call rel (l ∷ ls) ε p b
+  told-step l ls {φ = φ} {j = j} built r called bound n =
+      record {
+        result = n .result;
+        count = j + n .count;
+        runs = some-given (λ r. call (l .iso) (r .0) >>> λ w. given (bind (l .p) w (r .1)) >>> λ d. runLets call ls d) built
+            (some-then (λ w. given (bind (l .p) w φ) >>> λ d. runLets call ls d) called (some-given (λ d. runLets call ls d) bound (n .runs)));
+        trace = LetsTrace.step (LetTrace.gives built r bound) (n .trace);
+        typed = n .typed;
+      }
+
+  -- let steps from values of the context's types
+  lets-told : (ls : List Let) {d : Slots Ty} {p : Pat} {b : Ty} {ε : Slots Val} → Chain (sigsOf os) d ls p b → EnvOf ε d
+      → ((l : Let) → List·Memᴰ l ls → Product (l .p)) → LetsTold call rel ls ε p b
+  lets-told [] {d} {p} {b} {ε} c r g =
+      record {
+        result = some ε;
+        count = 0;
+        runs = refl;
+        trace = LetsTrace.done;
+        typed = λ z e. (d, subst (λ y. EnvOf y d) (some-inj e) r, chain-last c);
+      }
+  lets-told (l ∷ ls) {p = p} {b = b} {ε = ε} c r g =
+      let s = chain-first c in
+      let q = build-total (s .uses) (s .parts) r in
+      go (q .value) (q .rest) (q .builds) (call (l .iso) (q .value) .0) refl (by-sig (l .iso) (s .known) (q .typed))
+      (λ w e. let z = bind-total (s .binds) (g l (List·Memᴰ·head refl))
+      (keeps (l .iso) (s .s) (s .known) (q .value) w (call (l .iso) (q .value) .1) (q .typed) (counted e refl)) (s .joins) (q .env) in
+      (z .slots, z .binds, lets-told ls (s .next) (z .env) (λ m i. g m (List·Memᴰ·tail i))))
+    where
+      go : (u : Val) (φ : Slots Val) → build (l .q) ε ≡ some (u, φ) → (x : Option Val) → call (l .iso) u .0 ≡ x
+          → rel (l .iso) u (call (l .iso) u .0) (call (l .iso) u .1)
+          → ((w : Val) → call (l .iso) u .0 ≡ some w → (η : Slots Val) × (bind (l .p) w φ ≡ some η) × LetsTold call rel ls η p b)
+          → LetsTold call rel (l ∷ ls) ε p b
+      go u φ built none e r onward = told-stop l ls built (subst (λ x. rel (l .iso) u x (call (l .iso) u .1)) e r) e
+      go u φ built (some w) e r onward =
+          let n = onward w e in
+          told-step l ls built (subst (λ x. rel (l .iso) u x (call (l .iso) u .1)) e r) (counted e refl) (n .1) (n .2)
 
 -- ---- an application
 
--- what a right pattern that fits is built to is of its type
-built-typed : {d : Slots Ty} {p : Pat} {b : Ty} {ε φ : Slots Val} {w : Val} → Fits d p b → EnvOf ε d → build p ε ≡ some (w, φ) → Of w b
-built-typed {b} x r h =
-    let t = build-all x r in subst (λ (y : Val × Slots Val). Of (y .0) b) (some-inj (sym (t .2) ∙ h)) (t .3)
+-- what an application comes to before its result is measured, and the trace behind that
+record ApplyTold (call : Call) (rel : Calls) (o : Iso) (v : Val) : Type 0 where
+  result : Option Val
+  count : ℕ
+  applies : apply call o v ≡ (result, count)
+  trace : (x : Option Val) → ((w : Val) → result ≡ some w → measured small w ≡ (x, 0)) → (result ≡ none → x ≡ none) → ClauseTrace rel o v x (suc count)
 
--- what a left pattern that fits binds is of the context's types
-bound-typed : {d : Slots Ty} {p : Pat} {a : Ty} {v : Val} {ε : Slots Val} → length d ≡ variables → Fits d p a → Of v a → bind p v (empty Val) ≡ some ε → EnvOf ε d
-bound-typed {d} {p} {v} {ε} n x t h =
-    let r = lhs-total n x t (bind-matched p v (empty Val) ε h) in subst (λ y. EnvOf y d) (some-inj (sym (r .binds) ∙ h)) (r .env)
+module _ {os : List Iso} (S : Sound os) (few : AllFewLets os) (call : Call) (rel : Calls) (keeps : Keeps (sigsOf os) call)
+    (h : CallTraces os call rel) (i : ℕ) (o : Iso) (e : getElem? os i ≡ some o) (v : Val) (t : Of v (o .from)) where
+  abbrev mem : List·Memᴰ o os
+  mem = index-mem os i e
 
-module _ {os : List Iso} (S : Sound os) (fit : SmallValues os) (before : Earlier os) (few : AllFewLets os) (call : Call) (rel : ℕ → Val → Val → ℕ → Type 0)
-    (h : CallTraces os call rel) (i : ℕ) (o : Iso) (e : getElem? os i ≡ some o) (v w : Val) (m : ℕ) (t : Of v (o .from)) where
-  -- the let steps of a clause that has run
-  clause-lets : (c : Clause) → List·Memᴰ c (o .clauses) → (r : ClauseRun call c v w m)
-      → LetsTold rel i (c .lets) (r .first) (r .last) m (c .rhs) (o .to)
-  clause-lets c k r =
-      let mem = index-mem os i e in
-      let z = S .linear o mem c k in
-      lets-told os call rel fit h i (c .lets) (z .rest) (bound-typed (z .wide) (z .lhs) t (r .bound)) (λ l j. S .shapes o mem c k l j .0)
-      (λ l j. before i o e c k l j) (r .lets)
+  -- the clause that matches
+  abbrev one : ExactlyOne (o .clauses) v
+  one = exactly-one S o mem t
 
-  -- the clause at a place that has run
-  clause-traced : (c : Clause) (n : ℕ) → getElem? (o .clauses) n ≡ some c → (r : ClauseRun call c v w m)
-      → LetsTold rel i (c .lets) (r .first) (r .last) m (c .rhs) (o .to) → ClauseTrace rel i o v w (suc m) × Of w (o .to)
-  clause-traced c n f r ls =
-      let mem = index-mem os i e in
-      let typed = built-typed (ls .fits) (ls .env) (r .built) in (
-        record {
-          place = n;
-          clause = c;
-          chosen = f;
-          before = not-alike-above (o .clauses) (S .leftsApart o mem) v n f (matched-alike (bind-matched (c .lhs) v (empty Val) (r .first) (r .bound)));
-          few = few o mem c (index-mem (o .clauses) n f);
-          first = r .first;
-          bound = r .bound;
-          last = r .last;
-          count = m;
-          lets = ls .trace;
-          rest = r .rest;
-          built = r .built;
-          small = fit i o e w .1 typed;
-          counts = refl;
-        },
-        typed,
-      )
+  -- its let steps
+  clause-lets : (b : BoundTo (one .clause .lhs) v (empty Val) (S .linear o mem (one .clause) (one-mem one) .context))
+      → LetsTold call rel (one .clause .lets) (b .slots) (one .clause .rhs) (o .to)
+  clause-lets b =
+      lets-told os call rel keeps h (one .clause .lets) (S .linear o mem (one .clause) (one-mem one) .rest) (b .env)
+      (λ m j. S .shapes o mem (one .clause) (one-mem one) m j .0)
 
-  -- the clause that is taken
-  apply-traced : apply call o v ≡ (some w, m) → ClauseTrace rel i o v w (suc m) × Of w (o .to)
-  apply-traced a =
-      let c = given-some (only (select (hits v) (o .clauses))) (λ c. runClause call c v) a in
-      let k = hit-only (hits v) (o .clauses) (c .1) .0 in
-      let n = mem-index k in
-      let r = clause-run call (c .0) v (c .2) in
-      clause-traced (c .0) (n .0) (n .1) r (clause-lets (c .0) k r)
+  -- the trace of a clause that has run so far
+  clause-traced : (n : ℕ) → getElem? (o .clauses) n ≡ some (one .clause) → {first : Slots Val} → bind (one .clause .lhs) v (empty Val) ≡ some first
+      → {last : Option (Slots Val)} {k : ℕ} → LetsTrace rel (one .clause .lets) first last k → {x : Option Val} → EndTrace (one .clause .rhs) last x
+      → ClauseTrace rel o v x (suc k)
+  clause-traced n f {first} bound {last} {k} lets ends =
+      record {
+        place = n;
+        clause = one .clause;
+        chosen = f;
+        before = not-alike-above (o .clauses) (S .leftsApart o mem) v n f (matched-alike (bind-matched (one .clause .lhs) v (empty Val) first bound));
+        few = few o mem (one .clause) (one-mem one);
+        first = first;
+        bound = bound;
+        last = last;
+        count = k;
+        lets = lets;
+        ends = ends;
+        counts = refl;
+      }
+
+  apply-told : ApplyTold call rel o v
+  apply-told =
+      let l = S .linear o mem (one .clause) (one-mem one) in
+      let b = lhs-total (l .wide) (l .lhs) t (one .matches) in
+      let n = mem-index (one-mem one) in
+      go b (n .0) (n .1) (clause-lets b .result) (clause-lets b .count) (clause-lets b .runs) (clause-lets b .trace) (clause-lets b .typed)
+    where
+      c : Clause
+      c = one .clause
+
+      go : (b : BoundTo (c .lhs) v (empty Val) (S .linear o mem c (one-mem one) .context)) (n : ℕ) → getElem? (o .clauses) n ≡ some c
+          → (y : Option (Slots Val)) (k : ℕ) → runLets call (c .lets) (b .slots) ≡ (y, k) → LetsTrace rel (c .lets) (b .slots) y k
+          → ((d : Slots Val) → y ≡ some d → (z : Slots Ty) × EnvOf d z × Fits z (c .rhs) (o .to)) → ApplyTold call rel o v
+      go b n f none k runs lets typed =
+          record {
+            result = none;
+            count = k;
+            applies = some-given (λ c. runClause call c v) (takes-one S o mem t)
+                (some-given (λ e. runLets call (c .lets) e >>> λ d. given (build (c .rhs) d >>= wholly)) (b .binds)
+                (none-then (λ d. given (build (c .rhs) d >>= wholly)) runs));
+            trace = λ x m z. clause-traced n f (b .binds) lets (subst (EndTrace (c .rhs) none) (sym (z refl)) EndTrace.stopped);
+          }
+      go b n f (some d) k runs lets typed =
+          let y = typed d refl in
+          let r = build-all (y .2) (y .1) in
+          record {
+            result = some (r .0);
+            count = k;
+            applies = some-given (λ c. runClause call c v) (takes-one S o mem t) (run-clause call c v (b .binds) runs (r .2) (r .4));
+            trace = λ x m z. clause-traced n f (b .binds) lets (ended (r .2) (small (r .0)) refl x (m (r .0) refl));
+          }
+        where
+          ended : {p : Pat} {d φ : Slots Val} {w : Val} → build p d ≡ some (w, φ) → (b : Bool) → small w ≡ b → (x : Option Val)
+              → measured small w ≡ (x, 0) → EndTrace p (some d) x
+          ended {p} {d} {w = w} built true fits x m =
+              subst (EndTrace p (some d)) (ap (λ r. r .0) (sym (measured-true small w fits) ∙ m)) (EndTrace.gives built (fitting w fits))
+          ended {p} {d} {w = w} built false fits x m =
+              subst (EndTrace p (some d)) (ap (λ r. r .0) (sym (measured-false small w fits) ∙ m)) (EndTrace.large built (over w fits))
 
 -- ---- the reduction
 
--- a reduction with calls nested at most d deep is a trace as deep
-pub runs-traced : {os : List Iso} → Sound os → SmallValues os → Earlier os → AllFewLets os → (d : ℕ) → CallTraces os (reduceTo small d os) (Runs d os)
-runs-traced S fit before few zero i o e v w m t h = absurd (none≢some (ap (λ r. r .0) h))
-runs-traced {os} S fit before few (suc d) i o e v w m t h =
-    let a = application small d os i v h in
-    let same = some-inj (sym (a .known) ∙ e) in
-    let r = apply-traced S fit before few (reduceTo small d os) (Runs d os) (runs-traced S fit before few d) i o e v w (a .count) t
-    (ap (λ n. apply (reduceTo small d os) n v) (sym same) ∙ a .applies) in
-    ((o, e, subst (ClauseTrace (Runs d os) i o v w) (a .counts) (r .0)), r .1)
+-- the reduction with calls nested at most d deep is a trace as deep
+pub runs-traced : {os : List Iso} → Sound os → AllFewLets os → (d : ℕ) → CallTraces os (reduceTo small d os) (Runs d os)
+runs-traced S few zero i o e v t = (refl, refl)
+runs-traced {os} S few (suc d) i o e v t =
+    go (small v) refl (apply-told S few (reduceTo small d os) (Runs d os) (reduction-keeps S small d) (runs-traced S few d) i o e v t)
+  where
+    counts : (x : Option Val) (k : ℕ) → reduceTo small (suc d) os i v ≡ (x, k) → Applies (Runs d os) os i v x k
+        → Applies (Runs d os) os i v (reduceTo small (suc d) os i v .0) (reduceTo small (suc d) os i v .1)
+    counts x k h a = subst₂ (λ (y : Option Val) (n : ℕ). Applies (Runs d os) os i v y n) (ap (λ r. r .0) (sym h)) (ap (λ r. r .1) (sym h)) a
+
+    ended : (k : ℕ) (y : Option Val) → small v ≡ true → apply (reduceTo small d os) o v ≡ (y, k)
+        → ((x : Option Val) → ((w : Val) → y ≡ some w → measured small w ≡ (x, 0)) → (y ≡ none → x ≡ none) → ClauseTrace (Runs d os) o v x (suc k))
+        → Applies (Runs d os) os i v (reduceTo small (suc d) os i v .0) (reduceTo small (suc d) os i v .1)
+    ended k none fits h r =
+        counts none (suc k) (reduce-stop small d os i v o fits e h) (Applies.runs (fitting v fits) o e (r none (λ w z. absurd (none≢some z)) (λ z. refl)))
+    ended k (some w) fits h r =
+        let x : Option Val = measured small w .0 in
+        counts x (suc k) (reduce-result small d os i v o fits e h x refl)
+        (Applies.runs (fitting v fits) o e (r x (λ u z. ap (measured small) (sym (some-inj z))) (λ z. absurd (none≢some (sym z)))))
+
+    go : (b : Bool) → small v ≡ b → ApplyTold (reduceTo small d os) (Runs d os) o v
+        → Applies (Runs d os) os i v (reduceTo small (suc d) os i v .0) (reduceTo small (suc d) os i v .1)
+    go false a r = counts none 1 (reduce-argument small d os i v a) (Applies.large (over v a))
+    go true a r = ended (r .count) (r .result) a (r .applies) (r .trace)
 
 -- ---- the isos of an accepted file
 
@@ -252,40 +307,33 @@ pub few-lets : {rs : List Row} → Passes start rs → AllFewLets (isosOf rs)
 unfolding start isosOf
 few-lets {rs} d = tail-few (afterAll start rs .types) (afterAll start rs .patterns) 1 d (omega arith) .isos
 
--- the values of their types are small
-pub small-values : (rs : List Row) → GoodRows rs → SmallValues (isosOf rs)
-small-values rs g i o e v =
-    let f = iso-finite rs i o e in
-    let n = small-types (g .passes) o (index-mem (isosOf rs) i e) in
-    (small-of (f .0) (n .0), small-of (f .1) (n .1))
+-- a value of a type without lists has no more letters than its type has nodes
+pub finite-fits : (rs : List Row) → GoodRows rs → (i : ℕ) (o : Iso) → getElem? (isosOf rs) i ≡ some o → (v : Val) → Finite (o .from) → Of v (o .from) → Fitting v
+finite-fits rs g i o e v f h =
+    let k = of-small f h in let n = small-types (g .passes) o (index-mem (isosOf rs) i e) .0 in omega (arith, k, n)
 
--- a reduction from a closed value of the from-type is a trace, and gives a closed value of the to-type
-pub trace-typed : (rs : List Row) → GoodRows rs → (d i : ℕ) (o : Iso) → getElem? (isosOf rs) i ≡ some o → (v w : Val) (m : ℕ) → Of v (o .from)
-    → reduceTo small d (isosOf rs) i v ≡ (some w, m) → Runs d (isosOf rs) i v w m × Of w (o .to)
-trace-typed rs g d = runs-traced (sound (isosOf rs) (good rs g)) (small-values rs g) (rows-earlier rs g) (few-lets (g .passes)) d
+-- what the reduction of a run comes to, from a closed value of the from-type
+pub record Traced (rs : List Row) (i : ℕ) (v : Val) : Type 0 where
+  pub result : Option Val
+  pub count : ℕ
+  pub reduces : reduce (isosOf rs) i v ≡ (result, count)
+  pub runs : Runs maxDepth (isosOf rs) i v result count
 
--- the trace alone
-pub trace : (rs : List Row) → GoodRows rs → (d i : ℕ) (o : Iso) → getElem? (isosOf rs) i ≡ some o → (v w : Val) (m : ℕ) → Of v (o .from)
-    → reduceTo small d (isosOf rs) i v ≡ (some w, m) → Runs d (isosOf rs) i v w m
-trace rs g d i o e v w m t h = trace-typed rs g d i o e v w m t h .0
+pub traced : (rs : List Row) → GoodRows rs → (i : ℕ) (o : Iso) → getElem? (isosOf rs) i ≡ some o → (v : Val) → Of v (o .from) → Traced rs i v
+traced rs g i o e v t =
+    let r = reduceTo small maxDepth (isosOf rs) i v in
+    record {
+      result = r .0;
+      count = r .1;
+      reduces = ap (λ f. f i v) (reduce-unfold (isosOf rs));
+      runs = runs-traced (sound (isosOf rs) (good rs g)) (few-lets (g .passes)) maxDepth i o e v t;
+    }
 
 -- an application counts itself
-pub runs-least : (d : ℕ) (os : List Iso) (i : ℕ) (v w : Val) (m : ℕ) → Runs d os i v w m → 1 ≤ m
-runs-least zero os i v w m r = absurd r
-runs-least (suc d) os i v w m r = let h = r .2 .counts in omega arith
-
--- the letters of a closed value of an iso's from-type, and of its to-type, fit a frame
-pub from-small : (rs : List Row) → GoodRows rs → (i : ℕ) (o : Iso) → getElem? (isosOf rs) i ≡ some o → (v : Val) → Of v (o .from) → Small v
-from-small rs g i o e v t = small-values rs g i o e v .0 t
-
-pub to-small : (rs : List Row) → GoodRows rs → (i : ℕ) (o : Iso) → getElem? (isosOf rs) i ≡ some o → (w : Val) → Of w (o .to) → Small w
-to-small rs g i o e w t = small-values rs g i o e w .1 t
-
--- from a closed value of the from-type there is a trace, as deep as calls may nest
-pub traced : (rs : List Row) → GoodRows rs → (i : ℕ) (o : Iso) → getElem? (isosOf rs) i ≡ some o → (v : Val) → Of v (o .from)
-    → (w : Val) × (m : ℕ) × (reduce (isosOf rs) i v ≡ (some w, m)) × Runs maxDepth (isosOf rs) i v w m × Small v × Small w
-traced rs g i o e v t =
-    let (w, m, r) = free-gives rs g i (isos-free rs i) o e v t in
-    let u = ap (λ f. f i v) (reduce-unfold (isosOf rs)) in
-    let to = preserves (isosOf rs) (good rs g) i o e v w m t r in
-    (w, m, r, trace rs g maxDepth i o e v w m t (sym u ∙ r), from-small rs g i o e v t, to-small rs g i o e w to)
+pub runs-least : (d : ℕ) (os : List Iso) (i : ℕ) (v : Val) (x : Option Val) (m : ℕ) → Runs d os i v x m → 1 ≤ m
+runs-least zero os i v x m r = let h = r .1 in omega (arith, h)
+runs-least (suc d) os i v x m r = go r
+  where
+    go : {x : Option Val} {m : ℕ} → Applies (Runs d os) os i v x m → 1 ≤ m
+    go (Applies.large h) = omega arith
+    go (Applies.runs f o e c) = let h = c .counts in omega (arith, h)

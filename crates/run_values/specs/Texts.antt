@@ -1,5 +1,5 @@
 -- Closed values as letters in an area, and what matching and building do there.
-use Prim.Native.Nat.{ℕ, suc, _+_, _-_, _%_, _≤_, _<_}
+use Prim.Native.Nat.{ℕ, zero, suc, _+_, _-_, _%_, _≤_, _<_}
 use mathlib.Core.Path.{_≡_}
 use mathlib.Core.Bool.{Bool, true, false, cond, _&&_}
 use mathlib.Core.Option.{Option, none, some}
@@ -15,19 +15,10 @@ use Rattle.calculus.specs.Letters.{letters, leafLetter, letterOf, nodeLetter}
 use Rattle.run_values.specs.declared.Upto as U
 use Rattle.run_values.specs.declared.Upto.the-variants as upto
 
--- a value that holds no list: its letters are U, L, R and P
-abbrev pub Bare : Val → Type 0
-Bare (vleaf unitLeaf) = Unit
-Bare (vleaf emptyLeaf) = ⊥
-Bare (vinj t v) = Bare v
-Bare (vnode pairNode v w) = Bare v × Bare w
-Bare (vnode elementNode v w) = ⊥
-
--- the letters of such a value stand from a place on
+-- the letters of a value stand from a place on
 pub record At (s : List ℕ) (at : ℕ) (v : Val) : Type 0 where
   pub rest : List ℕ
   pub spells : drop at s ≡ letters v ++ rest
-  pub bare : Bare v
 
 -- a place that is that value's end, or 0 where none is told
 abbrev pub Ends : ℕ → ℕ → Val → Type 0
@@ -51,10 +42,17 @@ abbrev pub behindPair : (List ℕ → Option (List ℕ)) → (List ℕ → Optio
 behindPair l r [] = none
 behindPair l r (b ∷ bs) = guard (eqb b (nodeLetter pairNode)) >>= λ _. l bs >>= λ cs. r cs
 
--- no T line unfolds to a list
+-- request 14's "value letters N and K": N, or K, an element and again a list, with at most so many of these letters
+abbrev pub behindList : (List ℕ → Option (List ℕ)) → ℕ → List ℕ → Option (List ℕ)
+behindList element zero bs = none
+behindList element (suc n) [] = none
+behindList element (suc n) (b ∷ bs) =
+    cond (eqb b (leafLetter emptyLeaf)) (some bs) (guard (eqb b (nodeLetter elementNode)) >>= λ _. element bs >>= λ cs. behindList element n cs)
+
+-- there are no more of them than letters
 abbrev pub behind : Ty → List ℕ → Option (List ℕ)
 behind tunit bs = behindUnit bs
-behind (tlist a) bs = none
+behind (tlist a) bs = behindList (behind a) (length bs) bs
 behind (tsum a b) bs = behindTag (behind a) (behind b) bs
 behind (tprod a b) bs = behindPair (behind a) (behind b) bs
 
@@ -66,7 +64,12 @@ alone (some (b ∷ bs)) = false
 
 -- the letter of a P line of kind k that is no variable; a number that is no kind has a unit's
 abbrev pub letterFor : ℕ → ℕ
-letterFor k = cond (eqb k 4) (nodeLetter pairNode) (cond (eqb k 2) (letterOf left) (cond (eqb k 3) (letterOf right) (leafLetter unitLeaf)))
+letterFor k =
+    cond (eqb k 4) (nodeLetter pairNode)
+    (cond (eqb k 2) (letterOf left)
+    (cond (eqb k 3) (letterOf right)
+    (cond (eqb k 5) (leafLetter emptyLeaf)
+    (cond (eqb k 6) (nodeLetter elementNode) (leafLetter unitLeaf)))))
 
 -- whether a pattern is of a value's shape, whatever its variables
 abbrev pub alike : Pat → Val → Bool

@@ -3,10 +3,13 @@
 
 use codes::FIRST;
 use codes::KIND;
+use codes::LETTER_ELEMENT;
+use codes::LETTER_EMPTY;
 use codes::LETTER_LEFT;
 use codes::LETTER_PAIR;
 use codes::LETTER_RIGHT;
 use codes::LETTER_UNIT;
+use codes::LIST;
 use codes::PRODUCT;
 use codes::SECOND;
 use codes::SUM;
@@ -17,6 +20,7 @@ ghost use Prim.Native.Nat.{_≤_};
 ghost use lib.ListN.{length, drop};
 ghost use lib.Seq.{slice};
 ghost use Rattle.area_cells.specs.Areas.{Writes};
+ghost use Rattle.calculus.specs.Trees.{tlist};
 ghost use Rattle.table_trees.specs.Unfolding.{typeOf};
 ghost use Rattle.run_values.specs.Texts.{asUpto, behind, alone, Span};
 
@@ -53,8 +57,32 @@ pub fn typed_end(t: &[u16], i: usize, s: &[u8], at: usize) -> Upto
         }
         return Upto::Nothing;
     }
+    if kind == LIST {
+        return list_end(t, smaller(cell(t, i, FIRST), i), s, at);
+    }
     if b == LETTER_UNIT {
         return Upto::Place(at + 1);
+    }
+    Upto::Nothing
+}
+
+// Where the list of closed values of T line i ends that begins at a place.
+fn list_end(t: &[u16], i: usize, s: &[u8], at: usize) -> Upto
+    ensures { λ r. ⌜ asUpto (now (s .entry)) r ≡ behind (tlist (typeOf (now (t .entry)) i)) (drop at (now (s .entry))) ⌝ }
+{
+    let mut next = at;
+    while next < s.len() {
+        let b = s[next];
+        if b == LETTER_EMPTY {
+            return Upto::Place(next + 1);
+        }
+        if b != LETTER_ELEMENT {
+            return Upto::Nothing;
+        }
+        let Upto::Place(m) = typed_end(t, i, s, next + 1) else {
+            return Upto::Nothing;
+        };
+        next = m;
     }
     Upto::Nothing
 }

@@ -3,12 +3,16 @@ use Prim.Native.Nat.{ℕ, suc, _+_, _≤_, _<_}
 use native.Mathlib.Nat.{zero-add}
 use native.Mathlib.Omega.{arith}
 use mathlib.Core.Path.{_≡_, refl, sym, ap, ap₂, _∙_}
+use mathlib.Core.Bool.{cond}
 use mathlib.Core.List.{List, _++_}
+use lib.Dec.{ltb}
 use lib.ListN.{length, getD, set, take, drop, length-set}
 use lib.Seq.{paste, paste-zero, paste-suc, take-length}
+use Rattle.limits.specs.Limits.{maxLetters}
 use Rattle.calculus.specs.Trees.{Val}
 use Rattle.calculus.specs.Letters.{letters}
-use Rattle.run_values.specs.Texts.{Bare, At}
+use Rattle.calculus.proofs.Basic.{lt-ltb, not-ltb}
+use Rattle.run_values.specs.Texts.{At}
 
 -- what the copying loop has come to after i bytes
 pub record Copied (from : List ℕ) (n : ℕ) (to₀ to : List ℕ) (i : ℕ) : Type 0 where
@@ -40,6 +44,13 @@ pub paste-front : (to from : List ℕ) (n : ℕ) → paste to 0 from n ≡ take 
 paste-front to from n = ap (λ k. take n from ++ drop k to) (zero-add n)
 
 -- a whole value at the front
-pub value-front : {to′ : List ℕ} (to bs : List ℕ) (v : Val) → Bare v → bs ≡ letters v → to′ ≡ paste to 0 bs (length bs) → At to′ 0 v
-value-front to bs v free e p =
-    record { rest = drop (length bs) to; spells = p ∙ paste-front to bs (length bs) ∙ ap (λ l. l ++ drop (length bs) to) (take-length bs ∙ e); bare = free }
+pub value-front : {to′ : List ℕ} (to bs : List ℕ) (v : Val) → bs ≡ letters v → to′ ≡ paste to 0 bs (length bs) → At to′ 0 v
+value-front to bs v e p =
+    record { rest = drop (length bs) to; spells = p ∙ paste-front to bs (length bs) ∙ ap (λ l. l ++ drop (length bs) to) (take-length bs ∙ e) }
+
+-- none of a value that is too large, else all of it
+pub copied-none : (n : ℕ) → maxLetters < n → 0 ≡ cond (ltb maxLetters n) 0 n
+copied-none n h = sym (ap (λ b. cond b 0 n) (lt-ltb h))
+
+pub copied-all : (n : ℕ) → n ≤ maxLetters → n ≡ cond (ltb maxLetters n) 0 n
+copied-all n h = sym (ap (λ b. cond b 0 n) (not-ltb h))

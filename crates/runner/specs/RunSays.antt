@@ -38,7 +38,7 @@ pub record RanAs (a : RunAnswer) (o o′ : List ℕ) (r : R.Ran) : Type 0 where
 
 -- ---- contracts on a checked table
 
--- what holds where n bytes are the room of a run: a frame for each of 32 isos, and no more than the lent work area has
+-- what holds where n bytes are the room of a run: a frame for each of 40 calls nested, and no more than the lent work area has
 abbrev pub InRoom : ℕ → Type 0 → Type 0
 InRoom n P = runRoom ≤ n → n ≤ workLength → P
 

@@ -12,6 +12,8 @@ use codes::ISO_TO;
 use format::Refusal;
 use format::is_refused;
 use limits::INDEX_LENGTH;
+use limits::MAX_DEPTH;
+use limits::MAX_LETTERS;
 use limits::MAX_LINES;
 use limits::RESULT_LENGTH;
 use limits::WORK_LENGTH;
@@ -25,9 +27,12 @@ use run_reduction::apply;
 use run_values::is_value;
 use table_trees::cell;
 ghost use mathlib.Core.Path.{_≡_};
+ghost use mathlib.Core.Bool.{cond};
 ghost use Prim.Native.Nat.{_-_, _≤_};
+ghost use lib.Dec.{ltb};
 ghost use lib.ListN.{length, drop};
 ghost use lib.Seq.{paste};
+ghost use Rattle.limits.specs.Limits.{maxLetters};
 ghost use Rattle.run_index.specs.Index.{indexLength};
 ghost use Rattle.runner.specs.RunSays.{OnChecked, OnAccepted, Prepares, answerFor, RanInto, RanWithin, RunSays};
 
@@ -60,6 +65,16 @@ fn copy_front(from: &[u8], n: usize, to: &mut [u8])
         put_byte(to, i, byte_at(from, i));
         i += 1;
     }
+}
+
+// How many letters of a value are copied: none where it is too large.
+fn copied(n: usize) -> usize
+    ensures { λ r. ⌜ r ≡ cond (ltb maxLetters n) 0 n ⌝ }
+{
+    if MAX_LETTERS < n {
+        return 0;
+    }
+    n
 }
 
 // What a budget was spent of, where so much is left.
@@ -108,7 +123,8 @@ pub fn code_part(index: &[u16]) -> &[u16]
 }
 
 // Runs iso i of a table that holds a checked file, whose isos the index finds. The work area needs
-// 40,960 bytes, 1,280 for each of 32 isos; what these then hold is left open, all behind them is as it was.
+// 51,200 bytes, 1,280 for each of 40 calls nested; what these then hold is left open, all behind them is as
+// it was.
 pub fn run_checked(
     t: &[u16],
     base: usize,
@@ -134,9 +150,9 @@ pub fn run_checked(
     if !is_value(t, cell(t, row, side(back, ISO_FROM, ISO_TO)), value) {
         return refused(Refusal::NoValue);
     }
-    copy_front(value, value.len(), work);
-    let code = code_part(index);
     let size = value.len();
+    copy_front(value, copied(size), work);
+    let code = code_part(index);
     match apply(
         t,
         base,
@@ -144,6 +160,7 @@ pub fn run_checked(
         code,
         back,
         i,
+        MAX_DEPTH,
         work,
         0,
         size,
@@ -162,6 +179,7 @@ pub fn run_checked(
             }
         }
         Given::Spent => refused(Refusal::Spent),
+        Given::Large => refused(Refusal::TooLarge),
     }
 }
 

@@ -22,15 +22,13 @@ use Rattle.format.specs.Code.{refusalView}
 use Rattle.format.specs.declared.Refusal as F
 use Rattle.calculus.proofs.Basic.{isSome-true, none≢some, some-inj}
 use Rattle.calculus.proofs.Letters.{of-inhabits, inhabits-of}
-use Rattle.law_ranking.proofs.Numbering.{rank-below, letters-bound, unrank-inhabits, rank-unrank}
+use Rattle.law_ranking.proofs.Numbering.{few-finite, rank-below, letters-bound, unrank-inhabits, rank-unrank}
 use Rattle.law_ranking.proofs.Outcomes.{number-in, setting-in}
 use Rattle.table_trees.specs.Unfolding.{typeOf}
-use Rattle.table_trees.proofs.Lists.{type-finite}
 use Rattle.table_walks.specs.Walk.{FileIn}
 use Rattle.run_values.specs.Texts.{behind, alone}
 use Rattle.run_values.proofs.Alone.{alone-true, alone-false}
 use Rattle.run_values.proofs.Agreeing.{value-some, value-behind}
-use Rattle.run_values.proofs.Finite.{of-bare}
 use Rattle.number_values.specs.Numbers.{Counts, Ranks, Unranks}
 use Rattle.number_values.proofs.Counting.{counted}
 use Rattle.number_values.proofs.TypeLines.{line-small}
@@ -64,7 +62,7 @@ spelled : {t : List ℕ} {types patterns lines : ℕ} {rs : List Row} (f : FileI
 spelled {t} {rs = rs} f {i} n l few low =
     let v : Val = unrank (typeOf t i) n in
     setting-in rs i n
-    (SettingIs.setting (typeOf t i) v (line-good f i l few) (inhabits-of v (typeOf t i) (unrank-inhabits (typeOf t i) n low)) (rank-unrank (typeOf t i) (type-finite t i) n low))
+    (SettingIs.setting (typeOf t i) v (line-good f i l few) (inhabits-of v (typeOf t i) (unrank-inhabits (typeOf t i) n low)) (rank-unrank (typeOf t i) (few-finite (typeOf t i) few) n low))
 
 -- x is the refusal that the tests of T line i give
 module _ (t : List ℕ) (types i : ℕ) (x : F.Refusal) {b : Bool} (e : refusalView x ≡ typeFault types i (typeOf t i)) (h : b ≡ isSome (refusalView x)) where
@@ -96,7 +94,7 @@ module _ (t : List ℕ) (types i : ℕ) (x : F.Refusal) {b : Bool} (e : refusalV
           → (patterns lines : ℕ) (rs : List Row) → FileIn t types patterns lines rs → NumberedAs (numberOn (accepted rs) i value) r
       number-strange q r n k patterns lines rs f =
           let none-is : (v : Val) → value ≡ letters v → Of v (typeOf t i) → ⊥ =
-          λ v p h. alone-false (behind (typeOf t i) value) (sym w ∙ q) (ap (behind (typeOf t i)) (p ∙ sym (append-nil (letters v))) ∙ value-behind (type-finite t i) h []) in
+          λ v p h. alone-false (behind (typeOf t i) value) (sym w ∙ q) (ap (behind (typeOf t i)) (p ∙ sym (append-nil (letters v))) ∙ value-behind (typeOf t i) h []) in
           numbered-refused r (number-in rs i value (NumberIs.strange (typeOf t i) (line-good f i (passed .0) (passed .1)) none-is)) n k
 
       module _ (q : d ≡ true) {number end : ℕ} (says : Ranks (typeOf t i) value 0 number end) where
@@ -104,7 +102,7 @@ module _ (t : List ℕ) (types i : ℕ) (x : F.Refusal) {b : Bool} (e : refusalV
         told : (v : Val) × (value ≡ letters v) × Of v (typeOf t i) × (number ≡ rank v (typeOf t i))
         told =
             let a = value-some (typeOf t i) value (alone-true (behind (typeOf t i) value) (sym w ∙ q)) in
-            let s = says (a .0) (record { rest = []; spells = a .2 ∙ sym (append-nil (letters (a .0))); bare = of-bare (type-finite t i) (a .3) }) (of-inhabits (a .3)) (passed .1) in
+            let s = says (a .0) (record { rest = []; spells = a .2 ∙ sym (append-nil (letters (a .0))) }) (of-inhabits (a .3)) (passed .1) in
             (a .0, a .2, a .3, s .0)
 
         -- it fits 32 bits
@@ -154,7 +152,7 @@ module _ {t : List ℕ} {types i n : ℕ} {x : F.Refusal} (w : FaultOf t types i
       let p = w .passed (flag-none b (refusalView x) h y) in
       let v : Val = unrank (typeOf t i) n in
       let ls : List ℕ = letters v in
-      let short : length ls ≤ 127 = omega (arith, letters-bound v (typeOf t i) (type-finite t i) (unrank-inhabits (typeOf t i) n (p .2)), line-small f i (p .0)) in
+      let short : length ls ≤ 127 = omega (arith, letters-bound v (typeOf t i) (few-finite (typeOf t i) (p .1)) (unrank-inhabits (typeOf t i) n (p .2)), line-small f i (p .0)) in
       let z = zero-add (length ls) in
       let fits : 0 + length ls ≤ length o = omega (arith, z) in
       let s = says (p .1) (p .2) fits in

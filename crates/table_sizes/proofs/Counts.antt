@@ -6,12 +6,14 @@ use mathlib.Core.Path.{_≡_, refl, sym, ap, _∙_, subst}
 use mathlib.Core.List.{List}
 use Rattle.limits.specs.Limits.{manyTags}
 use Rattle.calculus.specs.Trees.{Ty, typeNodes, Pat, nodes, tags, mostTags}
-use mathlib.Core.Bool.{cond}
+use mathlib.Core.Bool.{Bool, true, false, cond, true≢false}
+use lib.Dec.{eqb}
+use borrow.Author.Tests.{eqb-true, eq-eqb}
 use Rattle.calculus.proofs.Basic.{not-eqb}
 use Rattle.table_sizes.specs.Joined.{joinTags}
 use Rattle.format.specs.Judge.{typeNode, patternNode}
 use Rattle.table_trees.specs.Unfolding.{cellOf, smallerOf, typeOf, patternOf}
-use Rattle.table_trees.proofs.Cases.{Parted, sums, products, Whole, node-whole, Injects, lefts, rights, Leaf, unit, var, other}
+use Rattle.table_trees.proofs.Cases.{Parted, sums, products, Whole, node-whole, whole-beyond, node-list, Injects, lefts, rights, Joins, pairs, elements, Leaf, unit, var, empty, other, Plain}
 use Rattle.table_trees.proofs.Unfolding.{type-node, pattern-node}
 
 -- ---- a node's count, by its kind
@@ -23,22 +25,31 @@ pub type-count : {k : ℕ} (a b : Ty) → Parted k → typeNodes (typeNode k a b
 type-count a b sums = refl
 type-count a b products = refl
 
+pub list-count : {k : ℕ} (a b : Ty) → k ≡ 3 → typeNodes (typeNode k a b) ≡ 1 + typeNodes a
+list-count a b e = ap (λ k. typeNodes (typeNode k a b)) e
+
 pub leaf-count : {k : ℕ} (n : ℕ) (p q : Pat) → Leaf k → nodes (patternNode k n p q) ≡ 1
 leaf-count n p q unit = refl
 leaf-count n p q var = refl
+leaf-count n p q empty = refl
 leaf-count n p q (other k) = refl
 
 pub inj-count : {k : ℕ} (n : ℕ) (p q : Pat) → Injects k → nodes (patternNode k n p q) ≡ 1 + nodes p
 inj-count n p q lefts = refl
 inj-count n p q rights = refl
 
-pub pair-count : {k : ℕ} (n : ℕ) (p q : Pat) → k ≡ 4 → nodes (patternNode k n p q) ≡ 1 + nodes p + nodes q
-pair-count n p q e = ap (λ k. nodes (patternNode k n p q)) e
+-- a pair, or an element before a list
+pub pair-count : {k : ℕ} (n : ℕ) (p q : Pat) → Joins k → nodes (patternNode k n p q) ≡ 1 + nodes p + nodes q
+pair-count n p q pairs = refl
+pair-count n p q elements = refl
 
-pub leaf-tags : {k : ℕ} (n : ℕ) (p q : Pat) → Leaf k → tags (patternNode k n p q) ≡ 0
-leaf-tags n p q unit = refl
-leaf-tags n p q var = refl
-leaf-tags n p q (other k) = refl
+pub leaf-tags : {k : ℕ} (n : ℕ) (p q : Pat) → Plain k → tags (patternNode k n p q) ≡ 0
+leaf-tags n p q Plain.unit = refl
+leaf-tags n p q Plain.var = refl
+leaf-tags n p q (Plain.other k) = refl
+
+pub empty-tags : {k : ℕ} (n : ℕ) (p q : Pat) → k ≡ 5 → tags (patternNode k n p q) ≡ 1
+empty-tags n p q e = ap (λ k. tags (patternNode k n p q)) e
 
 pub inj-tags : {k : ℕ} (n : ℕ) (p q : Pat) → Injects k → tags (patternNode k n p q) ≡ 1 + tags p
 inj-tags n p q lefts = refl
@@ -47,10 +58,16 @@ inj-tags n p q rights = refl
 pub pair-tags : {k : ℕ} (n : ℕ) (p q : Pat) → k ≡ 4 → tags (patternNode k n p q) ≡ tags p + tags q
 pair-tags n p q e = ap (λ k. tags (patternNode k n p q)) e ∙ zero-add (tags p + tags q)
 
+pub element-tags : {k : ℕ} (n : ℕ) (p q : Pat) → k ≡ 6 → tags (patternNode k n p q) ≡ 1 + (tags p + tags q)
+element-tags n p q e = ap (λ k. tags (patternNode k n p q)) e
+
 -- ---- counts that stop at a ceiling
 
 pub both : {m n r : ℕ} (x y z : ℕ) → m ≡ min manyTags x → n ≡ min manyTags y → r ≡ min manyTags (m + n) → z ≡ x + y → r ≡ min manyTags z
 both x y z p q e f = omega arith
+
+pub one-above : {m n o r : ℕ} (x y z : ℕ) → m ≡ min manyTags x → n ≡ min manyTags y → o ≡ min manyTags (1 + n) → r ≡ min manyTags (m + o) → z ≡ 1 + (x + y) → r ≡ min manyTags z
+one-above x y z p q s e f = omega arith
 
 pub one-more : {m r : ℕ} (x z : ℕ) → m ≡ min manyTags x → r ≡ min manyTags (1 + m) → z ≡ 1 + x → r ≡ min manyTags z
 one-more x z p e f = omega arith
@@ -76,6 +93,17 @@ module _ (t : List ℕ) (i : ℕ) where
   pub type-tags-whole : {k : ℕ} → k ≡ cellOf t i 1 → Whole k → 0 ≡ min manyTags (mostTags (typeOf t i))
   type-tags-whole e h = sym (ap (min manyTags) (ap mostTags (type-node t i ∙ node-whole _ _ (subst Whole e h))))
 
+  -- a list has no most
+  pub type-tags-list : {k : ℕ} → k ≡ cellOf t i 1 → k ≡ 3 → 0 ≡ min manyTags (mostTags (typeOf t i))
+  type-tags-list e h = sym (ap (min manyTags) (ap mostTags (type-node t i ∙ node-list _ _ (sym e ∙ h))))
+
+  pub type-tags-past : {k : ℕ} → k ≡ cellOf t i 1 → 3 ≤ k → 0 ≡ min manyTags (mostTags (typeOf t i))
+  type-tags-past {k} e h = by (eqb k 3) refl
+    where
+      by : (b : Bool) → eqb k 3 ≡ b → 0 ≡ min manyTags (mostTags (typeOf t i))
+      by true z = type-tags-list e (eqb-true k 3 z)
+      by false z = type-tags-whole e (whole-beyond k h (λ y. true≢false (sym (eq-eqb k 3 y) ∙ z)))
+
   pub type-tags-node :
       {k u v a b m n r : ℕ} →
       k ≡ cellOf t i 1 →
@@ -98,9 +126,12 @@ module _ (t : List ℕ) (i : ℕ) where
 -- ---- P lines, likewise
 
 module _ (t : List ℕ) (base j : ℕ) where
-  pub pattern-tags-leaf : {k : ℕ} → k ≡ cellOf t (base + j) 1 → Leaf k → 0 ≡ min manyTags (tags (patternOf t base j))
+  pub pattern-tags-leaf : {k : ℕ} → k ≡ cellOf t (base + j) 1 → Plain k → 0 ≡ min manyTags (tags (patternOf t base j))
   pattern-tags-leaf e h =
-      sym (ap (min manyTags) (ap tags (pattern-node t base j) ∙ leaf-tags _ _ _ (subst Leaf e h)))
+      sym (ap (min manyTags) (ap tags (pattern-node t base j) ∙ leaf-tags _ _ _ (subst Plain e h)))
+
+  pub pattern-tags-empty : {k : ℕ} → k ≡ cellOf t (base + j) 1 → k ≡ 5 → 1 ≡ min manyTags (tags (patternOf t base j))
+  pattern-tags-empty e h = sym (ap (min manyTags) (ap tags (pattern-node t base j) ∙ empty-tags _ _ _ (sym e ∙ h)))
 
   pub pattern-tags-inj :
       {k u a m r : ℕ} →
@@ -135,3 +166,24 @@ module _ (t : List ℕ) (base j : ℕ) where
       (q ∙ ap (λ x. min manyTags (tags (patternOf t base x))) (w ∙ ap (λ x. smallerOf x j) g))
       r
       (ap tags (pattern-node t base j) ∙ pair-tags _ _ _ (sym e ∙ h))
+
+  pub pattern-tags-element :
+      {k u v a b m n o r : ℕ} →
+      k ≡ cellOf t (base + j) 1 →
+      k ≡ 6 →
+      u ≡ cellOf t (base + j) 2 →
+      a ≡ smallerOf u j →
+      v ≡ cellOf t (base + j) 3 →
+      b ≡ smallerOf v j →
+      m ≡ min manyTags (tags (patternOf t base a)) →
+      n ≡ min manyTags (tags (patternOf t base b)) →
+      o ≡ min manyTags (1 + n) →
+      r ≡ min manyTags (m + o) →
+      r ≡ min manyTags (tags (patternOf t base j))
+  pattern-tags-element e h f s g w p q o r =
+      one-above _ _ _
+      (p ∙ ap (λ x. min manyTags (tags (patternOf t base x))) (s ∙ ap (λ x. smallerOf x j) f))
+      (q ∙ ap (λ x. min manyTags (tags (patternOf t base x))) (w ∙ ap (λ x. smallerOf x j) g))
+      o
+      r
+      (ap tags (pattern-node t base j) ∙ element-tags _ _ _ (sym e ∙ h))

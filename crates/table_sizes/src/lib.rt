@@ -1,6 +1,8 @@
-// The left and right nodes of the trees that the table's T and P lines unfold to, by recursion over lines whose
+// The left, right, empty and element nodes of the trees that the table's T and P lines unfold to, by recursion over lines whose
 // numbers fall. Their nodes stand in the table.
 
+use codes::ELEMENT;
+use codes::EMPTY;
 use codes::FIRST;
 use codes::KIND;
 use codes::LEFT;
@@ -74,7 +76,7 @@ pub fn type_tags(t: &[u16], i: usize) -> usize
     }
 }
 
-// The left and right nodes of P line j, unfolded; 41 stands for more than 40.
+// The left, right, empty and element nodes of P line j, unfolded; 41 stands for more than 40.
 pub fn pattern_tags(t: &[u16], base: usize, j: usize) -> usize
     ensures { λ r. ⌜ r ≡ min manyTags (tags (patternOf (now (t .entry)) base j)) ⌝ }
 {
@@ -87,6 +89,13 @@ pub fn pattern_tags(t: &[u16], base: usize, j: usize) -> usize
             let a = smaller(pattern_cell(t, base, j, FIRST), j);
             let b = smaller(pattern_cell(t, base, j, SECOND), j);
             together(pattern_tags(t, base, a), pattern_tags(t, base, b))
+        }
+        EMPTY => 1,
+        ELEMENT => {
+            let a = smaller(pattern_cell(t, base, j, FIRST), j);
+            let b = smaller(pattern_cell(t, base, j, SECOND), j);
+            let tail = together(1, pattern_tags(t, base, b));
+            together(pattern_tags(t, base, a), tail)
         }
         _ => 0,
     }

@@ -2,4 +2,3 @@
 pub mod Cases
 pub mod Unfolding
 pub mod Lines
-pub mod Lists

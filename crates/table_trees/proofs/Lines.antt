@@ -3,11 +3,11 @@ use Prim.Native.Nat.{ℕ, suc, _+_, _*_, _<_, max}
 use native.Mathlib.Omega.{arith}
 use mathlib.Core.Path.{_≡_, refl, sym, ap, ap₂, _∙_}
 use mathlib.Core.List.{List}
-use Rattle.calculus.specs.Trees.{tunit, tsum, tprod, left, right, pleaf, unitLeaf, pvar, pinj, pnode, pairNode}
+use Rattle.calculus.specs.Trees.{tunit, tlist, tsum, tprod, left, right, unitLeaf, emptyLeaf, pairNode, elementNode, pleaf, pvar, pinj, pnode}
 use Rattle.format.specs.Judge.{typeNode}
 use Rattle.table_trees.specs.Unfolding.{cellOf, smallerOf, typeOf, patternOf}
-use Rattle.table_trees.proofs.Cases.{node-sum, node-prod, node-other}
-use Rattle.table_trees.proofs.Unfolding.{rank, type-node, type-call, pattern-var, pattern-left, pattern-right, pattern-pair, pattern-other}
+use Rattle.table_trees.proofs.Cases.{node-sum, node-prod, node-list, node-other}
+use Rattle.table_trees.proofs.Unfolding.{rank, type-node, type-call, pattern-var, pattern-left, pattern-right, pattern-pair, pattern-empty, pattern-element, pattern-other}
 
 -- a kind that is told is not a unit
 pub no-unit : {k n : ℕ} → k ≡ suc n → k ≡ 0 → ⊥
@@ -28,11 +28,14 @@ module _ (t : List ℕ) (i : ℕ) {k l r : ℕ} (e : k ≡ cellOf t i 1) (nl : l
   pub line-product : k ≡ 2 → typeOf t i ≡ tprod (typeOf t l) (typeOf t r)
   line-product z = line-node ∙ node-prod (typeOf t l) (typeOf t r) z
 
+pub line-list : (t : List ℕ) (i : ℕ) {k l : ℕ} → k ≡ cellOf t i 1 → l ≡ smallerOf (cellOf t i 2) i → k ≡ 3 → typeOf t i ≡ tlist (typeOf t l)
+line-list t i {l = l} e nl z = line-node t i e nl refl ∙ node-list (typeOf t l) (typeOf t (smallerOf (cellOf t i 3) i)) z
+
 -- a unit, or a number that is no kind
-pub line-other : (t : List ℕ) (i : ℕ) {k : ℕ} → k ≡ cellOf t i 1 → (k ≡ 1 → ⊥) → (k ≡ 2 → ⊥) → typeOf t i ≡ tunit
-line-other t i {k} e n m =
+pub line-other : (t : List ℕ) (i : ℕ) {k : ℕ} → k ≡ cellOf t i 1 → (k ≡ 1 → ⊥) → (k ≡ 2 → ⊥) → (k ≡ 3 → ⊥) → typeOf t i ≡ tunit
+line-other t i {k} e n m l =
     line-node t i e refl refl
-    ∙ node-other {k = k} (typeOf t (smallerOf (cellOf t i 2) i)) (typeOf t (smallerOf (cellOf t i 3) i)) n m
+    ∙ node-other {k = k} (typeOf t (smallerOf (cellOf t i 2) i)) (typeOf t (smallerOf (cellOf t i 3) i)) n m l
 
 -- ---- P lines: k is the kind of line p, q and r are the lines that it names
 
@@ -50,9 +53,16 @@ module _ (t : List ℕ) (base p : ℕ) {k : ℕ} (e : k ≡ cellOf t (base + p) 
       → patternOf t base p ≡ pnode pairNode (patternOf t base q) (patternOf t base r)
   is-pair z f g = pattern-pair t base p (sym e ∙ z) ∙ sym (ap₂ (λ x y. pnode pairNode (patternOf t base x) (patternOf t base y)) f g)
 
+  pub is-empty : k ≡ 5 → patternOf t base p ≡ pleaf emptyLeaf
+  is-empty z = pattern-empty t base p (sym e ∙ z)
+
+  pub is-element : {q r : ℕ} → k ≡ 6 → q ≡ smallerOf (cellOf t (base + p) 2) p → r ≡ smallerOf (cellOf t (base + p) 3) p
+      → patternOf t base p ≡ pnode elementNode (patternOf t base q) (patternOf t base r)
+  is-element z f g = pattern-element t base p (sym e ∙ z) ∙ sym (ap₂ (λ x y. pnode elementNode (patternOf t base x) (patternOf t base y)) f g)
+
   -- a unit, or a number that is no kind
-  pub is-unit : (k ≡ 1 → ⊥) → (k ≡ 2 → ⊥) → (k ≡ 3 → ⊥) → (k ≡ 4 → ⊥) → patternOf t base p ≡ pleaf unitLeaf
-  is-unit v l r b = pattern-other t base p (λ h. v (e ∙ h)) (λ h. l (e ∙ h)) (λ h. r (e ∙ h)) (λ h. b (e ∙ h))
+  pub is-unit : (k ≡ 1 → ⊥) → (k ≡ 2 → ⊥) → (k ≡ 3 → ⊥) → (k ≡ 4 → ⊥) → (k ≡ 5 → ⊥) → (k ≡ 6 → ⊥) → patternOf t base p ≡ pleaf unitLeaf
+  is-unit v l r b n m = pattern-other t base p (λ h. v (e ∙ h)) (λ h. l (e ∙ h)) (λ h. r (e ∙ h)) (λ h. b (e ∙ h)) (λ h. n (e ∙ h)) (λ h. m (e ∙ h))
 
 -- ---- measures: twice the line's rank; of two lines one more than twice the higher rank
 

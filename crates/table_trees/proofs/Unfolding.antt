@@ -10,11 +10,11 @@ use lib.Dec.{ltb}
 use lib.ListN.{getD}
 use borrow.Author.Tests.{lt-ltb, le-ltb, ltb-true, ltb-false}
 use Rattle.limits.specs.Limits.{maxLines, rowWidth}
-use Rattle.calculus.specs.Trees.{tunit, tsum, tprod, pleaf, unitLeaf, pvar, pinj, pnode, pairNode, left, right}
+use Rattle.calculus.specs.Trees.{tunit, tlist, tsum, tprod, pleaf, pvar, pinj, pnode, unitLeaf, emptyLeaf, left, right, pairNode, elementNode}
 use Rattle.format.specs.Judge.{typeNode, patternNode}
 use Rattle.calculus.proofs.Basic.{bool-cases}
 use Rattle.table_trees.specs.Unfolding.{cellOf, smallerOf, typeIn, patternIn, typeOf, patternOf}
-use Rattle.table_trees.proofs.Cases.{node-unit, node-sum, node-prod, node-other, node-punit, node-var, node-left, node-right, node-pair, node-pother}
+use Rattle.table_trees.proofs.Cases.{node-unit, node-sum, node-prod, node-list, node-other, node-punit, node-var, node-left, node-right, node-pair, node-empty, node-element, node-pother}
 
 -- ---- cells and names
 
@@ -153,8 +153,11 @@ module _ (t : List ℕ) where
   pub type-prod : (i : ℕ) → cellOf t i 1 ≡ 2 → typeOf t i ≡ tprod (typeOf t (smallerOf (cellOf t i 2) i)) (typeOf t (smallerOf (cellOf t i 3) i))
   type-prod i e = type-node i ∙ node-prod _ _ e
 
-  pub type-other : (i : ℕ) → (cellOf t i 1 ≡ 1 → ⊥) → (cellOf t i 1 ≡ 2 → ⊥) → typeOf t i ≡ tunit
-  type-other i s p = type-node i ∙ node-other _ _ s p
+  pub type-list : (i : ℕ) → cellOf t i 1 ≡ 3 → typeOf t i ≡ tlist (typeOf t (smallerOf (cellOf t i 2) i))
+  type-list i e = type-node i ∙ node-list _ _ e
+
+  pub type-other : (i : ℕ) → (cellOf t i 1 ≡ 1 → ⊥) → (cellOf t i 1 ≡ 2 → ⊥) → (cellOf t i 1 ≡ 3 → ⊥) → typeOf t i ≡ tunit
+  type-other i s p l = type-node i ∙ node-other _ _ s p l
 
 -- ---- P lines
 
@@ -221,9 +224,16 @@ module _ (t : List ℕ) (base : ℕ) where
       (patternOf t base (smallerOf (cellOf t (base + j) 3) j))
   pattern-pair j e = pattern-node j ∙ node-pair _ _ _ e
 
-  pub pattern-other : (j : ℕ) → (cellOf t (base + j) 1 ≡ 1 → ⊥) → (cellOf t (base + j) 1 ≡ 2 → ⊥) → (cellOf t (base + j) 1 ≡ 3 → ⊥) → (cellOf t (base + j) 1 ≡ 4 → ⊥) → patternOf t base j ≡
-      pleaf unitLeaf
-  pattern-other j v l r b = pattern-node j ∙ node-pother _ _ _ v l r b
+  pub pattern-empty : (j : ℕ) → cellOf t (base + j) 1 ≡ 5 → patternOf t base j ≡ pleaf emptyLeaf
+  pattern-empty j e = pattern-node j ∙ node-empty _ _ _ e
+
+  pub pattern-element : (j : ℕ) → cellOf t (base + j) 1 ≡ 6 → patternOf t base j ≡ pnode elementNode (patternOf t base (smallerOf (cellOf t (base + j) 2) j))
+      (patternOf t base (smallerOf (cellOf t (base + j) 3) j))
+  pattern-element j e = pattern-node j ∙ node-element _ _ _ e
+
+  pub pattern-other : (j : ℕ) → (cellOf t (base + j) 1 ≡ 1 → ⊥) → (cellOf t (base + j) 1 ≡ 2 → ⊥) → (cellOf t (base + j) 1 ≡ 3 → ⊥) → (cellOf t (base + j) 1 ≡ 4 → ⊥)
+      → (cellOf t (base + j) 1 ≡ 5 → ⊥) → (cellOf t (base + j) 1 ≡ 6 → ⊥) → patternOf t base j ≡ pleaf unitLeaf
+  pattern-other j v l r b e m = pattern-node j ∙ node-pother _ _ _ v l r b e m
 
 -- ---- tables with the same rows below n
 

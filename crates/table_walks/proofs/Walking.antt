@@ -17,16 +17,14 @@ use Rattle.calculus.specs.Refusals.{Kind, isoLine, clauseLine, letLine, Refusal
 use Rattle.format.specs.Lines.{Row, letter}
 use Rattle.format.specs.Judge.{start, afterAll}
 use Rattle.format.specs.Unfold.{Tail, place, tailFrom, isosOf}
-use Rattle.calculus.specs.Clauses.{Sigs, Event, events, at, clauseFault, sideFault, isoFault, sigsOf, faultFrom, fault}
-use Rattle.calculus.specs.Paper.{NeverCalls}
+use Rattle.calculus.specs.Clauses.{Sigs, Event, events, at, clauseFault, recursionFault, sideFault, isoFault, sigsOf, faultFrom, fault}
 use Rattle.calculus.proofs.Basic.{index-map, index-mem}
 use Rattle.table_trees.specs.Unfolding.{cellOf, typeOf, patternOf}
-use Rattle.table_walks.specs.InTable.{letAt, letsIn, clauseIn, sigsIn, patternsAt, sidesFault}
+use Rattle.table_walks.specs.InTable.{letAt, letsIn, clauseIn, nextRow, clausesIn, isoIn, sigsIn, patternsAt, sidesFault, wholeFault}
 use Rattle.table_walks.specs.Walk.{FileIn, whenIso, isoRows, tailAt, ownSig, pendingFault, WalkAt}
 use Rattle.table_walks.proofs.Rows.{row-at, Names, row-names, kind-iso, kind-clause, kind-let, clause≢iso, let≢iso, iso-rows-step, iso-place, iso-rows-take, iso-rows-below, other-no-iso}
 use Rattle.table_walks.proofs.Tails.{isos-few, clause-owned, clauses-few, Parted, parted, tail-row, place-early, early-no-iso, late-cases, IsoTypes}
 use Rattle.table_walks.proofs.Tails.{sigs-from, lets-slots, file-formed, events-slots}
-use Rattle.table_walks.proofs.Calls.{no-recursion, clauses-quiet}
 
 -- no clause, no refusal
 no-pending : (sigs : Sigs) (o : Option (Ty × Ty)) → none ≡ pendingFault sigs o []
@@ -184,11 +182,13 @@ module _ {t : List ℕ} {types patterns lines : ℕ} {rs : List Row} (f : FileIn
   pub tail-end : tailAt rs lines ≡ record { lets = []; clauses = []; isos = [] }
   tail-end = ap (tailFrom typeList patternList (suc lines)) (ap (λ n. drop n rs) (f .count) ∙ drop-length rs)
 
-  pub walk-start : WalkAt t types rs lines [] lines (length (isoRows 0 rs)) none none
+  pub walk-start : WalkAt t types rs lines [] lines lines (length (isoRows 0 rs)) none none
   walk-start =
       record {
         further = omega arith;
         lets = ap (λ o. o .lets) tail-end ∙ sym (no-lets t types lines);
+        nearest = refl;
+        whole = ap (λ o. o .clauses) tail-end;
         lefts = ap (λ o. map (λ c. c .lhs) (o .clauses)) tail-end;
         rights = ap (λ o. map (λ c. c .rhs) (o .clauses)) tail-end;
         fewer = omega arith;
@@ -200,13 +200,13 @@ module _ {t : List ℕ} {types patterns lines : ℕ} {rs : List Row} (f : FileIn
       }
 
   -- no more isos above a row than in the file
-  pub iso-within : {n iso below : ℕ} {cs : List ℕ} {pending found : Option (Refusal × ℕ)} → WalkAt t types rs n cs below iso pending found
+  pub iso-within : {n iso below last : ℕ} {cs : List ℕ} {pending found : Option (Refusal × ℕ)} → WalkAt t types rs n cs below last iso pending found
       → iso ≤ length (isoRows 0 rs)
   iso-within {n} w = omega (arith, w .number, iso-rows-take 0 rs n)
 
-  module _ (n : ℕ) {r : Row} (e : getElem? rs n ≡ some r) {below iso : ℕ} {cs : List ℕ} {pending found : Option (Refusal × ℕ)} where
+  module _ (n : ℕ) {r : Row} (e : getElem? rs n ≡ some r) {below last iso : ℕ} {cs : List ℕ} {pending found : Option (Refusal × ℕ)} where
     -- an L line
-    pub walk-let : r .kind ≡ letLine → WalkAt t types rs (suc n) cs below iso pending found → WalkAt t types rs n cs below iso pending found
+    pub walk-let : r .kind ≡ letLine → WalkAt t types rs (suc n) cs below last iso pending found → WalkAt t types rs n cs below last iso pending found
     walk-let k w =
         record {
           further = omega (arith, w .further);
@@ -214,6 +214,8 @@ module _ {t : List ℕ} {types patterns lines : ℕ} {rs : List Row} (f : FileIn
               ap (λ o. o .lets) here
               ∙ ap₂ _∷_ (let-here n e k) (w .lets)
               ∙ sym (one-let-more t types n below (w .further));
+          nearest = w .nearest;
+          whole = ap (λ o. o .clauses) here ∙ w .whole;
           lefts = ap (λ o. map (λ c. c .lhs) (o .clauses)) here ∙ w .lefts;
           rights = ap (λ o. map (λ c. c .rhs) (o .clauses)) here ∙ w .rights;
           fewer = w .fewer;
@@ -226,7 +228,7 @@ module _ {t : List ℕ} {types patterns lines : ℕ} {rs : List Row} (f : FileIn
         here = tail-kind n e k
 
     -- a C line: the I line of its iso
-    pub own-row : r .kind ≡ clauseLine → WalkAt t types rs (suc n) cs below iso pending found
+    pub own-row : r .kind ≡ clauseLine → WalkAt t types rs (suc n) cs below last iso pending found
         → (i h : ℕ) × (iso ≡ suc i) × (getElem? (isoRows 0 rs) i ≡ some h)
     own-row k w =
         let i : ℕ = iso - 1 in
@@ -234,17 +236,17 @@ module _ {t : List ℕ} {types patterns lines : ℕ} {rs : List Row} (f : FileIn
         let h = row-at (isoRows 0 rs) i (omega (arith, clause-owned (f .passes) n e k, iso-rows-take 0 rs n)) in
         (i, h .0, omega (arith, clause-owned (f .passes) n e k), h .1)
 
-    clause-here : r .kind ≡ clauseLine → WalkAt t types rs (suc n) cs below iso pending found
+    clause-here : r .kind ≡ clauseLine → WalkAt t types rs (suc n) cs below last iso pending found
         → record { line = suc n; lhs = getD patternList (r .x) (pleaf unitLeaf); lets = tailAt rs (suc n) .lets; rhs = getD patternList (r .y) (pleaf unitLeaf) } ≡ clauseIn t types n below
     clause-here k w = λ i. record { line = suc n; lhs = clause-left n e k i; lets = w .lets i; rhs = clause-right n e k i }
 
-    clause-tail : r .kind ≡ clauseLine → WalkAt t types rs (suc n) cs below iso pending found
+    clause-tail : r .kind ≡ clauseLine → WalkAt t types rs (suc n) cs below last iso pending found
         → tailAt rs n ≡ record { lets = []; clauses = clauseIn t types n below ∷ tailAt rs (suc n) .clauses; isos = tailAt rs (suc n) .isos }
     clause-tail k w =
         tail-kind n e k ∙ ap (λ c. record { lets = []; clauses = c ∷ tailAt rs (suc n) .clauses; isos = tailAt rs (suc n) .isos }) (clause-here k w)
 
     -- its variables have slots
-    pub clause-slots : r .kind ≡ clauseLine → WalkAt t types rs (suc n) cs below iso pending found
+    pub clause-slots : r .kind ≡ clauseLine → WalkAt t types rs (suc n) cs below last iso pending found
         → (v : Event) → List·Memᴰ v (events (clauseIn t types n below)) → v .name < variables
     clause-slots k w =
         let h = file-formed (f .passes) in
@@ -254,7 +256,7 @@ module _ {t : List ℕ} {types patterns lines : ℕ} {rs : List Row} (f : FileIn
         (h (r .x)) (lets-slots rs h (suc n)) (h (r .y)))
 
     -- there is room for it
-    pub clause-room : r .kind ≡ clauseLine → WalkAt t types rs (suc n) cs below iso pending found → length cs < maxClauses
+    pub clause-room : r .kind ≡ clauseLine → WalkAt t types rs (suc n) cs below last iso pending found → length cs < maxClauses
     clause-room k w =
         let o : Tail = tailAt rs (suc n) in
         let l : length (o .clauses) ≡ length cs =
@@ -263,14 +265,16 @@ module _ {t : List ℕ} {types patterns lines : ℕ} {rs : List Row} (f : FileIn
         omega (arith, clauses-few (f .passes) n)
 
     -- the walk with it
-    pub walk-clause : r .kind ≡ clauseLine → WalkAt t types rs (suc n) cs below iso pending found
+    pub walk-clause : r .kind ≡ clauseLine → WalkAt t types rs (suc n) cs below last iso pending found
         → (i h : ℕ) → iso ≡ suc i → getElem? (isoRows 0 rs) i ≡ some h
-        → WalkAt t types rs n (n ∷ cs) n iso
+        → WalkAt t types rs n (n ∷ cs) n last iso
         (orElse (at (suc n) (clauseFault sigs (typeOf t (cellOf t h 1)) (typeOf t (cellOf t h 2)) (clauseIn t types n below))) pending) found
     walk-clause k w i h p q =
         record {
           further = omega arith;
           lets = ap (λ o. o .lets) here ∙ sym (no-lets t types n);
+          nearest = refl;
+          whole = ap (λ o. o .clauses) here ∙ ap₂ (λ b ds. clauseIn t types n b ∷ ds) (w .nearest) (w .whole);
           lefts = ap (λ o. map (λ c. c .lhs) (o .clauses)) here ∙ ap (λ ps. patternOf t types (cellOf t n 1) ∷ ps) (w .lefts);
           rights = ap (λ o. map (λ c. c .rhs) (o .clauses)) here ∙ ap (λ ps. patternOf t types (cellOf t n 2) ∷ ps) (w .rights);
           fewer = clause-room k w;
@@ -292,24 +296,25 @@ module _ {t : List ℕ} {types patterns lines : ℕ} {rs : List Row} (f : FileIn
         own = ap (ownSig sigs) p ∙ index-map (λ z. (typeOf t (cellOf t z 1), typeOf t (cellOf t z 2))) (isoRows 0 rs) i q
 
     -- an I line stands above
-    pub iso-above : r .kind ≡ isoLine → WalkAt t types rs (suc n) cs below iso pending found → iso ≡ suc (length (isoRows 0 (take n rs)))
+    pub iso-above : r .kind ≡ isoLine → WalkAt t types rs (suc n) cs below last iso pending found → iso ≡ suc (length (isoRows 0 (take n rs)))
     iso-above k w = w .number ∙ iso-rows-longer n e k
 
+    -- its iso, as the table holds it
+    iso-here : r .kind ≡ isoLine → WalkAt t types rs (suc n) cs below last iso pending found
+        → isoIn t types n cs last ≡ record { line = suc n; from = getD typeList (r .x) tunit; to = getD typeList (r .y) tunit; clauses = tailAt rs (suc n) .clauses }
+    iso-here k w =
+        let typed = iso-types n e k in
+        λ i. record { line = suc n; from = sym (typed .0) i; to = sym (typed .1) i; clauses = sym (w .whole) i }
+
     -- the refusal of its iso
-    iso-fault : r .kind ≡ isoLine → WalkAt t types rs (suc n) cs below iso pending found → (i : ℕ) → iso ≡ suc i
-        → orElse pending (at (suc n) (sidesFault (patternsAt t types 1 cs) (patternsAt t types 2 cs)))
-        ≡ isoFault sigs i (record { line = suc n; from = getD typeList (r .x) tunit; to = getD typeList (r .y) tunit; clauses = tailAt rs (suc n) .clauses })
+    iso-fault : (j : ℕ) → r .kind ≡ isoLine → WalkAt t types rs (suc n) cs below last iso pending found
+        → orElse pending (wholeFault t types j n cs last)
+        ≡ isoFault sigs j (record { line = suc n; from = getD typeList (r .x) tunit; to = getD typeList (r .y) tunit; clauses = tailAt rs (suc n) .clauses })
     unfolding isoFault sideFault sidesFault
-    iso-fault k w i p =
+    iso-fault j k w =
         ap₂ orElse (w .clauseFaults ∙ ap (λ o. pendingFault sigs o (tailAt rs (suc n) .clauses)) own)
-        (ap₂ (λ a b. orElse a (at (suc n) b)) (sym (no-recursion i here quiet)) (ap₂ sidesFault (sym (w .lefts)) (sym (w .rights))))
+        (ap₂ (λ a b. orElse a (at (suc n) b)) (ap (recursionFault j) (iso-here k w)) (ap₂ sidesFault (sym (w .lefts)) (sym (w .rights))))
       where
-        here : Iso
-        here = record { line = suc n; from = getD typeList (r .x) tunit; to = getD typeList (r .y) tunit; clauses = tailAt rs (suc n) .clauses }
-
-        quiet : NeverCalls i here
-        quiet = clauses-quiet (f .passes) (suc n) i (sym (w .number) ∙ p)
-
         typed : IsoTypes t typeList n r
         typed = iso-types n e k
 
@@ -320,20 +325,22 @@ module _ {t : List ℕ} {types patterns lines : ℕ} {rs : List Row} (f : FileIn
             ∙ (λ i. some (sym (typed .0) i, sym (typed .1) i))
 
     -- the walk with it
-    pub walk-iso : r .kind ≡ isoLine → WalkAt t types rs (suc n) cs below iso pending found → (i : ℕ) → iso ≡ suc i
-        → WalkAt t types rs n [] n i none
-        (orElse (orElse pending (at (suc n) (sidesFault (patternsAt t types 1 cs) (patternsAt t types 2 cs)))) found)
+    pub walk-iso : r .kind ≡ isoLine → WalkAt t types rs (suc n) cs below last iso pending found → (i : ℕ) → iso ≡ suc i
+        → WalkAt t types rs n [] n n i none
+        (orElse (orElse pending (wholeFault t types i n cs last)) found)
     walk-iso k w i p =
         record {
           further = omega arith;
           lets = ap (λ o. o .lets) here ∙ sym (no-lets t types n);
+          nearest = refl;
+          whole = ap (λ o. o .clauses) here;
           lefts = ap (λ o. map (λ c. c .lhs) (o .clauses)) here;
           rights = ap (λ o. map (λ c. c .rhs) (o .clauses)) here;
           fewer = omega arith;
           number = omega (arith, iso-above k w);
           clauseFaults = no-pending sigs (ownSig sigs i) ∙ ap (λ o. pendingFault sigs (ownSig sigs i) (o .clauses)) (sym here);
           isoFaults =
-              ap₂ orElse (iso-fault k w i p) (w .isoFaults ∙ ap (λ j. faultFrom sigs j (tailAt rs (suc n) .isos)) p)
+              ap₂ orElse (iso-fault i k w) (w .isoFaults ∙ ap (λ j. faultFrom sigs j (tailAt rs (suc n) .isos)) p)
               ∙ ap (λ o. faultFrom sigs i (o .isos)) (sym here);
         }
       where
@@ -349,7 +356,7 @@ module _ {t : List ℕ} {types patterns lines : ℕ} {rs : List Row} (f : FileIn
       ∙ sym (tail-row rs n (r .1))
       ∙ tail-early n (omega arith)
 
-  pub walk-end : {below iso : ℕ} {cs : List ℕ} {pending found : Option (Refusal × ℕ)} → WalkAt t types rs (types + patterns) cs below iso pending found
+  pub walk-end : {below last iso : ℕ} {cs : List ℕ} {pending found : Option (Refusal × ℕ)} → WalkAt t types rs (types + patterns) cs below last iso pending found
       → found ≡ fault (isosOf rs)
   unfolding isosOf fault
   walk-end w =

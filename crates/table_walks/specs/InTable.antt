@@ -4,10 +4,10 @@ use mathlib.Core.Option.{Option}
 use mathlib.Core.List.{List, [], _∷_, map}
 use Rattle.limits.specs.Fields.{letP, letIso, letQ, clauseLeft, clauseRight, isoFrom, isoTo}
 use Rattle.limits.specs.Limits.{maxTags}
-use Rattle.calculus.specs.Tools.{firstFailing}
-use Rattle.calculus.specs.Trees.{Pat, Let, Clause, left, right}
+use Rattle.calculus.specs.Tools.{firstFailing, orElse}
+use Rattle.calculus.specs.Trees.{Pat, Let, Clause, Iso, left, right}
 use Rattle.calculus.specs.Refusals.{Refusal, isoLine, overlap, gap}
-use Rattle.calculus.specs.Clauses.{Sigs, apart, fullWeight}
+use Rattle.calculus.specs.Clauses.{Sigs, apart, fullWeight, recursionFault, at}
 use Rattle.table_trees.specs.Unfolding.{cellOf, typeOf, patternOf}
 
 -- the L line in row n, and the L lines in `count` rows from n on
@@ -28,6 +28,20 @@ clauseIn t base row end =
       rhs = patternOf t base (cellOf t row clauseRight);
     }
 
+-- the clauses whose C lines are in these rows: the L lines of each stand before the next, those of the last one before row `last`
+abbrev pub nextRow : List ℕ → ℕ → ℕ
+nextRow [] last = last
+nextRow (c ∷ cs) last = c
+
+abbrev pub clausesIn : List ℕ → ℕ → List ℕ → ℕ → List Clause
+clausesIn t base [] last = []
+clausesIn t base (c ∷ cs) last = clauseIn t base c (nextRow cs last) ∷ clausesIn t base cs last
+
+-- the iso whose I line is in a row, with these clauses
+abbrev pub isoIn : List ℕ → ℕ → ℕ → List ℕ → ℕ → Iso
+isoIn t base row cs last =
+    record { line = suc row; from = typeOf t (cellOf t row isoFrom); to = typeOf t (cellOf t row isoTo); clauses = clausesIn t base cs last }
+
 -- the types of the isos whose I lines are in these rows
 abbrev pub sigsIn : List ℕ → List ℕ → Sigs
 sigsIn t starts = map (λ r. (typeOf t (cellOf t r isoFrom), typeOf t (cellOf t r isoTo))) starts
@@ -45,3 +59,9 @@ unfoldable pub sidesFault : List Pat → List Pat → Option Refusal
 sidesFault ls rs =
     firstFailing
     ((apart ls, overlap isoLine left) ∷ (apart rs, overlap isoLine right) ∷ (fullWeight ls, gap isoLine left) ∷ (fullWeight rs, gap isoLine right) ∷ [])
+
+-- what is tested of iso i, its I line in a row, once all its clauses have passed: 23, then 11 to 14
+abbrev pub wholeFault : List ℕ → ℕ → ℕ → ℕ → List ℕ → ℕ → Option (Refusal × ℕ)
+wholeFault t base i row cs last =
+    orElse (recursionFault i (isoIn t base row cs last))
+    (at (suc row) (sidesFault (patternsAt t base clauseLeft cs) (patternsAt t base clauseRight cs)))

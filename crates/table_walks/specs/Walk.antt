@@ -14,7 +14,7 @@ use Rattle.format.specs.Judge.{start, afterAll, Passes}
 use Rattle.format.specs.Unfold.{Tail, tailFrom}
 use Rattle.calculus.specs.Clauses.{Sigs, at, clauseFault, faultFrom}
 use Rattle.table_trees.specs.Unfolding.{cellOf, typeOf, patternOf}
-use Rattle.table_walks.specs.InTable.{letsIn, sigsIn, patternsAt}
+use Rattle.table_walks.specs.InTable.{letsIn, nextRow, clausesIn, sigsIn, patternsAt}
 
 -- the table holds rows that passed: `types` T lines, then `patterns` P lines, `lines` rows in all
 pub record FileIn (t : List ℕ) (types patterns lines : ℕ) (rs : List Row) : Type 0 where
@@ -56,11 +56,13 @@ abbrev pub pendingFault : Sigs → Option (Ty × Ty) → List Clause → Option 
 pendingFault sigs none cs = none
 pendingFault sigs (some s) cs = firstOf (λ c. at (c .line) (clauseFault sigs (s .0) (s .1) c)) cs
 
--- the walk at row n: the rows of the C lines of the iso above, the row where its L lines end, the number of I lines above, the first
--- refusal of those clauses, the first refusal of the isos further down
-pub record WalkAt (t : List ℕ) (base : ℕ) (rs : List Row) (n : ℕ) (clauses : List ℕ) (below iso : ℕ) (pending found : Option (Refusal × ℕ)) : Type 0 where
+-- the walk at row n: the rows of the C lines of the iso above, the row where the L lines of the next C line above end and the one where the iso
+-- ends, the number of I lines above, the first refusal of those clauses, the first refusal of the isos further down
+pub record WalkAt (t : List ℕ) (base : ℕ) (rs : List Row) (n : ℕ) (clauses : List ℕ) (below last iso : ℕ) (pending found : Option (Refusal × ℕ)) : Type 0 where
   pub further : n ≤ below
   pub lets : tailAt rs n .lets ≡ letsIn t base n (below - n)
+  pub nearest : below ≡ nextRow clauses last
+  pub whole : tailAt rs n .clauses ≡ clausesIn t base clauses last
   pub lefts : map (λ c. c .lhs) (tailAt rs n .clauses) ≡ patternsAt t base clauseLeft clauses
   pub rights : map (λ c. c .rhs) (tailAt rs n .clauses) ≡ patternsAt t base clauseRight clauses
   pub fewer : length clauses ≤ maxClauses

@@ -3,7 +3,7 @@ use Prim.Native.Nat.{ℕ, _+_, _-_, _≤_, min}
 use native.Mathlib.Nat.{sub-zero}
 use native.Mathlib.Omega.{arith}
 use mathlib.Core.Path.{_≡_, refl, sym, ap, ap₂, _∙_, subst}
-use mathlib.Core.Bool.{Bool, true, false, cond}
+use mathlib.Core.Bool.{Bool, true, false}
 use mathlib.Core.Option.{Option, none, some}
 use mathlib.Core.List.{List, [], _∷_, _++_, append-assoc}
 use lib.ListN.{length, take, drop, replicate, length-map, take-append-drop}
@@ -11,7 +11,7 @@ use lib.Seq.{drop-append-le, drop-drop, length-take-le}
 use borrow.Rule.Slice.PartMut.{midOf, postOf}
 use Rattle.limits.specs.Limits.{runRoom, workLength, maxLines}
 use Rattle.calculus.specs.Tools.{isSome, orElse}
-use Rattle.calculus.specs.Refusals.{Refusal, badScript}
+use Rattle.calculus.specs.Refusals.{Refusal}
 use Rattle.format.specs.Lines.{Row, lines}
 use Rattle.format.specs.Unfold.{isosOf}
 use Rattle.format.specs.Code.{refusalView}
@@ -45,19 +45,19 @@ part-marks w n ms ys h room long e =
     ∙ ap (λ z. ms ++ z) (behind-part w n (runRoom + length ms) h room ∙ sym (drop-drop (length ms) runRoom w))
 
 -- no more marks than lines
-marks-few : (rs : List Row) (budget isos : ℕ) (q is ns : List ℕ) (ps : List Planned) → Ready rs isos q is ns ps → length (marksOf rs budget ps (unitsIn is ns)) ≤ maxLines
-marks-few rs budget isos q is ns ps r =
+marks-few : (rs : List Row) (budget : ℕ) (q is ns : List ℕ) (ps : List Planned) → Ready rs q is ns ps → length (marksOf rs budget ps (unitsIn is ns)) ≤ maxLines
+marks-few rs budget q is ns ps r =
     let a = length-map (outcomes rs budget ps (unitsIn is ns)) marked in
     let b = outcomes-length rs budget ps (unitsIn is ns) in
-    let c = script-length (length is) isos (lines q) ps (r .script) in
+    let c = script-length (length is) (isosOf rs) (lines q) ps (r .script) in
     let d = r .few in
     omega (arith, a, b, c, d)
 
-pub part-played : (rs : List Row) (budget isos : ℕ) (q is ns : List ℕ) (ps : List Planned) → Ready rs isos q is ns ps → (room : ℕ) (w ys : List ℕ) {is′ ns′ : List ℕ} → room ≤ length w
+pub part-played : (rs : List Row) (budget : ℕ) (q is ns : List ℕ) (ps : List Planned) → Ready rs q is ns ps → (room : ℕ) (w ys : List ℕ) {is′ ns′ : List ℕ} → room ≤ length w
     → length ys ≡ length (midOf 0 (room - 0) w) → runRoom + maxLines ≤ room → ScriptPlayed rs budget ps (midOf 0 (room - 0) w) is ns ys is′ ns′
     → ScriptPlayed rs budget ps w is ns (ys ++ postOf 0 (room - 0) w) is′ ns′
-part-played rs budget isos q is ns ps r room w ys h long enough s =
-    let few = marks-few rs budget isos q is ns ps r in
+part-played rs budget q is ns ps r room w ys h long enough s =
+    let few = marks-few rs budget q is ns ps r in
     let z = sub-zero room in
     let fits : room - 0 ≤ length w = omega (arith, z, h) in
     let l = length-take-le (room - 0) w fits in
@@ -69,20 +69,20 @@ part-played rs budget isos q is ns ps r room w ys h long enough s =
 -- ---- the tests and the play
 
 module _ (rs : List Row) (budget : ℕ) (us : Units) where
-  abbrev result : Option Refusal → Option (List Planned) → Outcome Played
+  abbrev result : Option Refusal → Outcome (List Planned) → Outcome Played
   result (some f) y = fails f
   result none y = onScript rs budget us y
 
-  refusal-of : (u : Option Refusal) (y : Option (List Planned)) → refusalOf (result u y) ≡ orElse u (cond (isSome y) none (some badScript))
+  refusal-of : (u : Option Refusal) (y : Outcome (List Planned)) → refusalOf (result u y) ≡ orElse u (refusalOf y)
   refusal-of (some f) y = refl
-  refusal-of none none = refl
-  refusal-of none (some ps) = refl
+  refusal-of none (fails f) = refl
+  refusal-of none (gives ps) = refl
 
-  rows-result : (q : List ℕ) → playRows us q budget rs ≡ result (unitsFault rs (us .types) (us .settings)) (scriptOf (length (us .types)) (length (isosOf rs)) (lines q))
+  rows-result : (q : List ℕ) → playRows us q budget rs ≡ result (unitsFault rs (us .types) (us .settings)) (scriptOf (length (us .types)) (isosOf rs) (lines q))
   unfolding playRows
   rows-result q = go (unitsFault rs (us .types) (us .settings))
     where
-      go : (u : Option Refusal) → onUnits rs budget us (lines q) u ≡ result u (scriptOf (length (us .types)) (length (isosOf rs)) (lines q))
+      go : (u : Option Refusal) → onUnits rs budget us (lines q) u ≡ result u (scriptOf (length (us .types)) (isosOf rs) (lines q))
       go none = refl
       go (some f) = refl
 
@@ -99,12 +99,12 @@ module _ {s t : List ℕ} {c : C.Checked} (a : Accepted s t c) (q : List ℕ) (b
   told = playRows us₀ q budget (a .file)
 
   -- the tests are those of the definition
-  tests : {x : Option Refusal} → x ≡ orElse (unitsFault (a .file) is ns) (scriptFault (length is) (c .isos) q) → x ≡ refusalOf told
+  tests : {x : Option Refusal} → x ≡ orElse (unitsFault (a .file) is ns) (scriptFault (length is) (isosOf (a .file)) q) → x ≡ refusalOf told
   tests e =
-      e ∙ ap (λ n. orElse (unitsFault (a .file) is ns) (scriptFault (length is) n q)) (a .isos)
-      ∙ sym (ap refusalOf (rows-result (a .file) budget us₀ q) ∙ refusal-of (a .file) budget us₀ (unitsFault (a .file) is ns) (scriptOf (length is) (length (isosOf (a .file))) (lines q)))
+      e ∙ sym (ap refusalOf (rows-result (a .file) budget us₀ q) ∙ refusal-of (a .file) budget us₀ (unitsFault (a .file) is ns) (scriptOf (length is) (isosOf (a .file)) (lines q)))
 
-  pub into-refused : (w : List ℕ) {r : F.Refusal} {b : Bool} → refusalView r ≡ orElse (unitsFault (a .file) is ns) (scriptFault (length is) (c .isos) q) → b ≡ isSome (refusalView r) → b ≡ true
+  pub into-refused : (w : List ℕ) {r : F.Refusal} {b : Bool} → refusalView r ≡ orElse (unitsFault (a .file) is ns) (scriptFault (length is) (isosOf (a .file)) q) → b ≡ isSome (refusalView r)
+      → b ≡ true
       → Into told w is ns w is ns r
   into-refused w {r} e g y =
       let f = isSome-true (refusalView r) (sym g ∙ y) in
@@ -115,21 +115,21 @@ module _ {s t : List ℕ} {c : C.Checked} (a : Accepted s t c) (q : List ℕ) (b
         work = sym (take-append-drop runRoom w) ∙ ap (λ ms. withMarks ms w) (sym (z .1));
       }
 
-  module _ (r : F.Refusal) {b : Bool} (e : refusalView r ≡ orElse (unitsFault (a .file) is ns) (scriptFault (length is) (c .isos) q)) (g : b ≡ isSome (refusalView r)) (y : b ≡ false) where
-    passed : (unitsFault (a .file) is ns ≡ none) × (scriptFault (length is) (c .isos) q ≡ none)
-    passed = orElse-none (unitsFault (a .file) is ns) (scriptFault (length is) (c .isos) q) (sym e ∙ flag-none b (refusalView r) g y)
+  module _ (r : F.Refusal) {b : Bool} (e : refusalView r ≡ orElse (unitsFault (a .file) is ns) (scriptFault (length is) (isosOf (a .file)) q)) (g : b ≡ isSome (refusalView r)) (y : b ≡ false) where
+    passed : (unitsFault (a .file) is ns ≡ none) × (scriptFault (length is) (isosOf (a .file)) q ≡ none)
+    passed = orElse-none (unitsFault (a .file) is ns) (scriptFault (length is) (isosOf (a .file)) q) (sym e ∙ flag-none b (refusalView r) g y)
 
-    pub read : (ps : List Planned) × Ready (a .file) (c .isos) q is ns ps
-    read = go (scriptOf (length is) (c .isos) (lines q)) refl (passed .1)
+    pub read : (ps : List Planned) × Ready (a .file) q is ns ps
+    read = go (scriptOf (length is) (isosOf (a .file)) (lines q)) refl (passed .1)
       where
-        go : (x : Option (List Planned)) → scriptOf (length is) (c .isos) (lines q) ≡ x → cond (isSome x) none (some badScript) ≡ none → (ps : List Planned) × Ready (a .file) (c .isos) q is ns ps
-        go none f h = absurd (none≢some (sym h))
-        go (some ps) f h = (ps, record { long = long; passes = passed .0; script = f; few = few })
+        go : (x : Outcome (List Planned)) → scriptOf (length is) (isosOf (a .file)) (lines q) ≡ x → refusalOf x ≡ none → (ps : List Planned) × Ready (a .file) q is ns ps
+        go (fails z) f h = absurd (none≢some (sym h))
+        go (gives ps) f h = (ps, record { long = long; passes = passed .0; script = f; few = few })
 
     gives-all : told ≡ gives (played (a .file) budget us₀ (read .0))
     gives-all =
         rows-result (a .file) budget us₀ q
-        ∙ ap₂ (result (a .file) budget us₀) (passed .0) (ap (λ n. scriptOf (length is) n (lines q)) (sym (a .isos)) ∙ read .1 .script)
+        ∙ ap₂ (result (a .file) budget us₀) (passed .0) (read .1 .script)
 
     pub into-played : (w w₁ : List ℕ) {w′ is′ ns′ : List ℕ} {f : F.Refusal} → refusalView f ≡ none → workLength ≤ length w₁ → take runRoom w ≡ replicate runRoom 0
         → ScriptPlayed (a .file) budget (read .0) w is ns w₁ is′ ns′ → w′ ≡ cleared runRoom w₁ → Into told w is ns w′ is′ ns′ f

@@ -1,14 +1,17 @@
 -- The contracts of a play on an accepted file's table.
 use Prim.Native.Nat.{ℕ, _+_, _≤_, _<_}
 use mathlib.Core.Path.{_≡_}
-use mathlib.Core.Bool.{cond}
+use mathlib.Core.Bool.{true}
 use mathlib.Core.Option.{Option, none, some}
 use mathlib.Core.List.{List, [], _++_, map}
 use lib.ListN.{length, take, drop, getD, replicate}
 use Rattle.limits.specs.Limits.{runRoom, workLength, maxLines}
-use Rattle.calculus.specs.Tools.{isSome, orElse}
-use Rattle.calculus.specs.Refusals.{Refusal, badScript}
+use Rattle.calculus.specs.Tools.{orElse}
+use Rattle.calculus.specs.Trees.{Iso}
+use Rattle.calculus.specs.Refusals.{Refusal}
+use Rattle.calculus.specs.Lists.{isFree}
 use Rattle.format.specs.Lines.{Row, lines}
+use Rattle.format.specs.Unfold.{isosOf}
 use Rattle.format.specs.Code.{refusalView}
 use Rattle.format.specs.declared.Refusal as F
 use Rattle.model.specs.Services.{Outcome, gives, fails, refusalOf}
@@ -26,7 +29,7 @@ unitsIn is ns = record { types = is; settings = ns }
 abbrev pub LinePlayed : List ℕ → ℕ → List ℕ → ℕ → List ℕ → ℕ → ℕ → List ℕ → List ℕ → List ℕ → List ℕ → List ℕ → List ℕ → Type 0
 LinePlayed t types index isos l k budget w is ns w′ is′ ns′ =
     (rs : List Row) → Playable t types index isos rs → (p : Planned) → plannedOf l ≡ some p → Holds rs (getD is (p .unit) 0) (getD ns (p .unit) 0) → p .iso < isos
-    → InRoom (length w) (k < maxLines → VisitPlayed rs budget p k w is ns w′ is′ ns′)
+    → isFree (isosOf rs) (p .iso) ≡ true → InRoom (length w) (k < maxLines → VisitPlayed rs budget p k w is ns w′ is′ ns′)
 
 -- the marks of some visits, and a work area with marks behind the room of a run
 abbrev pub marksOf : List Row → ℕ → List Planned → Units → List ℕ
@@ -41,31 +44,34 @@ pub record ScriptPlayed (rs : List Row) (budget : ℕ) (ps : List Planned) (w is
   pub marks : drop runRoom w′ ≡ marksOf rs budget ps (unitsIn is ns) ++ drop (length (marksOf rs budget ps (unitsIn is ns))) (drop runRoom w)
 
 -- what a play assumes: units that pass, a script that plans a visit with each of its lines, and few of these
-pub record Ready (rs : List Row) (isos : ℕ) (q is ns : List ℕ) (ps : List Planned) : Type 0 where
+pub record Ready (rs : List Row) (q is ns : List ℕ) (ps : List Planned) : Type 0 where
   pub long : length is ≡ length ns
   pub passes : unitsFault rs is ns ≡ none
-  pub script : scriptOf (length is) isos (lines q) ≡ some ps
+  pub script : scriptOf (length is) (isosOf rs) (lines q) ≡ gives ps
   pub few : length (lines q) ≤ maxLines
 
 -- all lines, in an area with room for a run and for their marks
 abbrev pub LinesPlayed : List ℕ → ℕ → List ℕ → ℕ → List ℕ → ℕ → List ℕ → List ℕ → List ℕ → List ℕ → List ℕ → List ℕ → Type 0
 LinesPlayed t types index isos q budget w is ns w′ is′ ns′ =
-    (rs : List Row) → Playable t types index isos rs → (ps : List Planned) → Ready rs isos q is ns ps → runRoom + maxLines ≤ length w → length w ≤ workLength
+    (rs : List Row) → Playable t types index isos rs → (ps : List Planned) → Ready rs q is ns ps → runRoom + maxLines ≤ length w → length w ≤ workLength
     → ScriptPlayed rs budget ps w is ns w′ is′ ns′
 
 -- the same of an accepted file's rows, in a work area's first n bytes
 abbrev pub AllPlayed : List ℕ → C.Checked → List ℕ → ℕ → ℕ → List ℕ → List ℕ → List ℕ → List ℕ → List ℕ → List ℕ → Type 0
 AllPlayed t c q budget n w is ns w′ is′ ns′ =
-    (s : List ℕ) (a : Accepted s t c) (ps : List Planned) → Ready (a .file) (c .isos) q is ns ps → runRoom + maxLines ≤ n → n ≤ workLength
+    (s : List ℕ) (a : Accepted s t c) (ps : List Planned) → Ready (a .file) q is ns ps → runRoom + maxLines ≤ n → n ≤ workLength
     → ScriptPlayed (a .file) budget ps w is ns w′ is′ ns′
 
 -- the tests: the units, and then the script
-abbrev pub scriptFault : ℕ → ℕ → List ℕ → Option Refusal
-scriptFault units isos q = cond (isSome (scriptOf units isos (lines q))) none (some badScript)
+abbrev pub scriptFault : ℕ → List Iso → List ℕ → Option Refusal
+scriptFault units os q = refusalOf (scriptOf units os (lines q))
+
+abbrev pub ScriptTested : List ℕ → C.Checked → List ℕ → ℕ → F.Refusal → Type 0
+ScriptTested t c q units r = (s : List ℕ) (a : Accepted s t c) → refusalView r ≡ scriptFault units (isosOf (a .file)) q
 
 abbrev pub Tested : List ℕ → C.Checked → List ℕ → List ℕ → List ℕ → F.Refusal → Type 0
 Tested t c q is ns r =
-    (s : List ℕ) (a : Accepted s t c) → length is ≡ length ns → refusalView r ≡ orElse (unitsFault (a .file) is ns) (scriptFault (length is) (c .isos) q)
+    (s : List ℕ) (a : Accepted s t c) → length is ≡ length ns → refusalView r ≡ orElse (unitsFault (a .file) is ns) (scriptFault (length is) (isosOf (a .file)) q)
 
 -- the tests and the play: refusal, units and marks as an outcome says
 abbrev pub marksFrom : Outcome Played → List ℕ

@@ -4,6 +4,8 @@ use area_parts::clear_bytes;
 use checker::Checked;
 use format::Refusal;
 use format::is_refused;
+use limits::INDEX_LENGTH;
+use limits::MAX_ISOS;
 use limits::RUN_ROOM;
 use limits::WORK_LENGTH;
 use number_values::COUNTS;
@@ -11,17 +13,18 @@ use number_values::find_counts;
 use number_values::known;
 use read_fields::Cursor;
 use run_coding::AREA_LENGTH;
+use run_lists::mark_lists;
 use runner::run::prepare;
 use unit_script::Plan;
-use unit_script::is_script;
 use unit_script::planned_of;
+use unit_script::script_fault;
 use unit_settings::units_fault;
 use unit_visits::play_visit;
 ghost use Prim.Native.Nat.{_≤_};
 ghost use lib.ListN.{length};
 ghost use Rattle.limits.specs.Limits.{workLength};
 ghost use Rattle.number_values.specs.Numbers.{Counted};
-ghost use Rattle.unit_plays.specs.Playing.{LinePlayed, LinesPlayed, AllPlayed, Tested, PlayedInto};
+ghost use Rattle.unit_plays.specs.Playing.{LinePlayed, LinesPlayed, AllPlayed, ScriptTested, Tested, PlayedInto};
 
 // Plays line k of a script.
 fn play_line(
@@ -136,6 +139,17 @@ fn play_all(
     );
 }
 
+// The refusal of a script, line by line, for so many units of an accepted file.
+fn script_tested(table: &[u16], c: Checked, script: &[u8], units: usize) -> Refusal
+    ensures { λ r. ⌜ ScriptTested (now (table .entry)) c (now (script .entry)) units r ⌝ }
+{
+    let mut index = [0u16; INDEX_LENGTH];
+    prepare(table, c, &mut index);
+    let mut marks = [0u8; MAX_ISOS];
+    mark_lists(table, &index, c.isos, &mut marks);
+    script_fault(script, units, c.isos, &marks)
+}
+
 // The refusal of an accepted file's units, in order, and then of the script.
 fn tested(
     table: &[u16],
@@ -152,10 +166,7 @@ fn tested(
     if is_refused(f) {
         return f;
     }
-    if !is_script(script, lines.len(), c.isos) {
-        return Refusal::BadScript;
-    }
-    Refusal::Nothing
+    script_tested(table, c, script, lines.len())
 }
 
 // Finds the counts of T lines, as many as there is a place for; tests the units and the script on an accepted

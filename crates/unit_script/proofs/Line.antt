@@ -1,16 +1,19 @@
 -- A line of a script: its fields one by one, and its ending.
 use Prim.Native.Nat.{ℕ, _<_, _≤_}
-use mathlib.Core.Path.{_≡_, refl, sym, ap, _∙_}
-use mathlib.Core.Bool.{Bool, true, false, _&&_}
+use mathlib.Core.Path.{_≡_, refl, sym, ap, ap₂, _∙_, subst}
+use mathlib.Core.Bool.{Bool, true, false, cond, _&&_}
 use mathlib.Core.Option.{Option, none, some}
 use mathlib.Core.List.{List, [], _∷_}
 use lib.Dec.{eqb, ltb}
-use lib.ListN.{getD, drop}
+use lib.ListN.{length, getD, drop}
 use Rattle.limits.specs.Limits.{fieldBound, letterS}
-use Rattle.calculus.specs.Tools.{_>>=_, guard, isSome}
+use Rattle.calculus.specs.Tools.{_>>=_, guard}
+use Rattle.calculus.specs.Trees.{Iso}
+use Rattle.calculus.specs.Refusals.{Refusal, tooMany, badScript}
 use Rattle.format.specs.Lines.{text, skip, fields, ended}
-use Rattle.calculus.proofs.Basic.{lt-ltb, not-ltb}
-use Rattle.law_units.specs.Units.{Planned, plannedIn, plannedOf, names, plannedFor}
+use Rattle.model.specs.Services.{gives, fails, refusalOf}
+use Rattle.calculus.proofs.Basic.{lt-ltb, not-ltb, eq-eqb, not-eqb}
+use Rattle.law_units.specs.Units.{Planned, plannedIn, plannedOf, names, plannedFor, onLine, lineOn}
 use Rattle.read_fields.specs.declared.Cursor as C
 use Rattle.read_fields.specs.declared.Skipped as S
 use Rattle.read_fields.specs.declared.Skipped.the-variants as skips
@@ -20,7 +23,7 @@ use Rattle.read_fields.proofs.Fields.{onto, fields-some, fields-none}
 use Rattle.unit_script.specs.declared.Planned as P
 use Rattle.unit_script.specs.declared.Plan as R
 use Rattle.unit_script.specs.declared.Plan.the-variants as plans
-use Rattle.unit_script.specs.Views.{plannedView, asPlanned, behindLetter}
+use Rattle.unit_script.specs.Views.{plannedView, asPlanned, behindLetter, Marked}
 
 -- ---- the fields
 
@@ -82,23 +85,45 @@ in-text l e p q = q ∙ ap plannedIn p ∙ sym (ap (λ o. o >>= plannedIn) e)
 
 -- ---- the names
 
-abbrev naming : ℕ → ℕ → Option Planned → Bool
-naming units isos o = isSome (o >>= λ p. guard (names units isos p) >>= λ _. some p)
-
-guarded : (b : Bool) (p : Planned) → isSome (guard b >>= λ _. some p) ≡ b
-guarded true p = refl
-guarded false p = refl
+abbrev naming : ℕ → ℕ → Option Planned → Option Planned
+naming units isos o = o >>= λ p. guard (names units isos p) >>= λ _. some p
 
 module _ (units isos : ℕ) (l : List ℕ) {r : R.Plan} (read : asPlanned r ≡ plannedOf l) where
-  pub not-planned : r ≡ plans.Bad → false ≡ isSome (plannedFor units isos l)
-  not-planned e = sym (ap (naming units isos) (sym read ∙ ap asPlanned e))
+  pub not-planned : r ≡ plans.Bad → plannedFor units isos l ≡ none
+  not-planned e = ap (naming units isos) (sym read ∙ ap asPlanned e)
 
   module _ {p : P.Planned} (e : r ≡ plans.Of p) where
-    by-names : isSome (plannedFor units isos l) ≡ (ltb (p .unit) units && ltb (p .iso) isos)
-    by-names = ap (naming units isos) (sym read ∙ ap asPlanned e) ∙ guarded (names units isos (plannedView p)) (plannedView p)
+    by-names : (b c : Bool) → ltb (p .unit) units ≡ b → ltb (p .iso) isos ≡ c → plannedFor units isos l ≡ (guard (b && c) >>= λ _. some (plannedView p))
+    by-names b c f g =
+        ap (naming units isos) (sym read ∙ ap asPlanned e) ∙ ap₂ (λ x y. guard (x && y) >>= λ _. some (plannedView p)) f g
 
-    pub unit-there : p .unit < units → {v : Bool} → v ≡ ltb (p .iso) isos → v ≡ isSome (plannedFor units isos l)
-    unit-there h g = g ∙ sym (by-names ∙ ap (λ b. b && ltb (p .iso) isos) (lt-ltb h))
+    pub no-such-unit : units ≤ p .unit → plannedFor units isos l ≡ none
+    no-such-unit h = by-names false (ltb (p .iso) isos) (not-ltb h) refl
 
-    pub no-such-unit : units ≤ p .unit → false ≡ isSome (plannedFor units isos l)
-    no-such-unit h = sym (by-names ∙ ap (λ b. b && ltb (p .iso) isos) (not-ltb h))
+    pub no-such-iso : (p .unit < units) → isos ≤ p .iso → plannedFor units isos l ≡ none
+    no-such-iso h k = by-names true false (lt-ltb h) (not-ltb k)
+
+    pub both-there : (p .unit < units) → (p .iso < isos) → plannedFor units isos l ≡ some (plannedView p)
+    both-there h k = by-names true true (lt-ltb h) (lt-ltb k)
+
+-- ---- the refusal
+
+module _ (units isos : ℕ) (l ms : List ℕ) where
+  abbrev tells : Option Refusal → Type 0
+  tells f = (os : List Iso) → isos ≡ length os → Marked os ms → f ≡ refusalOf (lineOn units os l)
+
+  pub told-bad : plannedFor units isos l ≡ none → tells (some badScript)
+  told-bad e os n m = sym (ap (λ x. refusalOf (onLine os x)) (ap (λ k. plannedFor units k l) (sym n) ∙ e))
+
+  module _ {p : Planned} (e : plannedFor units isos l ≡ some p) (h : p .iso < isos) where
+    by-mark : (b : Bool) → eqb (getD ms (p .iso) 0) 0 ≡ b → (os : List Iso) → isos ≡ length os → Marked os ms
+        → refusalOf (lineOn units os l) ≡ refusalOf (cond b (gives p) (fails tooMany))
+    by-mark b f os n m =
+        ap (λ x. refusalOf (onLine os x)) (ap (λ k. plannedFor units k l) (sym n) ∙ e)
+        ∙ ap (λ c. refusalOf (cond c (gives p) (fails tooMany))) (sym (m (p .iso) (subst (λ k. p .iso < k) n h)) ∙ f)
+
+    pub told-free : getD ms (p .iso) 0 ≡ 0 → tells none
+    told-free z os n m = sym (by-mark true (eq-eqb z) os n m)
+
+    pub told-lists : (getD ms (p .iso) 0 ≡ 0 → ⊥) → tells (some tooMany)
+    told-lists z os n m = sym (by-mark false (not-eqb z) os n m)

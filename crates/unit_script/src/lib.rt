@@ -1,17 +1,18 @@
 // A script of visits, line by line: `S,unit,iso,direction`.
 
+use area_cells::byte_at;
 use area_parts::front;
 use codes::LETTER_S;
+use format::Refusal;
+use format::is_refused;
 use limits::MAX_FIELD;
 use read_fields::Cursor;
 use read_fields::Number;
 use read_fields::Skipped;
 ghost use mathlib.Core.Path.{_≡_};
 ghost use lib.ListN.{drop};
-ghost use Rattle.calculus.specs.Tools.{isSome};
-ghost use Rattle.format.specs.Lines.{lines};
-ghost use Rattle.law_units.specs.Units.{plannedIn, plannedOf, plannedFor, scriptOf};
-ghost use Rattle.unit_script.specs.Views.{asPlanned, behindLetter};
+ghost use Rattle.law_units.specs.Units.{plannedIn, plannedOf};
+ghost use Rattle.unit_script.specs.Views.{asPlanned, behindLetter, LineTold, ScriptTold};
 
 // A planned visit.
 pub struct Planned {
@@ -70,30 +71,38 @@ pub fn planned_of(line: &[u8]) -> Plan
     }
 }
 
-// Whether a line plans a visit to one of so many units by one of so many isos.
-fn is_planned(line: &[u8], units: usize, isos: usize) -> bool
-    ensures { λ r. ⌜ r ≡ isSome (plannedFor units isos (now (line .entry))) ⌝ }
+// The refusal of a line, where it plans no visit to one of so many units by one of so many isos, or one by an
+// iso that has to do with lists: those have a mark.
+fn line_fault(line: &[u8], units: usize, isos: usize, marks: &[u8]) -> Refusal
+    ensures { λ r. ⌜ LineTold units isos (now (marks .entry)) (now (line .entry)) r ⌝ }
 {
     let Plan::Of(p) = planned_of(line) else {
-        return false;
+        return Refusal::BadScript;
     };
-    if p.unit < units {
-        return p.iso < isos;
+    if units <= p.unit {
+        return Refusal::BadScript;
     }
-    false
+    if isos <= p.iso {
+        return Refusal::BadScript;
+    }
+    if byte_at(marks, p.iso) == 0 {
+        return Refusal::Nothing;
+    }
+    Refusal::TooMany
 }
 
-// Whether each line of a script does.
-pub fn is_script(script: &[u8], units: usize, isos: usize) -> bool
-    ensures { λ r. ⌜ r ≡ isSome (scriptOf units isos (lines (now (script .entry)))) ⌝ }
+// The refusal of the first line of a script that has one.
+pub fn script_fault(script: &[u8], units: usize, isos: usize, marks: &[u8]) -> Refusal
+    ensures { λ r. ⌜ ScriptTold units isos (now (marks .entry)) (now (script .entry)) r ⌝ }
 {
     let mut at: usize = 0;
     while at < script.len() {
         let end = Cursor { at: at }.line_end(script).at;
-        if !is_planned(&script[at..end], units, isos) {
-            return false;
+        let f = line_fault(&script[at..end], units, isos, marks);
+        if is_refused(f) {
+            return f;
         }
         at = end;
     }
-    true
+    Refusal::Nothing
 }

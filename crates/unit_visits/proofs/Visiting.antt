@@ -7,6 +7,7 @@ use mathlib.Core.Option.{some}
 use mathlib.Core.List.{List}
 use lib.ListN.{getElem?}
 use Rattle.calculus.specs.Trees.{Ty, Iso, sameType}
+use Rattle.calculus.specs.Lists.{isFree}
 use Rattle.format.specs.Lines.{Row}
 use Rattle.format.specs.Unfold.{isosOf}
 use Rattle.model.specs.Services.{toward}
@@ -89,11 +90,12 @@ module _ {t : List ℕ} {types : ℕ} {index : List ℕ} {isos : ℕ} {rs : List
       pub same-types : b ≡ true → h .type ≡ iso-of .0 .from
       same-types y = sameType-eq (h .type) (iso-of .0 .from) (sym compared ∙ y)
 
-      pub visit-skipped : (budget : ℕ) → b ≡ false → skipped ≡ visit rs budget (plannedView p) i n
-      visit-skipped budget y = sym (visit-skips rs (a .prepared .good) budget (plannedView p) h (iso-of .1) (sym compared ∙ y))
+      pub visit-skipped : isFree (isosOf rs) (p .iso) ≡ true → (budget : ℕ) → b ≡ false → skipped ≡ visit rs budget (plannedView p) i n
+      visit-skipped free budget y = sym (visit-skips rs (a .prepared .good) budget (plannedView p) h (iso-of .1) free (sym compared ∙ y))
 
-      pub visit-sent : (budget : ℕ) → b ≡ true → {j : ℕ} → j ≡ otherEnd rs (p .back) (some (iso-of .0)) → {z : Visited} → z ≡ cameTo j (sent rs budget (plannedView p) i n j)
+      pub visit-sent : isFree (isosOf rs) (p .iso) ≡ true → (budget : ℕ) → b ≡ true → {j : ℕ} → j ≡ otherEnd rs (p .back) (some (iso-of .0)) → {z : Visited} → z ≡ cameTo j
+          (sent rs budget (plannedView p) i n j)
           → z ≡ visit rs budget (plannedView p) i n
-      visit-sent budget y ej ez =
+      visit-sent free budget y ej ez =
           ez ∙ ap (λ j. cameTo j (sent rs budget (plannedView p) i n j)) ej
-          ∙ sym (visit-by rs (a .prepared .good) budget (plannedView p) h (iso-of .1) true (sym compared ∙ y))
+          ∙ sym (visit-by rs (a .prepared .good) budget (plannedView p) h (iso-of .1) free true (sym compared ∙ y))

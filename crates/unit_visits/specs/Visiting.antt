@@ -1,11 +1,13 @@
 -- The contracts of a visit on a checked table.
 use Prim.Native.Nat.{ℕ, _≤_, _<_}
 use mathlib.Core.Path.{_≡_}
+use mathlib.Core.Bool.{true}
 use mathlib.Core.Option.{some}
 use mathlib.Core.List.{List}
 use lib.ListN.{length, drop, getD, getElem?, set}
 use Rattle.limits.specs.Limits.{runRoom, workLength, wordBound, maxLines}
 use Rattle.calculus.specs.Trees.{Iso}
+use Rattle.calculus.specs.Lists.{isFree}
 use Rattle.format.specs.Lines.{Row}
 use Rattle.format.specs.Unfold.{isosOf}
 use Rattle.model.specs.Services.{toward}
@@ -39,15 +41,17 @@ marked (done j m) = markOf marks.Done
 marked skipped = markOf marks.Skipped
 marked spent = markOf marks.Spent
 
--- what holds of the rows of whatever file is playable, for a unit that passes the tests and an iso that is there, where the work area is the room of a run
+-- what holds of the rows of whatever file is playable, for a unit that passes the tests and an iso that is there and has nothing to do with lists, where the work area is the room
+-- of a run
 abbrev pub OnUnit : List ℕ → ℕ → List ℕ → ℕ → P.Planned → ℕ → ℕ → List ℕ → (List Row → Type 0) → Type 0
 OnUnit t types index isos p i n work Q =
-    (rs : List Row) → Playable t types index isos rs → Holds rs i n → p .iso < isos → InRoom (length work) (Q rs)
+    (rs : List Row) → Playable t types index isos rs → Holds rs i n → p .iso < isos → isFree (isosOf rs) (p .iso) ≡ true → InRoom (length work) (Q rs)
 
 -- the same for an iso that begins at the unit's type, and the T line at its other end
 abbrev pub OnWay : List ℕ → ℕ → List ℕ → P.Planned → ℕ → ℕ → ℕ → List ℕ → (List Row → Type 0) → Type 0
 OnWay t types index p i n j work Q =
-    (isos : ℕ) (rs : List Row) → Playable t types index isos rs → p .iso < isos → (h : Holds rs i n) (o : Iso) → getElem? (isosOf (toward (p .back) rs)) (p .iso) ≡ some o
+    (isos : ℕ) (rs : List Row) → Playable t types index isos rs → p .iso < isos → isFree (isosOf rs) (p .iso) ≡ true → (h : Holds rs i n) (o : Iso) → getElem? (isosOf (toward (p .back) rs))
+    (p .iso) ≡ some o
     → h .type ≡ o .from → j ≡ otherEnd rs (p .back) (some o) → j < wordBound → InRoom (length work) (Q rs)
 
 -- all of the work area behind the frames of a run is as it was

@@ -5,6 +5,7 @@ use area_cells::store_number;
 use check_shapes::same_type;
 use codes::ISO_FROM;
 use codes::ISO_TO;
+use limits::MAX_DEPTH;
 use number_values::rank_at;
 use number_values::unrank_at;
 use run_direction::place;
@@ -29,7 +30,7 @@ pub enum Visited {
 }
 
 // Sends number n of T line i through an iso that begins at its type; `to` is the T line at the other end. The
-// letters are written and read where the run has them.
+// letters are written and read where the run has them. Values that are numbered are never too large.
 fn send(
     t: &[u16],
     counts: &[usize],
@@ -57,6 +58,7 @@ fn send(
         code,
         p.back,
         p.iso,
+        MAX_DEPTH,
         work,
         0,
         size,
@@ -69,10 +71,11 @@ fn send(
             Visited::Done(narrow_number(to), narrow_number(r.number))
         }
         Given::Spent => Visited::Spent,
+        Given::Large => Visited::Spent,
     }
 }
 
-// Visits a unit that holds number n of T line i. The work area needs 40,960 bytes; what these then hold is
+// Visits a unit that holds number n of T line i. The work area needs 51,200 bytes; what these then hold is
 // left open, all behind them is as it was.
 fn visit(
     t: &[u16],

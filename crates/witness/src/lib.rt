@@ -17,7 +17,7 @@ ghost use Prim.Native.Nat.{_≤_};
 ghost use lib.ListN.{length};
 ghost use Rattle.limits.specs.Limits.{tableLength, maxLines, resultLength};
 ghost use Rattle.format.specs.Lines.{lines};
-ghost use Rattle.witness.specs.WitnessSays.{WitnessSays, Searched};
+ghost use Rattle.witness.specs.WitnessSays.{WitnessSays, Measures, Searched};
 
 // A refusal and its line, or none, and the number of letters in the result area.
 pub struct Witnessed {
@@ -38,6 +38,24 @@ fn refused(f: Refusal) -> Witnessed
     }
 }
 
+// Check's answer with the letters that show it, or 24 where a side is refused and none do: every value that shows the fault has over
+// 127 letters.
+fn measured(answer: Answer, number: u8, n: usize) -> Witnessed
+    ensures { λ r. ⌜ Measures answer number n r ⌝ }
+{
+    if n == 0 {
+        if 10 < number {
+            if number < 15 {
+                return refused(Refusal::TooLarge);
+            }
+        }
+    }
+    Witnessed {
+        answer: answer,
+        length: n,
+    }
+}
+
 // Checks a file of at most 4,096 lines and shows its fault.
 fn searched(file: &[u8], table: &mut [u16], result: &mut [u8]) -> Witnessed
     requires { ⌜ (tableLength ≤ length (now table)) × (length (lines (now file)) ≤ maxLines) × (resultLength ≤ length (now result)) ⌝ }
@@ -46,17 +64,14 @@ fn searched(file: &[u8], table: &mut [u16], result: &mut [u8]) -> Witnessed
     let c = entered(file, table);
     let a = c.answer;
     let f = a.refusal;
-    let n = show_fault(table, c.types, c.lines, number_of(f), a.place, result);
+    let number = number_of(f);
+    let n = show_fault(table, c.types, c.lines, number, a.place, result);
     let d = settled(table, c);
-    let answer = d.answer;
-    Witnessed {
-        answer: answer,
-        length: n,
-    }
+    measured(d.answer, number, n)
 }
 
-// Checks a file, and with refusals 11 to 14 writes the letters of the least value that shows the fault. The
-// result area needs 127 bytes; with any other answer it is left untouched.
+// Checks a file, and with refusals 11 to 14 writes the letters of the least value that shows the fault, or refuses with 24 where it
+// has over 127. The result area needs 127 bytes; with any other answer it is left untouched.
 pub fn witness(file: &[u8], table: &mut [u16], work: &mut [u8], result: &mut [u8]) -> Witnessed
     ensures { λ r. ⌜
         WitnessSays (now (file .entry)) (now (table .entry)) (now (work .entry)) (now (result .entry))

@@ -1,6 +1,6 @@
 -- The recursion of `check_shapes::is_plain` meets its contract. The measure is the line's rank.
-use Rattle.check_shapes.proofs.Plainness.{plain-end, plain-not, plain-first, plain-second}
-use Rattle.table_trees.proofs.Cases.{injects, pair-no-unit, leaf-below, leaf-beyond}
+use Rattle.check_shapes.proofs.Plainness.{plain-end, plain-not, plain-no-list, plain-no-element, plain-first, plain-second}
+use Rattle.table_trees.proofs.Cases.{injects, pair-no-unit, plain-below, plain-beyond}
 use Rattle.table_trees.proofs.Unfolding.{rank, pattern-call}
 use borrow.Author.Needs.{needs}
 use Prim.Native.Nat.{ℕ, _<_}
@@ -29,55 +29,72 @@ ks-is-plain t = (pattern-cell-reads.Asked, pattern-cell-reads.Learnt, pattern-pa
 
 is-plain-is-plain-requires : (t : ℕ) → is-plain-lts.Need-is-plain-requires (ks-is-plain t) (is-plain-at t) is-plain.Post
 is-plain-is-plain-requires t c κs =
-    let s = c .before .before .before .before in
-    (pattern-call (s .args .t .now) (s .args .base) (s .args .p) _ (s .pre .0) (c .before .before .pattern-cell .ensures .0) (pair-no-unit (c .before .match .keys1)) (c .pattern-part .ensures), tt)
+    let pre = c .before .before .before .before .pre in
+    let args = c .before .before .before .before .args in
+    let pattern-cell = c .before .before .pattern-cell in
+    let match′ = c .before .match in
+    (pattern-call (args .t .now) (args .base) (args .p) _ (pre .0) (pattern-cell .ensures .0) (pair-no-unit (match′ .keys1)) (c .pattern-part .ensures), tt)
 
 is-plain-is-plain-requires-2 : (t : ℕ) → is-plain-lts.Need-is-plain-requires-2 (ks-is-plain t) (is-plain-at t) is-plain.Post
 is-plain-is-plain-requires-2 t c κs =
+    let pre = c .before .before .before .before .before .before .before .pre in
+    let args = c .before .before .before .before .before .before .before .args in
     let pattern-cell = c .before .before .before .before .before .pattern-cell in
     let match′ = c .before .before .before .before .match in
-    let s = c .before .before .before .before .before .before .before in
-    (pattern-call (s .args .t .now) (s .args .base) (s .args .p) _ (s .pre .0) (pattern-cell .ensures .0) (pair-no-unit (match′ .keys1)) (c .pattern-part2 .ensures), tt)
+    (pattern-call (args .t .now) (args .base) (args .p) _ (pre .0) (pattern-cell .ensures .0) (pair-no-unit (match′ .keys1)) (c .pattern-part2 .ensures), tt)
 
 is-plain-returns : (t : ℕ) → is-plain-lts.Need-returns (ks-is-plain t) (is-plain-at t) is-plain.Post
 is-plain-returns t c =
+    let args = c .before .before .before .before .before .before .before .before .args in
     let pattern-cell = c .before .before .before .before .before .before .pattern-cell in
     let match′ = c .before .before .before .before .before .match in
     let pattern-part = c .before .before .before .before .pattern-part in
     let is-plain = c .before .before .before .is-plain in
     let if1 = c .before .before .if1 in
     let pattern-part2 = c .before .pattern-part2 in
-    let s = c .before .before .before .before .before .before .before .before in
-    plain-second (s .args .t .now) (s .args .base) (s .args .p) (pattern-cell .ensures .0) (match′ .keys1) (pattern-part .ensures) (is-plain .ensures) (if1 .taken) (pattern-part2 .ensures)
+    plain-second (args .t .now) (args .base) (args .p) (pattern-cell .ensures .0) (match′ .keys1) (pattern-part .ensures) (is-plain .ensures) (if1 .taken) (pattern-part2 .ensures)
     (c .is-plain2 .ensures)
 
 is-plain-returns-2 : (t : ℕ) → is-plain-lts.Need-returns-2 (ks-is-plain t) (is-plain-at t) is-plain.Post
 is-plain-returns-2 t c =
+    let args = c .before .before .before .before .before .before .args in
     let pattern-cell = c .before .before .before .before .pattern-cell in
     let match′ = c .before .before .before .match in
     let pattern-part = c .before .before .pattern-part in
     let is-plain = c .before .is-plain in
-    let s = c .before .before .before .before .before .before in
-    plain-first (s .args .t .now) (s .args .base) (s .args .p) (pattern-cell .ensures .0) (match′ .keys1) (pattern-part .ensures) (is-plain .ensures) (c .if1 .left)
+    plain-first (args .t .now) (args .base) (args .p) (pattern-cell .ensures .0) (match′ .keys1) (pattern-part .ensures) (is-plain .ensures) (c .if1 .left)
 
 is-plain-returns-3 : (t : ℕ) → is-plain-lts.Need-returns-3 (ks-is-plain t) (is-plain-at t) is-plain.Post
 is-plain-returns-3 t c =
-    let pattern-cell = c .before .before .before .pattern-cell in
-    let if2 = c .before .if2 in
-    let s = c .before .before .before .before .before in
-    plain-not (s .args .t .now) (s .args .base) (s .args .p) (pattern-cell .ensures .0) (injects _ (if2 .left) (c .if3 .taken))
+    let args = c .before .before .before .args in
+    let pattern-cell = c .before .pattern-cell in
+    plain-no-list (args .t .now) (args .base) (args .p) (pattern-cell .ensures .0) (c .match .keys2)
 
 is-plain-returns-4 : (t : ℕ) → is-plain-lts.Need-returns-4 (ks-is-plain t) (is-plain-at t) is-plain.Post
 is-plain-returns-4 t c =
-    let s = c .before .before .before .before in
-    plain-end (s .args .t .now) (s .args .base) (s .args .p) (c .before .before .pattern-cell .ensures .0) (leaf-below _ (c .if2 .taken))
+    let args = c .before .before .before .args in
+    let pattern-cell = c .before .pattern-cell in
+    plain-no-element (args .t .now) (args .base) (args .p) (pattern-cell .ensures .0) (c .match .keys3)
 
 is-plain-returns-5 : (t : ℕ) → is-plain-lts.Need-returns-5 (ks-is-plain t) (is-plain-at t) is-plain.Post
 is-plain-returns-5 t c =
+    let args = c .before .before .before .before .before .args in
+    let pattern-cell = c .before .before .before .pattern-cell in
+    let if2 = c .before .if2 in
+    plain-not (args .t .now) (args .base) (args .p) (pattern-cell .ensures .0) (injects _ (if2 .left) (c .if3 .taken))
+
+is-plain-returns-6 : (t : ℕ) → is-plain-lts.Need-returns-6 (ks-is-plain t) (is-plain-at t) is-plain.Post
+is-plain-returns-6 t c =
+    let args = c .before .before .before .before .args in
+    let pattern-cell = c .before .before .pattern-cell in
+    plain-end (args .t .now) (args .base) (args .p) (pattern-cell .ensures .0) (plain-below _ (c .if2 .taken))
+
+is-plain-returns-7 : (t : ℕ) → is-plain-lts.Need-returns-7 (ks-is-plain t) (is-plain-at t) is-plain.Post
+is-plain-returns-7 t c =
+    let args = c .before .before .before .before .before .args in
     let pattern-cell = c .before .before .before .pattern-cell in
     let match′ = c .before .before .match in
-    let s = c .before .before .before .before .before in
-    plain-end (s .args .t .now) (s .args .base) (s .args .p) (pattern-cell .ensures .0) (leaf-beyond _ (c .if3 .left) (match′ .rest .1))
+    plain-end (args .t .now) (args .base) (args .p) (pattern-cell .ensures .0) (plain-beyond _ (c .if3 .left) (match′ .rest .0 .0 .1) (match′ .rest .0 .1) (match′ .rest .1))
 
 pub +is-plain-spec : {M : Type 1} → statement M
 +is-plain-spec = close μ-is-plain λ t. is-plain-lts.spec (ks-is-plain t)
@@ -93,3 +110,5 @@ pub +is-plain-spec : {M : Type 1} → statement M
     (is-plain-returns-3 t)
     (is-plain-returns-4 t)
     (is-plain-returns-5 t)
+    (is-plain-returns-6 t)
+    (is-plain-returns-7 t)

@@ -1,6 +1,5 @@
 -- The recursion of `check_shapes::same_type` meets its contract. The measure is the rank of the first line, which has parts where they are compared.
-use Rattle.check_shapes.proofs.Sameness.{same-line, is-whole, is-parted, same-whole, other-kind, other-first, same-second}
-use Rattle.table_trees.proofs.Cases.{parted-no-unit}
+use Rattle.check_shapes.proofs.Sameness.{same-line, is-whole, is-naming, naming-no-unit, naming-two, same-whole, other-kind, other-first, same-list, same-second}
 use Rattle.table_trees.proofs.Unfolding.{rank, type-call}
 use borrow.Author.Needs.{needs}
 use Prim.Native.Nat.{ℕ, _<_}
@@ -49,7 +48,7 @@ same-type-returns-3 t c =
     let names-nothing = c .before .before .names-nothing in
     let if2 = c .before .if2 in
     let s = (args) in
-    other-kind (s .t .now) (s .a) (s .b) ((cell .ensures .0)) ((cell2 .ensures .0)) (is-parted _ ((names-nothing .ensures)) ((if2 .left))) ((c .if3 .taken))
+    other-kind (s .t .now) (s .a) (s .b) ((cell .ensures .0)) ((cell2 .ensures .0)) (is-naming _ ((names-nothing .ensures)) ((if2 .left))) ((c .if3 .taken))
 
 same-type-same-type-requires : (t : ℕ) → same-type-lts.Need-same-type-requires (ks-same-type t) (same-type-at t) same-type.Post
 same-type-same-type-requires t c κs =
@@ -59,38 +58,52 @@ same-type-same-type-requires t c κs =
     let names-nothing = c .before .before .before .before .names-nothing in
     let if2 = c .before .before .before .if2 in
     let type-part = c .before .type-part in
-    (type-call ((args .t .now)) ((args .a)) _ ((pre .0)) ((cell .ensures .0)) (parted-no-unit (is-parted _ ((names-nothing .ensures)) ((if2 .left)))) ((type-part .ensures)), tt)
-
-same-type-same-type-requires-2 : (t : ℕ) → same-type-lts.Need-same-type-requires-2 (ks-same-type t) (same-type-at t) same-type.Post
-same-type-same-type-requires-2 t c κs =
-    let pre = c .before .before .before .before .before .before .before .before .before .before .before .before .before .pre in
-    let args = c .before .before .before .before .before .before .before .before .before .before .before .before .before .args in
-    let cell = c .before .before .before .before .before .before .before .before .before .before .cell in
-    let names-nothing = c .before .before .before .before .before .before .before .before .names-nothing in
-    let if2 = c .before .before .before .before .before .before .before .if2 in
-    let type-part3 = c .before .type-part3 in
-    (type-call ((args .t .now)) ((args .a)) _ ((pre .0)) ((cell .ensures .0)) (parted-no-unit (is-parted _ ((names-nothing .ensures)) ((if2 .left)))) ((type-part3 .ensures)), tt)
+    (type-call ((args .t .now)) ((args .a)) _ ((pre .0)) ((cell .ensures .0)) (naming-no-unit (is-naming _ ((names-nothing .ensures)) ((if2 .left)))) ((type-part .ensures)), tt)
 
 same-type-returns-4 : (t : ℕ) → same-type-lts.Need-returns-4 (ks-same-type t) (same-type-at t) same-type.Post
 same-type-returns-4 t c =
+    let args = c .before .before .before .before .before .before .before .before .before .before .before .before .args in
+    let cell = c .before .before .before .before .before .before .before .before .before .cell in
+    let cell2 = c .before .before .before .before .before .before .before .before .cell2 in
+    let if3 = c .before .before .before .before .before .if3 in
+    let type-part = c .before .before .before .before .type-part in
+    let type-part2 = c .before .before .before .type-part2 in
+    let same-type = c .before .before .same-type in
+    let if4 = c .before .if4 in
+    same-list (args .t .now) (args .a) (args .b) (cell .ensures .0) (cell2 .ensures .0) (c .if5 .taken) (if3 .left) (type-part .ensures) (type-part2 .ensures) (same-type .ensures) (if4 .taken)
+
+same-type-same-type-requires-2 : (t : ℕ) → same-type-lts.Need-same-type-requires-2 (ks-same-type t) (same-type-at t) same-type.Post
+same-type-same-type-requires-2 t c κs =
+    let pre = c .before .before .before .before .before .before .before .before .before .before .before .before .before .before .pre in
     let args = c .before .before .before .before .before .before .before .before .before .before .before .before .before .before .args in
     let cell = c .before .before .before .before .before .before .before .before .before .before .before .cell in
-    let cell2 = c .before .before .before .before .before .before .before .before .before .before .cell2 in
     let names-nothing = c .before .before .before .before .before .before .before .before .before .names-nothing in
     let if2 = c .before .before .before .before .before .before .before .before .if2 in
-    let if3 = c .before .before .before .before .before .before .before .if3 in
-    let type-part = c .before .before .before .before .before .before .type-part in
-    let type-part2 = c .before .before .before .before .before .type-part2 in
-    let same-type = c .before .before .before .before .same-type in
-    let if4 = c .before .before .before .if4 in
-    let type-part3 = c .before .before .type-part3 in
-    let type-part4 = c .before .type-part4 in
-    let s = (args) in
-    same-second (s .t .now) (s .a) (s .b) ((cell .ensures .0)) ((cell2 .ensures .0)) (is-parted _ ((names-nothing .ensures)) ((if2 .left))) ((if3 .left)) ((type-part .ensures))
-    ((type-part2 .ensures)) ((same-type .ensures)) ((if4 .taken)) ((type-part3 .ensures)) ((type-part4 .ensures)) ((c .same-type2 .ensures))
+    let type-part3 = c .before .type-part3 in
+    (type-call ((args .t .now)) ((args .a)) _ ((pre .0)) ((cell .ensures .0)) (naming-no-unit (is-naming _ ((names-nothing .ensures)) ((if2 .left)))) ((type-part3 .ensures)), tt)
 
 same-type-returns-5 : (t : ℕ) → same-type-lts.Need-returns-5 (ks-same-type t) (same-type-at t) same-type.Post
 same-type-returns-5 t c =
+    let args = c .before .before .before .before .before .before .before .before .before .before .before .before .before .before .before .args in
+    let cell = c .before .before .before .before .before .before .before .before .before .before .before .before .cell in
+    let cell2 = c .before .before .before .before .before .before .before .before .before .before .before .cell2 in
+    let names-nothing = c .before .before .before .before .before .before .before .before .before .before .names-nothing in
+    let if2 = c .before .before .before .before .before .before .before .before .before .if2 in
+    let if3 = c .before .before .before .before .before .before .before .before .if3 in
+    let type-part = c .before .before .before .before .before .before .before .type-part in
+    let type-part2 = c .before .before .before .before .before .before .type-part2 in
+    let same-type = c .before .before .before .before .before .same-type in
+    let if4 = c .before .before .before .before .if4 in
+    let if5 = c .before .before .before .if5 in
+    let type-part3 = c .before .before .type-part3 in
+    let type-part4 = c .before .type-part4 in
+    let s = (args) in
+    same-second (s .t .now) (s .a) (s .b) ((cell .ensures .0)) ((cell2 .ensures .0)) (naming-two (is-naming _ ((names-nothing .ensures)) ((if2 .left))) (if5 .left)) ((if3 .left))
+    ((type-part .ensures))
+    ((type-part2 .ensures)) ((same-type .ensures)) ((if4 .taken)) ((type-part3 .ensures)) ((type-part4 .ensures)) ((c .same-type2 .ensures))
+
+same-type-returns-6 : (t : ℕ) → same-type-lts.Need-returns-6 (ks-same-type t) (same-type-at t) same-type.Post
+same-type-returns-6 t c =
     let args = c .before .before .before .before .before .before .before .before .before .before .before .args in
     let cell = c .before .before .before .before .before .before .before .before .cell in
     let cell2 = c .before .before .before .before .before .before .before .cell2 in
@@ -101,7 +114,7 @@ same-type-returns-5 t c =
     let type-part2 = c .before .before .type-part2 in
     let same-type = c .before .same-type in
     let s = (args) in
-    other-first (s .t .now) (s .a) (s .b) ((cell .ensures .0)) ((cell2 .ensures .0)) (is-parted _ ((names-nothing .ensures)) ((if2 .left))) ((if3 .left)) ((type-part .ensures))
+    other-first (s .t .now) (s .a) (s .b) ((cell .ensures .0)) ((cell2 .ensures .0)) (is-naming _ ((names-nothing .ensures)) ((if2 .left))) ((if3 .left)) ((type-part .ensures))
     ((type-part2 .ensures)) ((same-type .ensures)) ((c .if4 .left))
 
 pub +same-type-spec : {M : Type 1} → statement M
@@ -118,8 +131,9 @@ pub +same-type-spec : {M : Type 1} → statement M
     (λ c κs. search needs)
     (λ c κs. search needs)
     (same-type-same-type-requires t)
+    (same-type-returns-4 t)
     (λ c κs. search needs)
     (λ c κs. search needs)
     (same-type-same-type-requires-2 t)
-    (same-type-returns-4 t)
     (same-type-returns-5 t)
+    (same-type-returns-6 t)

@@ -18,10 +18,10 @@ use Rattle.fault_stacks.proofs.walk_types.Reads as walk-types-reads
 use Rattle.area_words.proofs.wide.Reads as wide-reads
 
 abbrev Inv-loop : tie.InvT-loop
-Inv-loop t base f rows i w k₀ top x₀ k x = RowsLeft t base f rows k w (typesAlong w (typeOf t i ∷ [])) x
+Inv-loop m t base f rows i w k₀ top x₀ k x = RowsLeft m t base f rows k w (typesAlong w (typeOf t i ∷ [])) x
 
 abbrev μ-loop : tie.MeasureT-loop
-μ-loop t base f rows i w k₀ top x₀ k x = x
+μ-loop m t base f rows i w k₀ top x₀ k x = x
 
 -- src/lib.rt:63:35
 slice-aggregate-walk-types : tie.Need-slice-aggregate-walk-types Inv-loop μ-loop
@@ -44,8 +44,8 @@ loop-holds : tie.Need-loop-holds Inv-loop μ-loop
 loop-holds c =
     let walk-types = c .before .before .before .before .before .before .walk-types in
     let count-types = c .before .before .count-types in
-    let a = c .before .before .before .before .before .before .before .before .before .before .before .before in rows-start (a .args .t .now) (a .args .base) (a .args .f)
-    (a .args .rows .now) (a .args .w .now) (count-types .kept .1 .1 .1 .0 ∙ a .pre .0) (walk-types .ensures .1) (count-types .ensures)
+    let a = c .before .before .before .before .before .before .before .before .before .before .before .before in rows-start (a .args .m) (a .args .t .now) (a .args .base) (a .args .f)
+    (a .args .rows .now) (a .args .w .now) (count-types .kept .1 .1 .1 .1 .0 ∙ a .pre .0) (walk-types .ensures .1) (count-types .ensures)
 
 -- src/lib.rt:67:9
 sub-x : tie.Need-sub-x Inv-loop μ-loop
@@ -81,15 +81,16 @@ loop-less c = search needs
 -- src/lib.rt:66:5
 loop-again : tie.Need-loop-again Inv-loop μ-loop
 loop-again c =
+    let loop-test = c .before .before .before .before .before .before .before .loop-test in
     let far = c .before .before .before .before .before .before .before .before .before .before .before .before .before .before .before .before .before .before .before .before in
     let args = far .before .args in
     let loop′ = c .before .before .before .before .before .before .before .before .loop in
     let wide = c .before .before .before .before .before .wide in
     let cell = c .before .before .before .before .cell in
     let take-row = c .before .before .take-row in
-    let a = args in let l = loop′ in rows-more (a .t .now) (a .base) (a .f) (a .rows .now) (l .k) (take-row .last .1 .1 .1 .1 .1 .0) (a .w .now)
-    (typesAlong (a .w .now) (typeOf (a .t .now) (a .i) ∷ [])) (l .x) (getD (a .rows .now) (l .x - 1) 0) (wide .result) (cell .result) (l .inv) (search needs)
-    (take-row .kept .1 .1 .1 .1 .1 .0) refl (wide .ensures .0) (cell .ensures .0) (take-row .ensures)
+    let a = args in let l = loop′ in rows-more (a .m) (a .t .now) (a .base) (a .f) (a .rows .now) (l .k) (take-row .last .1 .1 .1 .1 .1 .1 .0) (a .w .now)
+    (typesAlong (a .w .now) (typeOf (a .t .now) (a .i) ∷ [])) (l .x) (getD (a .rows .now) (l .x - 1) 0) (wide .result) (cell .result) (l .inv) (loop-test .taken)
+    (take-row .kept .1 .1 .1 .1 .1 .1 .0) refl (wide .ensures .0) (cell .ensures .0) (take-row .ensures)
 
 -- src/lib.rt:58:1
 same-length : tie.Need-same-length Inv-loop μ-loop

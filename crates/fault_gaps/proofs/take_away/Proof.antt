@@ -11,10 +11,10 @@ use Rattle.fault_gaps.proofs.take_away.Lts as lts
 use Rattle.fault_gaps.proofs.minus.Reads as minus-reads
 
 abbrev Inv-loop : tie.InvT-loop
-Inv-loop k₀ o i₀ k i = Each minusOf k₀ o k i
+Inv-loop m k₀ o i₀ k i = Each (minusOf m) k₀ o k i
 
 abbrev μ-loop : tie.MeasureT-loop
-μ-loop k₀ o i₀ k i = 128 - i
+μ-loop m k₀ o i₀ k i = 128 - i
 
 -- src/lib.rt:35:5
 loop-holds : tie.Need-loop-holds Inv-loop μ-loop
@@ -61,7 +61,7 @@ loop-again : tie.Need-loop-again Inv-loop μ-loop
 loop-again c =
     let args = c .before .before .before .before .before .before .before .args in
     let loop′ = c .before .before .before .before .loop in
-    let a = args in let l = loop′ in each-one minusOf (a .k .now) (a .o .now) (l .k) (l .i) (c .minus .result) (l .inv) (search needs) (c .minus .ensures)
+    let a = args in let l = loop′ in each-one (minusOf (a .m)) (a .k .now) (a .o .now) (l .k) (l .i) (c .minus .result) (l .inv) (search needs) (c .minus .ensures)
 
 -- src/lib.rt:30:1
 same-length : tie.Need-same-length Inv-loop μ-loop

@@ -26,7 +26,7 @@ returns c =
     let args = c .before .before .before .before .before .before .before .before .before .args in
     let walk-row = c .before .before .before .walk-row in
     let a = args in let d = walk-row in dead-row (a .t .now) (a .base) (a .w .now) (d .last .1 .1 .1 .1 .1 .0) (d .last .1 .1 .1 .1 .1 .1 .0) (a .p) (a .i) (d .result) (d .ensures)
-    (a .k .now) (c .if1 .taken)
+    (a .m) (a .k .now) (c .if1 .taken)
 
 -- src/lib.rt:53:24
 slice-aggregate-count-row : tie.Need-slice-aggregate-count-row

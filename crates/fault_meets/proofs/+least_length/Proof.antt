@@ -1,7 +1,7 @@
 use Rattle.table_trees.specs.Unfolding.{cellOf}
 use Rattle.table_trees.proofs.Unfolding.{rank, type-call}
-use Rattle.table_trees.proofs.Lines.{no-unit, line-sum, line-product, line-other}
-use Rattle.fault_meets.proofs.Least.{length-unit, length-left, length-right, length-pair}
+use Rattle.table_trees.proofs.Lines.{no-unit, line-sum, line-product}
+use Rattle.fault_meets.proofs.Least.{length-leaf, length-left, length-right, length-pair}
 use borrow.Author.Needs.{needs}
 use Prim.Native.Nat.{ℕ, _+_, _<_}
 use borrow.Fn.Kinds.{In}
@@ -105,4 +105,4 @@ pub +least-length-spec : {M : Type 1} → statement M
     let args = c .before .before .before .before .args in
     let cell = c .before .before .cell in
     let if1 = c .before .if1 in
-    length-unit (line-other (args .t .now) (args .i) (cell .ensures .0) (if1 .left) (c .if3 .left)))
+    length-leaf (args .t .now) (args .i) (cell .ensures .0) (if1 .left) (c .if3 .left))

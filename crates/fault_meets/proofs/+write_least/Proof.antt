@@ -1,9 +1,9 @@
-use mathlib.Core.Path.{_∙_}
+use mathlib.Core.Path.{refl, _∙_}
 use Rattle.table_trees.specs.Unfolding.{cellOf}
 use Rattle.table_trees.proofs.Unfolding.{rank, type-call}
-use Rattle.table_trees.proofs.Lines.{no-unit, line-sum, line-product, line-other}
-use Rattle.area_cells.proofs.Writing.{writes-one}
-use Rattle.fault_meets.proofs.Least.{spells-unit, spells-left, spells-right, spells-pair}
+use Rattle.table_trees.proofs.Lines.{no-unit, line-sum, line-product, line-list, line-other}
+use Rattle.area_cells.proofs.Writing.{prints-one}
+use Rattle.fault_meets.proofs.Least.{spells-unit, spells-list, spells-left, spells-right, spells-pair}
 use borrow.Author.Needs.{needs}
 use Prim.Native.Nat.{ℕ, _+_, _<_}
 use borrow.Fn.Kinds.{In}
@@ -73,7 +73,7 @@ pub +write-least-spec : {M : Type 1} → statement M
     let put-byte = c .before .before .before .before .before .before .put-byte in
     let write-least = c .before .before .write-least in
     spells-left (line-sum (args .t .now) (args .i) (cell .ensures .0) (type-part .ensures) (type-part2 .ensures) (if1 .taken)) (least-length .ensures) (least-length2 .ensures)
-    (if2 .taken) (writes-one (put-byte .ensures .0) (put-byte .ensures .1)) (write-least .ensures))
+    (if2 .taken) (prints-one (put-byte .ensures .0) (put-byte .ensures .1)) (write-least .ensures))
     (λ c κs. search needs)
     (λ c κs.
     let pre = c .before .before .before .before .before .before .before .before .before .before .before .before .before .before .pre in
@@ -95,7 +95,7 @@ pub +write-least-spec : {M : Type 1} → statement M
     let put-byte2 = c .before .before .before .before .before .before .put-byte2 in
     let write-least2 = c .before .before .write-least2 in
     spells-right (line-sum (args .t .now) (args .i) (cell .ensures .0) (type-part .ensures) (type-part2 .ensures) (if1 .taken)) (least-length .ensures) (least-length2 .ensures)
-    (if2 .left) (writes-one (put-byte2 .ensures .0) (put-byte2 .ensures .1)) (write-least2 .ensures))
+    (if2 .left) (prints-one (put-byte2 .ensures .0) (put-byte2 .ensures .1)) (write-least2 .ensures))
     (λ c κs. search needs)
     (λ c κs. search needs)
     (λ c κs.
@@ -128,13 +128,22 @@ pub +write-least-spec : {M : Type 1} → statement M
     let type-part4 = c .before .before .before .before .type-part4 in
     let write-least4 = c .before .before .write-least4 in
     spells-pair (line-product (args .t .now) (args .i) (cell .ensures .0) (type-part3 .ensures) (type-part4 .ensures) (if3 .taken))
-    (writes-one (put-byte3 .ensures .0) (put-byte3 .ensures .1)) (write-least3 .ensures) (write-least4 .ensures))
+    (prints-one (put-byte3 .ensures .0) (put-byte3 .ensures .1)) (write-least3 .ensures) (write-least4 .ensures))
     (λ c κs. search needs)
     (λ c. (c .before .before .put-byte4 .kept .0))
     (λ c.
-    let args = c .before .before .before .before .before .before .before .before .before .args in
-    let cell = c .before .before .before .before .before .before .cell in
-    let if1 = c .before .before .before .before .before .if1 in
-    let if3 = c .before .before .before .before .if3 in
+    let args = c .before .before .before .before .before .before .before .before .before .before .args in
+    let cell = c .before .before .before .before .before .before .before .cell in
+    let if4 = c .before .before .before .before .if4 in
     let put-byte4 = c .before .before .put-byte4 in
-    spells-unit (line-other (args .t .now) (args .i) (cell .ensures .0) (if1 .left) (if3 .left)) (writes-one (put-byte4 .ensures .0) (put-byte4 .ensures .1)))
+    spells-list (line-list (args .t .now) (args .i) (cell .ensures .0) refl (if4 .taken)) (prints-one (put-byte4 .ensures .0) (put-byte4 .ensures .1)))
+    (λ c κs. search needs)
+    (λ c. (c .before .before .put-byte5 .kept .0))
+    (λ c.
+    let args = c .before .before .before .before .before .before .before .before .before .before .args in
+    let cell = c .before .before .before .before .before .before .before .cell in
+    let if1 = c .before .before .before .before .before .before .if1 in
+    let if3 = c .before .before .before .before .before .if3 in
+    let if4 = c .before .before .before .before .if4 in
+    let put-byte5 = c .before .before .put-byte5 in
+    spells-unit (line-other (args .t .now) (args .i) (cell .ensures .0) (if1 .left) (if3 .left) (if4 .left)) (prints-one (put-byte5 .ensures .0) (put-byte5 .ensures .1)))

@@ -1,5 +1,4 @@
 -- `fault_pairs::show_overlap` meets its contract: what was kept, and behind it what was there. Assumes nothing.
-use Rattle.table_trees.proofs.Lists.{type-finite}
 use Rattle.fault_pairs.proofs.Gathering.{value-shown}
 use borrow.Author.Needs.{needs}
 use Rattle.fault_pairs.proofs.show_overlap.Statement.{statement}
@@ -22,7 +21,7 @@ same-length c = search needs
 
 returns : tie.Need-returns
 returns c =
-    value-shown (type-finite _ _) (c .before .before .before .before .before .before .overlap-value .ensures) (c .before .before .copy-front .ensures)
+    value-shown (c .before .before .before .before .before .before .overlap-value .ensures) (c .before .before .copy-front .ensures)
 
 pub show-overlap-spec : {M : Type 1} → statement M
 show-overlap-spec =

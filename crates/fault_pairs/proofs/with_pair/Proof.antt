@@ -5,7 +5,6 @@ use mathlib.Core.Path.{_≡_, sym, ap₂, _∙_}
 use mathlib.Core.List.{List}
 use lib.ListN.{take, replicate, length-replicate}
 use Rattle.law_witnesses.specs.Showing.{sooner}
-use Rattle.table_trees.proofs.Lists.{type-finite}
 use Rattle.fault_pairs.proofs.Adding.{adds-clash, tried, adds-never, adds-first, adds-old, adds-new}
 use borrow.Author.Needs.{needs}
 use Rattle.fault_pairs.proofs.with_pair.Statement.{statement}
@@ -33,8 +32,8 @@ returns-2 c =
     let w = c .before .before in
     let a = w .before .before .before .before .before .before in (
       a .pre .2,
-      adds-never (tried {blank = replicate 127 0} (type-finite (a .args .t .now) (a .args .i)) (sym (w .before .before .before .compare .ensures .0) ∙ w .before .before .if1 .left)
-          (length-replicate {A = ℕ} 127 0) (w .write-common .ensures)) (a .args .out .now) (a .args .best) (c .if2 .taken),
+      adds-never (tried {blank = replicate 128 0} (sym (w .before .before .before .compare .ensures .0) ∙ w .before .before .if1 .left)
+          (length-replicate {A = ℕ} 128 0) (w .write-common .ensures)) (a .args .out .now) (a .args .best) (c .if2 .taken),
     )
 
 slice-aggregate-copy-front : tie.Need-slice-aggregate-copy-front
@@ -54,8 +53,8 @@ returns-3 c =
     let w = c .before .before .before .before .before .before .before .before in
     let a = w .before .before .before .before .before .before in (
       if2 .left,
-      adds-first (tried {blank = replicate 127 0} (type-finite (a .args .t .now) (a .args .i)) (sym (w .before .before .before .compare .ensures .0) ∙ w .before .before .if1 .left)
-          (length-replicate {A = ℕ} 127 0) (w .write-common .ensures)) (if3 .taken) (copy-front .ensures .0),
+      adds-first (tried {blank = replicate 128 0} (sym (w .before .before .before .compare .ensures .0) ∙ w .before .before .if1 .left)
+          (length-replicate {A = ℕ} 128 0) (w .write-common .ensures)) (if2 .left) (if3 .taken) (copy-front .ensures .0),
     )
 
 sub-is-sooner : tie.Need-sub-is-sooner
@@ -87,8 +86,9 @@ returns-4 c =
     let w = c .before .before .before .before .before .before .before .before .before in
     let a = w .before .before .before .before .before .before in (
       a .pre .2,
-      adds-old (tried {blank = replicate 127 0} (type-finite (a .args .t .now) (a .args .i)) (sym (w .before .before .before .compare .ensures .0) ∙ w .before .before .if1 .left)
-          (length-replicate {A = ℕ} 127 0) (w .write-common .ensures)) (c .before .before .before .before .before .before .if3 .left)
+      adds-old (tried {blank = replicate 128 0} (sym (w .before .before .before .compare .ensures .0) ∙ w .before .before .if1 .left)
+          (length-replicate {A = ℕ} 128 0) (w .write-common .ensures)) (c .before .before .before .before .before .before .before .if2 .left)
+          (c .before .before .before .before .before .before .if3 .left)
           (sym (c .if4 .taken) ∙ c .before .is-sooner .ensures ∙ same-parts (a .args .best) (w .write-common .result) (a .args .out .now) (w .write-common .last .1 .1 .1 .1 .1 .0)),
     )
 
@@ -107,8 +107,9 @@ returns-5 c =
     let w = s .before .before .before .before .before .before .before .before .before in
     let a = w .before .before .before .before .before .before in (
       s .before .before .before .before .before .before .before .if2 .left,
-      adds-new (tried {blank = replicate 127 0} (type-finite (a .args .t .now) (a .args .i)) (sym (w .before .before .before .compare .ensures .0) ∙ w .before .before .if1 .left)
-          (length-replicate {A = ℕ} 127 0) (w .write-common .ensures)) (s .before .before .before .before .before .before .if3 .left)
+      adds-new (tried {blank = replicate 128 0} (sym (w .before .before .before .compare .ensures .0) ∙ w .before .before .if1 .left)
+          (length-replicate {A = ℕ} 128 0) (w .write-common .ensures)) (s .before .before .before .before .before .before .before .if2 .left)
+          (s .before .before .before .before .before .before .if3 .left)
           (sym (s .if4 .left) ∙ s .before .is-sooner .ensures ∙ same-parts (a .args .best) (w .write-common .result) (a .args .out .now) (w .write-common .last .1 .1 .1 .1 .1 .0))
           (c .before .before .copy-front2 .ensures .0),
     )

@@ -10,10 +10,10 @@ use Rattle.fault_stacks.proofs.no_more.Reads as no-more-reads
 use Rattle.fault_tallies.proofs.count_pattern.Reads as count-pattern-reads
 
 abbrev Inv-loop : tie.InvT-loop
-Inv-loop t base ps ts top k₀ c₀ k c = RowAt t base ps ts k top c
+Inv-loop m t base ps ts top k₀ c₀ k c = RowAt m t base ps ts k top c
 
 abbrev μ-loop : tie.MeasureT-loop
-μ-loop t base ps ts top k₀ c₀ k c = c
+μ-loop m t base ps ts top k₀ c₀ k c = c
 
 -- src/lib.rt:50:5
 no-more-requires : tie.Need-no-more-requires Inv-loop μ-loop
@@ -29,7 +29,7 @@ loop-holds c =
       upper = omega arith;
       long = no-more .kept .0 ∙ a .pre .2;
       holds =
-          row-start (a .args .t .now) (a .args .base) (a .args .ps .now) (a .args .ts .now) (a .pre .0) (a .pre .1) (no-more .ensures);
+          row-start (a .args .t .now) (a .args .base) (a .args .ps .now) (a .args .ts .now) (a .args .m) (a .pre .0) (a .pre .1) (no-more .ensures);
     }
 
 -- src/lib.rt:53:9
@@ -69,7 +69,7 @@ loop-again c =
     record {
       lower = omega (arith, l .inv .upper);
       upper = omega (arith, l .inv .upper);
-      long = count-pattern .kept .1 .1 .1 .1 .0 ∙ l .inv .long;
+      long = count-pattern .kept .1 .1 .1 .1 .1 .0 ∙ l .inv .long;
       holds = row-step (a .args .t .now) (a .args .base) (a .args .ps .now) (a .args .ts .now) (l .c) (omega arith) (omega (arith, l .inv .upper, a .pre .0))
           (omega (arith, l .inv .upper, a .pre .1)) (l .inv .holds) (count-pattern .ensures);
     }

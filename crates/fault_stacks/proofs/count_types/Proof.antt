@@ -10,10 +10,10 @@ use Rattle.fault_stacks.proofs.no_more.Reads as no-more-reads
 use Rattle.fault_tallies.proofs.count_type.Reads as count-type-reads
 
 abbrev Inv-loop : tie.InvT-loop
-Inv-loop t ts top k₀ c₀ k c = TypesAt t ts k top c
+Inv-loop m t ts top k₀ c₀ k c = TypesAt m t ts k top c
 
 abbrev μ-loop : tie.MeasureT-loop
-μ-loop t ts top k₀ c₀ k c = c
+μ-loop m t ts top k₀ c₀ k c = c
 
 -- src/lib.rt:37:5
 no-more-requires : tie.Need-no-more-requires Inv-loop μ-loop
@@ -24,7 +24,7 @@ loop-holds : tie.Need-loop-holds Inv-loop μ-loop
 loop-holds c =
     let no-more = c .before .before .no-more in
     let a = c .before .before .before .before .before .before .before in
-    record { lower = search needs; upper = omega arith; long = no-more .kept .0 ∙ a .pre .1; holds = types-start (a .args .t .now) (a .args .ts .now) (a .pre .0) (no-more .ensures) }
+    record { lower = search needs; upper = omega arith; long = no-more .kept .0 ∙ a .pre .1; holds = types-start (a .args .t .now) (a .args .ts .now) (a .args .m) (a .pre .0) (no-more .ensures) }
 
 -- src/lib.rt:40:9
 sub-c : tie.Need-sub-c Inv-loop μ-loop
@@ -54,8 +54,8 @@ loop-again c =
     record {
       lower = omega (arith, l .inv .upper);
       upper = omega (arith, l .inv .upper);
-      long = c .before .before .count-type .kept .1 .1 .0 ∙ l .inv .long;
-      holds = types-step (a .args .t .now) (a .args .ts .now) (l .c) (omega arith) (omega (arith, l .inv .upper, a .pre .0)) (c .before .before .count-type .ensures _ (l .inv .holds));
+      long = c .before .before .count-type .kept .1 .1 .1 .0 ∙ l .inv .long;
+      holds = types-step (a .args .t .now) (a .args .ts .now) (l .c) (omega arith) (omega (arith, l .inv .upper, a .pre .0)) (l .inv .holds) (c .before .before .count-type .ensures);
     }
 
 -- src/lib.rt:33:1

@@ -1,5 +1,4 @@
-use Rattle.calculus.specs.Trees.{right}
-use Rattle.fault_tallies.proofs.Patterns.{sum-right, product-right, no-part}
+use Rattle.fault_tallies.proofs.Patterns.{sum-right, product-right, no-second}
 use borrow.Author.Needs.{needs}
 use Rattle.fault_tallies.proofs.second_part.Statement.{statement}
 use Rattle.fault_tallies.proofs.second_part.Tie as tie
@@ -36,7 +35,7 @@ returns-3 c =
     let args = c .before .before .before .before .args in
     let cell = c .before .before .cell in
     let if1 = c .before .if1 in
-    no-part (args .t .now) (args .i) (cell .ensures .0) right (if1 .left) (c .if2 .left)
+    no-second (args .t .now) (args .i) (cell .ensures .0) (if1 .left) (c .if2 .left)
 
 pub second-part-spec : {M : Type 1} → statement M
 second-part-spec =

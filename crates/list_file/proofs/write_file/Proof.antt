@@ -1,7 +1,6 @@
 -- `list_file::write_file` meets its contract: values of over 40 left and right nodes are told before any row is written.
 use Rattle.list_file.proofs.Making.{file-heavy, file-light}
 use Rattle.table_trees.specs.Unfolding.{typeOf}
-use Rattle.table_trees.proofs.Lists.{type-finite}
 use Rattle.calculus.specs.Trees.{mostTags}
 use borrow.Author.Needs.{needs}
 use Rattle.list_file.proofs.write_file.Statement.{statement}
@@ -27,7 +26,7 @@ returns c =
     let args = c .before .before .before .before .before .before .before .args in
     let type-tags = c .before .before .type-tags in
     let if1 = c .before .if1 in
-    let a = args in file-heavy (typeOf (a .t .now) (a .i)) (typeOf (a .t .now) (a .j)) (type-finite (a .t .now) (a .i)) (type-finite (a .t .now) (a .j))
+    let a = args in file-heavy (typeOf (a .t .now) (a .i)) (typeOf (a .t .now) (a .j))
     (a .tos .now) (a .n) (a .out .now) (pre .1) {x = mostTags (typeOf (a .t .now) (a .i))} (λ x y. x)
     (type-tags .ensures) (if1 .taken) _ (c .over .ensures)
 
@@ -46,7 +45,7 @@ returns-2 c =
     let args = c .before .before .before .before .before .before .before .before .before .args in
     let type-tags2 = c .before .before .type-tags2 in
     let if2 = c .before .if2 in
-    let a = args in file-heavy (typeOf (a .t .now) (a .i)) (typeOf (a .t .now) (a .j)) (type-finite (a .t .now) (a .i)) (type-finite (a .t .now) (a .j))
+    let a = args in file-heavy (typeOf (a .t .now) (a .i)) (typeOf (a .t .now) (a .j))
     (a .tos .now) (a .n) (a .out .now) (pre .1) {x = mostTags (typeOf (a .t .now) (a .j))} (λ x y. y)
     (type-tags2 .ensures) (if2 .taken) _ (c .over2 .ensures)
 
@@ -68,7 +67,7 @@ returns-3 c =
     let type-tags2 = c .before .before .before .before .before .type-tags2 in
     let if2 = c .before .before .before .before .if2 in
     let write-rows = c .before .before .write-rows in
-    let a = args in file-light (typeOf (a .t .now) (a .i)) (typeOf (a .t .now) (a .j)) (type-finite (a .t .now) (a .i)) (type-finite (a .t .now) (a .j))
+    let a = args in file-light (typeOf (a .t .now) (a .i)) (typeOf (a .t .now) (a .j))
     (a .tos .now) (a .n) (a .out .now) (pre .1) (type-tags .ensures) (if1 .left) (type-tags2 .ensures)
     (if2 .left) (write-rows .ensures)
 

@@ -1,6 +1,5 @@
 use Rattle.list_file.proofs.Making.{file-over, file-made}
 use Rattle.table_trees.specs.Unfolding.{typeOf}
-use Rattle.table_trees.proofs.Lists.{type-finite}
 use mathlib.Core.Path.{refl}
 use borrow.Author.Needs.{needs}
 use Rattle.list_file.proofs.write_rows.Statement.{statement}
@@ -32,7 +31,7 @@ returns c =
     let pre = c .before .before .before .before .before .before .before .before .before .before .before .before .before .before .before .before .pre in
     let args = c .before .before .before .before .before .before .before .before .before .before .before .before .before .before .before .before .args in
     let write-pairs = c .before .before .before .write-pairs in
-    let a = args in file-over (typeOf (a .t .now) (a .i)) (typeOf (a .t .now) (a .j)) (type-finite (a .t .now) (a .i)) (type-finite (a .t .now) (a .j))
+    let a = args in file-over (typeOf (a .t .now) (a .i)) (typeOf (a .t .now) (a .j))
     (a .tos .now) (a .n) (a .out .now) (pre .1) (write-pairs .ensures) (search needs) (search needs)
     (c .if1 .taken) _ refl refl
 
@@ -61,7 +60,7 @@ returns-2 c =
     let write-pairs = c .before .before .before .before .before .before .before .before .before .before .write-pairs in
     let if1 = c .before .before .before .before .before .before .before .if1 in
     let put-file = c .before .before .put-file in
-    let a = args in file-made (typeOf (a .t .now) (a .i)) (typeOf (a .t .now) (a .j)) (type-finite (a .t .now) (a .i)) (type-finite (a .t .now) (a .j))
+    let a = args in file-made (typeOf (a .t .now) (a .i)) (typeOf (a .t .now) (a .j))
     (a .tos .now) (a .n) (a .out .now) (pre .1) (write-pairs .ensures) (search needs) (search needs)
     (search needs) (write-type .ensures) (write-type2 .ensures) (if1 .left) (put-file .ensures) _ refl refl
 

@@ -5,9 +5,10 @@ use mathlib.Core.Path.{sym, subst}
 use Rattle.table_trees.specs.Unfolding.{typeOf}
 use Rattle.table_trees.proofs.Unfolding.{rank}
 use Rattle.number_values.proofs.Counting.{counted-some}
-use Rattle.table_trees.proofs.Lines.{no-unit, part-of, line-sum, line-product, line-other, both, parts-call, left-call, right-call}
+use Rattle.number_values.proofs.TypeLines.{line-rest}
+use Rattle.table_trees.proofs.Lines.{no-unit, part-of, line-sum, line-product, both, parts-call, left-call, right-call}
 use Rattle.list_writing.specs.Writing.{ValueDone}
-use Rattle.list_writing.proofs.Following.{value-unit, value-left, value-right, value-pair}
+use Rattle.list_writing.proofs.Following.{value-unit, value-list, value-left, value-right, value-pair}
 use Prim.Native.Nat.{ℕ, _*_, _<_}
 use borrow.Fn.Kinds.{In}
 use borrow.Fn.PlainCycle.{Measures, is, falls, and}
@@ -200,5 +201,6 @@ pub +write-pair+write-tag+write-value-spec : {M : Type 1} → statement M
     let cell3 = c .before .before .before .before .before .cell3 in
     let match′ = c .before .before .before .before .match in
     let enter-entry = c .before .before .enter-entry in
-    subst (λ x. ValueDone x (args .n) (args .s .now) (enter-entry .last .0) (args .to) ((enter-entry .result) .number) ((enter-entry .result) .end))
-    (sym (line-other (args .t .now) (args .i) (cell3 .ensures .0) (match′ .rest .0 .1) (match′ .rest .1))) (value-unit (enter-entry .ensures)))
+    line-rest (λ x. ValueDone x (args .n) (args .s .now) (enter-entry .last .0) (args .to) ((enter-entry .result) .number) ((enter-entry .result) .end))
+    (args .t .now) (args .i) (cell3 .ensures .0) (match′ .rest .0 .1) (match′ .rest .1) (value-unit (enter-entry .ensures))
+    (λ b. value-list b (args .n) (args .s .now) (enter-entry .last .0) (args .to) ((enter-entry .result) .number) ((enter-entry .result) .end)))

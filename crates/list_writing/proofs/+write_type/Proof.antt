@@ -1,7 +1,7 @@
 use Rattle.table_trees.specs.Unfolding.{typeOf}
 use Rattle.table_trees.proofs.Unfolding.{rank, type-call}
-use Rattle.table_trees.proofs.Lines.{no-unit, part-of, line-sum, line-product, line-other}
-use Rattle.list_writing.proofs.Following.{unit-done, sum-done, product-done}
+use Rattle.table_trees.proofs.Lines.{no-unit, part-of, line-sum, line-product, line-list, line-other}
+use Rattle.list_writing.proofs.Following.{unit-done, list-done, sum-done, product-done}
 use borrow.Author.Needs.{needs}
 use Prim.Native.Nat.{ℕ, _+_, _<_}
 use borrow.Fn.Kinds.{In}
@@ -109,11 +109,34 @@ pub +write-type-spec : {M : Type 1} → statement M
     (line-product (args .t .now) (args .i) (cell .ensures .0) (part-of (args .i) (cell4 .ensures .0) (smaller3 .ensures)) (part-of (args .i) (cell5 .ensures .0) (smaller4 .ensures))
     (if2 .taken)) (enter-entry2 .ensures))
     (λ c κs. search needs)
-    (λ c. search needs)
-    (λ c.
+    (λ c κs. search needs)
+    (λ c κs.
+    let pre = c .before .before .before .before .before .before .before .before .before .pre in
     let args = c .before .before .before .before .before .before .before .before .before .args in
     let cell = c .before .before .before .before .before .before .cell in
-    let if1 = c .before .before .before .before .before .if1 in
-    let if2 = c .before .before .before .before .if2 in
+    let if3 = c .before .before .before .if3 in
+    let cell6 = c .before .before .cell6 in
+    let smaller5 = c .before .smaller5 in
+    (type-call (args .t .now) (args .i) (cell6 .result) (pre .0) (cell .ensures .0) (no-unit (if3 .taken)) (smaller5 .ensures), tt))
+    (λ c κs. search needs)
+    (λ c. search needs)
+    (λ c.
+    let args = c .before .before .before .before .before .before .before .before .before .before .before .before .before .before .before .before .args in
+    let cell = c .before .before .before .before .before .before .before .before .before .before .before .before .before .cell in
+    let if3 = c .before .before .before .before .before .before .before .before .before .before .if3 in
+    let cell6 = c .before .before .before .before .before .before .before .before .before .cell6 in
+    let smaller5 = c .before .before .before .before .before .before .before .before .smaller5 in
+    let write-type5 = c .before .before .before .before .before .before .write-type5 in
     let enter-entry3 = c .before .before .enter-entry3 in
-    unit-done (line-other (args .t .now) (args .i) (cell .ensures .0) (if1 .left) (if2 .left)) (enter-entry3 .ensures))
+    list-done (typeOf (args .t .now) (smaller5 .result)) (write-type5 .ensures)
+    (line-list (args .t .now) (args .i) (cell .ensures .0) (part-of (args .i) (cell6 .ensures .0) (smaller5 .ensures)) (if3 .taken)) (enter-entry3 .ensures))
+    (λ c κs. search needs)
+    (λ c. search needs)
+    (λ c.
+    let args = c .before .before .before .before .before .before .before .before .before .before .args in
+    let cell = c .before .before .before .before .before .before .before .cell in
+    let if1 = c .before .before .before .before .before .before .if1 in
+    let if2 = c .before .before .before .before .before .if2 in
+    let if3 = c .before .before .before .before .if3 in
+    let enter-entry4 = c .before .before .enter-entry4 in
+    unit-done (line-other (args .t .now) (args .i) (cell .ensures .0) (if1 .left) (if2 .left) (if3 .left)) (enter-entry4 .ensures))

@@ -1,7 +1,7 @@
 use mathlib.Core.Path.{refl}
 use Rattle.table_trees.specs.Unfolding.{typeOf}
 use Rattle.table_trees.proofs.Unfolding.{rank, type-call}
-use Rattle.table_trees.proofs.Lines.{no-unit, part-of, line-sum, line-product, line-other}
+use Rattle.table_trees.proofs.Lines.{no-unit, part-of, line-sum, line-product, line-list, line-other}
 use Rattle.number_values.proofs.Counting.{counted-most, counts-sum, counts-product, counts-as}
 use borrow.Author.Needs.{needs}
 use Prim.Native.Nat.{ℕ, _<_}
@@ -137,10 +137,17 @@ count-values-returns-3 t c =
 
 count-values-returns-4 : (t : ℕ) → count-values-lts.Need-returns-4 (ks-count-values t) (count-values-at t) count-values.Post
 count-values-returns-4 t c =
-    let args = c .before .before .before .before .before .before .args in
-    let cell = c .before .before .cell in
-    let if2 = c .before .if2 in
-    counts-as 1 (line-other ((args .t .now)) ((args .i)) ((cell .ensures .0)) ((if2 .left)) ((c .if3 .left))) refl
+    let args = c .before .before .before .before .before .before .before .args in
+    let cell = c .before .before .before .cell in
+    counts-as 4294967296 (line-list (args .t .now) (args .i) (cell .ensures .0) refl (c .if4 .taken)) refl
+
+count-values-returns-5 : (t : ℕ) → count-values-lts.Need-returns-5 (ks-count-values t) (count-values-at t) count-values.Post
+count-values-returns-5 t c =
+    let args = c .before .before .before .before .before .before .before .args in
+    let cell = c .before .before .before .cell in
+    let if2 = c .before .before .if2 in
+    let if3 = c .before .if3 in
+    counts-as 1 (line-other (args .t .now) (args .i) (cell .ensures .0) (if2 .left) (if3 .left) (c .if4 .left)) refl
 
 pub +count-values-spec : {M : Type 1} → statement M
 +count-values-spec = close μ-count-values λ t. count-values-lts.spec (ks-count-values t)
@@ -167,3 +174,4 @@ pub +count-values-spec : {M : Type 1} → statement M
     (count-values-pairs-requires t)
     (count-values-returns-3 t)
     (count-values-returns-4 t)
+    (count-values-returns-5 t)

@@ -1,9 +1,10 @@
 use mathlib.Core.Path.{refl, sym, subst}
 use Rattle.table_trees.specs.Unfolding.{cellOf, smallerOf, typeOf}
 use Rattle.table_trees.proofs.Unfolding.{rank, type-call}
-use Rattle.table_trees.proofs.Lines.{no-unit, part-of, line-sum, line-product, line-other}
+use Rattle.table_trees.proofs.Lines.{no-unit, part-of, line-sum, line-product}
 use Rattle.number_values.specs.Numbers.{Ranks}
-use Rattle.number_values.proofs.Ranking.{ranks-unit, ranks-left, ranks-right, ranks-pair}
+use Rattle.number_values.proofs.TypeLines.{line-rest}
+use Rattle.number_values.proofs.Ranking.{ranks-list, ranks-unit, ranks-left, ranks-right, ranks-pair}
 use borrow.Author.Needs.{needs}
 use Prim.Native.Nat.{ℕ, _<_}
 use borrow.Fn.Kinds.{In}
@@ -159,8 +160,8 @@ rank-at-returns-4 t c =
     let behind = c .before .before .behind in
     let if1 = c .before .if1 in
     let a = (args) in
-    subst (λ x. Ranks x (a .s .now) (a .at) 0 ((behind .result))) (sym (line-other (a .t .now) (a .i) ((cell .ensures .0)) ((if1 .left)) ((c .if3 .left))))
-    (ranks-unit (a .s .now) (a .at) ((behind .ensures)))
+    line-rest (λ x. Ranks x (a .s .now) (a .at) 0 ((behind .result))) (a .t .now) (a .i) ((cell .ensures .0)) ((if1 .left)) ((c .if3 .left))
+    (ranks-unit (a .s .now) (a .at) ((behind .ensures))) (λ b. ranks-list b (a .s .now) (a .at) 0 (behind .result))
 
 pub +rank-at-spec : {M : Type 1} → statement M
 +rank-at-spec = close μ-rank-at λ t. rank-at-lts.spec (ks-rank-at t)

@@ -3,10 +3,11 @@ use lib.ListN.{set, length-set}
 use native.Mathlib.Omega.{arith}
 use Rattle.table_trees.specs.Unfolding.{cellOf, smallerOf, typeOf}
 use Rattle.table_trees.proofs.Unfolding.{rank, type-call}
-use Rattle.table_trees.proofs.Lines.{no-unit, part-of, line-sum, line-product, line-other}
+use Rattle.table_trees.proofs.Lines.{no-unit, part-of, line-sum, line-product}
 use Rattle.number_values.specs.Numbers.{Unranks}
+use Rattle.number_values.proofs.TypeLines.{line-rest}
 use Rattle.number_values.proofs.Counting.{counted-some}
-use Rattle.number_values.proofs.Spelling.{unranks-none, unranks-unit, unranks-left, unranks-right, unranks-pair}
+use Rattle.number_values.proofs.Spelling.{unranks-none, unranks-list, unranks-unit, unranks-left, unranks-right, unranks-pair}
 use borrow.Author.Needs.{needs}
 use Prim.Native.Nat.{ℕ, _+_, _<_}
 use borrow.Fn.Kinds.{In}
@@ -201,8 +202,8 @@ unrank-at-returns-5 t c =
     let cell = c .before .before .cell in
     let if2 = c .before .if2 in
     let a = (args) in
-    subst (λ x. Unranks x (a .n) (a .out .now) (set (a .out .now) (a .at) 85) (a .at) (a .at + 1)) (sym (line-other (a .t .now) (a .i) ((cell .ensures .0)) ((if2 .left)) ((c .if4 .left))))
-    (unranks-unit (a .n) (a .out .now) (a .at) ((if1 .left)))
+    line-rest (λ x. Unranks x (a .n) (a .out .now) (set (a .out .now) (a .at) 85) (a .at) (a .at + 1)) (a .t .now) (a .i) ((cell .ensures .0)) ((if2 .left)) ((c .if4 .left))
+    (unranks-unit (a .n) (a .out .now) (a .at) ((if1 .left))) (λ b. unranks-list b (a .n) (a .out .now) (set (a .out .now) (a .at) 85) (a .at) (a .at + 1))
 
 pub +unrank-at-spec : {M : Type 1} → statement M
 +unrank-at-spec = close μ-unrank-at λ t. unrank-at-lts.spec (ks-unrank-at t)

@@ -9,24 +9,27 @@ idle-requires : tie.Need-idle-requires
 idle-requires c κs = search needs
 
 returns : tie.Need-returns
-returns c =
-    let s = c .before .before in
-    type-listed 0 (s .args .a) (s .args .b) (c .before .match .keys1) (c .idle .ensures)
+returns c = type-listed 0 (c .before .before .args .a) (c .before .before .args .b) (c .before .match .keys1) (c .idle .ensures)
 
 returns-2 : tie.Need-returns-2
-returns-2 c =
-    let s = c .before in
-    type-listed 1 (s .args .a) (s .args .b) (c .match .keys2) refl
+returns-2 c = type-listed 1 (c .before .args .a) (c .before .args .b) (c .match .keys2) refl
 
 returns-3 : tie.Need-returns-3
-returns-3 c =
-    let s = c .before in
-    type-listed 2 (s .args .a) (s .args .b) (c .match .keys3) refl
+returns-3 c = type-listed 2 (c .before .args .a) (c .before .args .b) (c .match .keys3) refl
 
 returns-4 : tie.Need-returns-4
-returns-4 c =
-    let s = c .before in
-    type-unlisted (s .args .kind) (s .args .a) (s .args .b) (c .match .rest .0 .0 .1) (c .match .rest .0 .1) (c .match .rest .1)
+returns-4 c = type-listed 3 (c .before .args .a) (c .before .args .b) (c .match .keys4) refl
+
+returns-5 : tie.Need-returns-5
+returns-5 c = type-unlisted (c .before .args .kind) (c .before .args .a) (c .before .args .b) (c .match .rest .0 .0 .0 .1) (c .match .rest .0 .0 .1) (c .match .rest .0 .1) (c .match .rest .1)
 
 pub type-fields-spec : {M : Type 1} → statement M
-type-fields-spec = tie.close (tie.spec idle-requires returns returns-2 returns-3 returns-4)
+type-fields-spec =
+    tie.close
+    (tie.spec
+    idle-requires
+    returns
+    returns-2
+    returns-3
+    returns-4
+    returns-5)

@@ -1,8 +1,8 @@
 use Rattle.table_trees.specs.Unfolding.{cellOf}
 use Rattle.table_trees.proofs.Unfolding.{rank, pattern-call}
-use Rattle.table_trees.proofs.Lines.{no-unit}
-use Rattle.table_trees.proofs.Cases.{injects, injects-no-unit}
-use Rattle.run_patterns.proofs.Building.{build-variable, build-low, build-high, build-tag, build-pair}
+use Rattle.table_trees.proofs.Cases.{injects, injects-no-unit, joins-key, joins-no-unit, leaf-below}
+use Rattle.run_patterns.proofs.Lines.{leaf-high}
+use Rattle.run_patterns.proofs.Building.{build-variable, build-leaf, build-tag, build-node}
 use borrow.Author.Needs.{needs}
 use Prim.Native.Nat.{ℕ, _+_, _<_}
 use borrow.Fn.Kinds.{In}
@@ -66,54 +66,61 @@ pub +build-at-spec : {M : Type 1} → statement M
     let pre = c .before .before .before .before .before .before .before .before .before .before .before .before .before .pre in
     let args = c .before .before .before .before .before .before .before .before .before .before .before .before .before .args in
     let pattern-cell = c .before .before .before .before .before .before .before .before .before .pattern-cell in
-    let if2 = c .before .before .if2 in
-    let part = c .before .part in
-    (pattern-call (args .t .now) (args .base) (args .j) (cellOf (args .t .now) ((args .base) + (args .j)) 2) (pre .0) (pattern-cell .ensures .0) (no-unit (if2 .taken)) (part .ensures), tt))
+    let match′ = c .before .before .match in
+    let part = c .before .part in (
+      pattern-call (args .t .now) (args .base) (args .j) (cellOf (args .t .now) ((args .base) + (args .j)) 2) (pre .0) (pattern-cell .ensures .0)
+          (joins-no-unit (joins-key (match′ .keys1))) (part .ensures),
+      tt,
+    ))
     (λ c κs. search needs)
     (λ c κs.
     let pre = c .before .before .before .before .before .before .before .before .before .before .before .before .before .before .before .before .before .before .pre in
     let args = c .before .before .before .before .before .before .before .before .before .before .before .before .before .before .before .before .before .before .args in
     let pattern-cell = c .before .before .before .before .before .before .before .before .before .before .before .before .before .before .pattern-cell in
-    let if2 = c .before .before .before .before .before .before .before .if2 in
-    let part2 = c .before .part2 in
-    (pattern-call (args .t .now) (args .base) (args .j) (cellOf (args .t .now) ((args .base) + (args .j)) 3) (pre .0) (pattern-cell .ensures .0) (no-unit (if2 .taken)) (part2 .ensures), tt))
-    (λ c. search needs)
-    (λ c.
-    let far = c .before .before .before .before .before .before .before .before .before .before .before .before .before .before .before .before .before .before .before .before in
-    let args = far .before .args in
-    let pattern-cell = c .before .before .before .before .before .before .before .before .before .before .before .before .before .before .before .before .before .pattern-cell in
-    let letter = c .before .before .before .before .before .before .before .before .before .before .before .before .before .before .letter in
-    let put-byte = c .before .before .before .before .before .before .before .before .before .before .before .before .before .put-byte in
-    let if2 = c .before .before .before .before .before .before .before .before .before .before .if2 in
-    let part = c .before .before .before .before .before .before .before .before .before .part in
-    let build-at = c .before .before .before .before .before .before .before .build-at in
-    let part2 = c .before .before .before .before .part2 in
-    let build-at2 = c .before .before .build-at2 in
-    build-pair (args .t .now) (args .base) (args .j) (pattern-cell .ensures .0) (letter .ensures) (put-byte .ensures) (part .ensures) (build-at .ensures) (if2 .taken) (part2 .ensures)
-    (build-at2 .kept .1 .1 .1 .1 .0) (build-at2 .ensures))
+    let match′ = c .before .before .before .before .before .before .before .match in
+    let part2 = c .before .part2 in (
+      pattern-call (args .t .now) (args .base) (args .j) (cellOf (args .t .now) ((args .base) + (args .j)) 3) (pre .0) (pattern-cell .ensures .0)
+          (joins-no-unit (joins-key (match′ .keys1))) (part2 .ensures),
+      tt,
+    ))
     (λ c κs. search needs)
     (λ c κs.
     let pre = c .before .before .before .before .before .before .before .before .before .before .before .before .before .before .before .pre in
     let args = c .before .before .before .before .before .before .before .before .before .before .before .before .before .before .before .args in
     let pattern-cell = c .before .before .before .before .before .before .before .before .before .before .before .pattern-cell in
-    let if3 = c .before .before .before .if3 in
-    let if4 = c .before .before .if4 in
+    let if2 = c .before .before .before .if2 in
+    let if3 = c .before .before .if3 in
     let part3 = c .before .part3 in (
       pattern-call (args .t .now) (args .base) (args .j) (cellOf (args .t .now) ((args .base) + (args .j)) 2) (pre .0) (pattern-cell .ensures .0)
-          (injects-no-unit (injects (pattern-cell .result) (if3 .left) (if4 .taken))) (part3 .ensures),
+          (injects-no-unit (injects (pattern-cell .result) (if2 .left) (if3 .taken))) (part3 .ensures),
       tt,
     ))
+    (λ c. search needs)
+    (λ c.
+    let args′ = c .before .before .before .before .before .before .before .before .before .before .before .before .before .before .before .before .before .before .before .before in
+    let args = args′ .before .args in
+    let pattern-cell = c .before .before .before .before .before .before .before .before .before .before .before .before .before .before .before .before .before .pattern-cell in
+    let letter = c .before .before .before .before .before .before .before .before .before .before .before .before .before .before .letter in
+    let put-byte = c .before .before .before .before .before .before .before .before .before .before .before .before .before .put-byte in
+    let match′ = c .before .before .before .before .before .before .before .before .before .before .match in
+    let part = c .before .before .before .before .before .before .before .before .before .part in
+    let build-at = c .before .before .before .before .before .before .before .build-at in
+    let part2 = c .before .before .before .before .part2 in
+    let build-at2 = c .before .before .build-at2 in
+    build-node (args .t .now) (args .base) (args .j) (pattern-cell .ensures .0) (letter .ensures) (put-byte .ensures) (part .ensures) (build-at .ensures) (joins-key (match′ .keys1))
+    (part2 .ensures) (build-at2 .kept .1 .1 .1 .1 .0) (build-at2 .ensures))
     (λ c. search needs)
     (λ c.
     let args = c .before .before .before .before .before .before .before .before .before .before .before .before .before .before .before .before .before .before .args in
     let pattern-cell = c .before .before .before .before .before .before .before .before .before .before .before .before .before .before .pattern-cell in
     let letter = c .before .before .before .before .before .before .before .before .before .before .before .letter in
     let put-byte = c .before .before .before .before .before .before .before .before .before .before .put-byte in
-    let if3 = c .before .before .before .before .before .before .if3 in
-    let if4 = c .before .before .before .before .before .if4 in
+    let if2 = c .before .before .before .before .before .before .if2 in
+    let if3 = c .before .before .before .before .before .if3 in
     let part3 = c .before .before .before .before .part3 in
     let build-at3 = c .before .before .build-at3 in
-    build-tag (args .t .now) (args .base) (args .j) (pattern-cell .ensures .0) (letter .ensures) (put-byte .ensures) (part3 .ensures) (build-at3 .ensures) (if3 .left) (if4 .taken))
+    build-tag (args .t .now) (args .base) (args .j) (pattern-cell .ensures .0) (letter .ensures) (put-byte .ensures) (part3 .ensures) (build-at3 .ensures)
+    (injects (pattern-cell .result) (if2 .left) (if3 .taken)))
     (λ c. search needs)
     (λ c.
     let args = c .before .before .before .before .before .before .before .before .before .before .before .before .args in
@@ -121,7 +128,7 @@ pub +build-at-spec : {M : Type 1} → statement M
     let if1 = c .before .before .before .before .before .before .before .if1 in
     let letter = c .before .before .before .before .before .letter in
     let put-byte = c .before .before .before .before .put-byte in
-    build-low (args .t .now) (args .base) (args .j) (pattern-cell .ensures .0) (letter .ensures) (put-byte .ensures) (if1 .left) (c .if3 .taken))
+    build-leaf (args .t .now) (args .base) (args .j) (pattern-cell .ensures .0) (letter .ensures) (put-byte .ensures) (if1 .left) (leaf-below (pattern-cell .result) (c .if2 .taken)))
     (λ c. search needs)
     (λ c.
     let args = c .before .before .before .before .before .before .before .before .before .before .before .before .before .args in
@@ -129,5 +136,5 @@ pub +build-at-spec : {M : Type 1} → statement M
     let if1 = c .before .before .before .before .before .before .before .before .if1 in
     let letter = c .before .before .before .before .before .before .letter in
     let put-byte = c .before .before .before .before .before .put-byte in
-    let if2 = c .before .before .if2 in
-    build-high (args .t .now) (args .base) (args .j) (pattern-cell .ensures .0) (letter .ensures) (put-byte .ensures) (if1 .left) (c .if4 .left) (if2 .left))
+    let match′ = c .before .before .match in
+    build-leaf (args .t .now) (args .base) (args .j) (pattern-cell .ensures .0) (letter .ensures) (put-byte .ensures) (if1 .left) (leaf-high (pattern-cell .result) (c .if3 .left) (match′ .rest .1)))

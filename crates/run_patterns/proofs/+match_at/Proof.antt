@@ -1,8 +1,8 @@
 use Rattle.table_trees.specs.Unfolding.{cellOf}
 use Rattle.table_trees.proofs.Unfolding.{rank, pattern-call}
-use Rattle.table_trees.proofs.Lines.{no-unit}
-use Rattle.table_trees.proofs.Cases.{injects, injects-no-unit}
-use Rattle.run_patterns.proofs.Matching.{match-variable, match-miss, match-low, match-high, match-tag, match-pair, miss-first}
+use Rattle.table_trees.proofs.Cases.{injects, injects-no-unit, joins-key, joins-no-unit, leaf-below}
+use Rattle.run_patterns.proofs.Lines.{leaf-high}
+use Rattle.run_patterns.proofs.Matching.{match-variable, match-miss, match-leaf, match-tag, match-node, miss-first}
 use borrow.Author.Needs.{needs}
 use Prim.Native.Nat.{ℕ, _+_, _<_}
 use borrow.Fn.Kinds.{In}
@@ -78,8 +78,11 @@ pub +match-at-spec : {M : Type 1} → statement M
     let args = c .before .before .before .before .before .before .before .before .before .before .before .before .before .args in
     let pattern-cell = c .before .before .before .before .before .before .before .before .before .pattern-cell in
     let match2 = c .before .before .match2 in
-    let part = c .before .part in
-    (pattern-call (args .t .now) (args .base) (args .j) (cellOf (args .t .now) ((args .base) + (args .j)) 2) (pre .0) (pattern-cell .ensures .0) (no-unit (match2 .keys1)) (part .ensures), tt))
+    let part = c .before .part in (
+      pattern-call (args .t .now) (args .base) (args .j) (cellOf (args .t .now) ((args .base) + (args .j)) 2) (pre .0) (pattern-cell .ensures .0) (joins-no-unit (joins-key (match2 .keys1)))
+          (part .ensures),
+      tt,
+    ))
     (λ c. search needs)
     (λ c κs. search needs)
     (λ c κs.
@@ -88,8 +91,11 @@ pub +match-at-spec : {M : Type 1} → statement M
     let args = far .before .args in
     let pattern-cell = c .before .before .before .before .before .before .before .before .before .before .before .before .before .before .before .before .before .pattern-cell in
     let match2 = c .before .before .before .before .before .before .before .before .before .before .match2 in
-    let part2 = c .before .part2 in
-    (pattern-call (args .t .now) (args .base) (args .j) (cellOf (args .t .now) ((args .base) + (args .j)) 3) (pre .0) (pattern-cell .ensures .0) (no-unit (match2 .keys1)) (part2 .ensures), tt))
+    let part2 = c .before .part2 in (
+      pattern-call (args .t .now) (args .base) (args .j) (cellOf (args .t .now) ((args .base) + (args .j)) 3) (pre .0) (pattern-cell .ensures .0) (joins-no-unit (joins-key (match2 .keys1)))
+          (part2 .ensures),
+      tt,
+    ))
     (λ c. search needs)
     (λ c κs. search needs)
     (λ c κs.
@@ -117,8 +123,8 @@ pub +match-at-spec : {M : Type 1} → statement M
     let m = c .before .before .before .before .before .before .m in
     let part2 = c .before .before .before .before .part2 in
     let match-at2 = c .before .before .match-at2 in
-    match-pair (args .t .now) (args .base) (args .j) (args .s .now) (args .at) (args .end) (args .vars .now) (pattern-cell .ensures .0) (letter .ensures) (letter-end .ensures)
-    (next .given .1) (part .ensures) (match2 .keys1) (m .given .1) (match-at .ensures) (part2 .ensures) (match-at2 .ensures))
+    match-node (args .t .now) (args .base) (args .j) (args .s .now) (args .at) (args .end) (args .vars .now) (pattern-cell .ensures .0) (letter .ensures) (letter-end .ensures)
+    (next .given .1) (part .ensures) (joins-key (match2 .keys1)) (m .given .1) (match-at .ensures) (part2 .ensures) (match-at2 .ensures))
     (λ c. search needs)
     (λ c.
     let args = c .before .before .before .before .before .before .before .before .before .before .before .before .before .before .before .before .before .before .args in
@@ -130,7 +136,7 @@ pub +match-at-spec : {M : Type 1} → statement M
     let part = c .before .before .before .before .before .before .part in
     let match-at = c .before .before .before .before .match-at in
     miss-first (args .t .now) (args .base) (args .j) (args .s .now) (args .at) (args .end) (args .vars .now) (pattern-cell .ensures .0) (letter .ensures) (letter-end .ensures)
-    (next .given .1) (part .ensures) (match2 .keys1) (c .enum-told2 .given .1) (match-at .ensures))
+    (next .given .1) (part .ensures) (joins-key (match2 .keys1)) (c .enum-told2 .given .1) (match-at .ensures))
     (λ c. search needs)
     (λ c.
     let args = c .before .before .before .before .before .before .before .before .before .before .before .before .before .before .before .before .before .before .args in
@@ -143,7 +149,7 @@ pub +match-at-spec : {M : Type 1} → statement M
     let part3 = c .before .before .before .before .part3 in
     let match-at3 = c .before .before .match-at3 in
     match-tag (args .t .now) (args .base) (args .j) (args .s .now) (args .at) (args .end) (args .vars .now) (pattern-cell .ensures .0) (letter .ensures) (letter-end .ensures)
-    (next .given .1) (part3 .ensures) (if2 .left) (if3 .taken) (match-at3 .ensures))
+    (next .given .1) (part3 .ensures) (injects (pattern-cell .result) (if2 .left) (if3 .taken)) (match-at3 .ensures))
     (λ c.
     let args = c .before .before .before .before .before .before .before .before .before .before .before .before .args in
     let pattern-cell = c .before .before .before .before .before .before .before .before .pattern-cell in
@@ -151,8 +157,8 @@ pub +match-at-spec : {M : Type 1} → statement M
     let letter = c .before .before .before .before .before .before .letter in
     let letter-end = c .before .before .before .before .before .letter-end in
     let next = c .before .before .before .next in
-    match-low (args .t .now) (args .base) (args .j) (args .s .now) (args .at) (args .end) (args .vars .now) (pattern-cell .ensures .0) (letter .ensures) (letter-end .ensures)
-    (next .given .1) (if1 .left) (c .if2 .taken))
+    match-leaf (args .t .now) (args .base) (args .j) (args .s .now) (args .at) (args .end) (args .vars .now) (pattern-cell .ensures .0) (letter .ensures) (letter-end .ensures)
+    (next .given .1) (if1 .left) (leaf-below (pattern-cell .result) (c .if2 .taken)))
     (λ c.
     let args = c .before .before .before .before .before .before .before .before .before .before .before .before .before .args in
     let pattern-cell = c .before .before .before .before .before .before .before .before .before .pattern-cell in
@@ -161,5 +167,5 @@ pub +match-at-spec : {M : Type 1} → statement M
     let letter-end = c .before .before .before .before .before .before .letter-end in
     let next = c .before .before .before .before .next in
     let match2 = c .before .before .match2 in
-    match-high (args .t .now) (args .base) (args .j) (args .s .now) (args .at) (args .end) (args .vars .now) (pattern-cell .ensures .0) (letter .ensures) (letter-end .ensures)
-    (next .given .1) (if1 .left) (c .if3 .left) (match2 .rest .1))
+    match-leaf (args .t .now) (args .base) (args .j) (args .s .now) (args .at) (args .end) (args .vars .now) (pattern-cell .ensures .0) (letter .ensures) (letter-end .ensures)
+    (next .given .1) (if1 .left) (leaf-high (pattern-cell .result) (c .if3 .left) (match2 .rest .1)))

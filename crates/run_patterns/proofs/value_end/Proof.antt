@@ -1,6 +1,5 @@
--- `run_patterns::value_end` meets its contract. The loop's invariant: whatever the value is whose letters begin at the place, a value begins at
--- i, and `more` values come behind it up to the end. The measure is what is left of the slice.
-use mathlib.Core.Logic.{⊎-elim}
+-- `run_patterns::value_end` meets its contract. The loop's invariant: whatever the value is whose letters begin at the place, `left` values stand
+-- side by side from i up to its end, and there is one. The measure is what is left of the slice.
 use mathlib.Core.Path.{refl}
 use Prim.Native.Nat.{_-_}
 use lib.ListN.{length}
@@ -10,38 +9,35 @@ use Rattle.run_patterns.proofs.value_end.Statement.{statement}
 use Rattle.run_patterns.proofs.value_end.Tie as tie
 
 abbrev Inv-loop : tie.InvT-loop
-Inv-loop s at i₀ more₀ i more = Searching s at i more
+Inv-loop s at i₀ left₀ i left = Searching s at i left
 
 abbrev μ-loop : tie.MeasureT-loop
-μ-loop s at i₀ more₀ i more = length s - i
+μ-loop s at i₀ left₀ i left = length s - i
 
 loop-holds : tie.Need-loop-holds Inv-loop μ-loop
 loop-holds c = search-start (c .before .args .s .now) (c .before .args .at)
 
-shared-slice-read-b : tie.Need-shared-slice-read-b Inv-loop μ-loop
-shared-slice-read-b c = search needs
+shared-slice-read-left-after : tie.Need-shared-slice-read-left-after Inv-loop μ-loop
+shared-slice-read-left-after c = search needs
 
-add-result : tie.Need-add-result Inv-loop μ-loop
-add-result c = search needs
-
-returns : tie.Need-returns Inv-loop μ-loop
-returns c =
-    let d = c .before .before .before .before in
-    search-last (d .loop .inv) refl (c .before .if1 .taken) (c .if2 .taken)
-
-more-after-requires : tie.Need-more-after-requires Inv-loop μ-loop
-more-after-requires c κs = search needs
+left-after-requires : tie.Need-left-after-requires Inv-loop μ-loop
+left-after-requires c κs = search needs
 
 add-i : tie.Need-add-i Inv-loop μ-loop
 add-i c = search needs
+
+returns : tie.Need-returns Inv-loop μ-loop
+returns c =
+    let loop′ = c .before .before .before .before .loop in
+    search-last (loop′ .inv) refl (c .before .left-after .ensures) (c .if1 .taken)
 
 loop-less : tie.Need-loop-less Inv-loop μ-loop
 loop-less c = search needs
 
 loop-again : tie.Need-loop-again Inv-loop μ-loop
 loop-again c =
-    let d = c .before .before .before .before in
-    search-next (d .loop .inv) refl (⊎-elim (λ w p. w .1 .left) (λ w p q. absurd (w .left p)) (c .before .if1 .came)) (c .more-after .ensures)
+    let loop′ = c .before .before .before .before .loop in
+    search-next (loop′ .inv) refl (c .before .left-after .ensures) (c .if1 .left)
 
 returns-2 : tie.Need-returns-2 Inv-loop μ-loop
 returns-2 c = search-end (c .before .loop .inv) (c .loop-test .left)
@@ -53,11 +49,10 @@ value-end-spec =
     Inv-loop
     μ-loop
     loop-holds
-    shared-slice-read-b
-    add-result
-    returns
-    more-after-requires
+    shared-slice-read-left-after
+    left-after-requires
     add-i
+    returns
     loop-less
     loop-again
     returns-2)

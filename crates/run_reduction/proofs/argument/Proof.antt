@@ -1,6 +1,6 @@
-use Rattle.table_trees.specs.Unfolding.{patternOf}
-use Rattle.run_reduction.proofs.Framing.{argue-var, argue-built}
 use mathlib.Core.Path.{refl}
+use Rattle.run_reduction.proofs.Framing.{argue-var, argue-large, argue-built}
+use Rattle.table_trees.specs.Unfolding.{patternOf}
 use borrow.Author.Needs.{needs}
 use Rattle.run_reduction.proofs.argument.Statement.{statement}
 use Rattle.run_reduction.proofs.argument.Tie as tie
@@ -8,22 +8,19 @@ use Rattle.run_reduction.proofs.argument.Reads as reads
 use Rattle.run_reduction.proofs.argument.Lts as lts
 use Rattle.run_coding.proofs.build_line.Reads as build-line-reads
 use Rattle.run_coding.proofs.variable.Reads as variable-reads
+use Rattle.run_reduction.proofs.other_length.Reads as other-length-reads
 use Rattle.run_reduction.proofs.range_from.Reads as range-from-reads
 use Rattle.run_reduction.proofs.range_to.Reads as range-to-reads
 
--- src/lib.rt:188:9
 variable-requires : tie.Need-variable-requires
 variable-requires c κs = search needs
 
--- src/lib.rt:190:13
 range-from-requires : tie.Need-range-from-requires
 range-from-requires c κs = search needs
 
--- src/lib.rt:191:13
 range-to-requires : tie.Need-range-to-requires
 range-to-requires c κs = search needs
 
--- src/lib.rt:192:9
 returns : tie.Need-returns
 returns c =
     let args = c .before .before .before .before .before .before .before .before .args in
@@ -32,20 +29,28 @@ returns c =
     let range-from = c .before .range-from in
     λ z. argue-var (patternOf (args .t .now) (args .base) (args .j)) (variable .result) _ (variable .ensures .0 _ _ z (if1 .taken)) (range-from .ensures) (c .range-to .ensures) refl
 
--- src/lib.rt:198:9
+other-length-requires : tie.Need-other-length-requires
+other-length-requires c κs = search needs
+
+returns-2 : tie.Need-returns-2
+returns-2 c =
+    let args = c .before .before .before .before .before .before .before .before .args in
+    let other-length = c .before .other-length in
+    λ z. argue-large (patternOf (args .t .now) (args .base) (args .j)) _ refl refl (c .if2 .taken) (other-length .ensures z)
+
 build-line-requires : tie.Need-build-line-requires
 build-line-requires c κs = search needs
 
--- src/lib.rt:174:1
 same-length : tie.Need-same-length
 same-length c = search needs
 
--- src/lib.rt:174:1
-returns-2 : tie.Need-returns-2
-returns-2 c =
-    let args = c .before .before .before .before .before .before .before .before .before .before .args in
+returns-3 : tie.Need-returns-3
+returns-3 c =
+    let args = c .before .before .before .before .before .before .before .before .before .before .before .before .args in
+    let if2 = c .before .before .before .before .if2 in
+    let other-length = c .before .before .before .before .before .other-length in
     let build-line = c .before .before .build-line in
-    λ z. argue-built (patternOf (args .t .now) (args .base) (args .j)) _ refl refl refl (build-line .ensures z)
+    λ z. argue-built (patternOf (args .t .now) (args .base) (args .j)) _ refl refl refl (if2 .left) (other-length .ensures z) (build-line .ensures z)
 
 pub argument-spec : {M : Type 1} → statement M
 argument-spec =
@@ -55,6 +60,8 @@ argument-spec =
     range-from-requires
     range-to-requires
     returns
+    other-length-requires
+    returns-2
     build-line-requires
     same-length
-    returns-2)
+    returns-3)

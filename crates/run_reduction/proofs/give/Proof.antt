@@ -1,104 +1,37 @@
+use native.Mathlib.Omega.{arith}
+use Rattle.run_reduction.proofs.Framing.{give-large, give-settled}
 use Rattle.table_trees.specs.Unfolding.{patternOf}
-use Rattle.run_reduction.proofs.Framing.{give-place, give-copied, give-built, give-moved}
 use borrow.Author.Needs.{needs}
 use Rattle.run_reduction.proofs.give.Statement.{statement}
 use Rattle.run_reduction.proofs.give.Tie as tie
 use Rattle.run_reduction.proofs.give.Reads as reads
 use Rattle.run_reduction.proofs.give.Lts as lts
-use Rattle.run_coding.proofs.build_again.Reads as build-again-reads
-use Rattle.run_coding.proofs.variable.Reads as variable-reads
-use Rattle.run_reduction.proofs.range_from.Reads as range-from-reads
-use Rattle.run_reduction.proofs.range_to.Reads as range-to-reads
-use Rattle.run_values.proofs.copy_range.Reads as copy-range-reads
+use Rattle.run_reduction.proofs.built_length.Reads as built-length-reads
+use Rattle.run_reduction.proofs.settle.Reads as settle-reads
 
--- src/lib.rt:153:9
-variable-requires : tie.Need-variable-requires
-variable-requires c κs = search needs
+built-length-requires : tie.Need-built-length-requires
+built-length-requires c κs = search needs
 
--- src/lib.rt:155:13
-range-from-requires : tie.Need-range-from-requires
-range-from-requires c κs = search needs
-
--- src/lib.rt:156:13
-range-to-requires : tie.Need-range-to-requires
-range-to-requires c κs = search needs
-
--- src/lib.rt:158:13
 returns : tie.Need-returns
 returns c =
-    let args = c .before .before .before .before .before .before .before .before .before .args in
-    let variable = c .before .before .before .before .variable in
-    let if1 = c .before .before .before .if1 in
-    let range-from = c .before .before .range-from in
-    let range-to = c .before .range-to in
-    λ z. give-place (patternOf (args .t .now) (args .base) (args .j)) (variable .result) (variable .ensures .0 _ _ z (if1 .taken)) (range-from .ensures) (range-to .ensures) (c .if2 .taken)
+    let args = c .before .before .before .before .before .before .args in
+    let built-length = c .before .built-length in
+    (omega arith, λ z. give-large (patternOf (args .t .now) (args .base) (args .j)) (c .if1 .taken) (built-length .ensures z))
 
--- src/lib.rt:161:17
-copy-range-requires : tie.Need-copy-range-requires
-copy-range-requires c κs = search needs
+settle-requires : tie.Need-settle-requires
+settle-requires c κs = search needs
 
--- src/lib.rt:162:13
 same-length : tie.Need-same-length
 same-length c = search needs
 
--- src/lib.rt:162:13
 returns-2 : tie.Need-returns-2
 returns-2 c =
-    let args = c .before .before .before .before .before .before .before .before .before .before .before .before .before .before .args in
-    let variable = c .before .before .before .before .before .before .before .before .before .variable in
-    let if1 = c .before .before .before .before .before .before .before .before .if1 in
-    let range-from = c .before .before .before .before .before .before .before .range-from in
-    let range-to = c .before .before .before .before .before .before .range-to in
-    let if3 = c .before .before .before .before .if3 in
-    let copy-range = c .before .before .copy-range in
-    λ z. give-copied (patternOf (args .t .now) (args .base) (args .j)) (variable .result) (variable .ensures .0 _ _ z (if1 .taken)) (range-from .ensures) (range-to .ensures) (if3 .taken)
-    (copy-range .ensures .1)
-
--- src/lib.rt:165:9
-build-again-requires : tie.Need-build-again-requires
-build-again-requires c κs = search needs
-
--- src/lib.rt:167:9
-same-length-2 : tie.Need-same-length-2
-same-length-2 c = search needs
-
--- src/lib.rt:167:9
-returns-3 : tie.Need-returns-3
-returns-3 c =
-    let args = c .before .before .before .before .before .before .before .before .before .before .before .args in
-    let build-again = c .before .before .before .build-again in
-    λ z. give-built (patternOf (args .t .now) (args .base) (args .j)) (c .if4 .taken) (build-again .ensures z)
-
--- src/lib.rt:169:9
-copy-range-requires-2 : tie.Need-copy-range-requires-2
-copy-range-requires-2 c κs = search needs
-
--- src/lib.rt:137:1
-same-length-3 : tie.Need-same-length-3
-same-length-3 c = search needs
-
--- src/lib.rt:137:1
-returns-4 : tie.Need-returns-4
-returns-4 c =
-    let args = c .before .before .before .before .before .before .before .before .before .before .before .before .before .before .before .args in
-    let build-again = c .before .before .before .before .before .before .before .build-again in
-    let copy-range2 = c .before .before .copy-range2 in
-    λ z. give-moved (patternOf (args .t .now) (args .base) (args .j)) (build-again .ensures z) (copy-range2 .ensures .1)
+    let args = c .before .before .before .before .before .before .before .before .before .before .args in
+    let settle = c .before .before .settle in
+    let if1 = c .before .before .before .before .if1 in
+    let built-length = c .before .before .before .before .before .built-length in
+    (settle .ensures .0, λ z. give-settled (patternOf (args .t .now) (args .base) (args .j)) (if1 .left) (built-length .ensures z) (settle .ensures .1 z))
 
 pub give-spec : {M : Type 1} → statement M
 give-spec =
-    tie.close
-    (tie.spec
-    variable-requires
-    range-from-requires
-    range-to-requires
-    returns
-    copy-range-requires
-    same-length
-    returns-2
-    build-again-requires
-    same-length-2
-    returns-3
-    copy-range-requires-2
-    same-length-3
-    returns-4)
+    tie.close (tie.spec built-length-requires returns settle-requires same-length returns-2)

@@ -1,7 +1,7 @@
 -- The recursion of `table_sizes::type_tags` meets its contract. The measure is the line's rank: a line with parts stands in a row of the
 -- table, and what it names stands earlier or past the rows.
-use Rattle.table_trees.proofs.Cases.{parted, parted-no-unit, whole-below, whole-beyond}
-use Rattle.table_sizes.proofs.Counts.{type-tags-whole, type-tags-node}
+use Rattle.table_trees.proofs.Cases.{parted, parted-no-unit, whole-below}
+use Rattle.table_sizes.proofs.Counts.{type-tags-whole, type-tags-past, type-tags-node}
 use Rattle.table_trees.proofs.Unfolding.{rank, type-call}
 use borrow.Author.Needs.{needs}
 use Prim.Native.Nat.{ℕ, _<_}
@@ -72,7 +72,7 @@ type-tags-returns-2 t c =
 type-tags-returns-3 : (t : ℕ) → type-tags-lts.Need-returns-3 (ks-type-tags t) (type-tags-at t) type-tags.Post
 type-tags-returns-3 t c =
     let s = c .before .before .before .before in
-    type-tags-whole (s .args .t .now) (s .args .i) (c .before .before .cell .ensures .0) (whole-beyond _ (c .if2 .left))
+    type-tags-past (s .args .t .now) (s .args .i) (c .before .before .cell .ensures .0) (c .if2 .left)
 
 pub +type-tags-spec : {M : Type 1} → statement M
 +type-tags-spec = close μ-type-tags λ t. type-tags-lts.spec (ks-type-tags t)

@@ -43,7 +43,7 @@ returns c =
     let q = s .args in
     let n = front-length (q .room) (q .work .now) (s .pre .1) in
     λ s₁ a ps r enough most.
-    part-played (a .file) (q .budget) (q .c .isos) (q .script .now) (q .lines .now) (q .settings .now) ps r (q .room) (q .work .now) (k .play-lines .last .1 .1 .1 .1 .1 .1 .1 .0) (s .pre .1)
+    part-played (a .file) (q .budget) (q .script .now) (q .lines .now) (q .settings .now) ps r (q .room) (q .work .now) (k .play-lines .last .1 .1 .1 .1 .1 .1 .1 .0) (s .pre .1)
     (k .play-lines .kept .1 .1 .1 .1 .1 .1 .1 .0) enough
     (k .play-lines .ensures (a .file) (record { prepared = prepare .ensures s₁ a (omega arith); patterns = q .c .patterns; lines = q .c .lines; table = a .table }) ps r
     (omega (arith, n, enough)) (omega (arith, n, most)))

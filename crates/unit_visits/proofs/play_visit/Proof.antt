@@ -60,8 +60,8 @@ returns c =
     let store-number = c .before .before .before .before .before .before .before .before .before .before .store-number in
     let store-number2 = c .before .before .before .before .before .before .store-number2 in
     let put-mark = c .before .before .put-mark in
-    let q = args in λ rs a h low long short small.
-    let u = visit .ensures rs a (held h (number-at .ensures) (number-at2 .ensures)) low long short in
+    let q = args in λ rs a h low free long short small.
+    let u = visit .ensures rs a (held h (number-at .ensures) (number-at2 .ensures)) low free long short in
     played rs (q .budget) (plannedView (q .p)) (q .k) (q .work .now) (q .lines .now) (q .settings .now) _ (done _ _) small (number-at .ensures) (number-at2 .ensures)
     (sym (ap visitedView (to .given .1)) ∙ u .0) (u .1) (put-mark .ensures) refl (store-number .ensures) (store-number2 .ensures)
 
@@ -83,8 +83,8 @@ returns-2 c =
     let visit = c .before .before .before .before .before .before .before .before .visit in
     let enum-told = c .before .before .before .before .enum-told in
     let put-mark2 = c .before .before .put-mark2 in
-    let q = args in λ rs a h low long short small.
-    let u = visit .ensures rs a (held h (number-at .ensures) (number-at2 .ensures)) low long short in
+    let q = args in λ rs a h low free long short small.
+    let u = visit .ensures rs a (held h (number-at .ensures) (number-at2 .ensures)) low free long short in
     played rs (q .budget) (plannedView (q .p)) (q .k) (q .work .now) (q .lines .now) (q .settings .now) _ skipped small (number-at .ensures) (number-at2 .ensures)
     (sym (ap visitedView (enum-told .given .1)) ∙ u .0) (u .1) (put-mark2 .ensures) refl refl refl
 
@@ -106,8 +106,8 @@ returns-3 c =
     let visit = c .before .before .before .before .before .before .before .before .visit in
     let enum-told2 = c .before .before .before .before .enum-told2 in
     let put-mark3 = c .before .before .put-mark3 in
-    let q = args in λ rs a h low long short small.
-    let u = visit .ensures rs a (held h (number-at .ensures) (number-at2 .ensures)) low long short in
+    let q = args in λ rs a h low free long short small.
+    let u = visit .ensures rs a (held h (number-at .ensures) (number-at2 .ensures)) low free long short in
     played rs (q .budget) (plannedView (q .p)) (q .k) (q .work .now) (q .lines .now) (q .settings .now) _ spent small (number-at .ensures) (number-at2 .ensures)
     (sym (ap visitedView (enum-told2 .given .1)) ∙ u .0) (u .1) (put-mark3 .ensures) refl refl refl
 

@@ -28,8 +28,11 @@ returns c =
     let side = c .before .before .before .side in
     let cell = c .before .before .cell in
     let same-type = c .before .same-type in
-    let q = args in λ rs a h low long short.
-    (visit-skipped a (q .p) low h (same-type .ensures) (cell .ensures .0) (side .ensures) (place2 .ensures .0) (place .ensures .0) (q .budget) (not-true _ (c .if1 .taken)), record { behind = refl })
+    let q = args in λ rs a h low free long short. (
+      visit-skipped a (q .p) low h (same-type .ensures) (cell .ensures .0) (side .ensures) (place2 .ensures .0) (place .ensures .0) free (q .budget) (not-true _ (c .if1 .taken)),
+      record
+          { behind = refl },
+    )
 
 side-requires-2 : tie.Need-side-requires-2
 side-requires-2 c κs = search needs
@@ -55,12 +58,12 @@ returns-2 c =
     let side2 = c .before .before .before .before .before .side2 in
     let cell2 = c .before .before .before .before .cell2 in
     let send = c .before .before .send in
-    let q = args in λ rs a h low long short.
+    let q = args in λ rs a h low free long short.
     let y = not-false _ (if1 .left) in
     let ej = to-end a (q .p) low (cell2 .ensures .0) (side2 .ensures) (place2 .ensures .0) (place .ensures .0) in
     let same = same-types a (q .p) low h (same-type .ensures) (cell .ensures .0) (side .ensures) (place2 .ensures .0) (place .ensures .0) y in
-    let s = send .ensures (q .isos) rs a low h (iso-of a (q .p) low .0) (iso-of a (q .p) low .1) same ej (cell2 .ensures .1) long short in
-    (visit-sent a (q .p) low h (same-type .ensures) (cell .ensures .0) (side .ensures) (place2 .ensures .0) (place .ensures .0) (q .budget) y ej (s .0), s .1)
+    let s = send .ensures (q .isos) rs a low free h (iso-of a (q .p) low .0) (iso-of a (q .p) low .1) same ej (cell2 .ensures .1) long short in
+    (visit-sent a (q .p) low h (same-type .ensures) (cell .ensures .0) (side .ensures) (place2 .ensures .0) (place .ensures .0) free (q .budget) y ej (s .0), s .1)
 
 pub visit-spec : {M : Type 1} → statement M
 visit-spec =

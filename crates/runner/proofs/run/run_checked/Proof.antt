@@ -1,9 +1,9 @@
-use mathlib.Core.Path.{refl, sym, ap, subst, _∙_}
-use lib.ListN.{drop}
-use Rattle.format.specs.Code.{refusalView}
-use Rattle.run_coding.specs.Coded.{Coded}
-use Rattle.runner.proofs.Running.{no-iso, no-value, run-done, run-spent, run-spares}
 use borrow.Author.Tests.{not-true, not-false}
+use Rattle.runner.proofs.Running.{no-iso, no-value, run-done, run-spent, run-large, run-spares}
+use Rattle.run_coding.specs.Coded.{Coded}
+use Rattle.format.specs.Code.{refusalView}
+use lib.ListN.{drop}
+use mathlib.Core.Path.{refl, sym, ap, subst, _∙_}
 use borrow.Author.Needs.{needs}
 use Rattle.runner.proofs.run.run_checked.Statement.{statement}
 use Rattle.runner.proofs.run.run_checked.Tie as tie
@@ -16,16 +16,15 @@ use Rattle.run_direction.proofs.side.Reads as side-reads
 use Rattle.run_reduction.proofs.apply.Reads as apply-reads
 use Rattle.run_values.proofs.is_value.Reads as is-value-reads
 use Rattle.runner.proofs.run.code_part.Reads as code-part-reads
+use Rattle.runner.proofs.run.copied.Reads as copied-reads
 use Rattle.runner.proofs.run.copy_front.Reads as copy-front-reads
 use Rattle.runner.proofs.run.refused.Reads as refused-reads
 use Rattle.runner.proofs.run.used.Reads as used-reads
 use Rattle.table_trees.proofs.cell.Reads as cell-reads
 
--- src/run.rt:131:9
 refused-requires : tie.Need-refused-requires
 refused-requires c κs = search needs
 
--- src/run.rt:131:9
 returns : tie.Need-returns
 returns c =
     let args = c .before .before .before .before .before .before .before .args in
@@ -36,31 +35,24 @@ returns c =
       refl,
     )
 
--- src/run.rt:133:28
 place-requires : tie.Need-place-requires
 place-requires c κs = search needs
 
--- src/run.rt:133:9
 place-requires-2 : tie.Need-place-requires-2
 place-requires-2 c κs = search needs
 
--- src/run.rt:134:34
 side-requires : tie.Need-side-requires
 side-requires c κs = search needs
 
--- src/run.rt:134:21
 cell-requires : tie.Need-cell-requires
 cell-requires c κs = search needs
 
--- src/run.rt:134:9
 is-value-requires : tie.Need-is-value-requires
 is-value-requires c κs = search needs
 
--- src/run.rt:135:9
 refused-requires-2 : tie.Need-refused-requires-2
 refused-requires-2 c κs = search needs
 
--- src/run.rt:135:9
 returns-2 : tie.Need-returns-2
 returns-2 c =
     let args = c .before .before .before .before .before .before .before .before .before .before .before .before .before .args in
@@ -78,66 +70,70 @@ returns-2 c =
       refl,
     )
 
--- src/run.rt:137:5
+copied-requires : tie.Need-copied-requires
+copied-requires c κs = search needs
+
 copy-front-requires : tie.Need-copy-front-requires
 copy-front-requires c κs = search needs
 
--- src/run.rt:138:9
 code-part-requires : tie.Need-code-part-requires
 code-part-requires c κs = search needs
 
--- src/run.rt:140:11
 apply-requires : tie.Need-apply-requires
 apply-requires c κs = search needs
 
--- src/run.rt:141:22
 enum-known-b : tie.Need-enum-known-b
 enum-known-b c = search needs
 
--- src/run.rt:142:32
 front-requires : tie.Need-front-requires
 front-requires c κs = search needs
 
--- src/run.rt:142:17
 tail-requires : tie.Need-tail-requires
 tail-requires c κs = search needs
 
--- src/run.rt:144:13
 copy-front-requires-2 : tie.Need-copy-front-requires-2
 copy-front-requires-2 c κs = search needs
 
--- src/run.rt:147:24
 used-requires : tie.Need-used-requires
 used-requires c κs = search needs
 
--- src/run.rt:151:33
 enum-told : tie.Need-enum-told
 enum-told c = search needs
 
--- src/run.rt:151:25
 refused-requires-3 : tie.Need-refused-requires-3
 refused-requires-3 c κs = search needs
 
--- src/run.rt:112:1
+enum-told-2 : tie.Need-enum-told-2
+enum-told-2 c = search needs
+
+refused-requires-4 : tie.Need-refused-requires-4
+refused-requires-4 c κs = search needs
+
 same-length : tie.Need-same-length
 same-length c = search needs
 
--- src/run.rt:112:1
 same-length-2 : tie.Need-same-length-2
 same-length-2 c = search needs
 
--- src/run.rt:112:1
 returns-3 : tie.Need-returns-3
 returns-3 c =
-    let far = c .before .before .before .before .before .before .before .before .before .before .before .before .before .before .before .before .before .before .before .before in
-    let args = far .before .before .before .before .before .before .before .before .before .before .before .before .args in
-    let if1 = far .before .before .before .before .before .before .if1 in
-    let place = far .before .before .before .before .before .place in
-    let place2 = far .before .before .before .before .place2 in
-    let side = far .before .before .before .side in
-    let cell = far .before .before .cell in
-    let is-value = far .before .is-value in
-    let if2 = far .if2 in
+    let args′ = c .before .before .before .before .before .before .before .before .before .before .before .before .before .before .before .before .before .before .before .before in
+    let args = args′ .before .before .before .before .before .before .before .before .before .before .before .before .before .args in
+    let if1′ = c .before .before .before .before .before .before .before .before .before .before .before .before .before .before .before .before .before .before .before .before in
+    let if1 = if1′ .before .before .before .before .before .before .before .if1 in
+    let place′ = c .before .before .before .before .before .before .before .before .before .before .before .before .before .before .before .before .before .before .before .before in
+    let place = place′ .before .before .before .before .before .before .place in
+    let place2′ = c .before .before .before .before .before .before .before .before .before .before .before .before .before .before .before .before .before .before .before .before in
+    let place2 = place2′ .before .before .before .before .before .place2 in
+    let side′ = c .before .before .before .before .before .before .before .before .before .before .before .before .before .before .before .before .before .before .before .before in
+    let side = side′ .before .before .before .before .side in
+    let cell′ = c .before .before .before .before .before .before .before .before .before .before .before .before .before .before .before .before .before .before .before .before in
+    let cell = cell′ .before .before .before .cell in
+    let is-value′ = c .before .before .before .before .before .before .before .before .before .before .before .before .before .before .before .before .before .before .before .before in
+    let is-value = is-value′ .before .before .is-value in
+    let if2′ = c .before .before .before .before .before .before .before .before .before .before .before .before .before .before .before .before .before .before .before .before in
+    let if2 = if2′ .before .if2 in
+    let copied = c .before .before .before .before .before .before .before .before .before .before .before .before .before .before .before .before .before .before .before .before .copied in
     let copy-front = c .before .before .before .before .before .before .before .before .before .before .before .before .before .before .before .before .before .before .copy-front in
     let code-part = c .before .before .before .before .before .before .before .before .before .before .before .before .before .before .before .code-part in
     let apply = c .before .before .before .before .before .before .before .before .before .before .before .before .before .apply in
@@ -145,44 +141,75 @@ returns-3 c =
     let front = c .before .before .before .before .before .before .front in
     let tail = c .before .before .before .before .before .tail in
     let copy-front2 = c .before .before .before .copy-front2 in
-    λ rs p long most room. let says = apply .ensures (subst (Coded (args .t .now) (args .base)) (sym (code-part .ensures)) (p .coded)) in (
-      run-done (args .t .now) (args .base) (args .index .now) (args .isos) (args .i) (args .back) (args .budget) (args .value .now) (args .work .now) _ _ _ _ (args .result .now) _ _ _ _ _
+    λ rs p long most room. let says = apply .ensures .1 (subst (Coded (args .t .now) (args .base)) (sym (code-part .ensures)) (p .coded)) in (
+      run-done (args .t .now) (args .base) (args .index .now) (args .isos) (args .i) (args .back) (args .budget) (args .value .now) (args .work .now)
           (cell .result) (place2 .result) (place .result) (side .result) (is-value .result) (if1 .left) (cell .ensures .0) (place2 .ensures .0) (place .ensures .0) (side .ensures)
-          (is-value .ensures) (not-false _ (if2 .left)) (copy-front .kept .1 .1 .0) (copy-front .ensures) says (b .given .1) (front .ensures) (tail .ensures) (copy-front2 .ensures) refl
-          (c .used .ensures) refl rs p long most room,
-      run-spares (args .t .now) (args .base) (args .index .now) (args .isos) (args .i) (args .back) (args .budget) (args .value .now)
-          (args .work .now) _ _ (cell .result) (place2 .result) (place .result) (side .result) (is-value .result) (if1 .left) (cell .ensures .0) (place2 .ensures .0) (place .ensures .0)
-          (side .ensures) (is-value .ensures) (not-false _ (if2 .left)) (copy-front .kept .1 .1 .0) (copy-front .ensures) says rs p long most,
+          (is-value .ensures) (not-false _ (if2 .left)) (copy-front .kept .1 .1 .0) (copied .ensures) (copy-front .ensures) says rs p long most _ _ (args .result .now) _ _ _ _ _
+          (b .given .1) (front .ensures) (tail .ensures) (copy-front2 .ensures) refl
+          (c .used .ensures) refl room,
+      run-spares (args .t .now) (args .base) (args .index .now) (args .isos) (args .i) (args .back) (args .budget) (args .value .now) (args .work .now)
+          (cell .result) (place2 .result) (place .result) (side .result) (is-value .result) (if1 .left) (cell .ensures .0) (place2 .ensures .0) (place .ensures .0) (side .ensures)
+          (is-value .ensures) (not-false _ (if2 .left)) (copy-front .kept .1 .1 .0) (copied .ensures) (copy-front .ensures) says rs p long most,
     )
 
--- src/run.rt:112:1
 same-length-3 : tie.Need-same-length-3
 same-length-3 c = search needs
 
--- src/run.rt:112:1
 returns-4 : tie.Need-returns-4
 returns-4 c =
-    let far = c .before .before .before .before .before .before .before .before .before .before .before .before .before .before .before .before .before .before .before .before in
-    let args = far .before .before .before .before .args in
-    let if1 = c .before .before .before .before .before .before .before .before .before .before .before .before .before .before .before .before .before .before .if1 in
-    let place = c .before .before .before .before .before .before .before .before .before .before .before .before .before .before .before .before .before .place in
-    let place2 = c .before .before .before .before .before .before .before .before .before .before .before .before .before .before .before .before .place2 in
-    let side = c .before .before .before .before .before .before .before .before .before .before .before .before .before .before .before .side in
-    let cell = c .before .before .before .before .before .before .before .before .before .before .before .before .before .before .cell in
-    let is-value = c .before .before .before .before .before .before .before .before .before .before .before .before .before .is-value in
-    let if2 = c .before .before .before .before .before .before .before .before .before .before .before .before .if2 in
+    let args′ = c .before .before .before .before .before .before .before .before .before .before .before .before .before .before .before .before .before .before .before .before in
+    let args = args′ .before .before .before .before .before .args in
+    let if1 = c .before .before .before .before .before .before .before .before .before .before .before .before .before .before .before .before .before .before .before .if1 in
+    let place = c .before .before .before .before .before .before .before .before .before .before .before .before .before .before .before .before .before .before .place in
+    let place2 = c .before .before .before .before .before .before .before .before .before .before .before .before .before .before .before .before .before .place2 in
+    let side = c .before .before .before .before .before .before .before .before .before .before .before .before .before .before .before .before .side in
+    let cell = c .before .before .before .before .before .before .before .before .before .before .before .before .before .before .before .cell in
+    let is-value = c .before .before .before .before .before .before .before .before .before .before .before .before .before .before .is-value in
+    let if2 = c .before .before .before .before .before .before .before .before .before .before .before .before .before .if2 in
+    let copied = c .before .before .before .before .before .before .before .before .before .before .before .before .copied in
     let copy-front = c .before .before .before .before .before .before .before .before .before .before .copy-front in
     let code-part = c .before .before .before .before .before .before .before .code-part in
     let apply = c .before .before .before .before .before .apply in
     let enum-told = c .before .enum-told in
-    λ rs p long most room. let says = apply .ensures (subst (Coded (args .t .now) (args .base)) (sym (code-part .ensures)) (p .coded)) in (
-      run-spent (args .t .now) (args .base) (args .index .now) (args .isos) (args .i) (args .back) (args .budget) (args .value .now) (args .work .now) _ _ (args .result .now)
-          (c .refused3 .result) (cell .result) (place2 .result) (place .result) (side .result) (is-value .result) (if1 .left) (cell .ensures .0) (place2 .ensures .0) (place .ensures .0)
-          (side .ensures) (is-value .ensures) (not-false _ (if2 .left)) (copy-front .kept .1 .1 .0) (copy-front .ensures) says (enum-told .given .1) (ap refusalView (c .refused3 .ensures .0))
-          (c .refused3 .ensures .1) (c .refused3 .ensures .2) rs p long most room,
-      run-spares (args .t .now) (args .base) (args .index .now) (args .isos) (args .i) (args .back) (args .budget)
-          (args .value .now) (args .work .now) _ _ (cell .result) (place2 .result) (place .result) (side .result) (is-value .result) (if1 .left) (cell .ensures .0) (place2 .ensures .0)
-          (place .ensures .0) (side .ensures) (is-value .ensures) (not-false _ (if2 .left)) (copy-front .kept .1 .1 .0) (copy-front .ensures) says rs p long most,
+    λ rs p long most room. let says = apply .ensures .1 (subst (Coded (args .t .now) (args .base)) (sym (code-part .ensures)) (p .coded)) in (
+      run-spent (args .t .now) (args .base) (args .index .now) (args .isos) (args .i) (args .back) (args .budget) (args .value .now) (args .work .now)
+          (cell .result) (place2 .result) (place .result) (side .result) (is-value .result) (if1 .left) (cell .ensures .0) (place2 .ensures .0) (place .ensures .0) (side .ensures)
+          (is-value .ensures) (not-false _ (if2 .left)) (copy-front .kept .1 .1 .0) (copied .ensures) (copy-front .ensures) says rs p long most (args .result .now) (c .refused3 .result)
+          (enum-told .given .1) (ap refusalView (c .refused3 .ensures .0))
+          (c .refused3 .ensures .1) (c .refused3 .ensures .2),
+      run-spares (args .t .now) (args .base) (args .index .now) (args .isos) (args .i) (args .back) (args .budget) (args .value .now) (args .work .now)
+          (cell .result) (place2 .result) (place .result) (side .result) (is-value .result) (if1 .left) (cell .ensures .0) (place2 .ensures .0) (place .ensures .0) (side .ensures)
+          (is-value .ensures) (not-false _ (if2 .left)) (copy-front .kept .1 .1 .0) (copied .ensures) (copy-front .ensures) says rs p long most,
+    )
+
+same-length-4 : tie.Need-same-length-4
+same-length-4 c = search needs
+
+returns-5 : tie.Need-returns-5
+returns-5 c =
+    let args′ = c .before .before .before .before .before .before .before .before .before .before .before .before .before .before .before .before .before .before .before .before in
+    let args = args′ .before .before .before .before .before .args in
+    let if1 = c .before .before .before .before .before .before .before .before .before .before .before .before .before .before .before .before .before .before .before .if1 in
+    let place = c .before .before .before .before .before .before .before .before .before .before .before .before .before .before .before .before .before .before .place in
+    let place2 = c .before .before .before .before .before .before .before .before .before .before .before .before .before .before .before .before .before .place2 in
+    let side = c .before .before .before .before .before .before .before .before .before .before .before .before .before .before .before .before .side in
+    let cell = c .before .before .before .before .before .before .before .before .before .before .before .before .before .before .before .cell in
+    let is-value = c .before .before .before .before .before .before .before .before .before .before .before .before .before .before .is-value in
+    let if2 = c .before .before .before .before .before .before .before .before .before .before .before .before .before .if2 in
+    let copied = c .before .before .before .before .before .before .before .before .before .before .before .before .copied in
+    let copy-front = c .before .before .before .before .before .before .before .before .before .before .copy-front in
+    let code-part = c .before .before .before .before .before .before .before .code-part in
+    let apply = c .before .before .before .before .before .apply in
+    let enum-told2 = c .before .enum-told2 in
+    λ rs p long most room. let says = apply .ensures .1 (subst (Coded (args .t .now) (args .base)) (sym (code-part .ensures)) (p .coded)) in (
+      run-large (args .t .now) (args .base) (args .index .now) (args .isos) (args .i) (args .back) (args .budget) (args .value .now) (args .work .now)
+          (cell .result) (place2 .result) (place .result) (side .result) (is-value .result) (if1 .left) (cell .ensures .0) (place2 .ensures .0) (place .ensures .0) (side .ensures)
+          (is-value .ensures) (not-false _ (if2 .left)) (copy-front .kept .1 .1 .0) (copied .ensures) (copy-front .ensures) says rs p long most (args .result .now) (c .refused4 .result)
+          (enum-told2 .given .1) (ap refusalView (c .refused4 .ensures .0))
+          (c .refused4 .ensures .1) (c .refused4 .ensures .2),
+      run-spares (args .t .now) (args .base) (args .index .now) (args .isos) (args .i) (args .back) (args .budget) (args .value .now) (args .work .now)
+          (cell .result) (place2 .result) (place .result) (side .result) (is-value .result) (if1 .left) (cell .ensures .0) (place2 .ensures .0) (place .ensures .0) (side .ensures)
+          (is-value .ensures) (not-false _ (if2 .left)) (copy-front .kept .1 .1 .0) (copied .ensures) (copy-front .ensures) says rs p long most,
     )
 
 pub run-checked-spec : {M : Type 1} → statement M
@@ -198,6 +225,7 @@ run-checked-spec =
     is-value-requires
     refused-requires-2
     returns-2
+    copied-requires
     copy-front-requires
     code-part-requires
     apply-requires
@@ -208,8 +236,12 @@ run-checked-spec =
     used-requires
     enum-told
     refused-requires-3
+    enum-told-2
+    refused-requires-4
     same-length
     same-length-2
     returns-3
     same-length-3
-    returns-4)
+    returns-4
+    same-length-4
+    returns-5)

@@ -1,0 +1,2 @@
+-- What the loops of the crate have told so far.
+pub mod Marking

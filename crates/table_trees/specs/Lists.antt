@@ -1,1 +1,0 @@
-pub use Rattle.calculus.specs.Lists.{Listless}
