@@ -16,7 +16,8 @@ import sys
 TOKEN = re.compile(r"[^\s(){}\[\].;,@\"«»`]+")
 USE = re.compile(r"\buse ([^\s;{]+?)(?:\.\{([^{}]*)\})?(?: as ([^\s;]+))?(?=;|\s*$|\s*--)", re.M)
 DECLARED = re.compile(r"^\s*(?:(?:pub|abbrev|unfoldable|data|record|pattern|opaque|module) )*([^\s(){}.;,:]+)(?: [^:=\n]*)?(?: :|$| where)", re.M)
-FIXED = ("-",)
+# Constructors and fields that share a type: `left right : Tag`.
+SEVERAL = re.compile(r"^\s+(?:pub )?((?:[^\s(){}.;,:=λ→]+ )+)(?:\{[^{}]*\} )*:(?= )", re.M)
 
 
 def turned(name):
@@ -56,7 +57,8 @@ class Names:
 
     def declared(self, text):
         code = re.sub(r"--[^\n]*", "", text)
-        return {n for n in DECLARED.findall(code) if turned(n) != n}
+        several = [n for line in SEVERAL.findall(code) for n in line.split()]
+        return {n for n in DECLARED.findall(code) + several if turned(n) != n}
 
     def brought(self, text):
         """Names that a file brings in from this repository's law files, and from elsewhere."""

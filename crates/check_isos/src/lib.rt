@@ -9,7 +9,7 @@ ghost use Rattle.check_known.specs.Known.{Known};
 ghost use Rattle.limits.specs.Limits.{table_length, max_isos, max_clauses, max_lines};
 ghost use Rattle.format.specs.Lines.{Row as RowOf, letter};
 ghost use Rattle.calculus.specs.Tools.{or_else};
-ghost use Rattle.calculus.specs.Refusals.{isoLine, clauseLine};
+ghost use Rattle.calculus.specs.Refusals.{iso_line, clause_line};
 ghost use Rattle.format.specs.Code.{refusal_view};
 ghost use Rattle.format.specs.Unfold.{isos_of};
 ghost use Rattle.calculus.specs.Clauses.{at, fault};
@@ -174,7 +174,7 @@ fn with_clause(
     n: usize,
 ) -> Walk
     requires { Facts t.now base f.now × Bares t.now base g.now × Known t.now base k.now }
-    ensures { ClauseWalked clauseLine t.now base starts.now n w result }
+    ensures { ClauseWalked clause_line t.now base starts.now n w result }
 {
     let i = w.iso;
     let first = w.first;
@@ -232,7 +232,7 @@ fn iso_found(
 // The walk with the I row n.
 fn with_iso(t: &[u16], f: &[u8], base: usize, w: Walk, n: usize) -> Walk
     requires { (table_length ≤ length t.now) × Facts t.now base f.now × (length f.now ≤ max_lines) }
-    ensures { KindWalked isoLine t.now base n w result }
+    ensures { KindWalked iso_line t.now base n w result }
 {
     let i = w.iso;
     let first = w.first;

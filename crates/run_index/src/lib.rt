@@ -5,7 +5,7 @@
 ghost use Rattle.std.specs.Prelude.{◌<◌, ◌≡◌, drop};
 ghost use Rattle.run_index.specs.Indexed.{KindIndexed, RowIndexed, IsosIndexed, TailKept};
 ghost use Rattle.run_index.specs.Index.{index_length};
-ghost use Rattle.calculus.specs.Refusals.{isoLine, clauseLine};
+ghost use Rattle.calculus.specs.Refusals.{iso_line, clause_line};
 
 use area_words::{narrow, store_word};
 use codes::{CLAUSE_LINE, ISO_LINE, ROW_LETTER};
@@ -21,7 +21,7 @@ pub struct Left {
 
 // The index with the C row n.
 fn with_clause(index: &mut [u16], l: Left, n: usize) -> Left
-    ensures kind_indexed { KindIndexed clauseLine n index.old l index.new result }
+    ensures kind_indexed { KindIndexed clause_line n index.old l index.new result }
     ensures tail_kept { TailKept index.old l index.new result }
 {
     let first = l.first;
@@ -39,7 +39,7 @@ fn with_clause(index: &mut [u16], l: Left, n: usize) -> Left
 
 // The index with the I row n.
 fn with_iso(index: &mut [u16], l: Left, n: usize) -> Left
-    ensures kind_indexed { KindIndexed isoLine n index.old l index.new result }
+    ensures kind_indexed { KindIndexed iso_line n index.old l index.new result }
     ensures tail_kept { TailKept index.old l index.new result }
 {
     let first = l.first;

@@ -4,7 +4,7 @@
 
 ghost use Rattle.std.specs.Prelude.{◌≡◌, cond, ◌&&◌, ℕ, ◌+◌, ◌-◌, ◌≤◌, ◌<◌, eqb, ltb, length, get_or, take};
 ghost use Rattle.limits.specs.Limits.{field_bound};
-ghost use Rattle.calculus.specs.Trees.{unit_leaf, emptyLeaf, pair_node, elementNode, pvar, Val};
+ghost use Rattle.calculus.specs.Trees.{unit_leaf, empty_leaf, pair_node, element_node, pvar, Val};
 ghost use Rattle.calculus.specs.Letters.{letters, leaf_letter, node_letter};
 ghost use Rattle.area_cells.specs.Areas.{Writes};
 ghost use Rattle.table_trees.specs.Unfolding.{cell_of, smaller_of, pattern_of};
@@ -23,8 +23,8 @@ use table_trees::{pattern_cell, smaller};
 // How many values are left to be read, once a letter is read, where `left` were before.
 fn left_after(b: u8, left: usize) -> usize
     requires { (0 < left) × (left < 18446744073709551615) }
-    ensures { result ≡ cond (eqb b (leaf_letter unit_leaf)) (left - 1) (cond (eqb b (leaf_letter emptyLeaf)) (left - 1)
-        (cond (eqb b (node_letter pair_node)) (left + 1) (cond (eqb b (node_letter elementNode)) (left + 1) left))) }
+    ensures { result ≡ cond (eqb b (leaf_letter unit_leaf)) (left - 1) (cond (eqb b (leaf_letter empty_leaf)) (left - 1)
+        (cond (eqb b (node_letter pair_node)) (left + 1) (cond (eqb b (node_letter element_node)) (left + 1) left))) }
 {
     match b {
         LETTER_EMPTY | LETTER_UNIT => left - 1,
