@@ -1,5 +1,6 @@
 // Element access over lent areas of bytes and of 32-bit numbers, total: reading past the end gives 0,
 // storing past the end changes nothing, and callers owe no index. Both as places, and places as both.
+#![tactic(auto)]
 
 ghost use Rattle.std.specs.Prelude.{◌≡◌, cond, suc, ◌<◌, ◌%◌, ltb, length, get_or, set};
 ghost use Rattle.limits.specs.Limits.{budget_bound};

@@ -1,4 +1,5 @@
 // Parts of lent areas, total: a part that would reach past the end stops there.
+#![tactic(auto)]
 
 ghost use Rattle.std.specs.Prelude.{◌≡◌, min, take, drop};
 ghost use Rattle.area_parts.specs.Cleared.{cleared};

@@ -1,4 +1,5 @@
 // The 16-bit words of a lent area, read and stored as the areas' elements are, and as places.
+#![tactic(auto)]
 
 ghost use Rattle.std.specs.Prelude.{◌≡◌, ◌%◌, ◌<◌, get_or, set};
 ghost use Rattle.limits.specs.Limits.{word_bound};

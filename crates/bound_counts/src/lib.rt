@@ -1,6 +1,7 @@
 // The least and the greatest count of any run of each iso of a checked table whose isos an index finds: the
 // isos in order, each from the numbers of the earlier ones. A number is held up to 4,294,967,296, which
 // stands for all above 4,294,967,295.
+#![tactic(auto)]
 
 ghost use Rattle.std.specs.Prelude.{◌≡◌, map, ◌+◌, ◌-◌, ◌≤◌, ◌<◌, min, max, get_or, set};
 ghost use Rattle.limits.specs.Limits.{word_bound};

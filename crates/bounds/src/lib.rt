@@ -1,4 +1,5 @@
 // Steps known beforehand: a lower and an upper bound on the count of any run of an iso, without a run.
+#![tactic(auto)]
 
 ghost use Rattle.std.specs.Prelude.{◌≡◌, false, List, ℕ, min, ltb};
 ghost use Rattle.limits.specs.Limits.{max_count};

@@ -1,1 +1,2 @@
 // The paper's calculus as definitions, and its laws; no code.
+#![tactic(auto)]

@@ -1,5 +1,6 @@
 // The type of each P line that holds only units and pairs, found once. T lines of such types are marked by one more than the first line
 // with an equal tree, P lines by the mark of their type; 0 marks any other line.
+#![tactic(auto)]
 
 ghost use Rattle.std.specs.Prelude.{◌≡◌, cond, true, List, ℕ, ◌+◌, ◌≤◌, ◌<◌, suc, ltb, length, get_or};
 ghost use Rattle.limits.specs.Limits.{max_lines};

@@ -1,5 +1,6 @@
 // Refusals 8 to 10 of a clause: its C row, and its L rows up to `end`. `starts` holds the rows of the I
 // lines. A C row past the table's 4096 rows has no refusal.
+#![tactic(auto)]
 
 ghost use Rattle.std.specs.Prelude.{◌≡◌, List, ℕ, ◌-◌, ◌<◌, replicate};
 ghost use Rattle.std.proofs.Math.Option.{none};

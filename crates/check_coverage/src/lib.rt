@@ -1,5 +1,6 @@
 // Refusals 11 to 14 of an iso, over the rows of its clauses. Field 1 of a C row is its left pattern,
 // field 2 its right one.
+#![tactic(auto)]
 
 ghost use Rattle.std.specs.Prelude.{◌≡◌, ◌≤◌, min, map, length, drop};
 ghost use Rattle.limits.specs.Fields.{clause_left, clause_right};

@@ -1,5 +1,6 @@
 // What is found once of each T and P line: how many places a type has at which a left or a right may stand, and how
 // many left, right, empty and element nodes a pattern has. The facts of the T lines come first, those of the P lines follow.
+#![tactic(auto)]
 
 ghost use Rattle.std.specs.Prelude.{◌≡◌, cond, ◌+◌, ◌≤◌, ◌<◌, suc, min, max, ltb, length, get_or};
 ghost use Rattle.limits.specs.Limits.{many_tags};

@@ -1,6 +1,7 @@
 // Idle lines: T and P lines that no I, C or L line reaches. The rows are walked once, from the last to the
 // first, with a mark for each line that a row further down names: lines name only earlier ones, so that a
 // row's mark is known when the walk comes to it. An earlier idle line replaces a later one.
+#![tactic(auto)]
 
 ghost use Rattle.std.specs.Prelude.{◌≡◌, false, List, ℕ, ◌+◌, ◌≤◌, ◌<◌, set};
 ghost use Rattle.std.proofs.Math.Option.{none as nothing};

@@ -1,5 +1,6 @@
 // All isos of a table. The rows are walked from the last to the first, so that L rows are known before
 // their C row and C rows before their I row; an earlier refusal replaces a later one.
+#![tactic(auto)]
 
 ghost use Rattle.std.specs.Prelude.{◌≡◌, true, List, ◌+◌, ◌≤◌, ◌<◌, length, set};
 ghost use Rattle.std.proofs.Math.Option.{none as nothing};

@@ -1,5 +1,6 @@
 // The fit of a P line to a T line, found once with no variable live and kept: it then tells the fit wherever variables are live. A slot
 // has an entry for each of the 32 variables, the T line, how the fit went, and the P line in two bytes.
+#![tactic(auto)]
 
 ghost use Rattle.std.specs.Prelude.{◌≡◌, true, false, List, ℕ, ◌+◌, ◌-◌, ◌≤◌, ◌<◌, length, get_or};
 ghost use Rattle.std.proofs.Math.Option.{Option, none as nothing, some};

@@ -1,5 +1,6 @@
 // Two patterns of the table compared node with node, in prefix order, up to the first clash. The walk keeps
 // one number: 2 for each node pair, and 1 for a clash, which ends it.
+#![tactic(auto)]
 
 ghost use Rattle.std.specs.Prelude.{◌≡◌, ◌+◌, ◌%◌, ◌^◌, ◌<◌, ◌≤◌, true, false, ◌⊎◌, length};
 ghost use Rattle.limits.specs.Fields.{kind_field};

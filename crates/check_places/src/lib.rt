@@ -1,6 +1,7 @@
 // The clauses of a side by the places of their lefts and rights: two patterns of a type clash exactly when one has a left and the other
 // a right at the same place. Empty lists and elements stand at no place: where a pattern holds one, places do not tell. For each place
 // two sets hold the clauses with a left there and those with a right; each clause that joins them gathers those that it clashes with.
+#![tactic(auto)]
 
 ghost use Rattle.std.specs.Prelude.{◌≡◌, true, false, [], ◌∷◌, ◌+◌, ◌<◌, ◌≤◌, length, get_or};
 ghost use Rattle.limits.specs.Limits.{table_length, max_lines, row_width};

@@ -1,5 +1,6 @@
 // Refusal 23, of the calls that an iso makes to itself: the rule for its clauses, as written or as turned, over
 // the rows of the table.
+#![tactic(auto)]
 
 ghost use Rattle.std.specs.Prelude.{◌≡◌, cond, ◌&&◌, suc, ◌-◌, ◌<◌, length, drop};
 ghost use Rattle.std.proofs.Math.Option.{none as nothing};

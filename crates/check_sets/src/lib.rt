@@ -1,5 +1,6 @@
 // Sets of at most 128 clauses, one bit each: a set for each of 128 cells, and one that gathers. Each set has two words, in the two
 // halves of the area.
+#![tactic(auto)]
 
 ghost use Rattle.std.specs.Prelude.{◌≡◌, true, false, ℕ, ◌<◌, ◌^◌, length};
 ghost use Rattle.check_sets.specs.Sets.{gatherer, half, area, members, word_of, Emptied, United, Joined, Low, Full};

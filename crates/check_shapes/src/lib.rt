@@ -1,5 +1,6 @@
 // Types and patterns of the table as trees: same type, let shapes. Each recurses over T and P lines whose
 // numbers fall.
+#![tactic(auto)]
 
 ghost use Rattle.std.specs.Prelude.{◌≡◌};
 ghost use Rattle.calculus.specs.Trees.{same_type};

@@ -1,4 +1,5 @@
 // The fit of a pattern of the table to a type, and the types that its variables take.
+#![tactic(auto)]
 
 ghost use Rattle.std.specs.Prelude.{◌≡◌, true, cond, ◌&&◌, List, ℕ, ◌+◌, ◌<◌, ◌≤◌, length};
 ghost use Rattle.limits.specs.Limits.{table_length, max_lines, row_width, variables};

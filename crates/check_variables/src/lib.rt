@@ -1,4 +1,5 @@
 // The variables that a pattern of the table binds or uses, marked one by one.
+#![tactic(auto)]
 
 ghost use Rattle.std.specs.Prelude.{◌≡◌};
 ghost use Rattle.calculus.specs.Trees.{vars};

@@ -1,4 +1,5 @@
 // Check: the file's bytes, a table area and a work area in; a number and a line out.
+#![tactic(auto)]
 
 ghost use Rattle.std.specs.Prelude.{◌≡◌, List, ◌≤◌, length};
 ghost use Rattle.std.proofs.Math.Option.{none};

@@ -1,4 +1,5 @@
 // The codes of the format by name: bytes of the text, letters of values, letters and fields of table rows, kinds of T and P lines.
+#![tactic(auto)]
 
 // Bytes between and behind the fields, and the letters of a query and of a script's line.
 pub const LINE_FEED: u8 = 10;

@@ -1,5 +1,6 @@
 // The desk program as a function on slices: bytes of standard input go in as they come, and the
 // answers come out in an output area. The state is a value; the areas are lent at each call.
+#![tactic(auto)]
 
 ghost use Rattle.std.specs.Prelude.{◌≡◌, ◌&&◌, false, List, [], ◌∷◌, ◌++◌, ℕ, ◌+◌, ◌≤◌, ◌<◌, eqb, ltb, leb, length};
 ghost use Rattle.limits.specs.Limits.{letter_q, numeral_bound};

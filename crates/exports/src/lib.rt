@@ -1,4 +1,5 @@
 // An iso as a list of pairs: a line `from,to` of setting numbers for each value of its from-type.
+#![tactic(auto)]
 
 ghost use Rattle.std.specs.Prelude.{◌≡◌, ◌≤◌, ◌<◌, length, take, drop};
 ghost use Rattle.std.proofs.Math.Option.{some};

@@ -1,4 +1,5 @@
 // The least value of a type that no pattern of a side matches, letter by letter.
+#![tactic(auto)]
 
 ghost use Rattle.std.specs.Prelude.{◌≡◌, ◌≤◌, ◌<◌, length};
 ghost use Rattle.limits.specs.Limits.{max_nodes, lengths, result_length};

@@ -1,4 +1,5 @@
 // The least value of a type, of a pattern, and of two patterns, as letters in an area.
+#![tactic(auto)]
 
 ghost use Rattle.std.specs.Prelude.{◌≡◌, min, length};
 ghost use Rattle.limits.specs.Limits.{lengths};

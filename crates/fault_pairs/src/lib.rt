@@ -1,4 +1,5 @@
 // The least value that two patterns of a side match.
+#![tactic(auto)]
 
 ghost use Rattle.std.specs.Prelude.{◌≡◌, ◌≤◌, length};
 ghost use Rattle.limits.specs.Limits.{table_length, result_length};

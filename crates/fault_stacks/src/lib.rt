@@ -1,4 +1,5 @@
 // What is still to come of a value after some letters, as lines in an array of 128, and the counts of it.
+#![tactic(auto)]
 
 ghost use Rattle.std.specs.Prelude.{◌≡◌, ◌+◌, ◌≤◌, ◌<◌, length};
 ghost use Rattle.limits.specs.Limits.{max_nodes, lengths};

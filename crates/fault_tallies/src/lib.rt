@@ -1,4 +1,5 @@
 // Counts of closed values by their letters, modulo a number.
+#![tactic(auto)]
 
 ghost use Rattle.std.specs.Prelude.{◌≡◌, ◌≤◌, length, get_or};
 ghost use Rattle.limits.specs.Fields.{first_field, second_field};

@@ -1,5 +1,6 @@
 // The value that shows the fault of a side, on a table that still holds the file's lines: the rows of the
 // refused iso's clauses, and the search that the refusal asks for.
+#![tactic(auto)]
 
 ghost use Rattle.std.specs.Prelude.{◌≤◌, length};
 ghost use Rattle.limits.specs.Limits.{table_length, result_length};

@@ -1,5 +1,6 @@
 // The types that every layer shares. What their cases mean stands in specs/Code.antt, by document
 // 01's numbers and words; the definitions that contracts cite stand in specs/, the laws in proofs/.
+#![tactic(auto)]
 
 ghost use Rattle.std.specs.Prelude.{◌≡◌};
 ghost use Rattle.calculus.specs.Refusals.{number, overlap, gap};

@@ -1,4 +1,5 @@
 // A list of pairs as a file with one iso: each line `from,to` is a clause of two closed values.
+#![tactic(auto)]
 
 ghost use Rattle.std.specs.Prelude.{◌≡◌};
 ghost use Rattle.format.specs.Code.{refusal_view};

@@ -1,1 +1,2 @@
 // Definitions and laws only: specs/ says what playing a script on units comes to.
+#![tactic(auto)]

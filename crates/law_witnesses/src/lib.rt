@@ -1,1 +1,2 @@
 // Request 09's definitions (specs/) and laws (proofs/).
+#![tactic(auto)]

@@ -1,4 +1,5 @@
 // Every number that document 01 states, by name, as limits/specs/Limits.antt has them for the definitions.
+#![tactic(auto)]
 
 // The longest file, in bytes and in lines.
 pub const MAX_BYTES: usize = 65536;

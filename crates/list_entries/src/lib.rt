@@ -1,4 +1,5 @@
 // Rows of one letter in a lent area of table rows, each once: "no equal line twice".
+#![tactic(auto)]
 
 ghost use Rattle.std.specs.Prelude.{◌≡◌, List, ◌<◌};
 ghost use Rattle.limits.specs.Limits.{max_lines};

@@ -1,4 +1,5 @@
 // The file of an imported list: its rows built in areas of their own, then printed, unless they pass a ceiling.
+#![tactic(auto)]
 
 ghost use Rattle.std.specs.Prelude.{◌≤◌, ◌≡◌};
 ghost use Rattle.std.proofs.Math.Option.{some};

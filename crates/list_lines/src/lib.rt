@@ -1,4 +1,5 @@
 // A list of pairs, line by line: froms 0, 1, 2 and so on, and tos that are told apart and below a count.
+#![tactic(auto)]
 
 ghost use Rattle.std.specs.Prelude.{◌≡◌, cond, ◌≤◌, length, take};
 ghost use Rattle.std.proofs.Math.Option.{none, some};

@@ -1,4 +1,5 @@
 // The tos of an iso's pairs: what the run of each setting of its from-type gives, as numbers.
+#![tactic(auto)]
 
 ghost use Rattle.std.specs.Prelude.{◌≡◌};
 ghost use Rattle.format.specs.Unfold.{isos_of};

@@ -1,4 +1,5 @@
 // The rows of an imported file: those of its types and of its closed values, parts before wholes, each once, and the clauses that name them.
+#![tactic(auto)]
 
 ghost use Rattle.std.specs.Prelude.{◌≤◌, ◌<◌};
 ghost use Rattle.limits.specs.Limits.{max_lines, max_clauses};

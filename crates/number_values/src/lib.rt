@@ -1,5 +1,6 @@
 // Closed values as numbers: how many a T line has, the number of one that stands in an area, and the
 // letters of the one with a number.
+#![tactic(auto)]
 
 ghost use Rattle.std.specs.Prelude.{◌≡◌, suc, ◌+◌, ◌*◌, ◌≤◌, ◌<◌, min, length};
 ghost use Rattle.limits.specs.Limits.{max_values, max_types};

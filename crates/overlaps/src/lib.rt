@@ -1,5 +1,6 @@
 // The overlap of two P lines: whether they clash, and how many node pairs were compared, on a checked
 // table and as a service.
+#![tactic(auto)]
 
 ghost use Rattle.std.specs.Prelude.{◌≡◌, false, List, ℕ, ◌≤◌, length};
 ghost use Rattle.limits.specs.Limits.{table_length};

@@ -1,5 +1,6 @@
 // Units tried out: a file is checked once, and the visits of a script are played on the units that the caller
 // lends, one line after the other; the record that is lent counts what came of each.
+#![tactic(auto)]
 
 ghost use Rattle.std.specs.Prelude.{◌≡◌, false, cond, not, ◌||◌, ltb};
 ghost use Rattle.limits.specs.Limits.{max_lines, max_units};

@@ -1,4 +1,5 @@
 // Numbers and rows as text in an output area.
+#![tactic(auto)]
 
 ghost use Rattle.std.specs.Prelude.{◌≡◌, ◌+◌, ◌%◌, ◌<◌};
 ghost use Rattle.limits.specs.Limits.{numeral_bound, digit_zero};

@@ -1,4 +1,5 @@
 // A query's line, answered on a checked table.
+#![tactic(auto)]
 
 ghost use Rattle.std.proofs.Math.Seq.{slice};
 ghost use Rattle.model.specs.Services.{accepted, answer_of_run};

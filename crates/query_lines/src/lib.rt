@@ -1,4 +1,5 @@
 // The desk program's lines: a query's fields, and the lines that answer a file and a query.
+#![tactic(auto)]
 
 ghost use Rattle.std.specs.Prelude.{◌≡◌, ◌<◌, drop};
 ghost use Rattle.std.proofs.Math.Option.{none};

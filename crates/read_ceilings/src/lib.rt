@@ -1,5 +1,6 @@
 // The ceilings of a row whose names stand, by the rows above it: their sizes stand in the table, the left, right, empty and element
 // nodes of P line j, its tags, in byte j of an area.
+#![tactic(auto)]
 
 ghost use Rattle.std.specs.Prelude.{◌≡◌, ◌<◌, get_or};
 ghost use Rattle.calculus.specs.Refusals.{type_line, pattern_line};

@@ -1,4 +1,5 @@
 // The text of a line, and where lines end: a cursor whose methods take a field or an end and hand the cursor back.
+#![tactic(auto)]
 
 ghost use Rattle.std.specs.Prelude.{◌≡◌, ◌+◌, ◌<◌, get_or, drop};
 ghost use Rattle.format.specs.Lines.{text, skip, digits, numeral};

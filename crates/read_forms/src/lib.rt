@@ -1,4 +1,5 @@
 // The table of line forms: a kind's letter, its number of fields, and the kind of a letter.
+#![tactic(auto)]
 
 ghost use Rattle.std.specs.Prelude.{◌≡◌};
 ghost use Rattle.format.specs.Lines.{letter, field_count, kind_of};

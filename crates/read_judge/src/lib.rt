@@ -1,4 +1,5 @@
 // Refusals 4 to 7 of a row, by the rows above it.
+#![tactic(auto)]
 
 ghost use Rattle.std.specs.Prelude.{◌≡◌, ◌&&◌, suc, ltb, eqb};
 ghost use Rattle.std.proofs.Math.Option.{Option};

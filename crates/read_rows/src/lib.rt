@@ -1,4 +1,5 @@
 // The row of the line that begins at a place: its letter, its fields and its ending, each byte looked at once.
+#![tactic(auto)]
 
 ghost use Rattle.std.specs.Prelude.{◌≡◌, drop};
 ghost use Rattle.format.specs.Code.{kind_view};

@@ -1,4 +1,5 @@
 // What the rows above a row tell of it.
+#![tactic(auto)]
 
 ghost use Rattle.std.specs.Prelude.{◌≡◌};
 ghost use Rattle.format.specs.Code.{kind_view};

@@ -1,4 +1,5 @@
 // How many lines some bytes have.
+#![tactic(auto)]
 
 ghost use Rattle.std.specs.Prelude.{◌≡◌, ◌-◌, ◌≤◌, ◌<◌, length};
 ghost use Rattle.format.specs.Lines.{lines};

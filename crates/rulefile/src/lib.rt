@@ -2,6 +2,7 @@
 // overlap of two P lines, steps known beforehand, pair lists in and out, a setting that shows the fault and
 // units tried out, under document 01's numbers. Each slice passes as a pointer and a length, each answer as a struct;
 // `include/rulefile.h` declares them.
+#![tactic(auto)]
 
 ghost use Rattle.std.specs.Prelude.{◌≡◌};
 ghost use Rattle.format.specs.Code.{number_of};

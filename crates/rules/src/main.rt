@@ -1,6 +1,7 @@
 // The desk program: reads a file and queries from standard input, and prints the answers as the bytes
 // come. It never answers for what it has not read: where a read or a write fails, standard error says so,
 // and nothing more is printed. All but the reading and writing is in `desk`.
+#![tactic(auto)]
 
 ghost use Rattle.std.specs.Prelude.{List, ℕ};
 ghost use Rattle.query_lines.specs.Stream.{State};

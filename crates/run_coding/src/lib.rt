@@ -1,6 +1,7 @@
 // Flat patterns for the P lines of a table, written once: number 0 says for how many lines, number
 // 1 + j is 0 where none stands for line j, 1 + n where it is variable n, and else the place of its flat
 // pattern.
+#![tactic(auto)]
 
 ghost use Rattle.std.specs.Prelude.{◌≡◌, cond, ℕ, suc, ◌+◌, ◌≤◌, ◌<◌, ltb, length, take, List};
 ghost use Rattle.run_flat.specs.Flat.{stop};

@@ -1,4 +1,5 @@
 // What a run reads of the index, and which field of a row for each way.
+#![tactic(auto)]
 
 ghost use Rattle.std.specs.Prelude.{◌≡◌, cond, ◌<◌};
 ghost use Rattle.limits.specs.Limits.{word_bound};

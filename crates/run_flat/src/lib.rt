@@ -1,6 +1,7 @@
 // Patterns that stand flat, in prefix order, among numbers: matching one with a value, and building a
 // value from one, each in one loop. A variable's value is a range of the area: number n's begins at
 // `vars[n]` and ends before `vars[32 + n]`.
+#![tactic(auto)]
 
 ghost use Rattle.std.specs.Prelude.{◌≡◌, cond, ℕ, ◌+◌, ◌-◌, ◌≤◌, ◌<◌, eqb, length, get_or, take};
 ghost use Rattle.std.proofs.lemmas.List.Edits.{sets};

@@ -1,6 +1,7 @@
 // Where each iso and each clause begins, found once. The rows of the I and C lines stand from place
 // `first` of the index on, the number of rows behind them at its end; number i is the place of iso i's
 // row, and behind the last iso's stands that end.
+#![tactic(auto)]
 
 ghost use Rattle.std.specs.Prelude.{◌<◌, ◌≡◌, drop};
 ghost use Rattle.run_index.specs.Indexed.{KindIndexed, RowIndexed, IsosIndexed, TailKept};

@@ -1,5 +1,6 @@
 // Which isos of an indexed table have to do with lists: a type of theirs, or of an iso that they reach, holds
 // one. Each of those has a mark.
+#![tactic(auto)]
 
 ghost use Rattle.std.specs.Prelude.{◌≡◌, ◌≤◌, ◌<◌};
 ghost use Rattle.limits.specs.Limits.{word_bound};

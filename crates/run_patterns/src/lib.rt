@@ -1,6 +1,7 @@
 // Patterns against closed values as letters in an area: matching one with a value, and building a
 // value from one. A variable's value is a range of the area: number n's begins at `vars[n]` and ends
 // before `vars[32 + n]`.
+#![tactic(auto)]
 
 ghost use Rattle.std.specs.Prelude.{◌≡◌, cond, ◌&&◌, ℕ, ◌+◌, ◌-◌, ◌≤◌, ◌<◌, eqb, ltb, length, get_or, take};
 ghost use Rattle.limits.specs.Limits.{field_bound};

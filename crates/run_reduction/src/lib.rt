@@ -1,5 +1,6 @@
 // The reduction over a checked table. Letters made on the way live in the work area, each
 // application's behind those of the one that called it; its result takes the place of its argument.
+#![tactic(auto)]
 
 ghost use Rattle.std.specs.Prelude.{◌≡◌, cond, ◌||◌, ℕ, suc, ◌+◌, ◌-◌, ◌≤◌, ◌<◌, min, ◌⊎◌, List, eqb, ltb, get_or, length};
 ghost use Rattle.limits.specs.Limits.{variables, word_bound, max_letters};

@@ -1,5 +1,6 @@
 // Closed values as letters in an area: whether one is of a type and where it then ends, and copying
 // one to another place.
+#![tactic(auto)]
 
 ghost use Rattle.std.specs.Prelude.{◌≡◌, ◌≤◌, length, drop};
 ghost use Rattle.std.proofs.Math.Seq.{slice};

@@ -1,5 +1,6 @@
 // Settings as numbers: the letters of a closed value of a T line to its number, and back, on a checked
 // table and as services.
+#![tactic(auto)]
 
 ghost use Rattle.std.specs.Prelude.{◌≡◌, List, ℕ, ◌≤◌, length};
 ghost use Rattle.limits.specs.Limits.{result_length};

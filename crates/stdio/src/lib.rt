@@ -1,5 +1,6 @@
 // Standard input and output for programs that never answer for what they have not read: the end of the
 // input and a read that failed are two things, and standard error says what failed.
+#![tactic(auto)]
 
 ghost use Rattle.std.specs.Prelude.{◌≡◌, ◌≤◌, length, true};
 ghost use Rattle.stdio.specs.Reading.{is_interrupt, input_of, Within, Room, step_of, Stays, Fits};

@@ -1,4 +1,5 @@
 // The lines that a T or P line names: its parts, where it has them.
+#![tactic(auto)]
 
 ghost use Rattle.std.specs.Prelude.{◌+◌, ◌≡◌};
 ghost use Rattle.table_trees.specs.Unfolding.{cell_of, smaller_of};

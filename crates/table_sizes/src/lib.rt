@@ -1,5 +1,6 @@
 // The left, right, empty and element nodes of the trees that the table's T and P lines unfold to, by recursion over lines whose
 // numbers fall. Their nodes stand in the table.
+#![tactic(auto)]
 
 ghost use Rattle.std.specs.Prelude.{◌≡◌, ◌+◌, min};
 ghost use Rattle.limits.specs.Limits.{many_tags, many_nodes};

@@ -1,5 +1,6 @@
 // The rows of the table, and which line a T or P line names. P lines are numbered from `base`, the row of the
 // first one.
+#![tactic(auto)]
 
 ghost use Rattle.std.specs.Prelude.{◌≡◌, ◌+◌, ◌<◌};
 ghost use Rattle.limits.specs.Limits.{word_bound};

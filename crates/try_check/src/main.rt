@@ -1,5 +1,6 @@
 // Check over files that stand one after the other on standard input, each closed by a line `=`; prints
 // `number,line` for each.
+#![tactic(auto)]
 
 ghost use Rattle.std.specs.Prelude.{◌≤◌, length};
 

@@ -1,5 +1,6 @@
 // Turns the file on standard input; prints `number,line` and then the turned file. Where a read or a
 // write fails, standard error says so and nothing more is printed.
+#![tactic(auto)]
 
 use area_cells::put_byte;
 use area_parts::front;

@@ -1,4 +1,5 @@
 // Turn: the file's bytes in; the turned file's bytes in the output area, and its length.
+#![tactic(auto)]
 
 ghost use Rattle.std.specs.Prelude.{◌≡◌};
 ghost use Rattle.format.specs.Unfold.{exchange};

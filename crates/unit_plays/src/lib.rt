@@ -1,4 +1,5 @@
 // The visits of a script, played on an accepted file's table: the tests of units and script, then line after line.
+#![tactic(auto)]
 
 ghost use Rattle.std.specs.Prelude.{◌≤◌, length};
 ghost use Rattle.limits.specs.Limits.{work_length};

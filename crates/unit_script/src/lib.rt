@@ -1,4 +1,5 @@
 // A script of visits, line by line: `S,unit,iso,direction`.
+#![tactic(auto)]
 
 ghost use Rattle.std.specs.Prelude.{◌≡◌, drop};
 ghost use Rattle.law_units.specs.Units.{planned_in, planned_of};

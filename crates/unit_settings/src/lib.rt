@@ -1,4 +1,5 @@
 // The units before the first visit: each holds a T line and a setting number, in two lent areas.
+#![tactic(auto)]
 
 ghost use Rattle.std.specs.Prelude.{◌≡◌, List, ℕ, length, get_or};
 ghost use Rattle.format.specs.Code.{refusal_view};

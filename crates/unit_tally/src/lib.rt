@@ -1,5 +1,6 @@
 // One record of visits done, skipped and spent, lent and changed in place; and the marks that a play leaves
 // in the work area for each visit, behind the room of a run, until they are counted.
+#![tactic(auto)]
 
 ghost use Rattle.std.specs.Prelude.{◌≡◌, get_or, set};
 ghost use Rattle.unit_tally.specs.Count.{up_of, added_of, begun_of, place_of, mark_of, visit_of, tallied, emptied};

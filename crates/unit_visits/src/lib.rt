@@ -1,4 +1,5 @@
 // A visit to a unit on a checked table: the unit's setting is sent through an iso, there or back.
+#![tactic(auto)]
 
 ghost use Rattle.std.specs.Prelude.{◌≡◌};
 ghost use Rattle.number_values.specs.Numbers.{Counted};

@@ -1,5 +1,6 @@
 // A setting that shows the fault: Check, and with refusals 11 to 14 the value that shows what is wrong with
 // the side refused. The search reads the table before it is cleared.
+#![tactic(auto)]
 
 ghost use Rattle.std.specs.Prelude.{◌≡◌, ◌≤◌, length};
 ghost use Rattle.limits.specs.Limits.{table_length, max_lines, result_length};
