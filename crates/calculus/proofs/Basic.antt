@@ -262,6 +262,7 @@ each_map P f xs h y m = let r = Memᴰ.of_map f xs m in subst P r.2 (h r.0 r.1)
 pub all_mem : {A : Type 0} (p : A → Bool) {x : A} {xs : List A} → all p xs ≡ true → Memᴰ x xs → p x ≡ true
 all_mem p {xs = y ∷ ys} e (Memᴰ.head h) = ap p h ∙ (and_true (p y) (all p ys) e).0
 all_mem p {xs = y ∷ ys} e (Memᴰ.tail m) = all_mem p (and_true (p y) (all p ys) e).1 m
+all_mem {A = A} p {xs = []} e x6 = elim x6 [ ]
 
 pub mem_all : {A : Type 0} (p : A → Bool) (xs : List A) → ((x : A) → Memᴰ x xs → p x ≡ true) → all p xs ≡ true
 mem_all p [] h = refl
@@ -387,6 +388,7 @@ distinct_right (x ∷ xs) ys (another f d) = distinct_right xs ys d
 pub distinct_across : {n : ℕ} (xs ys : List ℕ) → Distinct (xs ++ ys) → Memᴰ n xs → Memᴰ n ys → ⊥
 distinct_across (x ∷ xs) ys (another f d) (Memᴰ.head e) k = f (Memᴰ.append_right xs (Memᴰ.cast (sym e) k))
 distinct_across (x ∷ xs) ys (another f d) (Memᴰ.tail m) k = distinct_across xs ys d m k
+distinct_across {n = n} [] ys _ x4 k = elim x4 [ ]
 
 -- what comes out of a search, handed on as it is
 pub same_bind : {A : Type 0} (o : Option A) → o ≡ (o >>= λ a. some a)

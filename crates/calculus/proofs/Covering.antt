@@ -218,6 +218,7 @@ covers_or_gap a ps fits distinct light apart = go (dichotomy (2 ^ max_tags) (pow
     only : (P : Val → Type 0) (vs : List Val) → Ofs vs (a ∷ []) → ((v : Val) → Of v a → vs ≡ v ∷ [] → P v) → (v : Val) × Of v a × P v
     only P (v ∷ []) (Ofs.more o Ofs.end) f = (v, o, f v o refl)
     only P (v ∷ (w ∷ vs)) (Ofs.more o n) f = elim n [ ]
+    only P [] x'' f = elim x'' [ ]
 
     go : Outcome (2 ^ max_tags) (a ∷ []) (map alone ps) → CoversOrGap a ps
     go (inl d) =

@@ -124,7 +124,7 @@ build_node k {p} r s o =
     }
 
 -- a pattern that fits takes its part of the environment
-pub build_total : {d e f : Slots Ty} {q : Pat} {a : Ty} {ε : Slots Val} → Fits e q a → Join d e f → EnvOf ε d → Built q ε a f
+pub build_total : {e d f : Slots Ty} {q : Pat} {a : Ty} {ε : Slots Val} → Fits e q a → Join d e f → EnvOf ε d → Built q ε a f
 build_total {ε} (Fits.unit h) j r =
     record { value = vleaf unit_leaf; rest = ε; builds = refl; typed = Of.unit; env = subst (EnvOf ε) (join_empty h j) r }
 build_total {ε} (Fits.nil h) j r =
@@ -173,6 +173,9 @@ pub product_alike : {g : Slots Ty} {p : Pat} {b : Ty} {u : Val} → Fits g p b �
 product_alike (Fits.unit h) Product.unit Of.unit = Alike.leaf refl
 product_alike (Fits.var z h p) Product.var o = Alike.var
 product_alike (Fits.pair j x y) (Product.pair p q) (Of.pair o l) = Alike.node refl (product_alike x p o) (product_alike y q l)
+product_alike {u = u} (Fits.nil {d = d} {a = a} _) x10 o = elim x10 [ ]
+product_alike {u = u} (Fits.inj {d = d} {t = t} {p = p} {a = a} {b = b} _) x11 o = elim x11 [ ]
+product_alike {u = u} (Fits.cons {d = d} {e = e} {f = f} {p = p} {q = q} {a = a} _ _ _) x14 o = elim x14 [ ]
 
 -- what binding gives: an environment of h
 pub record BoundTo (p : Pat) (u : Val) (φ : Slots Val) (h : Slots Ty) : Type 0 where
@@ -201,7 +204,7 @@ bind_leaf : {l k : Leaf} {φ : Slots Val} {h : Slots Ty} → l ≡ k → EnvOf �
 bind_leaf {φ = φ} e r = record { slots = φ; binds = some_bind (λ _. some φ) (true_guard (eq_same_leaf e)); env = r }
 
 -- a pattern that fits adds its part to the environment
-pub bind_alike : {f g h : Slots Ty} {p : Pat} {b : Ty} {u : Val} {φ : Slots Val} → Fits g p b → Of u b → Alike p u → Join h f g → EnvOf φ f
+pub bind_alike : {g f h : Slots Ty} {p : Pat} {b : Ty} {u : Val} {φ : Slots Val} → Fits g p b → Of u b → Alike p u → Join h f g → EnvOf φ f
     → BoundTo p u φ h
 bind_alike {φ} (Fits.unit i) Of.unit (Alike.leaf e) j r = bind_leaf e (subst (EnvOf φ) (sym (join_empty i (join_comm j))) r)
 bind_alike {φ} (Fits.nil i) Of.nil (Alike.leaf e) j r = bind_leaf e (subst (EnvOf φ) (sym (join_empty i (join_comm j))) r)
@@ -217,6 +220,8 @@ bind_alike (Fits.cons k x y) (Of.cons o l) (Alike.node e m n) j r =
     let s = join_assoc (join_comm j) (join_comm k) in
     let t = bind_alike x o m (join_comm s.2) r in
     bind_node e t (bind_alike y l n (join_comm s.1) t.env)
+bind_alike {f = f} {h = h} {φ = φ} (Fits.nil {d = d} {a = a} i) (Of.cons {v = v} {w = w} o l) x20 j r = elim x20 [ ]
+bind_alike {f = f} {h = h} {φ = φ} (Fits.cons {d = d} {e = e} {p = p} {q = q} {a = a} k x y) Of.nil x18 j r = elim x18 [ ]
 
 -- "match what comes out with p": a product pattern binds every value of its type
 pub bind_total : {f g h : Slots Ty} {p : Pat} {b : Ty} {u : Val} {φ : Slots Val} → Fits g p b → Product p → Of u b → Join h f g → EnvOf φ f

@@ -161,6 +161,8 @@ module _ (os : List Iso) (near : EarlierOrOwn os) where
 
 not_zoned : {a : Ty} → Finite a → Zoned a → ⊥
 not_zoned (Finite.product f g) Zoned.product = elim f [ ]
+not_zoned Finite.unit x3 = elim x3 [ ]
+not_zoned (Finite.sum {a = a} {b = b} _ _) x8 = elim x8 [ ]
 
 -- it does not call itself
 pub free_never : (os : List Iso) → FileOk os → (i : ℕ) → ListFree os i → (o : Iso) → get_elem? os i ≡ some o → NeverCalls i o

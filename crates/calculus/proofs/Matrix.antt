@@ -153,15 +153,18 @@ dropped r = record { weight = r.weight; pats = rest r.pats }
 headed_zero : (rs : List Row) → heads rs ≡ 0 → (r : Row) → Memᴰ r rs → headed_first r.pats ≡ 0
 headed_zero (s ∷ rs) e r (Memᴰ.head h) = ap (λ x. headed_first x.pats) h ∙ omega arith
 headed_zero (s ∷ rs) e r (Memᴰ.tail i) = headed_zero rs (omega arith) r i
+headed_zero [] e r x'' = elim x'' [ ]
 
 rest_shapes : {a : Ty} {ts : List Ty} (ps : List Pat) → Shapes ps (a ∷ ts) → Shapes (rest ps) ts
 rest_shapes (p ∷ ps) (Shapes.more s h) = h
+rest_shapes {a = a} {ts = ts} [] x' = elim x' [ ]
 
 rest_tags : {a : Ty} {ts : List Ty} (ps : List Pat) → Shapes ps (a ∷ ts) → headed_first ps ≡ 0 → tags_all (rest ps) ≡ tags_all ps
 rest_tags (pvar n ∷ ps) (Shapes.more s h) e = omega arith
 rest_tags (pleaf l ∷ ps) (Shapes.more s h) e = absurd (omega arith)
 rest_tags (pinj t p ∷ ps) (Shapes.more s h) e = absurd (omega arith)
 rest_tags (pnode k p q ∷ ps) (Shapes.more s h) e = absurd (omega arith)
+rest_tags {a = a} {ts = ts} [] x'' e = elim x'' [ ]
 
 rest_orths : (ps qs : List Pat) → headed_first ps ≡ 0 → Orths ps qs → Orths (rest ps) (rest qs)
 rest_orths (pvar n ∷ ps) (q ∷ qs) e (Orths.here o) = elim o [ ]
@@ -169,6 +172,8 @@ rest_orths (pleaf l ∷ ps) (q ∷ qs) e (Orths.here o) = absurd (omega arith)
 rest_orths (pinj t p ∷ ps) (q ∷ qs) e (Orths.here o) = absurd (omega arith)
 rest_orths (pnode k p p' ∷ ps) (q ∷ qs) e (Orths.here o) = absurd (omega arith)
 rest_orths (p ∷ ps) (q ∷ qs) e (Orths.later o) = o
+rest_orths [] qs e x'' = elim x'' [ ]
+rest_orths (p ∷ ps) [] e x5 = elim x5 [ ]
 
 rest_alikes : {a : Ty} {ts : List Ty} (ps : List Pat) {v : Val} {vs : List Val} → Shapes ps (a ∷ ts) → headed_first ps ≡ 0
     → Alikes (rest ps) vs → Alikes ps (v ∷ vs)
@@ -176,9 +181,11 @@ rest_alikes (pvar n ∷ ps) s e h = Alikes.more Alike.var h
 rest_alikes (pleaf l ∷ ps) s e h = absurd (omega arith)
 rest_alikes (pinj t p ∷ ps) s e h = absurd (omega arith)
 rest_alikes (pnode k p q ∷ ps) s e h = absurd (omega arith)
+rest_alikes {a = a} {ts = ts} [] {v = v} {vs = vs} s e h = elim s [ ]
 
 alikes_rest : (ps : List Pat) {v : Val} {vs : List Val} → Alikes ps (v ∷ vs) → Alikes (rest ps) vs
 alikes_rest (p ∷ ps) (Alikes.more a h) = h
+alikes_rest [] {v = v} {vs = vs} x' = elim x' [ ]
 
 drop_weights : (rs : List Row) → weights (map dropped rs) ≡ weights rs
 drop_weights [] = refl
@@ -218,6 +225,7 @@ module _ {whole : ℕ} {a : Ty} {ts : List Ty} {rs : List Row} (m : Matrix whole
           let r = f.1 vs os in
           let t = Memᴰ.of_map dropped rs r.1 in
           (t.0, t.1, rest_alikes t.0.pats (m.shapes t.0 t.1) (headed_zero rs e t.0 t.1) (subst (λ s. Alikes s.pats vs) (sym t.2) r.2))
+      all [] x'' = elim x'' [ ]
   drop_outcome (inr f) =
       let d = some_value a in
       inr (
@@ -366,21 +374,25 @@ pushed_alikes us (var_tag {t = t} {n = n} {ps = ps} e) a = go us (subst (λ qs. 
   where
     go : (us : List Val) → Alikes (pvar n ∷ ps) us → Alikes (pvar n ∷ ps) (con (tag t) us)
     go (u ∷ us) (Alikes.more a h) = Alikes.more Alike.var h
+    go [] x3 = elim x3 [ ]
 pushed_alikes us (var_node {k = k} {n = n} {ps = ps} e) a = go us (subst (λ qs. Alikes qs us) (sym e) a)
   where
     go : (us : List Val) → Alikes (pvar n ∷ (pvar n ∷ ps)) us → Alikes (pvar n ∷ ps) (con (node k) us)
     go (u ∷ []) (Alikes.more a h) = elim h [ ]
     go (u ∷ (w ∷ us)) (Alikes.more a (Alikes.more b h)) = Alikes.more Alike.var h
+    go [] x3 = elim x3 [ ]
 pushed_alikes us (leaf_same s e) a = Alikes.more (Alike.leaf (sym s)) (subst (λ qs. Alikes qs us) (sym e) a)
 pushed_alikes us (tag_same {t = t} {s = s} {p = p} {ps = ps} same e) a = go us (subst (λ qs. Alikes qs us) (sym e) a)
   where
     go : (us : List Val) → Alikes (p ∷ ps) us → Alikes (pinj s p ∷ ps) (con (tag t) us)
     go (u ∷ us) (Alikes.more a h) = Alikes.more (Alike.inj (sym same) a) h
+    go [] x3 = elim x3 [ ]
 pushed_alikes us (node_same {k = k} {m = m} {p = p} {q = q} {ps = ps} same e) a = go us (subst (λ qs. Alikes qs us) (sym e) a)
   where
     go : (us : List Val) → Alikes (p ∷ (q ∷ ps)) us → Alikes (pnode m p q ∷ ps) (con (node k) us)
     go (u ∷ []) (Alikes.more a h) = elim h [ ]
     go (u ∷ (w ∷ us)) (Alikes.more a (Alikes.more b h)) = Alikes.more (Alike.node (sym same) a b) h
+    go [] x3 = elim x3 [ ]
 
 alikes_pushed : (h : Head) (p : Pat) (ps : List Pat) (us : List Val) → Alikes (p ∷ ps) (con h us) → (qs : List Pat) × (push h p ps ≡ some qs) × Alikes qs us
 alikes_pushed (leaf l) (pvar n) ps us (Alikes.more a h) = (ps, refl, h)
@@ -466,6 +478,7 @@ add_head (some r) rs e = Memᴰ.head (sym (some_inj e))
 below_mem : (h : Head) (rs : List Row) {r s : Row} → Memᴰ r rs → push_row h r ≡ some s → Memᴰ s (below h rs)
 below_mem h (q ∷ rs) (Memᴰ.head e) x = add_head (push_row h q) (below h rs) (ap (push_row h) (sym e) ∙ x)
 below_mem h (q ∷ rs) (Memᴰ.tail i) x = add_mem (push_row h q) (below h rs) (below_mem h rs i x)
+below_mem h [] {r = r} {s = s} x3 x = elim x3 [ ]
 
 below_apart : (h : Head) (rs : List Row) → ApartRows rs → ApartRows (below h rs)
 below_apart h [] a = ApartRows.alone
@@ -616,6 +629,7 @@ module _ {whole : ℕ} {c : Ty} {ts : List Ty} {rs : List Row} (h : Head) (m : M
           f t
           (below_mem h rs i (ap (push_first h r.weight) e ∙ some_bind (λ qs. some (record { weight = 2 ^ bonus h p * r.weight; pats = qs })) q.1))
           q.2
+      go [] e s a = elim s [ ]
 
 -- the values of a type below its constructors
 abbrev Under : Head → List Ty → Ty → List Ty → List Val → Type 0
@@ -665,30 +679,37 @@ two_outcome h k m e take give grant (inr f) o =
 
 unit_under : {ts : List Ty} (vs : List Val) → Ofs vs (tunit ∷ ts) → Under (leaf unit_leaf) ts tunit ts vs
 unit_under (v ∷ vs) (Ofs.more Of.unit o) = (vs, o, refl)
+unit_under {ts = ts} [] x' = elim x' [ ]
 
 product_under : {a b : Ty} {ts : List Ty} (vs : List Val) → Ofs vs (tprod a b ∷ ts) → Under (node pair_node) (a ∷ (b ∷ ts)) (tprod a b) ts vs
 product_under (v ∷ vs) (Ofs.more (Of.pair {v = x} {w = y} p q) o) = (x ∷ (y ∷ vs), Ofs.more p (Ofs.more q o), refl)
+product_under {a = a} {b = b} {ts = ts} [] x' = elim x' [ ]
 
 product_over : {a b : Ty} {ts : List Ty} (ws : List Val) → Ofs ws (a ∷ (b ∷ ts)) → Ofs (con (node pair_node) ws) (tprod a b ∷ ts)
 product_over (v ∷ []) (Ofs.more p o) = elim o [ ]
 product_over (v ∷ (w ∷ ws)) (Ofs.more p (Ofs.more q o)) = Ofs.more (Of.pair p q) o
+product_over {a = a} {b = b} {ts = ts} [] x' = elim x' [ ]
 
 sum_under : {a b : Ty} {ts : List Ty} (vs : List Val) → Ofs vs (tsum a b ∷ ts)
     → Under (tag left) (a ∷ ts) (tsum a b) ts vs ⊎ Under (tag right) (b ∷ ts) (tsum a b) ts vs
 sum_under (v ∷ vs) (Ofs.more (Of.inj {t = left} {v = x} p) o) = inl (x ∷ vs, Ofs.more p o, refl)
 sum_under (v ∷ vs) (Ofs.more (Of.inj {t = right} {v = x} p) o) = inr (x ∷ vs, Ofs.more p o, refl)
+sum_under {a = a} {b = b} {ts = ts} [] x' = elim x' [ ]
 
 sum_over : (t : Tag) {a b : Ty} {ts : List Ty} (ws : List Val) → Ofs ws (part t a b ∷ ts) → Ofs (con (tag t) ws) (tsum a b ∷ ts)
 sum_over t (v ∷ ws) (Ofs.more p o) = Ofs.more (Of.inj p) o
+sum_over t {a = a} {b = b} {ts = ts} [] x' = elim x' [ ]
 
 list_under : {a : Ty} {ts : List Ty} (vs : List Val) → Ofs vs (tlist a ∷ ts)
     → Under (leaf empty_leaf) ts (tlist a) ts vs ⊎ Under (node element_node) (a ∷ (tlist a ∷ ts)) (tlist a) ts vs
 list_under (v ∷ vs) (Ofs.more Of.nil o) = inl (vs, o, refl)
 list_under (v ∷ vs) (Ofs.more (Of.cons {v = x} {w = y} p q) o) = inr (x ∷ (y ∷ vs), Ofs.more p (Ofs.more q o), refl)
+list_under {a = a} {ts = ts} [] x' = elim x' [ ]
 
 list_over : {a : Ty} {ts : List Ty} (ws : List Val) → Ofs ws (a ∷ (tlist a ∷ ts)) → Ofs (con (node element_node) ws) (tlist a ∷ ts)
 list_over (v ∷ []) (Ofs.more p o) = elim o [ ]
 list_over (v ∷ (w ∷ ws)) (Ofs.more p (Ofs.more q o)) = Ofs.more (Of.cons p q) o
+list_over {a = a} {ts = ts} [] x' = elim x' [ ]
 
 -- ---- the dichotomy
 

@@ -210,6 +210,7 @@ select_only v {c} (d ∷ cs) a (Memᴰ.head e) h =
     select_true (hits v) d cs (ap (hits v) (sym e) ∙ h) ∙ ap₂ ◌∷◌ (sym e) (apart_select v d cs a (ap (hits v) (sym e) ∙ h))
 select_only v {c} (d ∷ cs) a (Memᴰ.tail m) h =
     select_false (hits v) d cs (apart_miss v c d cs a m h) ∙ select_only v cs (apart_tail a) m h
+select_only v {c = c} [] a x3 h = elim x3 [ ]
 
 -- of orthogonal clauses the one that hits is taken
 pub only_hit : (v : Val) {c : Clause} (cs : List Clause)

@@ -156,6 +156,7 @@ one_of (c ∷ cs) {v} (Apart.beside h a) (Memᴰ.head e) m =
       others = λ d i n. orth_apart (h d.lhs (Memᴰ.map (λ c. c.lhs) i)) (subst (λ q. Matched q v) e m) n;
     }
 one_of (c ∷ cs) {v} (Apart.beside h a) (Memᴰ.tail i) m = one_more c (λ q j x y. orth_apart (h q j) x y) (one_of cs a i m)
+one_of [] {v = v} {p = p} _ x4 m = elim x4 [ ]
 
 pub exactly_one : {os : List Iso} (S : Sound os) (o : Iso) → Memᴰ o os → {v : Val} → Of v o.from → ExactlyOne o.clauses v
 exactly_one S o i {v} t = let x = S.lefts_cover o i v t in one_of o.clauses (S.lefts_apart o i) x.1 x.2

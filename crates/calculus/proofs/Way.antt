@@ -63,7 +63,7 @@ steps_trail : {os : List Iso} {t u : Term} {k j : ℕ} {x : Val} → Steps os t 
 steps_trail {j = j} {x = x} (still e h) next = (0, stop (subst (Next j x) (sym e) next))
 steps_trail (more a s h) next = let r = steps_trail s next in (suc r.0, onward a r.1)
 
-longer : {os : List Iso} {j n : ℕ} {x : Val} {t : Term} → Trail os j x n t → Trail os j x (suc n) t
+longer : {os : List Iso} {j : ℕ} {x : Val} {n : ℕ} {t : Term} → Trail os j x n t → Trail os j x (suc n) t
 longer (stop e) = stop e
 longer (onward a r) = onward a (longer r)
 
@@ -80,7 +80,7 @@ record Behind (os : List Iso) (j : ℕ) (x : Val) (n : ℕ) (p : Pat) (t u : Ter
   matches : Matches σ p value
   body : Trail os j x n (replace (look σ) u)
 
-let_trail : {os : List Iso} {j n : ℕ} {x : Val} {p : Pat} {t u : Term} → Trail os j x n (elet p t u) → Trail os j x n t ⊎ Behind os j x n p t u
+let_trail : {os : List Iso} {j : ℕ} {x : Val} {n : ℕ} {p : Pat} {t u : Term} → Trail os j x n (elet p t u) → Trail os j x n t ⊎ Behind os j x n p t u
 let_trail (stop (in_let e)) = inl (stop e)
 let_trail {os} {j} {x = x} (onward {n = n} (let_e v σ e m f) r) =
     inr record { value = v; count = 0; reaches = Reach.here e refl; σ = σ; matches = m; body = longer (subst (Trail os j x n) f r) }
