@@ -29,12 +29,15 @@ module _ {A : Type 0} (f : A → ℕ) where
       subst (λ u. min (f y) (least_of (f z ∷ map f zs)) ≤ f u) (sym e) (omega arith)
   least_below {x} (y ∷ (z ∷ zs)) (Memᴰ.tail m) =
       let h = least_below (z ∷ zs) m in omega arith
+  least_below {x = x} [] x'' = elim x'' [ ]
+  least_below {x = x} (y ∷ []) (mathlib.Core.List.Memᴰ.tail m) = elim m [ ]
 
   pub greatest_above : {x : A} (xs : List A) → Memᴰ x xs → f x ≤ greatest_of (map f xs)
   greatest_above (y ∷ ys) (Memᴰ.head e) =
       subst (λ u. f u ≤ max (f y) (greatest_of (map f ys))) (sym e) (omega arith)
   greatest_above (y ∷ ys) (Memᴰ.tail m) =
       let h = greatest_above ys m in omega arith
+  greatest_above [] x'' = elim x'' [ ]
 
 pub map_each : {A B : Type 0} (f g : A → B) (xs : List A) → ((x : A) → Memᴰ x xs → f x ≡ g x) → map f xs ≡ map g xs
 map_each f g [] h = refl

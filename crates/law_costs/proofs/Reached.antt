@@ -72,6 +72,7 @@ module _ {A : Type 0} (f : A → ℕ) where
       let a = h y (Memᴰ.head refl) in
       let b = least_one (z ∷ zs) (Memᴰ.head refl) (λ u n. h u (Memᴰ.tail n)) in
       omega arith
+  least_one [] m h = elim m [ ]
 
   greatest_one : {x : A} (xs : List A) → Memᴰ x xs → ((y : A) → Memᴰ y xs → f y ≡ 1) → greatest_of (map f xs) ≡ 1
   greatest_one (y ∷ []) m h = let a = h y (Memᴰ.head refl) in omega arith
@@ -79,6 +80,7 @@ module _ {A : Type 0} (f : A → ℕ) where
       let a = h y (Memᴰ.head refl) in
       let b = greatest_one (z ∷ zs) (Memᴰ.head refl) (λ u n. h u (Memᴰ.tail n)) in
       omega arith
+  greatest_one [] m h = elim m [ ]
 
 -- ---- every type has a closed value
 

@@ -91,6 +91,7 @@ type_written tunit x s l =
     entered type_tree TypeOk SmallType type_keep type_mono (type_row 0 0 0) s (record { kind = refl; fields = refl; names = refl }) l
 type_written (tsum a b) {rs} (Finite.sum x y) s l = two_written 1 a b rs (λ i j. refl) (λ n i j e. e) (type_written a x s (omega arith)) (λ t. type_written b y t (omega arith)) l
 type_written (tprod a b) {rs} (Finite.product x y) s l = two_written 2 a b rs (λ i j. refl) (λ n i j e. e) (type_written a x s (omega arith)) (λ t. type_written b y t (omega arith)) l
+type_written (tlist _) {rs = rs} {ts = ts} x s l = elim x [ ]
 
 -- no more rows than nodes
 two_room : (k : ℕ) (a b : Ty) (rs : List Row) → length (write_type a rs).rows ≤ length rs + type_nodes a
@@ -183,6 +184,8 @@ value_written lim (vnode pair_node v w) (Unlisted.pair u u') s l t =
     (ap₂ (pnode pair_node) (index_default g.trees _ (pleaf unit_leaf) p) (index_default g.trees _ (pleaf unit_leaf) g.here)) (l, t) in
     after_others pattern_tree PatternOk (SmallPattern lim) pattern_keep pattern_mono f
     (after_others pattern_tree PatternOk (SmallPattern lim) pattern_keep pattern_mono g h)
+value_written lim (vleaf empty_leaf) {rs = rs} {ts = ts} u s l t = elim u [ ]
+value_written lim (vnode element_node v w) {rs = rs} {ts = ts} u s l t = elim u [ ]
 
 -- the rows never become fewer
 pub value_grows : (v : Val) (rs : List Row) → length rs ≤ length (write_value v rs).rows

@@ -136,6 +136,7 @@ most_value (tprod a b) (Finite.product f g) =
     let e = x.2 in
     let f = y.2 in
     (vnode pair_node x.0 y.0, Of.pair x.1 y.1, omega arith)
+most_value (tlist _) x'' = elim x'' [ ]
 
 pub tags_nodes : (p : Pat) → tags p ≤ nodes p
 tags_nodes (pvar n) = omega arith
@@ -252,6 +253,7 @@ mem_clause : (n : ℕ) (cs : List (Val × Val)) (v w : Val) → Memᴰ (v, w) cs
 mem_clause n (c ∷ cs) v w (Memᴰ.head e) =
     (n, Memᴰ.head (ap (λ (d : Val × Val). record { line = n; lhs = closed d.0; lets = []; rhs = closed d.1 }) e))
 mem_clause n (c ∷ cs) v w (Memᴰ.tail m) = let r = mem_clause (suc n) cs v w m in (r.0, Memᴰ.tail r.1)
+mem_clause n [] v w x' = elim x' [ ]
 
 -- "one clause of closed values a pair": the run of a pair's first gives its second, with one application, where neither has over 127 letters
 pub closed_run : (n : ℕ) (a b : Ty) (cs : List (Val × Val)) → Lists a (firsts cs) → (v w : Val) → small v ≡ true → small w ≡ true → Memᴰ (v, w) cs

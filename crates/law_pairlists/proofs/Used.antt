@@ -126,6 +126,7 @@ type_grown (tprod a b) (Finite.product x y) rs =
     let f : Entry = write_type a rs in
     let s : Entry = write_type b f.rows in
     grown_two type_line (type_row 2 f.number s.number) rs f s (type_grown a x rs) (type_grown b y f.rows) refl first second
+type_grown (tlist _) x rs = elim x [ ]
 
 -- a closed value without lists
 pub data Unlisted : Val → Type 0 where
@@ -146,6 +147,8 @@ value_grown (vnode pair_node v w) (Unlisted.pair u u') rs =
     let s : Entry = write_value w f.rows in
     grown_two pattern_line (pattern_row 4 f.number s.number) rs f s (value_grown v u rs) (value_grown w u' f.rows) refl (Memᴰ.head (plus f.number))
     (Memᴰ.tail (Memᴰ.head (plus s.number)))
+value_grown (vleaf empty_leaf) u rs = elim u [ ]
+value_grown (vnode element_node v w) u rs = elim u [ ]
 
 -- ---- the P rows of all pairs
 

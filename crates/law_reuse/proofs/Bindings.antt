@@ -116,6 +116,7 @@ bound_ready (free (Alternate.again a)) = (refl, λ u e. live e a)
 
 used_ready : {t : Ty} {x : Option Ty} {ds : List Deed} → Ready t x (uses ∷ ds) → (x ≡ some t) × Ready t none ds
 used_ready (live e a) = (ap some e, free a)
+used_ready {t = t} {ds = ds} (free x4) = elim x4 [ ]
 
 ended_ready : {t : Ty} {x : Option Ty} → Ready t x [] → x ≡ none
 ended_ready (free a) = refl

@@ -59,6 +59,10 @@ shorter_first a b v w h k = go (leb (length (letters v)) (length (letters w))) r
         let l : length (letters (vinj right w)) < length (letters (vinj left u)) = omega arith in
         fewer l
     go false e (vinj right u) (Of.inj o) = not_after_under (letter_of right) (k u o)
+    go false e (vleaf _) x4 = elim x4 [ ]
+    go false e (vnode _ _ _) x7 = elim x7 [ ]
+    go true e (vleaf _) x5 = elim x5 [ ]
+    go true e (vnode _ _ _) x8 = elim x8 [ ]
 
 node_first : (n : Node) (v w v' w' : Val) → First v v' → First w w' → First (vnode n v w) (vnode n v' w')
 node_first n v w v' w' h k = not_after_under (node_letter n) (not_after_append h k)
@@ -364,10 +368,12 @@ overlap_best a (p ∷ ps) s =
 some_hits : (ps : List Pat) (v : Val) → Some ps v → 1 ≤ hits ps v
 some_hits (p ∷ ps) v (inl e) = omega arith
 some_hits (p ∷ ps) v (inr s) = let h = some_hits ps v s in omega arith
+some_hits [] v x' = elim x' [ ]
 
 two_hits : (ps : List Pat) (v : Val) → Two ps v → 1 < hits ps v
 two_hits (p ∷ ps) v (inl b) = let h = some_hits ps v b.1 in let e = b.0 in omega arith
 two_hits (p ∷ ps) v (inr t) = let h = two_hits ps v t in omega arith
+two_hits [] v x' = elim x' [ ]
 
 hits_some : (ps : List Pat) (v : Val) → 1 ≤ hits ps v → Some ps v
 hits_some [] v h = absurd (omega arith)
@@ -442,6 +448,7 @@ overlap_found a ps s e = let r = two ps s e in (r.0, r.1, lt_ltb (two_hits ps r.
 some_mem : (ps : List Pat) (v : Val) → Some ps v → (q : Pat) × Memᴰ q ps × (hit q v ≡ 1)
 some_mem (p ∷ ps) v (inl e) = (p, Memᴰ.head refl, e)
 some_mem (p ∷ ps) v (inr s) = let r = some_mem ps v s in (r.0, Memᴰ.tail r.1, r.2)
+some_mem [] v x' = elim x' [ ]
 
 mem_some : {q : Pat} {ps : List Pat} (v : Val) → Memᴰ q ps → hit q v ≡ 1 → Some ps v
 mem_some v (Memᴰ.head h) e = inl (ap (λ p. hit p v) (sym h) ∙ e)
@@ -452,6 +459,7 @@ two_twice (p ∷ ps) v d (inl b) =
     let r = some_mem ps v b.1 in
     here r.0 (hit_matched (d p (Memᴰ.head refl)) b.0) r.1 (hit_matched (d r.0 (Memᴰ.tail r.1)) r.2)
 two_twice (p ∷ ps) v d (inr t) = there (two_twice ps v (λ q m. d q (Memᴰ.tail m)) t)
+two_twice [] v d x'' = elim x'' [ ]
 
 twice_two : {ps : List Pat} {v : Val} → Twice ps v → Two ps v
 twice_two (here {v = v} q m i n) = inl (matched_hit m, mem_some v i (matched_hit n))

@@ -240,16 +240,19 @@ search_values zero [] f = go (f []) refl
       where
         only : (ws : List Val) → Ofs ws [] → Upto [] (all_letters ws)
         only [] ends = done
+        only (_ ∷ _) x4 = elim x4 [ ]
     go false e = nothing (λ ws o l p. only ws o p)
       where
         only : (ws : List Val) → Ofs ws [] → f ws ≡ true → ⊥
         only [] ends p = not_both p e
+        only (_ ∷ _) x5 p = elim x5 [ ]
 search_values zero (a ∷ ts) f = nothing
     (λ ws o l p. let b = begun o in let k = (sound a b.move b.mem ts b.rest b.of).1 in let j = ap length (ap all_letters (sym b.is) ∙ k) in absurd (omega arith))
 search_values (suc n) [] f = nothing (λ ws o l p. only ws o l)
   where
     only : (ws : List Val) → Ofs ws [] → length (all_letters ws) ≡ suc n → ⊥
     only [] ends l = absurd (omega arith)
+    only (_ ∷ _) x4 l = elim x4 [ ]
 search_values (suc n) (a ∷ ts) f =
     subst (Search f (suc n) (λ vs. Ofs vs (a ∷ ts))) (sym (find_step f n a ts))
     (renamed (unbegun a ts) (λ ws o. begun o) (first_of (under f n a ts) (moves a))

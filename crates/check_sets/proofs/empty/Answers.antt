@@ -1,0 +1,5 @@
+use Rattle.check_sets.proofs.Sets.{emptied}
+use Rattle.check_sets.proofs.empty.Goals as goal
+
+pub returns : goal.returns
+returns c = emptied _ c.requires
