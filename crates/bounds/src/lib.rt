@@ -17,7 +17,7 @@ use run_lists::is_free;
 use runner::run::prepare;
 
 // A refusal or none, the two bounds, and for each whether the number reckoned is above 4,294,967,295.
-#[derive(Drop)]
+#[derive(Clone, Copy)]
 pub struct Bounded {
     pub refusal: Refusal,
     pub least: u32,

@@ -16,7 +16,7 @@ use std::num::wrapping_add_usize;
 use table_trees::ROWS;
 
 // Whether two patterns clash, and how many node pairs were compared.
-#[derive(Drop)]
+#[derive(Clone, Copy)]
 pub struct Compared {
     pub clash: bool,
     pub pairs: usize,

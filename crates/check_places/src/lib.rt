@@ -27,7 +27,7 @@ fn field(t: &[u16], row: usize, k: usize) -> usize
 }
 
 // The lines that number j of P line p and number k of T line a name, and whether both are earlier lines.
-#[derive(Drop)]
+#[derive(Clone, Copy)]
 struct Parts {
     known: bool,
     p: usize,

@@ -88,7 +88,7 @@ fn field(t: &[u16], row: usize, k: usize) -> usize
 }
 
 // A P line and a T line, and whether there are such.
-#[derive(Drop)]
+#[derive(Clone, Copy)]
 struct Lines {
     known: bool,
     p: usize,

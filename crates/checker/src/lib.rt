@@ -22,7 +22,7 @@ use read_lines::read::read_file;
 use read_split::count_lines;
 
 // An answer, and how many T, P and I lines the table holds, and how many lines; 0 of each where it holds none.
-#[derive(Drop)]
+#[derive(Clone, Copy)]
 pub struct Checked {
     pub answer: Answer,
     pub types: usize,

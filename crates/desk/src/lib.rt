@@ -32,7 +32,7 @@ pub const LINE_ROOM: usize = QUERY_LENGTH + 1;
 const ANSWER_ROOM: usize = 160;
 
 // What the next byte belongs to: the file, a query, or nothing, where the file is refused.
-#[derive(Drop)]
+#[derive(Clone, Copy)]
 pub enum Phase {
     File,
     Queries,
@@ -41,7 +41,7 @@ pub enum Phase {
 
 // The state between two bytes: whether a line of the file begins, how many bytes of the file or of the
 // query's line are kept, and of an accepted file how many T and I lines the table holds.
-#[derive(Drop)]
+#[derive(Clone, Copy)]
 pub struct Desk {
     pub phase: Phase,
     pub fresh: bool,
@@ -51,7 +51,7 @@ pub struct Desk {
 }
 
 // The state behind some bytes, how many bytes they are, and how many bytes of answers they gave.
-#[derive(Drop)]
+#[derive(Clone, Copy)]
 pub struct Fed {
     pub desk: Desk,
     pub taken: usize,
@@ -59,7 +59,7 @@ pub struct Fed {
 }
 
 // The state behind a byte, and the place behind what is printed.
-#[derive(Drop)]
+#[derive(Clone, Copy)]
 struct Next {
     pub desk: Desk,
     pub end: usize,

@@ -26,14 +26,14 @@ use run_lists::is_free;
 use runner::run::prepare;
 
 // A refusal or none, and the number of bytes in the output area.
-#[derive(Drop)]
+#[derive(Clone, Copy)]
 pub struct Listed {
     pub refusal: Refusal,
     pub length: usize,
 }
 
 // The answer to the call, and the number of bytes in the output area.
-#[derive(Drop)]
+#[derive(Clone, Copy)]
 pub struct Exported {
     pub answer: Answer,
     pub length: usize,

@@ -73,7 +73,7 @@ pub fn copy(k: &[u64], o: &mut [u64])
 }
 
 // The two parts of a T line: the one with fewer nodes, by the table's sizes, and the other.
-#[derive(Drop)]
+#[derive(Clone, Copy)]
 struct Parts {
     few: usize,
     many: usize,

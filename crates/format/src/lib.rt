@@ -8,7 +8,7 @@ ghost use Rattle.calculus.specs.Tools.{is_some};
 ghost use Rattle.format.specs.Code.{kind_view, side_view, refusal_view, number_of};
 
 // The five line forms.
-#[derive(Drop)]
+#[derive(Clone, Copy)]
 pub enum Kind {
     Type,
     Pattern,
@@ -18,7 +18,7 @@ pub enum Kind {
 }
 
 // A line as the table holds it: its kind and its fields, a missing third one being 0.
-#[derive(Drop)]
+#[derive(Clone, Copy)]
 pub struct Row {
     pub kind: Kind,
     pub x: usize,
@@ -27,7 +27,7 @@ pub struct Row {
 }
 
 // A side of an iso's clauses.
-#[derive(Drop)]
+#[derive(Clone, Copy)]
 pub enum Side {
     Left,
     Right,
@@ -35,7 +35,7 @@ pub enum Side {
 
 // Why a call is refused; `Nothing` where it is not. A case holds the faulty line's kind; `BadLine` is
 // that of no kind, and the others that hold none name no line.
-#[derive(Drop)]
+#[derive(Clone, Copy)]
 pub enum Refusal {
     Nothing,
     ShortArea,
@@ -63,7 +63,7 @@ pub enum Refusal {
 }
 
 // A refusal and its line, counted over the file from 1; 0 where no line is named.
-#[derive(Drop)]
+#[derive(Clone, Copy)]
 pub struct Answer {
     pub place: usize,
     pub refusal: Refusal,

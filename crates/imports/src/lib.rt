@@ -16,7 +16,7 @@ use number_values::{COUNTS, count_values, find_counts, known};
 use read_split::count_lines;
 
 // The answer to the call, and the number of bytes in the output area.
-#[derive(Drop)]
+#[derive(Clone, Copy)]
 pub struct Imported {
     pub answer: Answer,
     pub length: usize,

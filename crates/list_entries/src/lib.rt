@@ -17,7 +17,7 @@ use table_trees::cell;
 pub const MAX_ENTRIES: usize = MAX_PATTERNS + 1;
 
 // The number of a row, and the end of the rows with it.
-#[derive(Drop)]
+#[derive(Clone, Copy)]
 pub struct Entry {
     pub number: usize,
     pub end: usize,

@@ -28,7 +28,7 @@ const ENTRY_WORDS: usize = MAX_ENTRIES * ROW_WIDTH;
 const CLAUSE_WORDS: usize = MAX_CLAUSES * ROW_WIDTH;
 
 // A refusal or none, and the number of bytes in the output area.
-#[derive(Drop)]
+#[derive(Clone, Copy)]
 pub struct Filed {
     pub refusal: Refusal,
     pub length: usize,
@@ -64,7 +64,7 @@ fn put_entries(s: &[u16], kind: Kind, n: usize, out: &mut [u8], at: usize) -> us
 }
 
 // How many T, P and C rows there are, and the T rows of the iso's types.
-#[derive(Drop)]
+#[derive(Clone, Copy)]
 struct Made {
     types: usize,
     patterns: usize,

@@ -16,7 +16,7 @@ use limits::MAX_BUDGET;
 use read_fields::{Cursor, Number, Skipped};
 
 // The to of a line, or nothing where its form or its from is another.
-#[derive(Drop)]
+#[derive(Clone, Copy)]
 pub enum To {
     Of(usize),
     Bad,

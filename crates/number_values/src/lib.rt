@@ -15,7 +15,7 @@ use limits::{MAX_TYPES, MAX_VALUES};
 use table_trees::{cell, smaller};
 
 // A value's number, and the place behind its letters.
-#[derive(Drop)]
+#[derive(Clone, Copy)]
 pub struct Ranked {
     pub number: usize,
     pub end: usize,

@@ -16,7 +16,7 @@ use checker::check_file;
 use format::{Answer, Refusal, is_refused};
 
 // A refusal and its line, or none; whether the patterns clash, and how many node pairs were compared.
-#[derive(Drop)]
+#[derive(Clone, Copy)]
 pub struct Overlapped {
     pub answer: Answer,
     pub clash: bool,

@@ -18,7 +18,7 @@ use unit_plays::play_accepted;
 use unit_tally::{Tally, count_visits};
 
 // An answer, how many visits are marked in the work area, and whether the script was played.
-#[derive(Drop)]
+#[derive(Clone, Copy)]
 pub struct Visits {
     pub answer: Answer,
     pub count: usize,

@@ -16,7 +16,7 @@ use print_text::{put_field, put_number};
 use read_fields::{Cursor, Number, Skipped};
 
 // A query; its letters stand in its line from place `from` up to place `to`.
-#[derive(Drop)]
+#[derive(Clone, Copy)]
 pub struct Query {
     pub iso: usize,
     pub back: bool,
@@ -26,7 +26,7 @@ pub struct Query {
 }
 
 // What a line asks: a query, or nothing that is one.
-#[derive(Drop)]
+#[derive(Clone, Copy)]
 pub enum Asked {
     Of(Query),
     Bad,

@@ -8,18 +8,18 @@ ghost use Rattle.read_fields.specs.Views.{as_text, as_skipped, as_number, digit_
 use area_cells::byte_at;
 use codes::{CARRIAGE_RETURN, COMMA, DIGIT_NINE, DIGIT_ZERO, LINE_FEED};
 
-#[derive(Drop)]
+#[derive(Clone, Copy)]
 pub struct Cursor {
     pub at: usize,
 }
 
-#[derive(Drop)]
+#[derive(Clone, Copy)]
 pub enum Skipped {
     Past(Cursor),
     Other,
 }
 
-#[derive(Drop)]
+#[derive(Clone, Copy)]
 pub enum Number {
     Value(usize, Cursor),
     Wrong,

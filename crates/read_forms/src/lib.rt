@@ -11,7 +11,7 @@ use format::Kind;
 // The five line forms, T, P, I, C, L: the letter's code, then the number of fields after it.
 pub const FORMS: [u8; 10] = [84, 3, 80, 3, 73, 2, 67, 2, 76, 3];
 
-#[derive(Drop)]
+#[derive(Clone, Copy)]
 pub enum Letter {
     Of(Kind),
     Unknown,

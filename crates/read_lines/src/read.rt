@@ -20,7 +20,7 @@ use read_rows::{Line, row_at};
 use read_seen::{Seen, nothing_seen, seen_after};
 
 // A row that passes and where the next line begins, or the line's refusal.
-#[derive(Drop)]
+#[derive(Clone, Copy)]
 pub enum Judged {
     Good(Row, Cursor),
     Bad(Refusal),
@@ -28,7 +28,7 @@ pub enum Judged {
 
 // The file's rows are in the table, or its first refusal and the line; what the rows tell, and how many
 // there are.
-#[derive(Drop)]
+#[derive(Clone, Copy)]
 pub struct Read {
     pub refusal: Refusal,
     pub place: usize,

@@ -11,7 +11,7 @@ use read_fields::{Cursor, Number, Skipped};
 use read_forms::{Letter, fields_of, kind_of};
 
 // A row, and where the next line begins.
-#[derive(Drop)]
+#[derive(Clone, Copy)]
 pub enum Line {
     Form(Row, Cursor),
     Bad,

@@ -9,7 +9,7 @@ use format::Kind;
 
 // What the rows above tell: how far the order has come (0 T, 1 P, 2 I, 3 C, 4 L), how many T, P and I
 // lines there are, how many C lines since the last I and L lines since the last C.
-#[derive(Drop)]
+#[derive(Clone, Copy)]
 pub struct Seen {
     pub stage: usize,
     pub types: usize,

@@ -24,7 +24,7 @@ use witness::witness;
 
 // Check's number and line.
 #[repr(C)]
-#[derive(Drop)]
+#[derive(Clone, Copy)]
 pub struct CheckAnswer {
     pub number: u32,
     pub line: usize,
@@ -32,7 +32,7 @@ pub struct CheckAnswer {
 
 // Turn's number and line, and the number of bytes written.
 #[repr(C)]
-#[derive(Drop)]
+#[derive(Clone, Copy)]
 pub struct TurnAnswer {
     pub number: u32,
     pub line: usize,
@@ -41,7 +41,7 @@ pub struct TurnAnswer {
 
 // Run's number, the number of applications, and the number of letters written.
 #[repr(C)]
-#[derive(Drop)]
+#[derive(Clone, Copy)]
 pub struct RunAnswer {
     pub number: u32,
     pub count: u32,
@@ -50,7 +50,7 @@ pub struct RunAnswer {
 
 // A sheet's number and line, and the number of queries answered.
 #[repr(C)]
-#[derive(Drop)]
+#[derive(Clone, Copy)]
 pub struct SheetAnswer {
     pub number: u32,
     pub line: usize,
@@ -59,7 +59,7 @@ pub struct SheetAnswer {
 
 // The number of a call for a setting's number, and that number.
 #[repr(C)]
-#[derive(Drop)]
+#[derive(Clone, Copy)]
 pub struct NumberAnswer {
     pub number: u32,
     pub setting: u32,
@@ -67,7 +67,7 @@ pub struct NumberAnswer {
 
 // The number of a call for a setting's letters, and how many were written.
 #[repr(C)]
-#[derive(Drop)]
+#[derive(Clone, Copy)]
 pub struct SettingAnswer {
     pub number: u32,
     pub length: usize,
@@ -75,7 +75,7 @@ pub struct SettingAnswer {
 
 // The number and line of a call for two P lines, whether they clash, and the node pairs compared.
 #[repr(C)]
-#[derive(Drop)]
+#[derive(Clone, Copy)]
 pub struct OverlapAnswer {
     pub number: u32,
     pub line: usize,
@@ -86,7 +86,7 @@ pub struct OverlapAnswer {
 // The number of a call for the bounds of an iso, the bounds, and for each whether what was reckoned is above
 // 4,294,967,295.
 #[repr(C)]
-#[derive(Drop)]
+#[derive(Clone, Copy)]
 pub struct BoundsAnswer {
     pub number: u32,
     pub least: u32,
@@ -97,7 +97,7 @@ pub struct BoundsAnswer {
 
 // The number and line of a call for a pair list, in or out, and the number of bytes written.
 #[repr(C)]
-#[derive(Drop)]
+#[derive(Clone, Copy)]
 pub struct TradeAnswer {
     pub number: u32,
     pub line: usize,
@@ -106,7 +106,7 @@ pub struct TradeAnswer {
 
 // The number and line of a call for the value that shows the fault, and how many letters were written.
 #[repr(C)]
-#[derive(Drop)]
+#[derive(Clone, Copy)]
 pub struct WitnessAnswer {
     pub number: u32,
     pub line: usize,
@@ -353,7 +353,7 @@ pub extern "C" fn rulefile_witness(
 
 // The number and line of a play.
 #[repr(C)]
-#[derive(Drop)]
+#[derive(Clone, Copy)]
 pub struct PlayAnswer {
     pub number: u32,
     pub line: usize,

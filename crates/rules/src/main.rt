@@ -16,7 +16,7 @@ use stdio::{Input, endless, read_some, write_front};
 
 // How far a run has come: the input goes on; or all was read that its answers depend on, and only what
 // the end of the input gives is still to be printed; or a read or a write failed.
-#[derive(Drop)]
+#[derive(Clone, Copy)]
 enum Progress {
     More(Desk),
     Done(Desk),

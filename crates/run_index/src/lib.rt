@@ -14,7 +14,7 @@ use limits::INDEX_END;
 use table_trees::cell;
 
 // Where the next row up goes, and how many isos are still to come.
-#[derive(Drop)]
+#[derive(Clone, Copy)]
 pub struct Left {
     pub first: usize,
     pub isos: usize,

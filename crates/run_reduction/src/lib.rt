@@ -26,7 +26,7 @@ use table_trees::{cell, pattern_cell, smaller};
 
 // Where a result begins and ends, and what is left of the budget; or what the reduction met first: a
 // spent budget, or what is too large.
-#[derive(Drop)]
+#[derive(Clone, Copy)]
 pub enum Given {
     Range(usize, usize, u32),
     Spent,
@@ -34,7 +34,7 @@ pub enum Given {
 }
 
 // Where the letters that let steps leave end, and what is left of the budget; or what they met.
-#[derive(Drop)]
+#[derive(Clone, Copy)]
 pub enum Reduced {
     Done(usize, u32),
     Spent,
@@ -43,7 +43,7 @@ pub enum Reduced {
 
 // Where an argument begins and ends, and where the area is free behind it. One of over 127 letters stands
 // nowhere: then the ends tell no more than that.
-#[derive(Drop)]
+#[derive(Clone, Copy)]
 pub struct Place {
     pub at: usize,
     pub end: usize,

@@ -16,7 +16,7 @@ use codes::{
 use table_trees::{cell, smaller};
 
 // Where something ends that begins at a place.
-#[derive(Drop)]
+#[derive(Clone, Copy)]
 pub enum Upto {
     Place(usize),
     Nothing,

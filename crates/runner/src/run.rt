@@ -20,7 +20,7 @@ use run_values::is_value;
 use table_trees::cell;
 
 // A refusal or none, the number of applications, and the number of letters in the result area.
-#[derive(Drop)]
+#[derive(Clone, Copy)]
 pub struct Ran {
     pub refusal: Refusal,
     pub count: u32,

@@ -20,14 +20,14 @@ use number_values::{COUNTS, count_values, find_counts, known, rank_at, unrank_at
 use run_values::is_value;
 
 // A refusal or none, and a setting's number.
-#[derive(Drop)]
+#[derive(Clone, Copy)]
 pub struct Numbered {
     pub refusal: Refusal,
     pub setting: u32,
 }
 
 // A refusal or none, and the number of letters in the result area.
-#[derive(Drop)]
+#[derive(Clone, Copy)]
 pub struct Lettered {
     pub refusal: Refusal,
     pub length: usize,

@@ -25,7 +25,7 @@ use run_coding::AREA_LENGTH;
 use runner::run::{Ran, prepare};
 
 // The answer to the file, and how many queries were answered.
-#[derive(Drop)]
+#[derive(Clone, Copy)]
 pub struct Answered {
     pub answer: Answer,
     pub queries: usize,

@@ -11,7 +11,7 @@ use area_parts::front;
 
 // What a read gave: so many bytes, nothing yet where a signal came first, the end of the input, or
 // nothing, since it failed.
-#[derive(Drop)]
+#[derive(Clone, Copy)]
 pub enum Input {
     Bytes(usize),
     Again,
@@ -20,14 +20,14 @@ pub enum Input {
 }
 
 // What came of reading until an area is full or the input ends: so many bytes, or a read failed.
-#[derive(Drop)]
+#[derive(Clone, Copy)]
 pub enum Filled {
     Bytes(usize),
     Failed,
 }
 
 // What one read more gave: so many bytes in all, or what came of reading.
-#[derive(Drop)]
+#[derive(Clone, Copy)]
 enum Step {
     More(usize),
     Over(Filled),

@@ -16,7 +16,7 @@ use read_forms::{Letter, kind_of};
 use table_trees::cell;
 
 // The answer of Check, or a short area, and the number of bytes written.
-#[derive(Drop)]
+#[derive(Clone, Copy)]
 pub struct Turned {
     pub answer: Answer,
     pub length: usize,

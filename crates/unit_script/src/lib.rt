@@ -13,7 +13,7 @@ use limits::MAX_FIELD;
 use read_fields::{Cursor, Number, Skipped};
 
 // A planned visit.
-#[derive(Drop)]
+#[derive(Clone, Copy)]
 pub struct Planned {
     pub unit: usize,
     pub iso: usize,
@@ -21,7 +21,7 @@ pub struct Planned {
 }
 
 // What a line plans: a visit, or nothing that is one.
-#[derive(Drop)]
+#[derive(Clone, Copy)]
 pub enum Plan {
     Of(Planned),
     Bad,

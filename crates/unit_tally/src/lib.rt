@@ -10,7 +10,7 @@ use limits::{MAX_LINES, MAX_NUMBER, RUN_ROOM};
 
 // The record that is lent.
 #[repr(C)]
-#[derive(Drop)]
+#[derive(Clone, Copy)]
 pub struct Tally {
     pub done: u32,
     pub skipped: u32,
@@ -18,7 +18,7 @@ pub struct Tally {
 }
 
 // What came of a visit.
-#[derive(Drop)]
+#[derive(Clone, Copy)]
 pub enum Visit {
     Done,
     Skipped,

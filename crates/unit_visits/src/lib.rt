@@ -19,7 +19,7 @@ use unit_settings::number_at;
 use unit_tally::{Visit, put_mark};
 
 // What comes of a visit: the T line and the number that the unit then holds, or nothing.
-#[derive(Drop)]
+#[derive(Clone, Copy)]
 pub enum Visited {
     Done(u32, u32),
     Skipped,

@@ -14,7 +14,7 @@ use format::{Answer, Refusal, is_refused, number_of};
 use limits::{RESULT_LENGTH, WORK_LENGTH};
 
 // A refusal and its line, or none, and the number of letters in the result area.
-#[derive(Drop)]
+#[derive(Clone, Copy)]
 pub struct Witnessed {
     pub answer: Answer,
     pub length: usize,
