@@ -10,13 +10,13 @@ use lib.ListN.{get_or, get_elem?}
 use Rattle.limits.specs.Limits.{max_count}
 use Rattle.calculus.specs.Trees.{Val, Iso, invert}
 use Rattle.calculus.specs.Refusals.{Refusal, spent, no_iso, too_many}
-use Rattle.calculus.specs.Lists.{free_isos, is_free}
+use Rattle.calculus.specs.Lists.{is_free}
 use Rattle.format.specs.Lines.{Row}
 use Rattle.format.specs.Unfold.{isos_of}
 use Rattle.calculus.specs.Reduction.{reduce}
 use Rattle.model.specs.Services.{accepted, refused, verdict, turned, gives, fails, toward, run_on, run}
-use Rattle.model.specs.Answers.{Halts, RunIs, passed, done}
-use Rattle.calculus.proofs.Basic.{none≢some, some_inj, ltb_lt, ltb_false, index_map, index_of_map, not_some}
+use Rattle.model.specs.Answers.{RunIs, passed, done}
+use Rattle.calculus.proofs.Basic.{none≢some, ltb_lt, ltb_false, index_map, index_of_map, not_some}
 use Rattle.format.proofs.Turning.{isos_turn}
 use Rattle.model.proofs.Files.{turned_accepted}
 use Rattle.model.proofs.Outcomes.{given_accepted}

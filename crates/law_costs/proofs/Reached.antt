@@ -7,13 +7,13 @@ use mathlib.Core.Bool.{Bool, true, false}
 use mathlib.Core.Option.{some}
 use mathlib.Core.List.Memᴰ
 use mathlib.Core.List.{List, [], ◌∷◌, map, reverse, Memᴰ}
-use lib.ListN.{get_or, get_elem?, length}
+use lib.ListN.{get_or, get_elem?}
 use Rattle.calculus.specs.Tools.{total, select}
 use Rattle.calculus.specs.Trees.{Ty, tunit, tlist, tsum, tprod, Val, vleaf, vinj, vnode, unit_leaf, empty_leaf, left, pair_node, Let, Clause, Iso, invert_let, invert_clause, invert}
 use Rattle.calculus.specs.Slots.{Slots}
 use Rattle.format.specs.Lines.{Row}
 use Rattle.format.specs.Unfold.{isos_of}
-use Rattle.calculus.specs.Reduction.{Call, run_lets, run_clause, hits, only, apply, reduce_to, small, reduce}
+use Rattle.calculus.specs.Reduction.{Call, run_lets, run_clause, hits, only, apply, reduce_to, small}
 use Rattle.calculus.specs.Lists.{is_free}
 use Rattle.limits.specs.Limits.{max_depth}
 use Rattle.calculus.specs.Letters.{letters}
@@ -68,17 +68,17 @@ clause_one known c e = ap (λ ls. suc (total (map (λ l. get_or known l.iso 0) l
 module _ {A : Type 0} (f : A → ℕ) where
   least_one : {x : A} (xs : List A) → Memᴰ x xs → ((y : A) → Memᴰ y xs → f y ≡ 1) → least_of (map f xs) ≡ 1
   least_one (y ∷ []) m h = h y (Memᴰ.head refl)
-  least_one (y ∷ (z ∷ zs)) m h =
+  least_one {x = x} (y ∷ (z ∷ zs)) m h =
       let a = h y (Memᴰ.head refl) in
-      let b = least_one (z ∷ zs) (Memᴰ.head refl) (λ u n. h u (Memᴰ.tail n)) in
+      let b = least_one {x = z} (z ∷ zs) (Memᴰ.head refl) (λ u n. h u (Memᴰ.tail n)) in
       omega arith
   least_one [] m h = elim m [ ]
 
   greatest_one : {x : A} (xs : List A) → Memᴰ x xs → ((y : A) → Memᴰ y xs → f y ≡ 1) → greatest_of (map f xs) ≡ 1
   greatest_one (y ∷ []) m h = let a = h y (Memᴰ.head refl) in omega arith
-  greatest_one (y ∷ (z ∷ zs)) m h =
+  greatest_one {x = x} (y ∷ (z ∷ zs)) m h =
       let a = h y (Memᴰ.head refl) in
-      let b = greatest_one (z ∷ zs) (Memᴰ.head refl) (λ u n. h u (Memᴰ.tail n)) in
+      let b = greatest_one {x = z} (z ∷ zs) (Memᴰ.head refl) (λ u n. h u (Memᴰ.tail n)) in
       omega arith
   greatest_one [] m h = elim m [ ]
 

@@ -11,7 +11,7 @@ use lib.ListN.{length, get_or, get_elem?}
 use Rattle.limits.specs.Limits.{result_length, max_count}
 use Rattle.calculus.specs.Trees.{Iso}
 use Rattle.calculus.specs.Refusals.{number, no_iso, spent, too_many}
-use Rattle.calculus.specs.Lists.{free_isos, is_free}
+use Rattle.calculus.specs.Lists.{is_free}
 use Rattle.format.specs.Lines.{Row}
 use Rattle.format.specs.Unfold.{isos_of}
 use Rattle.model.specs.Services.{Verdict, accepted, refused, verdict, turned, short, unless, answer_of, check, Ran, Outcome, gives, fails, go_on, toward, run_of, run, answer_of_run, run_service}
