@@ -5,7 +5,7 @@ use native.Mathlib.Nat.{le-add_right, mul-le-mul_right, le-mul_of_pos_right, mod
 use native.Mathlib.Nat.{mul-add-div_right, mul-add-mod_self_right}
 use native.Mathlib.Omega.{arith}
 use mathlib.Core.Path.{◌≡◌, refl, sym, ap, ap₂, ◌∙◌, subst}
-use mathlib.Core.Logic.{◌⊎◌, ⊎_elim}
+use mathlib.Core.Logic.{⊎_elim}
 use mathlib.Core.Bool.{Bool, true, false, cond, ◌||◌}
 use mathlib.Core.List.{List, [], ◌∷◌, ◌++◌, append_assoc, append-nil}
 use lib.Dec.{ltb, eqb}
