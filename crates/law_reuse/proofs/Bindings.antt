@@ -90,7 +90,7 @@ inside n t (Fits.inj f) q = inside n t f q
 inside n t (Fits.pair j x y) h = either n t (join_at j n) h (λ i. inside n t x i) (λ i. inside n t y i)
 inside n t (Fits.cons j x y) h = either n t (join_at j n) h (λ i. inside n t x i) (λ i. inside n t y i)
 
-chain_along : {Γ : ℕ → Ty} {sigs : Sigs} {d : Slots Ty} {ls : List Let} {r : Pat} {b : Ty} → Chain sigs d ls r b → Holds Γ d → Along sigs Γ ls r b
+chain_along : {sigs : Sigs} {Γ : ℕ → Ty} {d : Slots Ty} {ls : List Let} {r : Pat} {b : Ty} → Chain sigs d ls r b → Holds Γ d → Along sigs Γ ls r b
 chain_along (Chain.value f) h = Along.value (holds_under f h)
 chain_along {Γ} (Chain.step {g = g} s k j fe fg i c) h =
     Along.step s (over g Γ) k
