@@ -13,7 +13,7 @@ use lib.Dec.{eqb}
 use Rattle.limits.specs.Limits.{max_tags, result_length}
 use Rattle.calculus.specs.Tools.{concat, total, first_of, or_else}
 use Rattle.calculus.specs.Trees.{Ty, tunit, tlist, tsum, tprod, Leaf, unit_leaf, empty_leaf, Tag, left, right, Node, pair_node, element_node, Pat, pvar, pleaf}
-use Rattle.calculus.specs.Trees.{pinj, pnode, Val, vleaf, vinj, vnode, same_leaf, same_tag, same_node, vars, tags}
+use Rattle.calculus.specs.Trees.{pinj, pnode, Val, vinj, vnode, same_leaf, same_tag, same_node, vars, tags}
 use Rattle.calculus.specs.Letters.{letters}
 use Rattle.calculus.specs.Clauses.{full_weight}
 use Rattle.calculus.specs.Paper.{Of, Apart, Matched, Distinct}

@@ -1,10 +1,10 @@
 -- Request 09's promises, of what the service answers for any bytes and any lent areas.
-use Prim.Native.Nat.{ℕ, suc, ◌<◌}
+use Prim.Native.Nat.{ℕ, suc}
 use native.Mathlib.Nat.{not-suc-le-zero}
 use native.Mathlib.Omega.{arith}
 use mathlib.Core.Path.{◌≡◌, refl, sym, ap, ap₂, ◌∙◌, subst, subst₂}
 use mathlib.Core.Logic.{◌⊎◌, inl, inr, ⊎_elim}
-use mathlib.Core.Bool.{Bool, true, false, cond, ◌&&◌, ◌||◌, false≢true}
+use mathlib.Core.Bool.{Bool, true, false, cond, ◌||◌, false≢true}
 use mathlib.Core.Option.{Option, none, some}
 use mathlib.Core.List.{List, [], ◌∷◌}
 use lib.Dec.{leb, ltb, eqb}
@@ -18,7 +18,7 @@ use Rattle.format.specs.Judge.{Seen, start, in_order, fields_fit, named, within_
 use Rattle.format.specs.Unfold.{isos_of}
 use Rattle.calculus.specs.Clauses.{Sigs, sigs_of, fault}
 use Rattle.calculus.specs.Faulty.{ClauseFault, FirstClause, Breach, SideFault, IsoFault, FirstIso}
-use Rattle.model.specs.Services.{Verdict, accepted, refused, judged, filled, after_reading, over, verdict, Answer, answer_of, refusal_by, table_after, work_after, short, unless, written, check}
+use Rattle.model.specs.Services.{Verdict, accepted, refused, judged, filled, after_reading, over, verdict, answer_of, refusal_by, table_after, work_after, short, unless, written, check}
 use Rattle.calculus.proofs.Basic.{none≢some, some_inj, not_both, and_true, neither, leb_le, not_leb, eq_eqb}
 use Rattle.calculus.proofs.Checking.{file_fault}
 use Rattle.model.proofs.Files.{InForm, formed_of, verdict_in_form, ReadCases, read_cases}

@@ -1,11 +1,11 @@
 -- Request 09, how the value is found without listing all: the least value of two patterns for an overlap; for a gap, letter by letter, by
 -- counting the values that the patterns match.
-use Rattle.std.specs.Prelude.{ℕ, zero, suc, ◌+◌, Bool, cond, List, [], ◌∷◌, ◌++◌, map, leb, ltb, length}
+use Rattle.std.specs.Prelude.{ℕ, zero, suc, Bool, cond, List, [], ◌∷◌, ◌++◌, map, leb, ltb, length}
 use Rattle.std.proofs.Math.Option.{Option, none, some}
 use Rattle.limits.specs.Limits.{result_length}
 use Rattle.calculus.specs.Tools.{◌>>=◌, guard, total, first_of}
 use Rattle.calculus.specs.Trees.{Ty, tunit, tlist, tsum, tprod, unit_leaf, empty_leaf, left, right, pair_node, element_node, Pat, pvar, pleaf, pinj, pnode, Val}
-use Rattle.calculus.specs.Trees.{vleaf, vinj, vnode, same_leaf, same_tag, same_node, part, beneath, parts}
+use Rattle.calculus.specs.Trees.{vleaf, vinj, vnode, same_leaf, same_tag, same_node, beneath, parts}
 use Rattle.calculus.specs.Letters.{letters}
 use Rattle.law_witnesses.specs.Showing.{sooner, Move, leaf, tag, node, letter_on, moves, count_up}
 

@@ -1,6 +1,6 @@
 -- Request 09, "A setting that shows the fault": the value with the fewest letters, the first in byte order among those, that two or more
 -- patterns of a side match (11, 12), or none (13, 14); and what the service answers and leaves in every lent area.
-use Rattle.std.specs.Prelude.{ℕ, zero, suc, ◌+◌, ◌<◌, ◌≡◌, Bool, false, cond, ◌&&◌, ◌||◌, leb, ltb, eqb, length}
+use Rattle.std.specs.Prelude.{ℕ, zero, suc, ◌<◌, ◌≡◌, Bool, false, cond, ◌&&◌, ◌||◌, leb, ltb, eqb, length}
 use Rattle.std.proofs.Math.Option.{Option, none, some}
 use mathlib.Core.List.{List, [], ◌∷◌, ◌++◌, map, Memᴰ}
 use Rattle.limits.specs.Limits.{result_length}
