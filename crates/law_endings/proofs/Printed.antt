@@ -16,7 +16,7 @@ use Rattle.format.specs.Lines.{Row, lines, is_digit, decimal}
 use Rattle.calculus.specs.Letters.{letters}
 use Rattle.calculus.specs.Reduction.{Counted, reduce}
 use Rattle.format.specs.Unfold.{isos_of}
-use Rattle.model.specs.Services.{Verdict, accepted, refused, verdict, Answer, answer_of, Ran, gives, fails, ended, within, argument, from, on_iso, run_rows, toward, RunAnswer, answer_of_run}
+use Rattle.model.specs.Services.{Verdict, accepted, refused, verdict, Answer, answer_of, Ran, fails, ended, within, argument, from, on_iso, run_rows, toward, RunAnswer, answer_of_run}
 use Rattle.model.specs.Desk.{Query, query_of, answer_to, query_line, file_line, file_lines, query_lines, query_answers, desk}
 use Rattle.calculus.proofs.Basic.{not_eqb, each_nil, each_cons, each_append, all_mem}
 use Rattle.format.proofs.Numerals.{digit_lower, decimal_digits}
