@@ -20,7 +20,7 @@ use Rattle.format.specs.Lines.{Row, lines, text, numeral, decimal, print_rows}
 use Rattle.format.specs.Judge.{start}
 use Rattle.law_ranking.specs.Numbering.{count, types_of}
 use Rattle.model.specs.Services.{gives, fails, refusal_number}
-use Rattle.calculus.proofs.Basic.{bind_some, some_bind, none≢some, some_inj, not_some, guard_true, true_guard, bool_cases, not_both, neither, eqb_eq, eqb_false, ltb_false, index_mem, index_below}
+use Rattle.calculus.proofs.Basic.{bind_some, some_bind, none≢some, some_inj, not_some, guard_true, true_guard, not_both, neither, eqb_eq, eqb_false, ltb_false, index_mem, index_below}
 use Rattle.format.proofs.Numerals.{numeral_decimal}
 use Rattle.law_pairlists.specs.PairLists.{to_in, to_of, tos_of, none_twice, pairs_up, list_of, settings, file_rows, within_all, on_list, on_lines, on_types, import_rows}
 use Rattle.law_pairlists.specs.BadLists.{Pair, PairAt, BadList, form, froms, counts, repeated, high, BadImport}

@@ -3,14 +3,14 @@ use Prim.Native.Nat.{ℕ, suc}
 use mathlib.Core.Path.{◌≡◌, refl, ap, ap₂}
 use mathlib.Core.Bool.{cond, ◌||◌}
 use mathlib.Core.Option.{Option, none, some}
-use mathlib.Core.List.{List, [], ◌∷◌}
+use mathlib.Core.List.{List, ◌∷◌}
 use lib.Dec.{ltb}
 use lib.ListN.{length, get_elem?}
 use Rattle.limits.specs.Limits.{max_pairs, max_clauses, import_length}
 use Rattle.calculus.specs.Tools.{◌>>=◌, guard}
 use Rattle.calculus.specs.Trees.{Ty}
 use Rattle.calculus.specs.Refusals.{ceiling, clause_line, too_many}
-use Rattle.format.specs.Lines.{Row, lines}
+use Rattle.format.specs.Lines.{Row}
 use Rattle.model.specs.Services.{Verdict, accepted, refused, verdict, unless, short, Outcome, fails, served, output_by}
 use Rattle.law_ranking.specs.Numbering.{count, types_of}
 use Rattle.law_endings.specs.Resaved.{SameLine, SameLines, done, next, Resaved}

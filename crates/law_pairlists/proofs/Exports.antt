@@ -9,7 +9,7 @@ use mathlib.Core.List.{List, [], ◌∷◌, map, Memᴰ}
 use lib.Dec.{leb, ltb}
 use lib.ListN.{length, get_elem?}
 use Rattle.limits.specs.Limits.{max_pairs, export_length}
-use Rattle.calculus.specs.Tools.{◌>>=◌, guard, all}
+use Rattle.calculus.specs.Tools.{◌>>=◌, guard}
 use Rattle.calculus.specs.Trees.{Ty, Val, Iso, invert}
 use Rattle.calculus.specs.Refusals.{too_many}
 use Rattle.format.specs.Lines.{Row, lines}

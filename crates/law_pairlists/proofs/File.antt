@@ -4,7 +4,7 @@ use Prim.Native.Nat.{ℕ, zero, suc, ◌+◌, ◌≤◌, ◌<◌}
 use native.Mathlib.Nat.{lt_irrefl, add-zero, add-suc, suc-add}
 use native.Mathlib.Omega.{arith}
 use mathlib.Core.Path.{◌≡◌, refl, sym, ap, ap₂, ◌∙◌, subst}
-use mathlib.Core.Logic.{◌⊎◌, inl, inr, ◌↔◌}
+use mathlib.Core.Logic.{◌⊎◌, inl, inr}
 use mathlib.Core.Bool.{true, ◌&&◌, false≢true}
 use mathlib.Core.Option.{none, some}
 use mathlib.Core.List.Memᴰ
@@ -12,7 +12,7 @@ use mathlib.Core.List.{List, [], ◌∷◌, ◌++◌, append-nil, append_assoc, 
 use lib.Dec.{eqb, ltb, leb}
 use lib.ListN.{length, get_elem?, get_or, get_or-append, length-append}
 use Rattle.limits.specs.Limits.{variables, field_bound, max_types, max_patterns, max_isos, max_clauses, max_nodes, max_tags}
-use Rattle.calculus.specs.Trees.{Ty, tunit, tlist, tsum, tprod, unit_leaf, empty_leaf, Tag, left, right, pair_node, element_node, Pat, pleaf, pinj, pnode, Val, vleaf}
+use Rattle.calculus.specs.Trees.{Ty, tunit, tlist, tsum, tprod, unit_leaf, empty_leaf, left, right, pair_node, element_node, Pat, pleaf, pinj, pnode, Val, vleaf}
 use Rattle.calculus.specs.Trees.{vinj, vnode, Clause, Iso, type_nodes, nodes, tags}
 use Rattle.calculus.specs.Lists.{Finite}
 use Rattle.calculus.specs.Refusals.{type_line, pattern_line, iso_line, clause_line}
@@ -358,11 +358,11 @@ iso_judged s ts ps i j h e d = fit_judge s (iso_row i j) fit
         }
 
 -- the C rows
-clauses_pass : (s : Seen) (ps : List Pat) {rs : List Row} {cs : List (Val × Val)} → 2 ≤ stage s.above → s.patterns ≡ ps
+clauses_pass : (ps : List Pat) (s : Seen) {rs : List Row} {cs : List (Val × Val)} → 2 ≤ stage s.above → s.patterns ≡ ps
     → s.clauses + length cs ≤ max_clauses → Named ps rs cs → Passes s rs
-clauses_pass s ps o e l unnamed = done
-clauses_pass s ps o e l (one {rs} {cs} i j c p q h) =
-    next (fit_judge s (clause_row i j) fit) (clauses_pass (after s (clause_row i j)) ps (omega arith) e (omega arith) h)
+clauses_pass ps s o e l unnamed = done
+clauses_pass ps s o e l (one {rs} {cs} i j c p q h) =
+    next (fit_judge s (clause_row i j) fit) (clauses_pass ps (after s (clause_row i j)) (omega arith) e (omega arith) h)
   where
     fit : Fit s clause_line (clause_row i j)
     fit =
@@ -463,7 +463,7 @@ clauses_length (one i j c p q h) = ap suc (clauses_length h)
 abbrev pub closed_iso : ℕ → Ty → Ty → List (Val × Val) → Iso
 closed_iso n a b cs = record { line = n; from = a; to = b; clauses = closed_clauses (suc n) cs }
 
-clauses_seen : (s : Seen) {ps : List Pat} {rs : List Row} {cs : List (Val × Val)} → Named ps rs cs
+clauses_seen : {ps : List Pat} (s : Seen) {rs : List Row} {cs : List (Val × Val)} → Named ps rs cs
     → ((after_all s rs).types ≡ s.types) × ((after_all s rs).patterns ≡ s.patterns)
 clauses_seen s unnamed = (refl, refl)
 clauses_seen s (one i j c p q h) = clauses_seen (after s (clause_row i j)) h
@@ -550,7 +550,7 @@ file_written a b cs xa xb ha hb hc lc lp =
     s₂ = after_all s₁ w.patterns
 
     cp : Passes (after s₂ (iso_row f.number e.number)) w.clauses
-    cp = clauses_pass (after s₂ (iso_row f.number e.number)) o.trees (omega arith) pp.1.patterns (omega arith) o.rows
+    cp = clauses_pass o.trees (after s₂ (iso_row f.number e.number)) (omega arith) pp.1.patterns (omega arith) o.rows
 
     all : List Row
     all = e.rows ++ (w.patterns ++ (iso_row f.number e.number ∷ w.clauses))

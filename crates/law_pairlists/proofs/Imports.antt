@@ -9,7 +9,7 @@ use mathlib.Core.Bool.{Bool, true, false, cond, ◌||◌, not}
 use mathlib.Core.Option.{Option, none, some}
 use mathlib.Core.List.Memᴰ
 use mathlib.Core.List.{List, [], ◌∷◌, map, Memᴰ}
-use lib.Dec.{ltb, leb}
+use lib.Dec.{ltb}
 use lib.ListN.{length, get_elem?, length-map, length-append}
 use Rattle.limits.specs.Limits.{field_bound, max_bytes, max_lines, max_clauses, max_patterns, max_nodes, max_tags, max_pairs, import_length}
 use Rattle.calculus.specs.Tools.{◌>>=◌, guard, total}
@@ -34,7 +34,7 @@ use Rattle.law_ranking.proofs.Numbering.{few_finite, unrank_inhabits, rank_unran
 use Rattle.calculus.specs.Lists.{is_free, Finite}
 use Rattle.model.proofs.Sizes.{of_small}
 use Rattle.law_pairlists.proofs.File.{closed, SmallPair, closed_iso, FileWritten, file_written, light_pairs, pairs_within}
-use Rattle.law_pairlists.proofs.Used.{Unlisted, UnlistedPair}
+use Rattle.law_pairlists.proofs.Used.{Unlisted}
 use Rattle.law_pairlists.proofs.Iso.{Lists, firsts, seconds, closed_nodes, closed_most, most_value, tags_nodes, closed_ok, closed_free, closed_run}
 use Rattle.law_pairlists.proofs.List.{Taken, pairs_taken, lefts_all, rights_all, settings_length, settings_at, tos_printed, tos_length, decimal_few}
 

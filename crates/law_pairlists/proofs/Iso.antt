@@ -1,6 +1,6 @@
 -- Request 07: an iso of closed values, one clause a pair. Where each side lists all values of its type, each once, it keeps the rules of clause and iso,
 -- and each of its runs takes one application.
-use Prim.Native.Nat.{ℕ, zero, suc, ◌+◌, ◌*◌, ◌≤◌, ◌<◌, max}
+use Prim.Native.Nat.{ℕ, zero, suc, ◌+◌, ◌*◌, ◌≤◌, ◌<◌}
 use native.Mathlib.Nat.{le_refl, suc-mul, mul-le-mul}
 use native.Mathlib.Omega.{arith}
 use mathlib.Core.Path.{◌≡◌, refl, sym, ap, ap₂, ◌∙◌, subst}
@@ -11,7 +11,7 @@ use mathlib.Core.List.Memᴰ
 use mathlib.Core.List.{List, [], ◌∷◌, ◌++◌, map, Memᴰ}
 use lib.Dec.{eqb}
 use Rattle.calculus.specs.Tools.{◌>>=◌, is_some, all}
-use Rattle.calculus.specs.Trees.{Ty, tunit, tlist, tsum, tprod, most_tags, left, right, Leaf, unit_leaf, empty_leaf, pair_node, element_node, Pat, pleaf, pvar, pinj}
+use Rattle.calculus.specs.Trees.{Ty, tunit, tlist, tsum, tprod, most_tags, left, right, unit_leaf, empty_leaf, pair_node, element_node, Pat, pleaf, pvar, pinj}
 use Rattle.calculus.specs.Trees.{pnode, Val, vleaf, vinj, vnode, Clause, Iso}
 use Rattle.calculus.specs.Trees.{vars, nodes, tags, type_nodes}
 use Rattle.calculus.specs.Lists.{free_isos, is_free, Finite}

@@ -7,7 +7,7 @@ use mathlib.Core.Option.{some}
 use mathlib.Core.List.Memᴰ
 use mathlib.Core.List.{List, [], ◌∷◌, ◌++◌, Memᴰ}
 use lib.ListN.{length, get_elem?}
-use Rattle.limits.specs.Limits.{max_nodes, max_clauses, max_patterns}
+use Rattle.limits.specs.Limits.{max_nodes, max_clauses}
 use Rattle.calculus.specs.Trees.{Ty, Pat, Val, type_nodes}
 use Rattle.calculus.specs.Refusals.{Kind, type_line, pattern_line, iso_line, clause_line}
 use Rattle.format.specs.Lines.{Row, letter, lines, row_of, print, print_rows}

@@ -6,13 +6,13 @@ use mathlib.Core.Path.{◌≡◌, refl, sym, ap, ap₂, ◌∙◌, subst}
 use mathlib.Core.Logic.{◌⊎◌, inl, inr, ◌↔◌}
 use mathlib.Core.Bool.{Bool, true, false, not, cond, ◌||◌, or-true}
 use mathlib.Core.Option.{Option, none, some}
-use mathlib.Core.List.{List, [], ◌∷◌}
+use mathlib.Core.List.{List, ◌∷◌}
 use lib.Dec.{ltb, leb}
 use lib.ListN.{length, get_elem?}
-use Rattle.limits.specs.Limits.{max_pairs, max_clauses, max_patterns}
-use Rattle.calculus.specs.Tools.{◌>>=◌, guard, all}
+use Rattle.limits.specs.Limits.{max_pairs, max_clauses}
+use Rattle.calculus.specs.Tools.{◌>>=◌, guard}
 use Rattle.calculus.specs.Trees.{Ty, Val, Iso, invert}
-use Rattle.calculus.specs.Refusals.{no_iso, no_value, too_many, ceiling, clause_line, pattern_line, bad_list, spent, too_large}
+use Rattle.calculus.specs.Refusals.{no_iso, no_value, too_many, ceiling, clause_line, pattern_line, bad_list, spent}
 use Rattle.format.specs.Lines.{Row, lines, print_rows}
 use Rattle.format.specs.Judge.{start}
 use Rattle.format.specs.Unfold.{isos_of}
@@ -20,10 +20,10 @@ use Rattle.calculus.specs.Reduction.{Counted, reduce}
 use Rattle.calculus.specs.Lists.{is_free}
 use Rattle.calculus.specs.Letters.{letters, inhabits}
 use Rattle.law_ranking.specs.Numbering.{count, rank, unrank, types_of}
-use Rattle.model.specs.Services.{accepted, verdict, gives, fails, Ran, ended, within, from, on_iso, run_rows, run_of, run, toward}
+use Rattle.model.specs.Services.{accepted, verdict, gives, fails, Ran, within, from, on_iso, run_rows, run_of, run, toward}
 use Rattle.calculus.specs.Paper.{Of}
 use Rattle.model.specs.Answers.{RunIs, strange, done}
-use Rattle.law_pairlists.specs.PairLists.{upwards, on_pairs, on_exported, export_rows, tos_of, pairs_up, list_of, settings, write_pairs, file_rows, within_all}
+use Rattle.law_pairlists.specs.PairLists.{upwards, on_pairs, on_exported, export_rows, tos_of, pairs_up, list_of, settings, file_rows, within_all}
 use Rattle.law_pairlists.specs.PairLists.{to_if, too_many_pairs, to_from, on_list, on_lines, on_types, import_rows}
 use Rattle.calculus.proofs.Basic.{bind_some, counted, not_some, guard_true, leb_le, some_bind, some_inj, none≢some, true_guard, true_and, eq_eqb, lt_ltb, not_ltb, mem_all, index_below, index_map}
 use Rattle.calculus.proofs.Letters.{value_letters, inhabits_of, of_inhabits}
@@ -34,7 +34,7 @@ use Rattle.law_ranking.proofs.Numbering.{unrank_inhabits, unrank_rank}
 use Rattle.model.proofs.Outcomes.{fails≢gives}
 use Rattle.law_ranking.proofs.Outcomes.{small_type}
 use Rattle.law_pairlists.proofs.File.{closed_iso}
-use Rattle.law_pairlists.proofs.List.{Taken, twice_none, lefts_all, rights_all, settings_length, tos_length}
+use Rattle.law_pairlists.proofs.List.{Taken, twice_none, settings_length, tos_length}
 use Rattle.law_pairlists.proofs.Imports.{Imported, Trades, traded_run, Light, written_ceiling, import_accepted}
 use Rattle.law_pairlists.proofs.Exports.{Exported, upwards_at, there_is, export_taken, export_reads, export_import}
 

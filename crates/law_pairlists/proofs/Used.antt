@@ -10,9 +10,9 @@ use mathlib.Core.Option.{some}
 use mathlib.Core.List.Memᴰ
 use mathlib.Core.List.{List, [], ◌∷◌, ◌++◌, append_assoc, append-nil, Memᴰ}
 use lib.ListN.{length, get_elem?, length-append}
-use Rattle.calculus.specs.Trees.{Ty, tunit, tsum, tprod, Tag, left, right, Val, vleaf, unit_leaf, vinj, vnode, pair_node}
+use Rattle.calculus.specs.Trees.{Ty, tunit, tsum, tprod, Tag, left, right, Val, vleaf, unit_leaf, vinj, vnode, pair_node, empty_leaf, tlist, element_node}
 use Rattle.calculus.specs.Lists.{Finite}
-use Rattle.calculus.specs.Refusals.{Kind, type_line, pattern_line, iso_line, clause_line}
+use Rattle.calculus.specs.Refusals.{Kind, type_line, pattern_line}
 use Rattle.format.specs.Lines.{Row}
 use Rattle.format.specs.Kinds.{PatternKind, unit_pattern, variable_pattern, left_pattern, right_pattern, pair_pattern, empty_pattern, element_pattern, no_pattern, pattern_kind}
 use Rattle.format.specs.Idle.{type_lines, pattern_reach, reach, is_root, Reached, NoneIdle}

@@ -6,14 +6,14 @@ use Rattle.std.proofs.Math.ListN.{get_elem?}
 use Rattle.limits.specs.Limits.{budget_bound, comma, line_feed, max_clauses, max_pairs, export_length, import_length}
 use Rattle.calculus.specs.Tools.{◌>>=◌, guard, all}
 use Rattle.calculus.specs.Trees.{Ty, tunit, tlist, tsum, tprod, unit_leaf, empty_leaf, left, right, pair_node, element_node, Val, vleaf, vinj, vnode, Iso}
-use Rattle.calculus.specs.Refusals.{Refusal, type_line, pattern_line, iso_line, clause_line, no_iso, spent, ceiling, too_many, bad_list}
+use Rattle.calculus.specs.Refusals.{type_line, pattern_line, iso_line, clause_line, no_iso, spent, ceiling, too_many, bad_list}
 use Rattle.format.specs.Lines.{Row, letter, lines, text, numeral, skip, ended, decimal, print_rows}
 use Rattle.format.specs.Judge.{Seen, start, within_ceilings, after}
 use Rattle.format.specs.Unfold.{isos_of}
 use Rattle.calculus.specs.Reduction.{Counted, reduce}
 use Rattle.calculus.specs.Lists.{free_isos, is_free}
 use Rattle.law_ranking.specs.Numbering.{count, rank, unrank, types_of}
-use Rattle.model.specs.Services.{Verdict, verdict, Answer, written, short, Outcome, gives, fails, go_on, refusal_of, bytes_from, Served, serve, answer_from, Output, output_by}
+use Rattle.model.specs.Services.{Verdict, verdict, short, Outcome, gives, fails, go_on, Served, serve, Output, output_by}
 
 -- ---- the list as bytes
 
