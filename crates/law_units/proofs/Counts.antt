@@ -79,7 +79,11 @@ pub done_counts : (vs : List Visited) (t : Tally) → AllDone vs → counted vs 
 done_counts [] t a = ap (λ n. record { done = n; skipped = t.skipped; spent = t.spent }) (omega arith)
 done_counts (done j m ∷ vs) t a =
     done_counts vs (with_visit (done j m) t) a ∙ ap (λ n. record { done = n; skipped = t.skipped; spent = t.spent }) (omega arith)
+done_counts (skipped ∷ vs) t a = elim a [ ]
+done_counts (spent ∷ vs) t a = elim a [ ]
 
 pub done_append : (vs ws : List Visited) → AllDone vs → AllDone ws → AllDone (vs ++ ws)
 done_append [] ws a b = b
 done_append (done j m ∷ vs) ws a b = done_append vs ws a b
+done_append (skipped ∷ vs) ws a b = elim a [ ]
+done_append (spent ∷ vs) ws a b = elim a [ ]

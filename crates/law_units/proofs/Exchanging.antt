@@ -19,7 +19,7 @@ use Rattle.format.specs.Lines.{Row, lines, onto_first}
 use Rattle.format.specs.Unfold.{isos_of}
 use Rattle.format.specs.Code.{numbered}
 use Rattle.model.specs.Services.{Verdict, accepted, refused, verdict, short, unless, go_on, Outcome, gives, fails, refusal_of, refusal_number, served}
-use Rattle.calculus.proofs.Basic.{bool_cases, some_inj}
+use Rattle.calculus.proofs.Basic.{bool_cases}
 use Rattle.model.proofs.Outcomes.{fails≢gives, gives_inj}
 use Rattle.model.proofs.Sheets.{long_enough}
 use Rattle.law_units.specs.Units.{Planned, planned_of, planned_for, and_then, on_line, line_on, script_of, Units, units_fault, Visited, done, skipped, spent, visit, visit_to, moved}

@@ -8,10 +8,10 @@ use mathlib.Core.Bool.{Bool, true, false, cond}
 use mathlib.Core.Option.{Option, none, some}
 use mathlib.Core.List.{List, [], ◌∷◌}
 use lib.Dec.{leb, eqb, ltb}
-use lib.ListN.{length, get_or, get_elem?, set, length-set, length-map}
+use lib.ListN.{length, get_or, get_elem?, set, length-set}
 use lib.Seq.{get_or-set_same, get_or-set_other}
 use Rattle.calculus.specs.Tools.{◌>>=◌, guard, or_else}
-use Rattle.calculus.specs.Trees.{Iso, invert, same_type}
+use Rattle.calculus.specs.Trees.{Iso, same_type}
 use Rattle.calculus.specs.Refusals.{spent as over_budget, too_many}
 use Rattle.calculus.specs.Lists.{is_free}
 use Rattle.format.specs.Lines.{Row}

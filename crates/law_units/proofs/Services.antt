@@ -22,7 +22,7 @@ use Rattle.calculus.proofs.Basic.{neither, ltb_false, not_ltb, lt_ltb, true_and,
 use Rattle.model.proofs.Outcomes.{fails≢gives, gives_inj, given, past_short, given_accepted}
 use Rattle.model.proofs.Runs.{accepted_good}
 use Rattle.model.proofs.Sheets.{long_enough}
-use Rattle.law_units.specs.Units.{Planned, planned_of, names, planned_for, and_then, on_line, line_on, script_of, Units, units_fault, done, skipped, spent, visit_to, moved, units_after}
+use Rattle.law_units.specs.Units.{Planned, planned_of, names, planned_for, and_then, on_line, line_on, script_of, Units, units_fault, visit_to, moved, units_after}
 use Rattle.law_units.specs.Units.{outcomes, Tally, nothing_yet, counted, Played, played, on_script, on_units, play_rows, unequal, play_verdict, units_from}
 use Rattle.law_units.specs.Units.{tally_from, Play, play_by, play_service}
 use Rattle.law_units.specs.Backward.{opposite, backward, Backward, Alike}

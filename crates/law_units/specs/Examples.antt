@@ -10,7 +10,7 @@ use Rattle.model.specs.Cases.{bytes, file_s}
 use Rattle.law_units.specs.Units.{Planned, planned_of, names, script_of, Units, done, skipped, spent, matches, end_of, other_end, moved, Tally, nothing_yet}
 use Rattle.law_units.specs.Units.{counted, Played, play_rows, unequal, tally_from, play_served}
 use Rattle.law_units.specs.Faults.{visit_text}
-use Rattle.law_units.specs.Backward.{opposite, backward}
+use Rattle.law_units.specs.Backward.{backward}
 
 -- unit 0 holds number 0 of T line 1, unit 1 number 1 of T line 2
 abbrev two : Units
