@@ -20,7 +20,7 @@ use Rattle.model.specs.Services.{accepted, refused, judged, verdict, over, turne
 use Rattle.format.proofs.Passing.{Passes}
 use Rattle.format.proofs.Idling.{idle_none}
 use Rattle.format.proofs.Printing.{lines_print, concat_lines}
-use Rattle.model.proofs.Files.{InForm, passes, accepted_form, verdict_in_form, verdict_read, turned_accepted_bytes}
+use Rattle.model.proofs.Files.{InForm, accepted_form, verdict_in_form, verdict_read, turned_accepted_bytes}
 use Rattle.law_ranking.specs.Numbering.{types_of}
 use Rattle.law_reordering.specs.Reordered.{Exchanged, Reordered, SameButOrder, Alike}
 use Rattle.law_reordering.proofs.Alike.{fault_alike}

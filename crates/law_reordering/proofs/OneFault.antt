@@ -12,12 +12,11 @@ use lib.ListN.{length}
 use Rattle.limits.specs.Limits.{max_clauses}
 use Rattle.calculus.specs.Tools.{all, first_failing, select}
 use Rattle.calculus.specs.Trees.{Ty, Pat}
-use Rattle.calculus.specs.Refusals.{Kind, type_line, pattern_line, iso_line, clause_line, let_line, Refusal, number, misplaced, bad_field, bad_name, ceiling, too_long}
+use Rattle.calculus.specs.Refusals.{Kind, type_line, pattern_line, iso_line, clause_line, let_line, Refusal, misplaced, bad_field, bad_name, ceiling, too_long}
 use Rattle.format.specs.Lines.{Row, lines, row_of}
-use Rattle.format.specs.Judge.{Seen, start, stage, in_order, fields_fit, named, within_ceilings, judge, after_kind, after, after_all, rows, faulty, read_from}
+use Rattle.format.specs.Judge.{Seen, start, stage, in_order, fields_fit, named, within_ceilings, judge, after_kind, after, after_all, faulty, read_from}
 use Rattle.model.specs.Services.{refused, over, after_reading, verdict, answer_of, check, short, unless}
 use Rattle.calculus.proofs.Basic.{and_true, or_true, true_or_left, true_or_right, bool_cases, le_leb, lt_ltb, select_true, select_false}
-use Rattle.format.proofs.Passing.{Passes}
 use Rattle.format.proofs.Turning.{after_let}
 use Rattle.format.proofs.Printing.{rows≢faulty, rows_inj}
 use Rattle.law_reordering.specs.Reordered.{is_clause, is_let, is_block, Exchanged, Reordered, SameButOrder}
@@ -59,6 +58,7 @@ module _ (ts : List Ty) (ps : List Pat) (n : ℕ) where
       let u = row_let x e b.0 in
       let v = lets_stop xs b.1 (some let_line) k k' (suc m) (suc i) (suc i') (subst (λ s. Stops s (suc i) xs f j l) (after_let (seen ts ps n a k m) r u) t) in
       (v.0, Stops.past r e (sym (judge_let a k k' m r u) ∙ g) (subst (λ s. Stops s (suc i') xs f v.0 l) (sym (after_let (seen ts ps n a k' m) r u)) v.1))
+  lets_stop [] h a k k' m i i' {f = f} {j = j} {l = l} x'' = elim x'' [ ]
 
   after_clause : (a : Option Kind) (k m : ℕ) (r : Row) → r.kind ≡ clause_line → after (seen ts ps n a k m) r ≡ seen ts ps n (some clause_line) (suc k) 0
   after_clause a k m r e = ap (λ κ. after_kind κ (seen ts ps n a k m) r) e
@@ -74,6 +74,7 @@ module _ (ts : List Ty) (ps : List Pat) (n : ℕ) where
       let u = row_clause x e c.0 in
       let v = lets_stop xs c.1 (some clause_line) (suc k) (suc k') 0 (suc i) (suc i') (subst (λ s. Stops s (suc i) xs f j l) (after_clause a k m r u) t) in
       (v.0, Stops.past r e (sym (judge_clause a a' k k' m m' q q' b b' r u) ∙ g) (subst (λ s. Stops s (suc i') xs f v.0 l) (sym (after_clause a' k' m' r u)) v.1))
+  block_stops [] h a a' k k' m m' i i' q q' b b' {f = f} {j = j} {l = l} x6 = elim x6 [ ]
 
 -- ---- the lines above it: types, patterns and isos are told by those that stay
 
@@ -104,6 +105,8 @@ core_from c (l ∷ ls) = core_from (core_by c (row_of l)) ls
 
 core_front : (s : Seen) (xs : List (List ℕ)) (rs : List Row) → Rows xs rs → core (after_all s rs) ≡ core_from (core s) (select stays xs)
 core_front s [] [] Rows.no = refl
+core_front s [] (r ∷ rs) x'' = elim x'' [ ]
+core_front s (x ∷ xs) [] x4 = elim x4 [ ]
 core_front s (x ∷ xs) (r ∷ rs) (Rows.more h q) = go (bool_cases (is_clause x || is_let x)) (core_front (after s r) xs rs q)
   where
     kinds : (is_clause x ≡ true) ⊎ (is_let x ≡ true) → (r.kind ≡ clause_line) ⊎ (r.kind ≡ let_line)

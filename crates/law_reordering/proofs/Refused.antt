@@ -4,7 +4,7 @@ use mathlib.Core.Path.{◌≡◌, refl, sym, ap, ◌∙◌}
 use mathlib.Core.Logic.{◌↔◌}
 use mathlib.Core.Bool.{Bool, true, false}
 use mathlib.Core.List.{List}
-use Rattle.calculus.specs.Refusals.{Refusal, number}
+use Rattle.calculus.specs.Refusals.{Refusal}
 use Rattle.format.specs.Lines.{Row}
 use Rattle.format.specs.Unfold.{isos_of}
 use Rattle.calculus.specs.Clauses.{fault, sigs_of}

@@ -13,7 +13,7 @@ use Rattle.limits.specs.Limits.{result_length, line_feed, carriage_return, lette
 use Rattle.calculus.specs.Tools.{concat}
 use Rattle.calculus.specs.Trees.{Val, Iso, invert}
 use Rattle.calculus.specs.Refusals.{Kind, type_line, pattern_line, iso_line, clause_line, let_line, too_long, short_area, too_many}
-use Rattle.calculus.specs.Lists.{free_isos, is_free}
+use Rattle.calculus.specs.Lists.{is_free}
 use Rattle.format.specs.Lines.{Row, onto_first, lines, letter, row_of}
 use Rattle.format.specs.Judge.{start}
 use Rattle.format.specs.Unfold.{isos_of, turn_rows}

@@ -89,6 +89,7 @@ pub join_front : (s : Seen) (n : ℕ) (xs ys : List (List ℕ)) {f : Refusal} {m
 join_front s n (x ∷ xs) ys (Stops.bad h e p k) = Stops.bad h e p k
 join_front s n (x ∷ xs) ys (Stops.judged r h j p k) = Stops.judged r h j p k
 join_front s n (x ∷ xs) ys (Stops.past r h j t) = Stops.past r h j (join_front (after s r) (suc n) xs ys t)
+join_front s n [] ys {f = f} {m = m} {l = l} x' = elim x' [ ]
 
 pub join : (s : Seen) (n : ℕ) (xs ys : List (List ℕ)) (rs : List Row) {f : Refusal} {m : ℕ} {l : List ℕ} → Rows xs rs → Passes s rs
     → Stops (after_all s rs) (length xs + n) ys f m l → Stops s n (xs ++ ys) f m l
@@ -97,6 +98,8 @@ join s n (x ∷ xs) ys (r ∷ rs) {f} {m} {l} (Rows.more h q) p t =
     let j = passes_next p in
     let z : suc (length xs) + n ≡ length xs + suc n = omega arith in
     Stops.past r h j.0 (join (after s r) (suc n) xs ys rs q j.1 (subst (λ k. Stops (after_all (after s r) rs) k ys f m l) z t))
+join s n [] ys (r ∷ rs) {f = f} {m = m} {l = l} x6 p t = elim x6 [ ]
+join s n (x ∷ xs) ys [] {f = f} {m = m} {l = l} x6 p t = elim x6 [ ]
 
 -- ---- blocks
 
@@ -107,11 +110,13 @@ in_lets : {s : Seen} {n m : ℕ} (xs : List (List ℕ)) {f : Refusal} {l : List 
 in_lets (x ∷ xs) {l = l} h (Stops.bad e g p k) = true_or_right (is_clause l) (ap is_let k ∙ (and_true (is_let x) (all is_let xs) h).0)
 in_lets (x ∷ xs) {l = l} h (Stops.judged r e j p k) = true_or_right (is_clause l) (ap is_let k ∙ (and_true (is_let x) (all is_let xs) h).0)
 in_lets (x ∷ xs) h (Stops.past r e j t) = in_lets xs (and_true (is_let x) (all is_let xs) h).1 t
+in_lets {s = s} {n = n} {m = m} [] {f = f} {l = l} h x'' = elim x'' [ ]
 
 in_block : {s : Seen} {n m : ℕ} (xs : List (List ℕ)) {f : Refusal} {l : List ℕ} → is_block xs ≡ true → Stops s n xs f m l → Moves l ≡ true
 in_block (x ∷ xs) {l = l} h (Stops.bad e g p k) = true_or_left (is_let l) (ap is_clause k ∙ (and_true (is_clause x) (all is_let xs) h).0)
 in_block (x ∷ xs) {l = l} h (Stops.judged r e j p k) = true_or_left (is_let l) (ap is_clause k ∙ (and_true (is_clause x) (all is_let xs) h).0)
 in_block (x ∷ xs) h (Stops.past r e j t) = in_lets xs (and_true (is_clause x) (all is_let xs) h).1 t
+in_block {s = s} {n = n} {m = m} [] {f = f} {l = l} h x'' = elim x'' [ ]
 
 -- what follows a clause is judged alike behind any other clause
 module _ (ts : List Ty) (ps : List Pat) (n : ℕ) where
@@ -163,6 +168,7 @@ module _ (ts : List Ty) (ps : List Pat) (n : ℕ) where
   behind_stops (x ∷ xs) w a b k m m' i h g {f = f} {j = q} {l = l} (Stops.past r e j t) =
       let v : r.kind ≡ let_line → ⊥ = no_let x e w in
       Stops.past r e (sym (judge_same a b k m m' h g r v) ∙ j) (subst (λ s. Stops s (suc i) xs f q l) (late_none a k m h r j b m' v) t)
+  behind_stops [] w a b k m m' i h g {f = f} {j = q} {l = l} x4 = elim x4 [ ]
 
 two_blocks : (s : Seen) (i : ℕ) (one two behind : List (List ℕ)) (B C : List Row) → is_block one ≡ true → is_block two ≡ true → is_whole behind ≡ true
     → Rows one B → Rows two C → Passes s B → Passes (after_all s B) C → {f : Refusal} {m : ℕ} {l : List ℕ}
@@ -198,6 +204,8 @@ two_blocks s i (x ∷ xs) (y ∷ ys) behind (c ∷ ls) (d ∷ ms) h k w (Rows.mo
     let v = subst (λ r. Stops r (a + (b + i)) behind f m l) (sym b₄.is) (subst (λ j. Stops (seen ts ps n b₄.above (suc (suc z)) b₄.lets) j behind f m l) e u) in
     let o = join (seen ts ps n b₃.above (suc z) b₃.lets) (b + i) (x ∷ xs) behind (c ∷ ls) (Rows.more rc qc) q₂ v in
     join s i (y ∷ ys) ((x ∷ xs) ++ behind) (d ∷ ms) (Rows.more rd qd) q₁ (subst (λ r. Stops r (b + i) ((x ∷ xs) ++ behind) f m l) (sym b₃.is) o)
+two_blocks s i (x ∷ xs) (y ∷ ys) behind [] C h k w qb qc p₁ p₂ {f = f} {m = m} {l = l} t = elim qb [ ]
+two_blocks s i (x ∷ xs) (y ∷ ys) behind (c ∷ ls) [] h k w qb qc p₁ p₂ {f = f} {m = m} {l = l} t = elim qc [ ]
 
 module _ {f : Refusal} {m : ℕ} {l : List ℕ} (still : Moves l ≡ false) where
   stops_four : (before one two behind : List (List ℕ)) → is_block one ≡ true → is_block two ≡ true → is_whole behind ≡ true

@@ -9,7 +9,7 @@ use lib.ListN.{length}
 use Rattle.limits.specs.Limits.{result_length}
 use Rattle.calculus.specs.Tools.{total}
 use Rattle.calculus.specs.Trees.{Ty, Pat, Val, Clause, Iso}
-use Rattle.calculus.specs.Refusals.{Refusal, number, clause_line, recursion}
+use Rattle.calculus.specs.Refusals.{Refusal, number}
 use Rattle.format.specs.Lines.{Row}
 use Rattle.format.specs.Unfold.{isos_of}
 use Rattle.calculus.specs.Clauses.{Sigs, sigs_of, lefts, rights, clause_fault, iso_fault}
