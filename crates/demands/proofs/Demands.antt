@@ -3,7 +3,7 @@ use Prim.Native.Nat.{ℕ, ◌≤◌}
 use native.Mathlib.Nat.{le_trans}
 use native.Mathlib.Omega.{arith}
 use mathlib.Core.Path.{◌≡◌, refl, sym, ap, ◌∙◌, subst}
-use mathlib.Core.Logic.{◌⊎◌, inl, inr, ⊎_elim}
+use mathlib.Core.Logic.{◌⊎◌, inl, inr}
 use mathlib.Core.Bool.{Bool, true, false, cond, ◌||◌}
 use mathlib.Core.List.{List}
 use mathlib.Core.Bool.{true, false}
@@ -12,10 +12,9 @@ use lib.Dec.{ltb}
 use lib.ListN.{get_elem?, length}
 use Rattle.limits.specs.Limits.{max_depth, result_length}
 use Rattle.calculus.specs.Trees.{Val, Iso}
-use Rattle.calculus.specs.Refusals.{Refusal, number, short_area, spent, too_large}
+use Rattle.calculus.specs.Refusals.{Refusal, number, spent, too_large}
 use Rattle.calculus.specs.Clauses.{sigs_of}
 use Rattle.calculus.specs.Reduction.{small, reduce_to, reduce}
-use Rattle.calculus.specs.Lists.{ListFree}
 use Rattle.format.specs.Lines.{Row}
 use Rattle.format.specs.Unfold.{isos_of}
 use Rattle.model.specs.Services.{Verdict, accepted, refused, verdict, answer_of, check, Ran, gives, fails, short, unless, within, toward, run_of, run, RunAnswer, answer_of_run, run_service}
@@ -23,7 +22,7 @@ use Rattle.calculus.specs.Letters.{letters}
 use Rattle.calculus.specs.Paper.{Of}
 use Rattle.calculus.specs.Terms.{eapp, val_term, Steps}
 use Rattle.calculus.specs.Faulty.{FirstIso}
-use Rattle.model.specs.Answers.{Halts, reaches, RunIs, large}
+use Rattle.model.specs.Answers.{Halts, reaches, RunIs}
 use Rattle.calculus.proofs.Basic.{some_inj, none≢some, counted, le_leb}
 use Rattle.calculus.proofs.Inverse.{reduce_unfold}
 use Rattle.calculus.proofs.Reaching.{reduction_iff}
@@ -34,7 +33,6 @@ use Rattle.calculus.proofs.Steps.{unique, LeftsApart}
 use Rattle.model.proofs.Runs as Runs
 use Rattle.model.proofs.Runs.{Good, GoodRows, good, good_toward, accepted_good, sound, left_sides, given_from, reduces_one, run_iff, run_at, run_back}
 use Rattle.model.proofs.Runs.{there_and_back, ends_there, onto, one_clause, halted}
-use Rattle.calculus.proofs.Lists.{free_never}
 use Rattle.model.proofs.Sizes.{free_gives}
 use Rattle.demands.specs.Words.{turned_bytes, Areas, Gives}
 use Rattle.demands.specs.Demands.{EndsThatWay, NeverLarge, AcceptedExactly, AcceptedAnywhere, RefusedExactly, RunExactly, TurnedAccepted, RunsBackwards, RunBack, OneClause, ReachedOnce}

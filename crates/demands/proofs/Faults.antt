@@ -16,13 +16,13 @@ use Rattle.format.specs.Judge.{Seen, start, in_order, fields_fit, named, within_
 use Rattle.calculus.specs.Trees.{Ty, Clause, Iso}
 use Rattle.calculus.specs.Clauses.{Sigs, fault}
 use Rattle.format.specs.Unfold.{isos_of}
-use Rattle.format.specs.Idle.{FirstIdle, idle_fault}
+use Rattle.format.specs.Idle.{FirstIdle}
 use Rattle.format.proofs.Idling.{idle_some}
 use Rattle.model.specs.Services.{Verdict, accepted, refused, judged, after_reading, over, verdict, short, unless, Answer, answer_of, check, turn, Ran, run_on, run_of, run, answer_of_run, run_service}
 use Rattle.calculus.specs.Faulty.{ClauseFault, variables, shapes, SideFault, overlap_left, overlap_right, gap_left, gap_right, FirstClause, Breach, IsoFault, FirstIso}
 use Rattle.model.specs.Answers.{RunIs, absent, strange, passed, large, done}
 use Rattle.calculus.proofs.Basic.{none≢some, some_inj, bool_cases, neither, ltb_lt, lt_ltb, ltb_false, not_ltb, or_true, true_or_left, true_or_right}
-use Rattle.format.proofs.Passing.{Passes, Passes.done, Passes.next, judge_fit, fit_judge}
+use Rattle.format.proofs.Passing.{Passes, Passes.done, judge_fit, fit_judge}
 use Rattle.model.proofs.Files.{passes, refused_iff, passes_read, verdict_read, ReadCases, read_cases}
 use Rattle.model.proofs.Outcomes.{turn_answer, refused_first}
 use Rattle.model.proofs.Runs.{run_iff}
@@ -97,6 +97,7 @@ read_first s n (l ∷ ls) {f} {m} e = go (row_of l) refl (λ r x. read_first (af
 first_read : {s : Seen} {n : ℕ} {ls : List (List ℕ)} {f : Refusal} {m : ℕ} → FirstLine s n ls f m → read_from s n ls ≡ faulty f m
 first_read {s} {n} {ls = l ∷ ls} {f} (here x e) = fault_read s n l ls x ∙ ap (faulty f) (sym e)
 first_read {s} {n} {ls = l ∷ ls} (later r p x) = pass_read s n l ls r p ∙ ap (with_row r) (first_read x)
+first_read {ls = []} x'' = elim x'' [ ]
 
 -- the numbers of such faults
 line_number : {s : Seen} {l : List ℕ} {f : Refusal} → LineFault s l f → (3 ≤ number f) × (number f ≤ 7)

@@ -3,11 +3,10 @@ use Prim.Native.Nat.{ℕ, ◌+◌, ◌*◌, ◌-◌, ◌≤◌, ◌<◌}
 use native.Mathlib.Omega.{arith}
 use mathlib.Core.Path.{◌≡◌, refl, sym, ap, ap₂, ◌∙◌, subst}
 use mathlib.Core.Logic.{◌⊎◌, inl, inr}
-use mathlib.Core.Bool.{Bool, true, false, cond, not, ◌||◌, or-false}
-use mathlib.Core.Option.{some}
+use mathlib.Core.Bool.{Bool, false, cond, not, ◌||◌, or-false}
 use mathlib.Core.List.{List, [], ◌∷◌, ◌++◌}
 use lib.Dec.{ltb}
-use lib.ListN.{length, take, drop, replicate, get_or, get_elem?}
+use lib.ListN.{length, take, drop, replicate, get_or}
 use lib.Seq.{take-append_seam}
 use borrow.Author.Tests.{le-ltb}
 use Rattle.limits.specs.Limits.{table_length, result_length, max_queries, max_values, max_pairs, export_length, import_length}
@@ -24,7 +23,7 @@ use Rattle.calculus.specs.Paper.{FileOk}
 use Rattle.format.proofs.Printing.{read_rows}
 use Rattle.format.proofs.Sizes.{type_size_at, pattern_size_at, no_size_at}
 use Rattle.model.specs.Answers.{InForm}
-use Rattle.model.specs.Services.{Verdict, accepted, refused, verdict, written, table_after, short, unless, Answer, check, turn, turned, run_of, run, RunAnswer}
+use Rattle.model.specs.Services.{accepted, refused, verdict, written, table_after, short, unless, Answer, check, turn, turned, run_of, run, RunAnswer}
 use Rattle.model.specs.Services.{answer_of_run, RunResult, run_service, fails, serve, answer_from, Output}
 use Rattle.model.specs.Sheet.{three, sheet}
 use Rattle.model.proofs.Files.{accepted_iff, turned_twice, turned_fits}
@@ -36,7 +35,7 @@ use Rattle.law_costs.specs.Bounds.{bounds_service}
 use Rattle.law_costs.proofs.Served.{turned_same, list_iso, as_check as bounds_areas}
 use Rattle.model.proofs.Runs.{accepted_good}
 use Rattle.model.proofs.Sizes.{free_rows}
-use Rattle.law_ranking.specs.Numbering.{count, types_of}
+use Rattle.law_ranking.specs.Numbering.{count}
 use Rattle.law_ranking.specs.Answers.{LineFault, NumberIs, SettingIs}
 use Rattle.law_ranking.proofs.Numbering.{list_many}
 use Rattle.law_ranking.proofs.Services.{number_answers, setting_answers}

@@ -9,7 +9,6 @@ use lib.Dec.{ltb}
 use lib.ListN.{length, take, drop}
 use lib.Seq.{take_at}
 use Rattle.limits.specs.Limits.{result_length}
-use Rattle.calculus.specs.Refusals.{number}
 use Rattle.format.specs.Lines.{Row}
 use Rattle.format.specs.Judge.{rows}
 use Rattle.model.specs.Services.{accepted, verdict, short, unless, written, answer_of, check, turned, turned_of, turn, Ran, gives, fails, run_of, run, RunAnswer, answer_of_run, run_service}
