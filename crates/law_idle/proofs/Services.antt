@@ -3,7 +3,7 @@ use Prim.Native.Nat.{ℕ, ◌≤◌}
 use native.Mathlib.Omega.{arith}
 use mathlib.Core.Path.{◌≡◌, sym, ap, ap₂, ◌∙◌, subst}
 use mathlib.Core.Bool.{false}
-use mathlib.Core.List.{List, []}
+use mathlib.Core.List.{List}
 use lib.ListN.{length}
 use Rattle.calculus.specs.Refusals.{Refusal, number}
 use Rattle.format.specs.Lines.{Row, lines}
@@ -11,7 +11,7 @@ use Rattle.format.specs.Judge.{rows, start, read_from}
 use Rattle.format.specs.Idle.{FirstIdle}
 use Rattle.model.specs.Services.{refused, over, verdict}
 use Rattle.model.specs.Desk.{desk_by, file_part, desk}
-use Rattle.law_witnesses.specs.Showing.{sided, showing}
+use Rattle.law_witnesses.specs.Showing.{sided}
 use Rattle.law_pairlists.specs.PairLists.{import_rows}
 use Rattle.law_refused.specs.Services.{today, by_verdict, Refuses}
 use Rattle.law_refused.specs.Refused.{desk_refused}

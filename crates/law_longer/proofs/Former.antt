@@ -12,7 +12,7 @@ use lib.ListN.{length}
 use Rattle.limits.specs.Limits.{max_clauses, result_length}
 use Rattle.calculus.specs.Tools.{first_failing, stages}
 use Rattle.calculus.specs.Trees.{Ty, Pat, Iso}
-use Rattle.calculus.specs.Refusals.{Kind, type_line, pattern_line, iso_line, clause_line, let_line, Refusal, number, misplaced, bad_field, bad_name, ceiling, too_long}
+use Rattle.calculus.specs.Refusals.{Kind, type_line, pattern_line, iso_line, clause_line, let_line, Refusal, misplaced, bad_field, bad_name, ceiling, too_long}
 use Rattle.format.specs.Lines.{Row, lines, row_of}
 use Rattle.format.specs.Judge.{Seen, start, in_order, fields_fit, named, within_ceilings, judge, after_kind, after, after_all, stage, Reading, rows, faulty, with_row, on_row, on_judged, read_from}
 use Rattle.format.specs.Unfold.{Tail, place, tail_from, isos_of}

@@ -10,7 +10,7 @@ use lib.ListN.{length}
 use Rattle.calculus.specs.Refusals.{Refusal, clause_line, ceiling}
 use Rattle.format.specs.Lines.{Row, lines}
 use Rattle.format.specs.Judge.{rows, start, read_from}
-use Rattle.model.specs.Services.{refused, over, verdict}
+use Rattle.model.specs.Services.{refused, over}
 use Rattle.model.specs.Desk.{desk_by, file_part, desk}
 use Rattle.model.proofs.Files.{passes_read}
 use Rattle.law_witnesses.specs.Showing.{shown_of, showing}

@@ -3,7 +3,7 @@ use Rattle.std.specs.Prelude.{ℕ, ◌*◌, ◌≤◌, ◌≡◌, Bool, List, le
 use Rattle.limits.specs.Limits.{table_length, work_length, result_length, export_length, import_length, max_queries, max_lines, max_units}
 use Rattle.calculus.specs.Refusals.{Refusal}
 use Rattle.format.specs.Lines.{Row, lines}
-use Rattle.model.specs.Services.{Verdict, verdict, Outcome, Checked, check_by, check, Output, turn_by, turn, RunResult, run_by, run_service}
+use Rattle.model.specs.Services.{Verdict, Outcome, Checked, check_by, check, Output, turn_by, turn, RunResult, run_by, run_service}
 use Rattle.model.specs.Sheet.{Sheet, sheet_by, sheet}
 use Rattle.law_ranking.specs.Numbering.{Numbered, number_service, Lettered, setting_service}
 use Rattle.law_costs.specs.Bounds.{BoundsResult, bounds_service}

@@ -1,20 +1,20 @@
 -- What is asked of the rows of a file without lists and self-calls: every test that request 14 adds lets it pass, so each comes to what it came to before.
-use Prim.Native.Nat.{ℕ, suc, ◌+◌, ◌<◌}
+use Prim.Native.Nat.{ℕ, suc, ◌+◌}
 use native.Mathlib.Omega.{arith}
 use mathlib.Core.Path.{◌≡◌, refl, sym, ap, ap₂, ◌∙◌, subst}
-use mathlib.Core.Bool.{Bool, true, false, not, cond, ◌||◌}
+use mathlib.Core.Bool.{Bool, true, not, cond, ◌||◌}
 use mathlib.Core.Option.{Option, none, some}
-use mathlib.Core.List.{List, [], ◌∷◌, Memᴰ}
+use mathlib.Core.List.{List, [], ◌∷◌}
 use lib.Dec.{ltb}
 use lib.ListN.{length, get_or, get_elem?}
 use Rattle.limits.specs.Limits.{max_pairs}
-use Rattle.calculus.specs.Tools.{stages, first_of, or_else}
-use Rattle.calculus.specs.Trees.{Ty, Val, Iso}
+use Rattle.calculus.specs.Tools.{first_of, or_else}
+use Rattle.calculus.specs.Trees.{Val, Iso}
 use Rattle.calculus.specs.Refusals.{Refusal, too_many}
 use Rattle.calculus.specs.Paper.{Of, NeverCalls, NoneCalls}
-use Rattle.calculus.specs.Lists.{Finite, ListFree, free_isos, is_free}
-use Rattle.calculus.specs.Clauses.{Sigs, at, clause_fault, side_fault, recursion_fault, iso_fault, sigs_of, fault_from, fault}
-use Rattle.calculus.specs.Reduction.{Counted, reduce_to, reduce, reduce_free}
+use Rattle.calculus.specs.Lists.{Finite, ListFree, is_free}
+use Rattle.calculus.specs.Clauses.{Sigs, at, clause_fault, side_fault, iso_fault, sigs_of, fault_from, fault}
+use Rattle.calculus.specs.Reduction.{Counted, reduce_to, reduce}
 use Rattle.calculus.proofs.Basic.{index_below, counted}
 use Rattle.calculus.proofs.Steps.{forward}
 use Rattle.calculus.proofs.Lists.{never_stops}
@@ -22,19 +22,17 @@ use Rattle.calculus.proofs.Letters.{inhabits_of}
 use Rattle.calculus.proofs.Inverse.{free_unfold}
 use Rattle.calculus.proofs.Stopping.{progress}
 use Rattle.format.specs.Lines.{Row, lines}
-use Rattle.format.specs.Judge.{start}
 use Rattle.format.specs.Unfold.{isos_of}
-use Rattle.format.proofs.Passing.{Passes}
-use Rattle.model.specs.Services.{Ran, fails, gives, Outcome, within, argument, from, on_iso, run_rows, toward}
+use Rattle.model.specs.Services.{fails, gives, Outcome, within, argument, from, on_iso, run_rows}
 use Rattle.model.specs.Answers.{GoodRows}
-use Rattle.model.proofs.Runs.{Good, good, good_toward, sound, reduces_one, value_in_lem}
+use Rattle.model.proofs.Runs.{good, sound, reduces_one, value_in_lem}
 use Rattle.model.proofs.Sizes.{free_gives}
 use Rattle.law_costs.specs.Costs.{least_costs, greatest_costs}
 use Rattle.law_costs.specs.Bounds.{bounds_rows, on_iso as bounds_on}
 use Rattle.law_witnesses.specs.Showing.{shown_or, shown_first}
 use Rattle.law_ranking.specs.Numbering.{count}
 use Rattle.law_pairlists.specs.PairLists.{export_rows, on_exported, on_pairs, upwards, to_from}
-use Rattle.law_units.specs.Units.{Planned, planned_for, and_then, on_line, line_on, script_of, Units, units_fault, Played, on_script, on_units, play_rows}
+use Rattle.law_units.specs.Units.{Planned, planned_for, and_then, on_line, script_of, Units, units_fault, on_script, on_units, play_rows}
 use Rattle.law_zoned.specs.Before.{iso_before, fault_before, shown_before, reduce_before, from_before, on_iso_before, run_before, bounds_on_iso, bounds_before, export_on_iso}
 use Rattle.law_zoned.specs.Before.{export_before, planned_before, script_before, play_on_units, play_before}
 use Rattle.law_zoned.proofs.Listless.{no_recursion}

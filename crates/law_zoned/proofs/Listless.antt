@@ -2,23 +2,23 @@
 use Prim.Native.Nat.{ℕ, zero, suc, ◌+◌, ◌<◌}
 use native.Mathlib.Omega.{arith}
 use mathlib.Core.Path.{◌≡◌, refl, sym, ap, subst, ◌∙◌}
-use mathlib.Core.Bool.{Bool, true, false, cond, ◌||◌, false≢true}
+use mathlib.Core.Bool.{Bool, true, false, cond, false≢true}
 use mathlib.Core.Option.{none, some}
 use mathlib.Core.List.{List, [], ◌∷◌, ◌++◌, Memᴰ}
 use lib.Dec.{eqb}
-use lib.ListN.{length, get_or, get_elem?}
+use lib.ListN.{get_or, get_elem?}
 use Rattle.calculus.specs.Tools.{all}
 use Rattle.calculus.specs.Trees.{Ty, tunit, Pat, Let, Clause, Iso}
 use Rattle.calculus.specs.Refusals.{Kind, type_line, pattern_line, iso_line, clause_line, let_line}
 use Rattle.calculus.specs.Clauses.{breach, recursion_fault}
 use Rattle.calculus.specs.Paper.{NeverCalls, NoneCalls, Recursion, Reaches}
-use Rattle.calculus.specs.Lists.{Finite, ListFree, list_free, free_iso, free_from, free_isos, is_free}
+use Rattle.calculus.specs.Lists.{Finite, ListFree, free_iso, free_from, free_isos, is_free}
 use Rattle.calculus.proofs.Basic.{none≢some, some_inj, each_nil, each_cons, index_mem, mem_all, true_and, eqb_false}
 use Rattle.calculus.proofs.Ending.{strictly}
 use Rattle.calculus.proofs.Recursion.{recursion_iff}
 use Rattle.calculus.proofs.Lists.{finite_free, free_iff}
 use Rattle.format.specs.Lines.{Row}
-use Rattle.format.specs.Judge.{Seen, start, after, after_kind, after_all, type_node, type_tree}
+use Rattle.format.specs.Judge.{Seen, start, after_kind, after_all, type_node, type_tree}
 use Rattle.format.specs.Unfold.{Tail, place, tail_from, isos_of}
 use Rattle.format.proofs.Passing.{Passes, done, next, Fit, judge_fit, let_fit}
 use Rattle.model.specs.Services.{toward}

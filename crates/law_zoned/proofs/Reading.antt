@@ -1,7 +1,7 @@
 -- Lines without lists and self-calls are read as before; others were refused before, 5 at the first line of lists or 6 at the first L line that names its own iso.
 use Prim.Native.Nat.{ℕ, suc}
 use mathlib.Core.Path.{◌≡◌, refl, sym, ap, ap₂, ◌∙◌, subst}
-use mathlib.Core.Bool.{Bool, true, false, not, cond, ◌&&◌, false≢true}
+use mathlib.Core.Bool.{Bool, true, false, not, ◌&&◌, false≢true}
 use mathlib.Core.Option.{Option, none, some}
 use mathlib.Core.List.{List, [], ◌∷◌, nil≢cons}
 use Rattle.calculus.specs.Tools.{first_failing}
@@ -10,7 +10,7 @@ use Rattle.calculus.proofs.Basic.{none_failing}
 use Rattle.format.specs.Lines.{Row, row_of}
 use Rattle.format.specs.Judge.{Seen, in_order, fields_fit, named, within_ceilings, judge, after, Reading, rows, faulty, with_row, on_row, on_judged, read_from}
 use Rattle.format.proofs.Printing.{rows_inj, rows≢faulty}
-use Rattle.format.proofs.Passing.{Fit, judge_fit}
+use Rattle.format.proofs.Passing.{judge_fit}
 use Rattle.law_zoned.specs.Before.{of_lists, calls_itself, judge_before, read_before}
 use Rattle.law_zoned.specs.Unzoned.{Plain, Unzoned, FirstZoned}
 

@@ -3,17 +3,15 @@
 use Prim.Native.Nat.{ℕ}
 use mathlib.Core.Path.{◌≡◌, refl, sym, ap, ap₂, ◌∙◌, subst}
 use mathlib.Core.Bool.{Bool, true, false, cond, ◌||◌}
-use mathlib.Core.Option.{Option, none, some}
 use mathlib.Core.List.{List, []}
 use lib.Dec.{ltb}
 use lib.ListN.{length}
 use Rattle.limits.specs.Limits.{result_length, export_length, max_units, max_lines}
-use Rattle.calculus.specs.Tools.{stages, or_else}
-use Rattle.calculus.specs.Trees.{Iso}
+use Rattle.calculus.specs.Tools.{or_else}
 use Rattle.calculus.specs.Refusals.{Kind, Refusal, too_long}
 use Rattle.calculus.specs.Paper.{NoneCalls}
 use Rattle.calculus.specs.Lists.{is_free}
-use Rattle.calculus.specs.Clauses.{fault, sigs_of}
+use Rattle.calculus.specs.Clauses.{sigs_of}
 use Rattle.format.specs.Lines.{Row, lines}
 use Rattle.format.specs.Judge.{Seen, start, within_ceilings, Reading, rows, faulty, read_from}
 use Rattle.format.specs.Unfold.{isos_of}
@@ -27,12 +25,12 @@ use Rattle.law_costs.specs.Bounds.{bounds_rows, bounds_by, bounds_service}
 use Rattle.law_witnesses.specs.Showing.{shown_unless, letters_of?, shown_of, showing, measured, show_service}
 use Rattle.law_witnesses.proofs.Listless.{as_verdict}
 use Rattle.law_pairlists.specs.PairLists.{export_rows, export_service, import_service}
-use Rattle.law_units.specs.Units.{Units, Tally, play_rows, play_by, play_verdict, unequal, play_service}
+use Rattle.law_units.specs.Units.{Units, play_rows, play_by, play_verdict, unequal, play_service}
 use Rattle.check_overlap.specs.Overlap.{overlap_service}
-use Rattle.law_refused.specs.ByVerdict.{number_with, setting_with, overlap_with, output_with, import_with}
-use Rattle.law_zoned.specs.Before.{judged_before, read_before, fault_before, before, shown_before, shown_reading, showing_before, show_before, run_before, bounds_before, export_before, play_before}
+use Rattle.law_refused.specs.ByVerdict.{number_with, setting_with, overlap_with, import_with}
+use Rattle.law_zoned.specs.Before.{judged_before, read_before, fault_before, before, shown_reading, showing_before, show_before, run_before, bounds_before, export_before, play_before}
 use Rattle.law_zoned.specs.AsBefore.{AsBefore}
-use Rattle.law_zoned.specs.Unzoned.{Plain, Unzoned, WithoutZones, FirstZoned}
+use Rattle.law_zoned.specs.Unzoned.{Plain, WithoutZones, FirstZoned}
 use Rattle.law_zoned.proofs.Reading.{same_read, plain_rows, before_plain, first_zoned}
 use Rattle.law_zoned.proofs.Listless.{isos_finite, toward_free, is_free_lem, isos_quiet}
 use Rattle.law_zoned.proofs.Asked.{same_fault, same_first, same_run, same_bounds, same_export, same_play}
