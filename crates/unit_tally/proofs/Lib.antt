@@ -1,2 +1,0 @@
--- a lent slice that is lent again for a call
-pub mod Again

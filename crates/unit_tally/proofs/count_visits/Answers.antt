@@ -1,0 +1,33 @@
+use Rattle.std.proofs.Common.{◌≡◌, ℕ, suc, ◌+◌, ◌-◌, ◌<◌, List, get_or, set, refl, ap, ◌∙◌, arith}
+use Rattle.unit_tally.specs.Count.{added_of, begun_of, place_of, visit_of, tallied, emptied}
+use Rattle.unit_tally.specs.declared.Tally.{Tally}
+use Rattle.unit_tally.proofs.count_visits.Goals as goal
+
+-- one mark taken
+emptied_step : (n i : ℕ) (w : List ℕ) → i < n → emptied (n - (i + 1)) (i + 1) (set w (place_of i) 0) ≡ emptied (n - i) i w
+emptied_step n i w h =
+    let left : suc (n - (i + 1)) ≡ n - i = omega arith in
+    let next : i + 1 ≡ suc i = omega arith in
+    ap (λ k. emptied (n - (i + 1)) k (set w (place_of i) 0)) next ∙ ap (λ m. emptied m i w) left
+
+tallied_step : (n i : ℕ) (w : List ℕ) (t : Tally) → i < n
+    → tallied (n - (i + 1)) (i + 1) (set w (place_of i) 0) (added_of t (visit_of (get_or w (place_of i) 0))) ≡ tallied (n - i) i w t
+tallied_step n i w t h =
+    let left : suc (n - (i + 1)) ≡ n - i = omega arith in
+    let next : i + 1 ≡ suc i = omega arith in
+    ap (λ k. tallied (n - (i + 1)) k (set w (place_of i) 0) (added_of t (visit_of (get_or w (place_of i) 0)))) next
+    ∙ ap (λ m. tallied m i w t) left
+
+pub loop-i-preserved : goal.loop-i-preserved
+loop-i-preserved c =
+    let n = c.args.n in
+    let l = c.loop-i in
+    let marked = c.take_mark-v.ensures in
+    record {
+      within = omega arith;
+      left = ap (emptied (n - (l.i + 1)) (l.i + 1)) marked.1 ∙ emptied_step n l.i l.work c.loop-i-test.true ∙ l.invariant.left;
+      counted =
+          ap (λ w. tallied (n - (l.i + 1)) (l.i + 1) w c.add_visit.new.t) marked.1
+          ∙ ap (tallied (n - (l.i + 1)) (l.i + 1) (set l.work (place_of l.i) 0)) (c.add_visit.ensures ∙ ap (added_of l.tally) marked.0)
+          ∙ tallied_step n l.i l.work l.tally c.loop-i-test.true ∙ l.invariant.counted;
+    }
