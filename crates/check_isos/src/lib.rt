@@ -32,7 +32,7 @@ use limits::{MAX_CLAUSES, MAX_ISOS, MAX_LINES};
 use table_trees::cell;
 
 // The rows of the I lines.
-#[derive(Drop)]
+#[derive(Clone, Copy)]
 pub struct Starts {
     pub rows: [u16; MAX_ISOS],
     pub count: usize,
@@ -82,7 +82,7 @@ fn iso_rows(t: &[u16], from: usize, to: usize) -> Starts
 // `first` of `clauses` on; the row where the L lines of the next C line above end, and the row where
 // the iso ends; how many I lines stand above; the first refusal of those clauses; the first refusal of
 // the isos further down.
-#[derive(Drop)]
+#[derive(Clone, Copy)]
 pub struct Walk {
     pub clauses: [u16; MAX_CLAUSES],
     pub first: usize,

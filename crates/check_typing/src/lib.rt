@@ -18,7 +18,7 @@ use table_parts::{pattern_part, type_part};
 use table_trees::{cell, pattern_cell};
 
 // The type of each live variable, as one more than its T line, 0 for none; and whether all fitted so far.
-#[derive(Drop)]
+#[derive(Clone, Copy)]
 pub struct Env {
     pub fits: bool,
     pub line: [u16; VARIABLES],

@@ -12,7 +12,7 @@ use table_parts::pattern_part;
 use table_trees::pattern_cell;
 
 // How each variable of a clause stands: 0 not live, 1 live, 2 out of order.
-#[derive(Drop)]
+#[derive(Clone, Copy)]
 pub struct Marks {
     pub state: [u8; VARIABLES],
 }

@@ -14,7 +14,7 @@ use limits::MAX_CLAUSES;
 use table_trees::cell;
 
 // The rows of the C lines of an iso, from place `first` of `rows` on.
-#[derive(Drop)]
+#[derive(Clone, Copy)]
 pub struct Clauses {
     pub rows: [u16; MAX_CLAUSES],
     pub first: usize,
