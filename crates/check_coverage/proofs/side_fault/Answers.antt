@@ -2,7 +2,7 @@ use Rattle.check_coverage.proofs.SideLaws.{overlaps_left, overlaps_right, gap_le
 use Rattle.check_coverage.proofs.side_fault.Goals as goal
 
 pub returns-then-weigh-eq-FULL-2 : goal.returns-then-weigh-eq-FULL-2
-returns-then-weigh-eq-FULL-2 c = 
+returns-then-weigh-eq-FULL-2 c =
     let orthogonal = c.orthogonal in
     let if1 = c.if-orthogonal in
     let orthogonal2 = c.orthogonal-then-orthogonal in
@@ -13,7 +13,7 @@ returns-then-weigh-eq-FULL-2 c =
     no_fault _ _ orthogonal.ensures if1.true orthogonal2.ensures if2.true weigh.ensures if3.true weigh2.ensures c.if-weigh-eq-FULL-2.true
 
 pub returns-then-weigh-eq-FULL : goal.returns-then-weigh-eq-FULL
-returns-then-weigh-eq-FULL c = 
+returns-then-weigh-eq-FULL c =
     let orthogonal = c.orthogonal in
     let if1 = c.if-orthogonal in
     let orthogonal2 = c.orthogonal-then-orthogonal in
@@ -24,7 +24,7 @@ returns-then-weigh-eq-FULL c =
     gap_right_lem _ _ orthogonal.ensures if1.true orthogonal2.ensures if2.true weigh.ensures if3.true weigh2.ensures c.if-weigh-eq-FULL-2.false
 
 pub returns-then-orthogonal-2 : goal.returns-then-orthogonal-2
-returns-then-orthogonal-2 c = 
+returns-then-orthogonal-2 c =
     let orthogonal = c.orthogonal in
     let if1 = c.if-orthogonal in
     let orthogonal2 = c.orthogonal-then-orthogonal in
@@ -33,7 +33,7 @@ returns-then-orthogonal-2 c =
     gap_left_lem _ _ orthogonal.ensures if1.true orthogonal2.ensures if2.true weigh.ensures c.if-weigh-eq-FULL.false
 
 pub returns-then-orthogonal : goal.returns-then-orthogonal
-returns-then-orthogonal c = 
+returns-then-orthogonal c =
     let orthogonal = c.orthogonal in
     let if1 = c.if-orthogonal in
     let orthogonal2 = c.orthogonal-then-orthogonal in

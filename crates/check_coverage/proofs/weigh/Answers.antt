@@ -2,7 +2,7 @@ use Rattle.check_coverage.proofs.SideLaws.{weighed_fits}
 use Rattle.check_coverage.proofs.weigh.Goals as goal
 
 pub overflow_add-sum : goal.overflow_add-sum
-overflow_add-sum c = 
+overflow_add-sum c =
     let pre = c.requires in
     let loop' = c.loop-i in
     let loop-test = c.loop-i-test in

@@ -2,7 +2,7 @@ use Rattle.check_idle.proofs.Marking.{row_type, row_pattern, row_iso, row_clause
 use Rattle.check_idle.proofs.name_row.Goals as goal
 
 pub returns-then-letter-eq-TYPE_LINE : goal.returns-then-letter-eq-TYPE_LINE
-returns-then-letter-eq-TYPE_LINE c = 
+returns-then-letter-eq-TYPE_LINE c =
     let args = c.args in
     let cell = c.cell-letter in
     let if1 = c.if-letter-eq-TYPE_LINE in
@@ -10,7 +10,7 @@ returns-then-letter-eq-TYPE_LINE c =
     λ rs patterns lines f r e. row_type f args.n e cell.ensures.0 args.marks.now if1.true name-types.ensures
 
 pub returns-then-letter-eq-PATTERN_LINE : goal.returns-then-letter-eq-PATTERN_LINE
-returns-then-letter-eq-PATTERN_LINE c = 
+returns-then-letter-eq-PATTERN_LINE c =
     let args = c.args in
     let cell = c.cell-letter in
     let if2 = c.if-letter-eq-PATTERN_LINE in
@@ -18,7 +18,7 @@ returns-then-letter-eq-PATTERN_LINE c =
     λ rs patterns lines f r e. row_pattern f args.n e cell.ensures.0 args.marks.now if2.true name-patterns.ensures
 
 pub returns-then-letter-eq-ISO_LINE : goal.returns-then-letter-eq-ISO_LINE
-returns-then-letter-eq-ISO_LINE c = 
+returns-then-letter-eq-ISO_LINE c =
     let args = c.args in
     let cell = c.cell-letter in
     let if3 = c.if-letter-eq-ISO_LINE in
@@ -26,7 +26,7 @@ returns-then-letter-eq-ISO_LINE c =
     λ rs patterns lines f r e. row_iso f args.n e cell.ensures.0 args.marks.now if3.true mark-types.ensures
 
 pub returns-then-letter-eq-CLAUSE_LINE : goal.returns-then-letter-eq-CLAUSE_LINE
-returns-then-letter-eq-CLAUSE_LINE c = 
+returns-then-letter-eq-CLAUSE_LINE c =
     let args = c.args in
     let cell = c.cell-letter in
     let if4 = c.if-letter-eq-CLAUSE_LINE in
@@ -34,7 +34,7 @@ returns-then-letter-eq-CLAUSE_LINE c =
     λ rs patterns lines f r e. row_clause f args.n e cell.ensures.0 args.marks.now if4.true mark-patterns.ensures
 
 pub returns : goal.returns
-returns c = 
+returns c =
     let args = c.args in
     let cell = c.cell-letter in
     let if1 = c.if-letter-eq-TYPE_LINE in

@@ -5,7 +5,7 @@ pub loop-n-init : goal.loop-n-init
 loop-n-init c = walking_start c.none-found.ensures.0
 
 pub loop-n-preserved : goal.loop-n-preserved
-loop-n-preserved c = 
+loop-n-preserved c =
     let loop' = c.loop-n in
     let loop-test = c.loop-n-test in
     let with-row = c.with_row-found in

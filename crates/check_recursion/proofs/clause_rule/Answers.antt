@@ -2,7 +2,7 @@ use Rattle.check_recursion.proofs.Laws.{clause_told}
 use Rattle.check_recursion.proofs.clause_rule.Goals as goal
 
 pub returns : goal.returns
-returns c = 
+returns c =
     let args = c.args in
     let left-field = c.left_field in
     let cell = c.cell-p in

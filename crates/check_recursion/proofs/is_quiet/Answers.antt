@@ -3,7 +3,7 @@ use Rattle.check_recursion.proofs.Rows.{quiet_step, quiet_stop}
 use Rattle.check_recursion.proofs.is_quiet.Goals as goal
 
 pub loop-k-preserved : goal.loop-k-preserved
-loop-k-preserved c = 
+loop-k-preserved c =
     let loop' = c.loop-k in
     let loop-test = c.loop-k-test in
     let next_row = c.next_row-end in
@@ -12,7 +12,7 @@ loop-k-preserved c =
     quiet_step loop'.invariant loop-test.true wide.ensures.value next_row.ensures no-calls.ensures c.if-no_calls.true
 
 pub returns-else-no_calls : goal.returns-else-no_calls
-returns-else-no_calls c = 
+returns-else-no_calls c =
     let loop' = c.loop-k in
     let loop-test = c.loop-k-test in
     let next_row = c.next_row-end in

@@ -3,14 +3,14 @@ use Rattle.check_recursion.proofs.Rows.{fault_quiet, fault_written, fault_turned
 use Rattle.check_recursion.proofs.recursion_fault.Goals as goal
 
 pub returns-then-is_quiet : goal.returns-then-is_quiet
-returns-then-is_quiet c = 
+returns-then-is_quiet c =
     let args = c.args in
     let is-quiet = c.is_quiet in
     let if1 = c.if-is_quiet in
     c.passed.ensures ∙ fault_quiet args.t.now args.base args.i args.row args.rows.now args.last is-quiet.ensures if1.true
 
 pub returns-then-is_structural : goal.returns-then-is_structural
-returns-then-is_structural c = 
+returns-then-is_structural c =
     let args = c.args in
     let is-quiet = c.is_quiet in
     let if1 = c.if-is_quiet in
@@ -21,7 +21,7 @@ returns-then-is_structural c =
     is-structural.ensures if2.true
 
 pub returns-then-is_structural-2 : goal.returns-then-is_structural-2
-returns-then-is_structural-2 c = 
+returns-then-is_structural-2 c =
     let args = c.args in
     let is-quiet = c.is_quiet in
     let if1 = c.if-is_quiet in
@@ -35,7 +35,7 @@ returns-then-is_structural-2 c =
     is-structural.ensures if2.false cell2.ensures.0 is-structural2.ensures if3.true
 
 pub returns-then-k-rows : goal.returns-then-k-rows
-returns-then-k-rows c = 
+returns-then-k-rows c =
     let args = c.args in
     let is-quiet = c.is_quiet in
     let if1 = c.if-is_quiet in
@@ -55,7 +55,7 @@ returns-then-k-rows c =
     cell2.ensures.0 is-structural2.ensures if3.false cell3.ensures.0 is-zoned.ensures if4.true kept.ensures if5.true (c.wide.ensures.value ∙ word_at.ensures) refl
 
 pub returns-then-is_zoned : goal.returns-then-is_zoned
-returns-then-is_zoned c = 
+returns-then-is_zoned c =
     let args = c.args in
     let is-quiet = c.is_quiet in
     let if1 = c.if-is_quiet in
@@ -74,7 +74,7 @@ returns-then-is_zoned c =
     is-structural.ensures if2.false cell2.ensures.0 is-structural2.ensures if3.false cell3.ensures.0 is-zoned.ensures if4.true kept.ensures if5.false
 
 pub returns : goal.returns
-returns c = 
+returns c =
     let args = c.args in
     let is-quiet = c.is_quiet in
     let if1 = c.if-is_quiet in

@@ -5,14 +5,14 @@ use Rattle.check_recursion.proofs.Laws.{shown_empty, shown_element, shown_other,
 use Rattle.check_recursion.proofs.shown_rule.Goals as goal
 
 pub returns-in-5 : goal.returns-in-5
-returns-in-5 c = 
+returns-in-5 c =
     let args = c.args in
     let pattern-cell = c.pattern_cell in
     shown_empty args.t.now args.base args.p args.i (lets_toward args.back args.t.now args.base args.from (args.to - args.from)) pattern-cell.ensures.0
     c.in-5.is (c.no_calls.ensures ∙ quiet_toward args.back args.t.now args.base args.i args.from (args.to - args.from))
 
 pub returns-in-6 : goal.returns-in-6
-returns-in-6 c = 
+returns-in-6 c =
     let args = c.args in
     let pattern-cell = c.pattern_cell in
     let pattern-part = c.pattern_part in
@@ -20,7 +20,7 @@ returns-in-6 c =
     c.in-6.is pattern-part.ensures c.tail_rule.ensures
 
 pub returns-in_default : goal.returns-in_default
-returns-in_default c = 
+returns-in_default c =
     let args = c.args in
     let pattern-cell = c.pattern_cell in
     shown_other args.t.now args.base args.p args.i (lets_toward args.back args.t.now args.base args.from (args.to - args.from)) pattern-cell.ensures.0

@@ -5,7 +5,7 @@ use Rattle.check_recursion.proofs.Laws.{rule_var, rule_other, quiet_toward, tail
 use Rattle.check_recursion.proofs.tail_rule.Goals as goal
 
 pub returns-then-back : goal.returns-then-back
-returns-then-back c = 
+returns-then-back c =
     let args = c.args in
     let pattern-cell = c.pattern_cell in
     let if1 = c.if-pattern_cell-eq-VARIABLE in
@@ -16,7 +16,7 @@ returns-then-back c =
     (tail_toward args.back args.t.now args.base args.i pattern-cell2.result args.from (args.to - args.from) if2.true c.tail_calls_back.ensures)
 
 pub returns-then-pattern_cell-eq-VARIABLE : goal.returns-then-pattern_cell-eq-VARIABLE
-returns-then-pattern_cell-eq-VARIABLE c = 
+returns-then-pattern_cell-eq-VARIABLE c =
     let args = c.args in
     let pattern-cell = c.pattern_cell in
     let if1 = c.if-pattern_cell-eq-VARIABLE in
@@ -27,7 +27,7 @@ returns-then-pattern_cell-eq-VARIABLE c =
     (tail_forth args.back args.t.now args.base args.i pattern-cell2.result args.from (args.to - args.from) if2.false c.tail_calls.ensures)
 
 pub returns : goal.returns
-returns c = 
+returns c =
     let args = c.args in
     let pattern-cell = c.pattern_cell in
     let if1 = c.if-pattern_cell-eq-VARIABLE in

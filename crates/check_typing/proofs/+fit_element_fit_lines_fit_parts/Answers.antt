@@ -12,7 +12,7 @@ pub fit_element-returns-then-ka-ne-LIST : goal.fit_element-returns-then-ka-ne-LI
 fit_element-returns-then-ka-ne-LIST t c = fitted_element_not c.args.t.now c.args.base c.args.p c.args.a c.args.binds c.args.line.now refl c.requires.0.type c.requires.0.pattern c.if-ka-ne-LIST.true
 
 pub fit_element-returns-then-fit_lines : goal.fit_element-returns-then-fit_lines
-fit_element-returns-then-fit_lines t c = 
+fit_element-returns-then-fit_lines t c =
     let if1 = c.if-ka-ne-LIST in
     let sooner = c.sooner-k in
     let pattern-part = c.pattern_part-first in
@@ -26,7 +26,7 @@ fit_element-returns-then-fit_lines t c =
     sooner.ensures pattern-part.ensures list-part.ensures fit-lines.ensures if2.true later.ensures pattern-part2.ensures list-part2.ensures c.fit_lines-then-fit_lines.ensures
 
 pub fit_element-returns : goal.fit_element-returns
-fit_element-returns t c = 
+fit_element-returns t c =
     let if1 = c.if-ka-ne-LIST in
     let sooner = c.sooner-k in
     let pattern-part = c.pattern_part-first in
@@ -39,17 +39,16 @@ pub fit_lines-returns-then-is_bare : goal.fit_lines-returns-then-is_bare
 fit_lines-returns-then-is_bare t c = fitted_from c.reach-at.ensures (fitted_bare (c.is_bare.ensures c.if-is_bare.true c.args.t.now c.requires.0))
 
 pub fit_lines-fit_parts-requires : goal.fit_lines-fit_parts-requires
-fit_lines-fit_parts-requires t c = 
+fit_lines-fit_parts-requires t c =
     let reach = c.reach-at in
     let pattern-cell = c.pattern_cell-kp in
-    let cell = c.cell-ka in
-    (
+    let cell = c.cell-ka in (
       parts_call (reached_rank reach.ensures) c.decreases,
       (record { pattern = pattern-cell.ensures.0; type = cell.ensures.0; parts = has_parts _ (omega arith) c.in-2.in_default-own.rest.0.0.1 (omega arith) }, c.requires.0, c.requires.1),
     )
 
 pub fit_lines-returns-in-1 : goal.fit_lines-returns-in-1
-fit_lines-returns-in-1 t c = 
+fit_lines-returns-in-1 t c =
     let reach = c.reach-at in
     let pattern-cell = c.pattern_cell-kp in
     let cell = c.cell-ka in
@@ -59,7 +58,7 @@ fit_lines-returns-in-1 t c =
     c.in-1.is pattern-cell2.ensures.0 c.assign.ensures)
 
 pub fit_lines-returns-in-5 : goal.fit_lines-returns-in-5
-fit_lines-returns-in-5 t c = 
+fit_lines-returns-in-5 t c =
     let reach = c.reach-at in
     let pattern-cell = c.pattern_cell-kp in
     let cell = c.cell-ka in
@@ -67,17 +66,17 @@ fit_lines-returns-in-5 t c =
     (fitted_empty c.args.t.now c.args.base reach.result.p reach.result.a c.args.binds c.args.line.now pattern-cell.ensures.0 cell.ensures.0 c.in-5.is refl)
 
 pub fit_lines-returns-in-6 : goal.fit_lines-returns-in-6
-fit_lines-returns-in-6 t c = 
+fit_lines-returns-in-6 t c =
     let reach = c.reach-at in
     fitted_from reach.ensures c.fit_element.ensures
 
 pub fit_lines-returns-in-2 : goal.fit_lines-returns-in-2
-fit_lines-returns-in-2 t c = 
+fit_lines-returns-in-2 t c =
     let reach = c.reach-at in
     fitted_from reach.ensures c.fit_parts.ensures
 
 pub fit_lines-returns-in_default : goal.fit_lines-returns-in_default
-fit_lines-returns-in_default t c = 
+fit_lines-returns-in_default t c =
     let reach = c.reach-at in
     let pattern-cell = c.pattern_cell-kp in
     let cell = c.cell-ka in
@@ -87,7 +86,7 @@ fit_lines-returns-in_default t c =
     (elim c.in_default.branch [ fit_lines-in_default-via-then-kp-lt1 w ↦ plain_unit _ (omega arith) | fit_lines-in_default-via-else-kp-lt1+else-kp-lt5 w ↦ plain_past _ (omega arith) match'.rest.0.1 match'.rest.1 ]) match'.rest.0.0.1 c.names_nothing.ensures)
 
 pub fit_parts-returns-then-ka-eq-SUM : goal.fit_parts-returns-then-ka-eq-SUM
-fit_parts-returns-then-ka-eq-SUM t c = 
+fit_parts-returns-then-ka-eq-SUM t c =
     let if1 = c.if-kp-ne-PAIR in
     let if2 = c.if-ka-eq-SUM in
     let pattern-part = c.pattern_part-only in
@@ -96,18 +95,18 @@ fit_parts-returns-then-ka-eq-SUM t c =
     if1.true if2.true pattern-part.ensures type-part.ensures c.fit_lines.ensures
 
 pub fit_parts-returns-then-kp-ne-PAIR : goal.fit_parts-returns-then-kp-ne-PAIR
-fit_parts-returns-then-kp-ne-PAIR t c = 
+fit_parts-returns-then-kp-ne-PAIR t c =
     let if1 = c.if-kp-ne-PAIR in
     fitted_tag_not c.args.t.now c.args.base c.args.p c.args.a c.args.binds c.args.line.now c.requires.0.pattern c.requires.0.type c.requires.0.parts
     if1.true c.if-ka-eq-SUM.false
 
 pub fit_parts-returns-then-ka-ne-PRODUCT : goal.fit_parts-returns-then-ka-ne-PRODUCT
-fit_parts-returns-then-ka-ne-PRODUCT t c = 
+fit_parts-returns-then-ka-ne-PRODUCT t c =
     let if1 = c.if-kp-ne-PAIR in
     fitted_pair_not c.args.t.now c.args.base c.args.p c.args.a c.args.binds c.args.line.now c.requires.0.pattern c.requires.0.type if1.false c.if-ka-ne-PRODUCT.true
 
 pub fit_parts-returns-then-fit_lines : goal.fit_parts-returns-then-fit_lines
-fit_parts-returns-then-fit_lines t c = 
+fit_parts-returns-then-fit_lines t c =
     let if1 = c.if-kp-ne-PAIR in
     let if3 = c.if-ka-ne-PRODUCT in
     let sooner = c.sooner-k in
@@ -122,7 +121,7 @@ fit_parts-returns-then-fit_lines t c =
     sooner.ensures pattern-part2.ensures type-part2.ensures fit-lines2.ensures if4.true later.ensures pattern-part3.ensures type-part3.ensures c.fit_lines-then-fit_lines.ensures
 
 pub fit_parts-returns : goal.fit_parts-returns
-fit_parts-returns t c = 
+fit_parts-returns t c =
     let if1 = c.if-kp-ne-PAIR in
     let if3 = c.if-ka-ne-PRODUCT in
     let sooner = c.sooner-k in

@@ -2,13 +2,13 @@ use Rattle.check_typing.proofs.Meeting.{assign_out, assign_first, assign_live, a
 use Rattle.check_typing.proofs.assign.Goals as goal
 
 pub returns-then-n-ge-VARIABLES : goal.returns-then-n-ge-VARIABLES
-returns-then-n-ge-VARIABLES c = 
+returns-then-n-ge-VARIABLES c =
     let pre = c.requires in
     let args = c.args in
     assign_out args.t.now args.n args.a args.line.now (pre) args.binds c.if-n-ge-VARIABLES.true
 
 pub returns-then-known-eq0 : goal.returns-then-known-eq0
-returns-then-known-eq0 c = 
+returns-then-known-eq0 c =
     let pre = c.requires in
     let args = c.args in
     let if1 = c.if-n-ge-VARIABLES in
@@ -18,7 +18,7 @@ returns-then-known-eq0 c =
     assign_first args.t.now args.n args.a args.line.now (pre) args.binds _ if2.true if1.false wide.ensures.value if3.true c.entry_of.ensures
 
 pub returns-then-binds : goal.returns-then-binds
-returns-then-binds c = 
+returns-then-binds c =
     let pre = c.requires in
     let args = c.args in
     let wide = c.wide-known in
@@ -26,7 +26,7 @@ returns-then-binds c =
     assign_live args.t.now args.n args.a args.line.now (pre) args.binds if2.true wide.ensures.value c.if-known-eq0.false
 
 pub returns-then-known-eq0-2 : goal.returns-then-known-eq0-2
-returns-then-known-eq0-2 c = 
+returns-then-known-eq0-2 c =
     let pre = c.requires in
     let args = c.args in
     let wide = c.wide-known in
@@ -34,7 +34,7 @@ returns-then-known-eq0-2 c =
     assign_unknown args.t.now args.n args.a args.line.now (pre) args.binds if2.false wide.ensures.value c.if-known-eq0-2.true
 
 pub returns-then-same_line : goal.returns-then-same_line
-returns-then-same_line c = 
+returns-then-same_line c =
     let pre = c.requires in
     let args = c.args in
     let wide = c.wide-known in
@@ -44,7 +44,7 @@ returns-then-same_line c =
     assign_same args.t.now args.n args.a args.line.now (pre) args.binds if2.false wide.ensures.value if4.false same_line.ensures c.if-same_line.true
 
 pub returns : goal.returns
-returns c = 
+returns c =
     let pre = c.requires in
     let args = c.args in
     let wide = c.wide-known in

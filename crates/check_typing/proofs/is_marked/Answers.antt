@@ -3,7 +3,7 @@ use Rattle.check_bare.proofs.Marking.{bare_by}
 use Rattle.check_typing.proofs.is_marked.Goals as goal
 
 pub returns-then-m-gt0 : goal.returns-then-m-gt0
-returns-then-m-gt0 c = 
+returns-then-m-gt0 c =
     let pre = c.requires in
     let args = c.args in
     let wide = c.wide-m in

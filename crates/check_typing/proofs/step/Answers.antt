@@ -4,7 +4,7 @@ use Rattle.check_typing.proofs.Steps.{step_tag}
 use Rattle.check_typing.proofs.step.Goals as goal
 
 pub returns-in-2 : goal.returns-in-2
-returns-in-2 c = 
+returns-in-2 c =
     let field = c.field-kind in
     let field2 = c.field-over in
     let if3 = c.if-over-eq-SUM in

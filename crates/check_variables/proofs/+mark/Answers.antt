@@ -6,13 +6,13 @@ use mathlib.Core.Logic.{inl, inr}
 use Rattle.check_variables.proofs.+mark.Goals as goal
 
 pub returns-then-kind-eq-UNIT : goal.returns-then-kind-eq-UNIT
-returns-then-kind-eq-UNIT t c = 
+returns-then-kind-eq-UNIT t c =
     let args = c.args in
     let pattern-cell = c.pattern_cell-kind in
     mark_unit args.t.now args.base args.p (deed_view args.binds) args.m.state pattern-cell.ensures.0 c.if-kind-eq-UNIT.true
 
 pub returns-then-kind-eq-VARIABLE : goal.returns-then-kind-eq-VARIABLE
-returns-then-kind-eq-VARIABLE t c = 
+returns-then-kind-eq-VARIABLE t c =
     let args = c.args in
     let pattern-cell = c.pattern_cell-kind in
     let if2 = c.if-kind-eq-VARIABLE in
@@ -20,7 +20,7 @@ returns-then-kind-eq-VARIABLE t c =
     mark_var args.t.now args.base args.p (deed_view args.binds) args.m.state pattern-cell.ensures.0 if2.true pattern-cell2.ensures.0 c.mark_one.ensures
 
 pub returns-in-4 : goal.returns-in-4
-returns-in-4 t c = 
+returns-in-4 t c =
     let args = c.args in
     let pattern-cell = c.pattern_cell-kind in
     let pattern-part = c.pattern_part-a in
@@ -30,7 +30,7 @@ returns-in-4 t c =
     pattern-part2.ensures c.mark.ensures
 
 pub returns-in-2 : goal.returns-in-2
-returns-in-2 t c = 
+returns-in-2 t c =
     let args = c.args in
     let pattern-cell = c.pattern_cell-kind in
     let pattern-part3 = c.pattern_part-a-in-2 in
@@ -38,7 +38,7 @@ returns-in-2 t c =
     c.mark-in-2.ensures
 
 pub returns-in_default-2 : goal.returns-in_default-2
-returns-in_default-2 t c = 
+returns-in_default-2 t c =
     let args = c.args in
     let pattern-cell = c.pattern_cell-kind in
     let if2 = c.if-kind-eq-VARIABLE in
