@@ -1,6 +1,5 @@
 -- Letters in an area against values: where a value's letters stand, the ranges that matching leaves, what building makes of them, and the
 -- closed values of a type.
-use denote.Slice.{shr_slice_at}
 use Prim.Native.Nat.{ℕ, zero, suc, ◌+◌, ◌-◌, ◌%◌, ◌≤◌, ◌<◌}
 use native.Mathlib.Nat.{suc-add, zero-add, mod-eq_of_lt}
 use native.Mathlib.Numerals.{add-one}
@@ -68,8 +67,8 @@ at_second {s} {at} {v = v} {w = w} h =
     }
 
 -- the slice from its place to its end is the value's letters
-pub shr_slice_at : {s : List ℕ} {at : ℕ} {v : Val} → At s at v → slice at (at + length (letters v)) s ≡ letters v
-shr_slice_at {s} {at} {v} h =
+pub slice_at_letters : {s : List ℕ} {at : ℕ} {v : Val} → At s at v → slice at (at + length (letters v)) s ≡ letters v
+slice_at_letters {s} {at} {v} h =
     drop_take at (length (letters v)) s ∙ ap (take (length (letters v))) h.spells ∙ take-append_seam (letters v) h.rest
 
 -- the letters that end at or before top stand in the first top
@@ -257,7 +256,7 @@ agrees_put n v e {e'} s vars at size slots room a h g = record { holds = λ m w 
         let k = at_within a in
         ap (range_of s (put_range vars n at (at + length (letters v)))) p
         ∙ range_same vars n at (at + length (letters v)) size small s (omega arith) (omega arith)
-        ∙ shr_slice_at a
+        ∙ slice_at_letters a
         ∙ ap letters (some_inj (sym filled.held ∙ ap (slot e') (sym p) ∙ i))
     go m w i (no differs) =
         let k = slot_below e' m i in

@@ -115,7 +115,7 @@ pub record Below (vars : List ℕ) (top : ℕ) : Type 0 where
 pub record Span (len from to at n : ℕ) : Type 0 where
   pub short : n ≤ to - from
   pub from_in : 0 < n → from + n ≤ len
-  pub to_in_lem : 0 < n → at + n ≤ len
+  pub to_in : 0 < n → at + n ≤ len
   pub all : to ≤ len → at + (to - from) ≤ len → n ≡ to - from
 
 -- what matching answers

@@ -3,7 +3,7 @@ use Rattle.fault_meets.proofs.Least.{length_leaf, length_left, length_right, len
 use Rattle.fault_meets.proofs.+least_length.Goals as goal
 
 pub returns-then-m-n : goal.returns-then-m-n
-returns-then-m-n t c = 
+returns-then-m-n t c =
     let args = c.args in
     let cell = c.cell-kind in
     let if1 = c.if-kind-eq-SUM in
@@ -16,7 +16,7 @@ returns-then-m-n t c =
     if2.true c.above.ensures
 
 pub returns-then-kind-eq-SUM : goal.returns-then-kind-eq-SUM
-returns-then-kind-eq-SUM t c = 
+returns-then-kind-eq-SUM t c =
     let args = c.args in
     let cell = c.cell-kind in
     let if1 = c.if-kind-eq-SUM in
@@ -29,7 +29,7 @@ returns-then-kind-eq-SUM t c =
     if2.false c.above-then-kind-eq-SUM.ensures
 
 pub returns-then-kind-eq-PRODUCT : goal.returns-then-kind-eq-PRODUCT
-returns-then-kind-eq-PRODUCT t c = 
+returns-then-kind-eq-PRODUCT t c =
     let args = c.args in
     let cell = c.cell-kind in
     let if3 = c.if-kind-eq-PRODUCT in
@@ -41,7 +41,7 @@ returns-then-kind-eq-PRODUCT t c =
     c.above-then-kind-eq-PRODUCT.ensures
 
 pub returns : goal.returns
-returns t c = 
+returns t c =
     let args = c.args in
     let cell = c.cell-kind in
     let if1 = c.if-kind-eq-SUM in

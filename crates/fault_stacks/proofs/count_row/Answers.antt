@@ -5,7 +5,7 @@ use borrow.Author.Rules.{rules}
 use Rattle.fault_stacks.proofs.count_row.Goals as goal
 
 pub loop-c-init : goal.loop-c-init
-loop-c-init c = 
+loop-c-init c =
     let no_more = c.no_more in
     record {
       lower = search rules;
@@ -16,7 +16,7 @@ loop-c-init c =
     }
 
 pub loop-c-preserved : goal.loop-c-preserved
-loop-c-preserved c = 
+loop-c-preserved c =
     let count-pattern = c.count_pattern in
     let l = c.loop-c in
     record {

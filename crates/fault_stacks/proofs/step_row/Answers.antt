@@ -4,7 +4,7 @@ use native.Mathlib.Omega.{arith}
 use Rattle.fault_stacks.proofs.step_row.Goals as goal
 
 pub returns-then-has_two : goal.returns-then-has_two
-returns-then-has_two c = 
+returns-then-has_two c =
     let kind-of = c.kind_of-kind in
     let kind-on = c.kind_on-own in
     let if1 = c.if-kind-eq-VARIABLE in
@@ -14,7 +14,7 @@ returns-then-has_two c =
     if1.true (has-two.ensures.joins if2.true) c.requires.1
 
 pub returns-else-has_two : goal.returns-else-has_two
-returns-else-has_two c = 
+returns-else-has_two c =
     let kind-of = c.kind_of-kind in
     let kind-on = c.kind_on-own in
     let if1 = c.if-kind-eq-VARIABLE in
@@ -24,7 +24,7 @@ returns-else-has_two c =
     if1.true (has-two.ensures.no_pair if2.false) (has-two.ensures.no_element if2.false)
 
 pub returns-then-kind-own : goal.returns-then-kind-own
-returns-then-kind-own c = 
+returns-then-kind-own c =
     let kind-of = c.kind_of-kind in
     let kind-on = c.kind_on-own in
     let if1 = c.if-kind-eq-VARIABLE in
@@ -33,7 +33,7 @@ returns-then-kind-own c =
     if1.false if3.true
 
 pub returns-then-has_two-2 : goal.returns-then-has_two-2
-returns-then-has_two-2 c = 
+returns-then-has_two-2 c =
     let kind-of = c.kind_of-kind in
     let kind-on = c.kind_on-own in
     let pattern-part2 = c.pattern_part-then-has_two-2 in
@@ -45,7 +45,7 @@ returns-then-has_two-2 c =
     pattern-part2.result pattern-part.result if3.false (has-two2.ensures.joins if4.true) c.requires.1 pattern-part2.ensures pattern-part.ensures
 
 pub returns-then-own-eq-LEFT : goal.returns-then-own-eq-LEFT
-returns-then-own-eq-LEFT c = 
+returns-then-own-eq-LEFT c =
     let kind-of = c.kind_of-kind in
     let kind-on = c.kind_on-own in
     let pattern-part3 = c.pattern_part-then-own-eq-LEFT in
@@ -55,7 +55,7 @@ returns-then-own-eq-LEFT c =
     pattern-part3.result if3.false (inl if5.true) pattern-part3.ensures
 
 pub returns-then-own-eq-RIGHT : goal.returns-then-own-eq-RIGHT
-returns-then-own-eq-RIGHT c = 
+returns-then-own-eq-RIGHT c =
     let kind-of = c.kind_of-kind in
     let kind-on = c.kind_on-own in
     let pattern-part4 = c.pattern_part-then-own-eq-RIGHT in
@@ -65,7 +65,7 @@ returns-then-own-eq-RIGHT c =
     pattern-part4.result if3.false (inr if6.true) pattern-part4.ensures
 
 pub returns-else-own-eq-RIGHT : goal.returns-else-own-eq-RIGHT
-returns-else-own-eq-RIGHT c = 
+returns-else-own-eq-RIGHT c =
     let kind-of = c.kind_of-kind in
     let kind-on = c.kind_on-own in
     let if3 = c.if-kind-own in

@@ -3,7 +3,7 @@ use native.Mathlib.Omega.{arith}
 use Rattle.fault_stacks.proofs.step_types.Goals as goal
 
 pub returns-then-has_two : goal.returns-then-has_two
-returns-then-has_two c = 
+returns-then-has_two c =
     let kind-on = c.kind_on-own in
     let first_part = c.first_part in
     let second-part = c.second_part in

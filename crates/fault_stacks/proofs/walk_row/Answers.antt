@@ -4,7 +4,7 @@ use borrow.Author.Rules.{rules}
 use Rattle.fault_stacks.proofs.walk_row.Goals as goal
 
 pub loop-n-init : goal.loop-n-init
-loop-n-init c = 
+loop-n-init c =
     record {
       types = types_on c.args.t.now c.args.w.now c.args.ts.now c.args.i c.requires.1;
       row =
@@ -12,7 +12,7 @@ loop-n-init c =
     }
 
 pub returns-then-top-gt-MAX_NODES : goal.returns-then-top-gt-MAX_NODES
-returns-then-top-gt-MAX_NODES c = 
+returns-then-top-gt-MAX_NODES c =
     let args = c.args in
     let loop' = c.loop-n in
     let a = args in let l = loop' in walked_dead a.t.now a.base a.w.now l.ps l.ts a.p a.i (row_none l.invariant.row (search rules) (search rules))

@@ -5,7 +5,7 @@ use Rattle.calculus.specs.Trees.{left, right}
 use Rattle.fault_tallies.proofs.+count_pattern.Goals as goal
 
 pub returns-then-kind-eq-VARIABLE : goal.returns-then-kind-eq-VARIABLE
-returns-then-kind-eq-VARIABLE t c = 
+returns-then-kind-eq-VARIABLE t c =
     let pattern-cell = c.pattern_cell-kind in
     let if1 = c.if-kind-eq-VARIABLE in
     let count-type = c.count_type in
@@ -13,7 +13,7 @@ returns-then-kind-eq-VARIABLE t c =
     count-type.ensures
 
 pub returns-then-kind-eq-LEFT : goal.returns-then-kind-eq-LEFT
-returns-then-kind-eq-LEFT t c = 
+returns-then-kind-eq-LEFT t c =
     let pattern-cell = c.pattern_cell-kind in
     let if2 = c.if-kind-eq-LEFT in
     let pattern-part = c.pattern_part in
@@ -25,7 +25,7 @@ returns-then-kind-eq-LEFT t c =
     shift.ensures
 
 pub returns-then-kind-eq-RIGHT : goal.returns-then-kind-eq-RIGHT
-returns-then-kind-eq-RIGHT t c = 
+returns-then-kind-eq-RIGHT t c =
     let pattern-cell = c.pattern_cell-kind in
     let if3 = c.if-kind-eq-RIGHT in
     let pattern-part2 = c.pattern_part-then-kind-eq-RIGHT in
@@ -37,7 +37,7 @@ returns-then-kind-eq-RIGHT t c =
     count-pattern2.ensures shift2.ensures
 
 pub returns-then-has_two : goal.returns-then-has_two
-returns-then-has_two t c = 
+returns-then-has_two t c =
     let pattern-cell = c.pattern_cell-kind in
     let has-two = c.has_two in
     let if4 = c.if-has_two in
@@ -54,7 +54,7 @@ returns-then-has_two t c =
     count-pattern4.ensures shift3.ensures
 
 pub returns : goal.returns
-returns t c = 
+returns t c =
     let has-two = c.has_two in
     let pattern-cell = c.pattern_cell-kind in
     let if1 = c.if-kind-eq-VARIABLE in

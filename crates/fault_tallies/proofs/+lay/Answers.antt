@@ -5,12 +5,12 @@ use mathlib.Core.Path.{◌∙◌}
 use Rattle.fault_tallies.proofs.+lay.Goals as goal
 
 pub returns-then-at-ge-MAX_NODES : goal.returns-then-at-ge-MAX_NODES
-returns-then-at-ge-MAX_NODES t c = 
+returns-then-at-ge-MAX_NODES t c =
     let if1 = c.if-at-ge-MAX_NODES in
     lays_never (type_of c.args.t.now c.args.i) c.args.one.now c.args.two.now if1.true
 
 pub returns-then-kind-eq-SUM : goal.returns-then-kind-eq-SUM
-returns-then-kind-eq-SUM t c = 
+returns-then-kind-eq-SUM t c =
     let if1 = c.if-at-ge-MAX_NODES in
     let lay2 = c.lay-last in
     let lay = c.lay-middle in
@@ -23,7 +23,7 @@ returns-then-kind-eq-SUM t c =
     (line_sum c.args.t.now c.args.i cell.ensures.0 type-part.ensures type-part2.ensures if2.true) lay.ensures lay2.ensures
 
 pub returns-then-kind-eq-PRODUCT : goal.returns-then-kind-eq-PRODUCT
-returns-then-kind-eq-PRODUCT t c = 
+returns-then-kind-eq-PRODUCT t c =
     let if1 = c.if-at-ge-MAX_NODES in
     let lay4 = c.lay-last-then-kind-eq-PRODUCT in
     let lay3 = c.lay-middle-then-kind-eq-PRODUCT in
@@ -36,7 +36,7 @@ returns-then-kind-eq-PRODUCT t c =
     (line_product c.args.t.now c.args.i cell.ensures.0 type-part4.ensures type-part3.ensures if3.true) lay3.ensures lay4.ensures
 
 pub returns-then-kind-eq-LIST : goal.returns-then-kind-eq-LIST
-returns-then-kind-eq-LIST t c = 
+returns-then-kind-eq-LIST t c =
     let if1 = c.if-at-ge-MAX_NODES in
     let lay5 = c.lay-last-then-kind-eq-LIST in
     let cell = c.cell-kind in
@@ -46,7 +46,7 @@ returns-then-kind-eq-LIST t c =
     (line_list c.args.t.now c.args.i cell.ensures.0 type-part5.ensures if4.true) lay5.ensures
 
 pub returns : goal.returns
-returns t c = 
+returns t c =
     let if1 = c.if-at-ge-MAX_NODES in
     let cell = c.cell-kind in
     let if2 = c.if-kind-eq-SUM in

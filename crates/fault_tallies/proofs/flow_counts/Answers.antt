@@ -8,7 +8,7 @@ pub loop-h-init : goal.loop-h-init
 loop-h-init c = poured_start c.args.m c.args.one.now c.args.two.now c.args.n c.args.k.now c.requires.2
 
 pub loop-h-preserved : goal.loop-h-preserved
-loop-h-preserved c = 
+loop-h-preserved c =
     let loop' = c.loop-h in
     let step = c.step in
     let step2 = c.step-in-loop-h in

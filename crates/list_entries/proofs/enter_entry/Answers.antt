@@ -8,7 +8,7 @@ pub returns-then-to-ge-MAX_ENTRIES : goal.returns-then-to-ge-MAX_ENTRIES
 returns-then-to-ge-MAX_ENTRIES c = enters_full _ _ _ _ _ _ c.find_entry-n.ensures c.if-to-ge-MAX_ENTRIES.true
 
 pub returns : goal.returns
-returns c = 
+returns c =
     let find-entry = c.find_entry-n in
     let if1 = c.if-n-to in
     let if2 = c.if-to-ge-MAX_ENTRIES in

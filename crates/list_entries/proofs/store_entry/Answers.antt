@@ -2,7 +2,7 @@ use Rattle.list_entries.proofs.Finding.{stored}
 use Rattle.list_entries.proofs.store_entry.Goals as goal
 
 pub returns : goal.returns
-returns c = 
+returns c =
     let narrow = c.narrow in
     let Store-word = c.store_word in
     let narrow2 = c.narrow-2 in

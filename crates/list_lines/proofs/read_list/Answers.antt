@@ -8,7 +8,7 @@ pub returns-then-n-most : goal.returns-then-n-most
 returns-then-n-most c = (λ a b f g n l m. tos_differ a b _ c.if-n-most.true g n)
 
 pub returns : goal.returns
-returns c = 
+returns c =
     let args = c.args in
     let if1 = c.if-n-froms in
     let if2 = c.if-n-most in

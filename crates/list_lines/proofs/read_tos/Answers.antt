@@ -6,7 +6,7 @@ pub loop-at-init : goal.loop-at-init
 loop-at-init c = reading_start _ _ _
 
 pub returns-then-is_among : goal.returns-then-is_among
-returns-then-is_among c = 
+returns-then-is_among c =
     let loop' = c.loop-at in
     let loop-test = c.loop-at-test in
     let line-end = c.line_end-end in
@@ -15,7 +15,7 @@ returns-then-is_among c =
     to_again loop'.invariant loop-test.true line-end.ensures to-of.ensures c.in-Of.is is_among.ensures c.if-is_among.true
 
 pub loop-at-preserved : goal.loop-at-preserved
-loop-at-preserved c = 
+loop-at-preserved c =
     let loop' = c.loop-at in
     let loop-test = c.loop-at-test in
     let line-end = c.line_end-end in

@@ -3,7 +3,7 @@ use Rattle.unit_script.proofs.Script.{through_bad, through_next}
 use Rattle.unit_script.proofs.script_fault.Goals as goal
 
 pub returns-then-is_refused : goal.returns-then-is_refused
-returns-then-is_refused c = 
+returns-then-is_refused c =
     let a = c.args in
     let loop' = c.loop-at in
     let loop-test = c.loop-at-test in
@@ -14,7 +14,7 @@ returns-then-is_refused c =
     c.if-is_refused.true
 
 pub loop-at-preserved : goal.loop-at-preserved
-loop-at-preserved c = 
+loop-at-preserved c =
     let a = c.args in
     let loop' = c.loop-at in
     let loop-test = c.loop-at-test in
