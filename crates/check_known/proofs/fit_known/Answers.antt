@@ -17,7 +17,7 @@ returns-then-how-eq-TYPES c =
     let number = c.number-how in
     let if4 = c.if-how-eq-TYPES in
     known_types c.args.t.now c.args.k.now c.args.base
-    c.args.p c.args.a c.args.binds c.args.e (array_length c.args.e.line c.well_formed.1.1.1.1.1.1.1.0.1.1.1.0.1.0.1) c.requires.1
+    c.args.p c.args.a c.args.binds c.args.e c.well_formed.1.1.1.1.1.1.1.0.1.1.1.0.1.0.1 c.requires.1
     (slot_of.ensures if3.true) number.ensures.0 c.meet_kept.result if4.true c.meet_kept.ensures
 
 pub returns-then-how-eq-CLOSED : goal.returns-then-how-eq-CLOSED
@@ -26,7 +26,7 @@ returns-then-how-eq-CLOSED c =
     let if3 = c.if-at-k in
     let number = c.number-how in
     known_closed c.args.t.now c.args.k.now c.args.base
-    c.args.p c.args.a c.args.binds c.args.e (array_length c.args.e.line c.well_formed.1.1.1.1.1.1.1.0.1.1.1.0.1.0.1) c.requires.1
+    c.args.p c.args.a c.args.binds c.args.e c.well_formed.1.1.1.1.1.1.1.0.1.1.1.0.1.0.1 c.requires.1
     (slot_of.ensures if3.true) number.ensures.0 c.if-how-eq-CLOSED.true
 
 pub returns-then-how-eq-FAILS : goal.returns-then-how-eq-FAILS
@@ -36,5 +36,5 @@ returns-then-how-eq-FAILS c =
     let number = c.number-how in
     let if6 = c.if-how-eq-FAILS in
     known_fails c.args.t.now c.args.k.now
-    c.args.base c.args.p c.args.a c.args.binds c.args.e (array_length c.args.e.line c.well_formed.1.1.1.1.1.1.1.0.1.1.1.0.1.0.1) c.requires.1
+    c.args.base c.args.p c.args.a c.args.binds c.args.e c.well_formed.1.1.1.1.1.1.1.0.1.1.1.0.1.0.1 c.requires.1
     (slot_of.ensures if3.true) number.ensures.0 c.misfit.result if6.true c.misfit.ensures

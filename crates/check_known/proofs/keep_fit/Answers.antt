@@ -9,5 +9,5 @@ returns-then-how-lt-NO_ROOM c =
     let how-of = c.how_of-how in
     let store = c.store in
     let f = fit-known in let n = no-types in known_stored c.args.t.now
-    c.args.k.now _ c.args.base c.args.p c.args.a c.args.at f.result n.result (array_length f.result.line f.type_inv.1.1.1.0.1.0.1) c.requires.1
+    c.args.k.now _ c.args.base c.args.p c.args.a c.args.at f.result n.result f.type_inv.1.1.1.0.1.0.1 c.requires.1
     c.requires.2 store.ensures how-of.ensures n.ensures f.ensures
