@@ -5,13 +5,13 @@ use Rattle.check_known.proofs.Keeping.{known_closed, known_types, known_fails, l
 use Rattle.check_known.proofs.fit_kept.Goals as goal
 
 pub returns-then-how-eq-CLOSED : goal.returns-then-how-eq-CLOSED
-returns-then-how-eq-CLOSED c = 
+returns-then-how-eq-CLOSED c =
     let number = c.number-how in
     known_closed c.args.t.now c.args.k.now c.args.base c.args.p c.args.a c.args.binds c.args.e
     c.well_formed.1.1.1.1.1.1.1.0.1.1.1.0.1.0.1 c.requires.0 c.requires.1.place number.ensures.0 c.if-how-eq-CLOSED.true
 
 pub returns-then-how-eq-TYPES : goal.returns-then-how-eq-TYPES
-returns-then-how-eq-TYPES c = 
+returns-then-how-eq-TYPES c =
     let number = c.number-how in
     let if2 = c.if-how-eq-TYPES in
     known_types c.args.t.now c.args.k.now c.args.base c.args.p c.args.a c.args.binds
@@ -19,7 +19,7 @@ returns-then-how-eq-TYPES c =
     if2.true c.meet_kept.ensures
 
 pub returns : goal.returns
-returns c = 
+returns c =
     let number = c.number-how in
     let if1 = c.if-how-eq-CLOSED in
     let if2 = c.if-how-eq-TYPES in

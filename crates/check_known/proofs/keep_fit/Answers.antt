@@ -3,7 +3,7 @@ use Rattle.check_known.proofs.Keeping.{known_stored}
 use Rattle.check_known.proofs.keep_fit.Goals as goal
 
 pub returns-then-how-lt-NO_ROOM : goal.returns-then-how-lt-NO_ROOM
-returns-then-how-lt-NO_ROOM c = 
+returns-then-how-lt-NO_ROOM c =
     let no-types = c.no_types in
     let fit-known = c.fit_known-e in
     let how-of = c.how_of-how in
