@@ -1,7 +1,7 @@
 -- A reduction that stops at a ceiling has made no more applications than the reduction without ceilings makes to its end.
 use Prim.Native.Nat.{ℕ, zero, suc, ◌+◌, ◌≤◌}
 use native.Mathlib.Omega.{arith}
-use mathlib.Core.Path.{◌≡◌, refl, sym, ap, ◌∙◌}
+use mathlib.Core.Path.{◌≡◌, refl, ap, ◌∙◌}
 use mathlib.Core.Logic.{◌⊎◌, inl, inr}
 use mathlib.Core.Bool.{Bool, true, false}
 use mathlib.Core.Option.{Option, none, some}
@@ -9,10 +9,10 @@ use mathlib.Core.List.{List, [], ◌∷◌}
 use lib.ListN.{get_elem?}
 use Rattle.calculus.specs.Tools.{◌>>=◌, guard, select}
 use Rattle.calculus.specs.Trees.{Val, Let, Clause, Iso}
-use Rattle.calculus.specs.Slots.{Slots, empty}
+use Rattle.calculus.specs.Slots.{Slots}
 use Rattle.calculus.specs.Reduction.{Counted, given, ◌>>>◌, bind, build, wholly, Call, run_lets, run_clause, hits, only, apply, applied, measured, reduce_to}
 use Rattle.calculus.proofs.Basic.{none≢some, counted, some_then, some_bind, true_guard, bool_cases}
-use Rattle.calculus.proofs.Running.{given_some, some_given, LetRun, let_run, run_let, ClauseRun, clause_run, run_clause_lem, Application, application, run_application}
+use Rattle.calculus.proofs.Running.{given_some, some_given, LetRun, let_run, run_let, ClauseRun, clause_run, run_clause_lem, Application, application}
 
 -- the same, with the same number, or nothing, with no greater one
 pub data Before {A : Type 0} (r : Counted A) (a : A) (k : ℕ) : Type 0 where

@@ -12,7 +12,7 @@ use Rattle.calculus.specs.Tools.{◌>>=◌, guard}
 use Rattle.calculus.specs.Trees.{Pat, pvar, pinj, Val, vinj, vars, same_tag, pleaf, pnode, vleaf, vnode, same_leaf, same_node}
 use Rattle.calculus.specs.Slots.{Slots}
 use Rattle.calculus.specs.Reduction.{bind, build}
-use Rattle.calculus.specs.Paper.{Valuation, Matches, Matches.var, Matches.inj, Matches.leaf, Matches.node}
+use Rattle.calculus.specs.Paper.{Valuation, Matches}
 use Rattle.calculus.proofs.Basic.{bind_some, some_bind, none≢some, some_inj, not_some, guard_true, true_guard, same_tag_eq, same_tag_refl, each_append}
 use Rattle.calculus.proofs.Basic.{same_leaf_eq, same_leaf_refl, same_node_eq, same_node_refl}
 use Rattle.calculus.proofs.Slots.{get_of_put, put_of_get, put_length, slot, Contained, Filled, put_filled, filled_keeps}

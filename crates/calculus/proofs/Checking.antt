@@ -3,7 +3,7 @@
 use Prim.Native.Nat.{ℕ, ◌≤◌, zero, suc, ◌+◌}
 use mathlib.Core.Path.{◌≡◌, refl, sym, ap, ap₂, ◌∙◌, subst}
 use mathlib.Core.Logic.{◌↔◌, ◌⊎◌, inl, inr}
-use mathlib.Core.Bool.{Bool, true, false, not, false≢true, cond, ◌&&◌, ◌||◌}
+use mathlib.Core.Bool.{Bool, true, false, not, false≢true, cond, ◌||◌}
 use mathlib.Core.Option.{Option, none, some}
 use mathlib.Core.List.{List, [], ◌∷◌, Memᴰ}
 use Rattle.limits.specs.Limits.{max_tags}
@@ -14,7 +14,7 @@ use Rattle.calculus.specs.Refusals.{Refusal, clause_line, iso_line, variable, le
 use Rattle.calculus.specs.Clauses.{Sigs, variables_rule, let_shapes, typed, clause_fault, clash, apart, full_weight, lefts, rights, side_fault, at, iso_fault}
 use Rattle.calculus.specs.Clauses.{fault, sigs_of, zoned, clause_rule, structural, recursion_rule, at_breach, breach, recursion_fault, fault_from}
 use Rattle.calculus.specs.Paper.{Fits, Chain, Orth, left_right, right_left, under, fst, snd, Apart, Distinct, Covers, ClauseOk, IsoOk, FileOk, nil_cons}
-use Rattle.calculus.specs.Paper.{cons_nil, Zoned, ShowsThere, Structural, Recursion}
+use Rattle.calculus.specs.Paper.{cons_nil, Recursion}
 use Rattle.calculus.specs.Faulty.{ClauseFault, SideFault, overlap_left, overlap_right, gap_left, gap_right, FirstClause, FirstBreach, Breach, IsoFault, FirstIso}
 use Rattle.calculus.proofs.Basic.{none≢some, some_inj, or_else_cases, or_else_none, not_both, is_false, and_true, true_and, or_true, true_or_left}
 use Rattle.calculus.proofs.Basic.{true_or_right, none_failing, each_map, all_mem, mem_all, first_of_none, none_first_of, mem_index, same_node_eq}

@@ -5,14 +5,14 @@ use native.Mathlib.Nat.{one-mul, zero-mul, mul-le-mul, eq-or-lt_of_le, sub-add_c
 use native.Mathlib.Omega.{arith}
 use mathlib.Core.Path.{◌≡◌, refl, sym, ap, ap₂, ◌∙◌, subst}
 use mathlib.Core.Logic.{◌⊎◌, inl, inr, ◌↔◌}
-use mathlib.Core.Bool.{Bool, true, false, cond, ◌||◌, false≢true}
+use mathlib.Core.Bool.{Bool, true, false, cond, false≢true}
 use mathlib.Core.List.Memᴰ
 use mathlib.Core.List.{List, [], ◌∷◌, ◌++◌, map, map-map, Memᴰ}
 use lib.Dec.{eqb}
 use lib.Pow.{pow-add, pow_pos}
 use Rattle.limits.specs.Limits.{max_tags}
 use Rattle.calculus.specs.Tools.{total}
-use Rattle.calculus.specs.Trees.{Ty, Leaf, unit_leaf, Node, Pat, pvar, pleaf, pinj, pnode, Val, vleaf, vinj, vnode, tags, vars, same_tag, same_leaf, same_node}
+use Rattle.calculus.specs.Trees.{Ty, unit_leaf, Node, Pat, pvar, pleaf, pinj, pnode, Val, vleaf, vinj, vnode, tags, vars, same_tag, same_leaf, same_node}
 use Rattle.calculus.specs.Clauses.{full_weight, elem}
 use Rattle.calculus.specs.Paper.{Of, Orth, Apart, Distinct, Matched, fill, Covers}
 use Rattle.calculus.proofs.Basic.{not_both, is_false, or_true, true_or_left, true_or_right, eqb_eq, eq_eqb, not_eqb, each_map}
@@ -20,7 +20,7 @@ use Rattle.calculus.specs.Hits.{hit, hits}
 use Rattle.calculus.specs.Shapes.{Shape}
 use Rattle.calculus.proofs.Basic.{same_tag_eq, eq_same_tag, same_leaf_eq, eq_same_leaf, same_node_eq, eq_same_node, distinct_left, distinct_right, distinct_across}
 use Rattle.calculus.proofs.Orthogonal.{Alike, matched_alike, orth_alike}
-use Rattle.calculus.proofs.Matrix.{tags_all, Shapes, Ofs, Alikes, Orths, Row, weights, ApartRows, Matrix, Full, Short, Outcome, dichotomy}
+use Rattle.calculus.proofs.Matrix.{tags_all, Shapes, Ofs, Alikes, Orths, Row, weights, ApartRows, Matrix, Outcome, dichotomy}
 
 -- ---- the shape of a pattern
 

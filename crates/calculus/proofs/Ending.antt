@@ -5,18 +5,18 @@ use native.Mathlib.Nat.{not-suc-le-zero, le_of_suc-le-suc, lt_of_lt_of_le, le_re
 use native.Mathlib.Omega.{arith}
 use mathlib.Core.Path.{◌≡◌, refl, sym, ap, ◌∙◌, subst}
 use mathlib.Core.Logic.{◌⊎◌, inl, inr}
-use mathlib.Core.Bool.{Bool, true, true≢false}
-use mathlib.Core.Option.{Option, none, some}
+use mathlib.Core.Bool.{true, true≢false}
+use mathlib.Core.Option.{Option, some}
 use mathlib.Core.List.{List, [], ◌∷◌, Memᴰ}
 use lib.ListN.{get_elem?}
 use Rattle.calculus.specs.Tools.{◌>>=◌, guard}
-use Rattle.calculus.specs.Trees.{Ty, tlist, tprod, Leaf, Tag, Node, pair_node, element_node, Pat, pvar, pleaf, pinj, pnode, Val, vleaf, vinj, vnode, Let, Clause, Iso, same_node, vars}
+use Rattle.calculus.specs.Trees.{Ty, tlist, tprod, pair_node, element_node, Pat, pvar, pnode, Val, vleaf, vinj, vnode, Let, Clause, Iso, same_node, vars}
 use Rattle.calculus.specs.Slots.{Slots, put, empty}
-use Rattle.calculus.specs.Reduction.{bind, build, run_lets, run_clause, apply, reduce_to}
+use Rattle.calculus.specs.Reduction.{bind, build, run_lets, run_clause, reduce_to}
 use Rattle.calculus.specs.Clauses.{Sigs, sigs_of}
 use Rattle.calculus.specs.Paper.{Of, Chain, Product, Quiet, NeverCalls, Zoned, OnTail, TailCall, Shows, ShowsThere, Structural, MeetsRule, Reaches}
-use Rattle.calculus.proofs.Basic.{bind_some, none≢some, some_inj, counted, guard_true, same_node_eq, index_mem, index_of_map}
-use Rattle.calculus.proofs.Slots.{slot, put_filled, get_of_put, put_of_get}
+use Rattle.calculus.proofs.Basic.{bind_some, none≢some, some_inj, guard_true, same_node_eq, index_mem, index_of_map}
+use Rattle.calculus.proofs.Slots.{slot, put_filled, put_of_get}
 use Rattle.calculus.proofs.Binding.{bind_found, build_found, gives_var}
 use Rattle.calculus.proofs.Running.{run_let, run_clause_lem, some_given, run_application}
 use Rattle.calculus.proofs.Joins.{EnvOf, build_total, build_all, bind_total, lhs_total}

@@ -6,7 +6,6 @@ use mathlib.Core.Logic.{◌↔◌}
 use mathlib.Core.Option.{some}
 use mathlib.Core.List.Memᴰ
 use mathlib.Core.List.{List, [], ◌∷◌, map, reverse, reverse-cons, reverse-reverse, map-map, Memᴰ}
-use lib.ListN.{get_elem?}
 use Rattle.calculus.specs.Tools.{is_some, select}
 use Rattle.calculus.specs.Trees.{Pat, Val, Let, Clause, Iso, invert_let, invert_clause, invert}
 use Rattle.calculus.specs.Slots.{Slots, empty}

@@ -9,8 +9,6 @@ use Rattle.calculus.proofs.Inverse.{lefts_invert, rights_invert}
 use Rattle.calculus.proofs.Variables.{variables_invert, shapes_invert}
 use Rattle.calculus.proofs.Typing.{swap_sigs, linear_invert}
 use Prim.Native.Nat.{ℕ}
-use mathlib.Core.Option.{some}
-use lib.ListN.{get_elem?}
 use Rattle.calculus.proofs.Recursion.{recursion_invert}
 
 pub sigs_invert : (os : List Iso) → sigs_of (map invert os) ≡ swap_sigs (sigs_of os)

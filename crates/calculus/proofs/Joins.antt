@@ -7,7 +7,7 @@ use mathlib.Core.List.{[], ◌∷◌}
 use lib.ListN.{length, replicate}
 use Rattle.limits.specs.Limits.{variables}
 use Rattle.calculus.specs.Tools.{◌>>=◌}
-use Rattle.calculus.specs.Trees.{Ty, tsum, tprod, Tag, Pat, pinj, Val, vinj, part, tlist, Leaf, unit_leaf, empty_leaf, Node, pair_node, element_node, pleaf, pnode, vleaf, vnode}
+use Rattle.calculus.specs.Trees.{Ty, tsum, Tag, Pat, pinj, Val, vinj, part, Leaf, unit_leaf, empty_leaf, Node, pair_node, element_node, pleaf, pnode, vleaf, vnode}
 use Rattle.calculus.specs.Slots.{Slots, put, get, empty, all_empty}
 use Rattle.calculus.specs.Reduction.{bind, build}
 use Rattle.calculus.specs.Paper.{Of, Join, Fits, Product, Matched}

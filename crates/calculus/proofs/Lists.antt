@@ -13,7 +13,7 @@ use Rattle.calculus.specs.Tools.{all}
 use Rattle.calculus.specs.Trees.{Ty, tunit, tlist, tsum, tprod, Val, Let, Clause, Iso, invert_let, invert_clause, invert}
 use Rattle.calculus.specs.Paper.{Of, Zoned, NeverCalls, Recursion, FileOk, Reaches, Stops}
 use Rattle.calculus.specs.Lists.{list_free, free_iso, free_from, free_isos, is_free, Finite, ListFree}
-use Rattle.calculus.proofs.Basic.{none≢some, some_inj, and_true, true_and, not_both, all_mem, mem_all, index_mem}
+use Rattle.calculus.proofs.Basic.{none≢some, some_inj, and_true, true_and, not_both, all_mem, mem_all}
 use Rattle.calculus.proofs.Totality.{Sound, let_given, apply_keeps}
 use Rattle.calculus.proofs.Ending.{strictly}
 

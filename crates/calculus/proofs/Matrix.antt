@@ -3,11 +3,11 @@
 -- that no row matches. By induction on the constructors in the rows, not on types: a column of variables is dropped; otherwise the
 -- first column is opened, for each constructor that its type has.
 use Prim.Native.Nat.{ℕ, zero, suc, ◌+◌, ◌*◌, ◌^◌, ◌<◌, ◌≤◌}
-use native.Mathlib.Nat.{not-suc-le-zero, le_of_suc-le-suc, le_refl, eq-or-lt_of_le}
+use native.Mathlib.Nat.{not-suc-le-zero, le_of_suc-le-suc, le_refl}
 use native.Mathlib.Omega.{arith}
 use mathlib.Core.Path.{◌≡◌, refl, sym, ap, ap₂, ◌∙◌, subst, subst₂}
 use mathlib.Core.Logic.{◌⊎◌, inl, inr}
-use mathlib.Core.Bool.{Bool, true, false, false≢true}
+use mathlib.Core.Bool.{false≢true}
 use mathlib.Core.Option.{Option, none, some}
 use mathlib.Core.List.Memᴰ
 use mathlib.Core.List.{List, [], ◌∷◌, map, Memᴰ}
@@ -19,7 +19,7 @@ use Rattle.calculus.specs.Slots.{Slots}
 use Rattle.calculus.specs.Paper.{Of, Fits, Orth}
 use Rattle.calculus.specs.Shapes.{Shape}
 use Rattle.calculus.proofs.Basic.{bind_some, some_bind, none≢some, some_inj, guard_true, true_guard, same_leaf_eq, eq_same_leaf, same_tag_eq, eq_same_tag, same_node_eq, eq_same_node}
-use Rattle.calculus.proofs.Orthogonal.{Alike, orth_alike}
+use Rattle.calculus.proofs.Orthogonal.{Alike}
 
 -- ---- a pattern has the shape of a type
 

@@ -3,7 +3,7 @@ use Prim.Native.Nat.{ℕ}
 use mathlib.Core.Path.{◌≡◌, refl, sym, ap₂, subst}
 use mathlib.Core.Bool.{true≢false, ◌||◌}
 use mathlib.Core.List.{List, ◌∷◌, Memᴰ}
-use Rattle.calculus.specs.Trees.{Tag, left, right, Leaf, unit_leaf, empty_leaf, Node, pair_node, element_node, Pat, pleaf, pvar, pinj, pnode, Val, vleaf, vinj, vnode}
+use Rattle.calculus.specs.Trees.{Tag, left, right, Leaf, Node, pair_node, element_node, Pat, pleaf, pvar, pinj, pnode, Val, vleaf, vinj, vnode}
 use Rattle.calculus.specs.Paper.{Orth, Apart, fill, Matched}
 use Rattle.calculus.specs.Clauses.{clash}
 

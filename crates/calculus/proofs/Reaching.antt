@@ -2,18 +2,18 @@
 -- reduction, without ceilings and with calls nested deep enough, gives it, with the same number of applications. Nothing need end.
 use Prim.Native.Nat.{ℕ, zero, suc, ◌+◌, ◌≤◌}
 use native.Mathlib.Omega.{arith}
-use mathlib.Core.Path.{◌≡◌, refl, sym, ap, ap₂, ◌∙◌, subst}
+use mathlib.Core.Path.{◌≡◌, refl, sym, ap, ◌∙◌, subst}
 use mathlib.Core.Logic.{◌↔◌}
-use mathlib.Core.Bool.{Bool, true}
-use mathlib.Core.Option.{Option, none, some}
+use mathlib.Core.Bool.{true}
+use mathlib.Core.Option.{Option, some}
 use mathlib.Core.List.{List, [], ◌∷◌, Memᴰ}
 use lib.ListN.{get_elem?}
-use Rattle.calculus.specs.Trees.{Ty, Pat, Val, Let, Clause, Iso, vars}
+use Rattle.calculus.specs.Trees.{Ty, Pat, Val, Let, Iso, vars}
 use Rattle.calculus.specs.Slots.{Slots, empty, all_empty}
-use Rattle.calculus.specs.Reduction.{bind, build, run_lets, run_clause, reduce_to, reduce_free}
-use Rattle.calculus.specs.Clauses.{Sigs, sigs_of}
+use Rattle.calculus.specs.Reduction.{build, run_lets, run_clause, reduce_to}
+use Rattle.calculus.specs.Clauses.{sigs_of}
 use Rattle.calculus.specs.Paper.{Of, Chain, Product, Valuation, Matches}
-use Rattle.calculus.specs.Terms.{Term, eapp, elet, pat_term, val_term, chain, look, without, replace, Step, iso_app, let_e, in_app, in_let, Steps, still, more}
+use Rattle.calculus.specs.Terms.{Term, eapp, elet, val_term, chain, look, without, replace, Step, iso_app, let_e, in_app, in_let, Steps, still, more}
 use Rattle.calculus.proofs.Basic.{some_inj, counted, index_mem, index_map, index_of_map}
 use Rattle.calculus.proofs.Slots.{slot, Contained}
 use Rattle.calculus.proofs.Binding.{bind_found, build_found}

@@ -3,14 +3,14 @@ use Prim.Native.Nat.{ℕ}
 use mathlib.Core.Path.{◌≡◌, refl, sym, ap, ◌∙◌, subst}
 use mathlib.Core.Logic.{◌⊎◌, inl, inr, ◌↔◌}
 use mathlib.Core.Bool.{Bool, true, false, cond, not, ◌&&◌, ◌||◌, false≢true}
-use mathlib.Core.List.{List, [], ◌∷◌, map, reverse, Memᴰ}
+use mathlib.Core.List.{List, [], ◌∷◌, Memᴰ}
 use lib.Dec.{eqb}
 use Rattle.calculus.specs.Tools.{all}
 use Rattle.calculus.specs.Trees.{Ty, tunit, tlist, tsum, tprod, unit_leaf, empty_leaf, pair_node, element_node, Pat, pvar, pleaf, pinj, pnode, Let, Clause}
 use Rattle.calculus.specs.Trees.{Iso, vars, invert_let, invert_clause, invert}
-use Rattle.calculus.specs.Clauses.{calls, no_calls, calls_itself, is_list, zoned, shown, is_var, on_tail, elem, tail_calls, tail_rule, shown_rule, clause_rule, structural, recursion_rule}
+use Rattle.calculus.specs.Clauses.{calls, no_calls, calls_itself, is_list, zoned, shown, on_tail, elem, tail_calls, tail_rule, shown_rule, clause_rule, structural, recursion_rule}
 use Rattle.calculus.specs.Paper.{Quiet, NeverCalls, Zoned, OnTail, TailCall, Shows, ShowsThere, Structural, Recursion}
-use Rattle.calculus.proofs.Basic.{bool_cases, not_both, is_false, not_true, and_true, true_and, or_true, true_or_left, true_or_right, eqb_eq, eq_eqb}
+use Rattle.calculus.proofs.Basic.{not_both, is_false, not_true, and_true, true_and, or_true, true_or_left, true_or_right, eqb_eq, eq_eqb}
 use Rattle.calculus.proofs.Basic.{eqb_false, not_eqb, each_nil, each_cons, each_map, all_mem, mem_all}
 use Rattle.calculus.proofs.Variables.{invert_lets}
 use Rattle.calculus.proofs.Covering.{mem_elem, elem_mem}

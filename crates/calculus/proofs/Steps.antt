@@ -10,9 +10,9 @@ use lib.ListN.{get_elem?}
 use Rattle.calculus.specs.Tools.{select}
 use Rattle.calculus.specs.Trees.{Tag, Pat, Val, vinj, Let, Clause, Iso, vars, Node, vleaf, vnode}
 use Rattle.calculus.specs.Slots.{Slots, empty}
-use Rattle.calculus.specs.Reduction.{build, Call, run_lets, run_clause, hits, only, apply, reduce_to}
+use Rattle.calculus.specs.Reduction.{build, Call, run_lets, run_clause, hits, only, reduce_to}
 use Rattle.calculus.specs.Clauses.{lefts}
-use Rattle.calculus.specs.Paper.{Valuation, Matches, Matches.var, Matches.inj, Orth, Apart, Matches.leaf, Matches.node}
+use Rattle.calculus.specs.Paper.{Valuation, Matches, Orth, Apart}
 use Rattle.calculus.specs.Terms.{Term, einj, eapp, elet, pat_term, val_term, chain, look, without, replace, Step, iso_app, let_e, in_inj, in_fst, in_snd, in_app, in_let, Steps, still, more, enode}
 use Rattle.calculus.proofs.Basic.{none≢some, some_inj, index_mem, counted}
 use Rattle.calculus.proofs.Slots.{slot, Contained}

@@ -1,20 +1,20 @@
 -- In a file that satisfies the judgements nothing but a ceiling stops a reduction: where it gives nothing, it has met what is too large, and
 -- its number is the applications made until then.
 use Prim.Native.Nat.{ℕ, zero, suc, ◌+◌}
-use native.Mathlib.Nat.{zero-add, add-zero}
+use native.Mathlib.Nat.{zero-add}
 use native.Mathlib.Omega.{arith}
 use mathlib.Core.Path.{◌≡◌, refl, sym, ap, ◌∙◌, subst}
 use mathlib.Core.Bool.{Bool, true, false}
 use mathlib.Core.Option.{Option, none, some}
-use mathlib.Core.List.{List, [], ◌∷◌, ◌++◌, append-nil, Memᴰ}
+use mathlib.Core.List.{List, [], ◌∷◌, ◌++◌, Memᴰ}
 use lib.ListN.{get_elem?}
-use Rattle.calculus.specs.Tools.{◌>>=◌, guard, is_some, select}
+use Rattle.calculus.specs.Tools.{◌>>=◌, guard, is_some}
 use Rattle.calculus.specs.Trees.{Ty, Pat, Val, Let, Clause, Iso}
 use Rattle.calculus.specs.Slots.{Slots, empty}
-use Rattle.calculus.specs.Reduction.{bind, build, Counted, given, going, ◌>>>◌, Call, run_lets, run_clause, wholly, hits, only, apply, measured, applied, reduce_to}
+use Rattle.calculus.specs.Reduction.{bind, build, Counted, given, going, ◌>>>◌, Call, run_lets, run_clause, wholly, apply, measured, applied, reduce_to}
 use Rattle.calculus.specs.Clauses.{Sigs, sigs_of, lefts}
 use Rattle.calculus.specs.Paper.{Of, Chain, Linear, Product, ExactlyOne, Apart, Stops}
-use Rattle.calculus.proofs.Basic.{none≢some, some_inj, counted, some_bind, then_some, some_then, true_guard, index_mem, index_map, index_of_map}
+use Rattle.calculus.proofs.Basic.{none≢some, some_inj, counted, some_bind, some_then, true_guard, index_mem, index_of_map}
 use Rattle.calculus.proofs.Joins.{EnvOf, BoundTo, build_total, build_all, bind_total, lhs_total}
 use Rattle.calculus.proofs.Running.{some_given, let_run, run_let, run_clause_lem, only_hit}
 use Rattle.calculus.proofs.Totality.{Sound, sig, Keeps, chain_first, chain_last, exactly_one, one_mem, takes_one, reduction_keeps}

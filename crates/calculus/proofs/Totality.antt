@@ -1,26 +1,24 @@
 -- In a file that satisfies the judgements: what an application gives is a closed value of the other type, exactly one clause matches at each
 -- application on the way, and an iso that meets the rule of recursion, with all it reaches, gives something to every closed value.
-use Prim.Native.Nat.{ℕ, zero, suc, ◌+◌, ◌<◌, ◌≤◌}
-use native.Mathlib.Nat.{not-suc-le-zero, le_of_suc-le-suc, lt_of_lt_of_le, le_refl, eq-or-lt_of_le}
+use Prim.Native.Nat.{ℕ, zero, suc, ◌≤◌}
+use native.Mathlib.Nat.{not-suc-le-zero, le_of_suc-le-suc}
 use mathlib.Core.Path.{◌≡◌, refl, sym, ap, ◌∙◌, subst}
 use mathlib.Core.Bool.{true, Bool}
-use mathlib.Core.Option.{some, Option}
+use mathlib.Core.Option.{some}
 use mathlib.Core.List.Memᴰ
 use mathlib.Core.List.{List, [], ◌∷◌, ◌++◌, map, append-nil, Memᴰ}
-use lib.ListN.{get_elem?, length}
+use lib.ListN.{get_elem?}
 use Rattle.calculus.specs.Tools.{is_some, select}
-use Rattle.calculus.specs.Trees.{Ty, Pat, Val, Let, Clause, Iso, vars}
+use Rattle.calculus.specs.Trees.{Ty, Pat, Val, Let, Clause, Iso}
 use Rattle.calculus.specs.Slots.{Slots, empty}
-use Rattle.calculus.specs.Reduction.{bind, build, Call, run_lets, run_clause, hits, only, apply, reduce_to, reduce_free}
+use Rattle.calculus.specs.Reduction.{bind, build, Call, run_lets, run_clause, hits, only, apply, reduce_to}
 use Rattle.calculus.specs.Clauses.{Sigs, sigs_of, lefts}
 use Rattle.calculus.specs.Paper.{Of, Join, Fits, Chain, Linear, Product, LetProducts, Apart, Matched, Covers, ExactlyOne, OnWay}
-use Rattle.calculus.proofs.Basic.{some_bind, none≢some, some_inj, index_mem, index_below, index_of_map, counted}
+use Rattle.calculus.proofs.Basic.{none≢some, some_inj, index_mem, index_of_map, counted}
 use Rattle.calculus.proofs.Orthogonal.{orth_apart}
 use Rattle.calculus.proofs.Matching.{bind_matched}
 use Rattle.calculus.proofs.Running.{let_run, run_let, clause_run, run_clause_lem, only_hit, hit_only, given_some, some_given, application, run_application}
 use Rattle.calculus.proofs.Joins.{EnvOf, build_total, build_all, bind_total, lhs_total}
-use native.Mathlib.Omega.{arith}
-use mathlib.Core.Logic.{◌⊎◌, inl, inr}
 use Rattle.calculus.proofs.Inverse.{free_unfold}
 
 -- what an accepted file guarantees

@@ -9,7 +9,7 @@ use mathlib.Core.List.{List, [], ◌∷◌, ◌++◌, map, reverse, reverse-cons
 use lib.ListN.{get_elem?, length, replicate}
 use Rattle.limits.specs.Limits.{variables}
 use Rattle.calculus.specs.Tools.{◌>>=◌, guard}
-use Rattle.calculus.specs.Trees.{Ty, tunit, tsum, tprod, Pat, pvar, pinj, Let, Clause, same_type, part, invert_let, invert_clause, tlist, Leaf, unit_leaf}
+use Rattle.calculus.specs.Trees.{Ty, tunit, tsum, tprod, Pat, pvar, pinj, Let, Clause, same_type, invert_let, invert_clause, tlist, Leaf, unit_leaf}
 use Rattle.calculus.specs.Trees.{empty_leaf, Tag, Node, pair_node, element_node, pleaf, pnode, leaf_fits, beneath, parts}
 use Rattle.calculus.specs.Slots.{Slots, put, get, empty, all_empty}
 use Rattle.calculus.specs.Clauses.{learn, spend, Sigs, type_lets, type_clause, used, typed}

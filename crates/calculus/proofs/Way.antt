@@ -9,7 +9,7 @@ use mathlib.Core.List.{List, [], ◌∷◌, ◌++◌, Memᴰ}
 use lib.ListN.{get_elem?}
 use Rattle.calculus.specs.Trees.{Ty, Pat, Val, vleaf, vinj, vnode, Let, Iso, vars}
 use Rattle.calculus.specs.Slots.{Slots, empty}
-use Rattle.calculus.specs.Reduction.{build, run_lets, reduce_to, reduce_free}
+use Rattle.calculus.specs.Reduction.{build, run_lets, reduce_to}
 use Rattle.calculus.specs.Clauses.{sigs_of}
 use Rattle.calculus.specs.Paper.{Of, Chain, Product, Valuation, Matches, OnWay, itself, below}
 use Rattle.calculus.specs.Terms.{Term, evar, eleaf, einj, enode, eapp, elet, val_term, chain, look, without, replace, Step, iso_app, let_e}

@@ -68,12 +68,12 @@ abbrev pub line_at : List ℕ → ℕ → ℕ
 line_at k at = get_or k (at + 34) 0 + get_or k (at + 35) 0 * 256
 
 -- the T line
-abbrev pub field_own : List ℕ → ℕ → ℕ
-field_own k at = get_or k (at + 32) 0
+abbrev pub own_at : List ℕ → ℕ → ℕ
+own_at k at = get_or k (at + 32) 0
 
 -- what is kept is right
 pub record Known (t : List ℕ) (base : ℕ) (k : List ℕ) : Type 0 where
-  pub kept : (s : ℕ) → s * 36 + 35 < length k → Kept t k (s * 36) (found (pattern_of t base (line_at k (s * 36))) (type_of t (field_own k (s * 36))))
+  pub kept : (s : ℕ) → s * 36 + 35 < length k → Kept t k (s * 36) (found (pattern_of t base (line_at k (s * 36))) (type_of t (own_at k (s * 36))))
 
 -- a place at which a slot begins
 pub record Slot (k : List ℕ) (at : ℕ) : Type 0 where
@@ -87,7 +87,7 @@ pub record Place (k : List ℕ) (p a at : ℕ) : Type 0 where
   pub slot : ℕ
   pub begins : at ≡ slot * 36
   pub line : (get_or k (at + 33) 0 ≡ 0 → ⊥) → line_at k at ≡ p
-  pub own : (get_or k (at + 33) 0 ≡ 0 → ⊥) → field_own k at ≡ a
+  pub own : (get_or k (at + 33) 0 ≡ 0 → ⊥) → own_at k at ≡ a
 
 -- a place at which it is kept
 pub record Full (k : List ℕ) (p a at : ℕ) : Type 0 where
@@ -115,7 +115,7 @@ pub record Stored (k' k : List ℕ) (at : ℕ) (line : List ℕ) (p a h : ℕ) :
   pub before : (m : ℕ) → m < at → get_or k' m 0 ≡ get_or k m 0
   pub after : (m : ℕ) → at + 36 ≤ m → get_or k' m 0 ≡ get_or k m 0
   pub entries : (i : ℕ) → i < variables → get_or line i 0 < 256 → get_or k' (at + i) 0 ≡ get_or line i 0
-  pub own : field_own k' at ≡ a
+  pub own : own_at k' at ≡ a
   pub how : get_or k' (at + 33) 0 ≡ h
   pub row : line_at k' at ≡ p
 

@@ -97,6 +97,10 @@ module _ (t s : List ℕ) (top : ℕ) (h : top < length s) where
       (refl, ap (map (type_of t)) (pushed s top a b h p) ∙ ap₂ (λ x y. x ∷ (y ∷ types_from t s (suc top))) f g ∙ after_next m)
   two a b _ m Begins.elements K.elements p g f =
       (refl, ap (map (type_of t)) (pushed s top a b h p) ∙ ap₂ (λ x y. x ∷ (y ∷ types_from t s (suc top))) f g ∙ after_next m)
+  two a b _ _ units x13 p g f = elim x13 [ ]
+  two a b _ _ empties x14 p g f = elim x14 [ ]
+  two a b _ _ lefts x15 p g f = elim x15 [ ]
+  two a b _ _ rights x16 p g f = elim x16 [ ]
 
   one_left : (a k : ℕ) (m : Move) → Begins k m → k ≡ 2 → type_of t a ≡ part_of left (type_of t (get_or s top 0)) → Stepped m (set s top a) top
   one_left a _ m Begins.units e f = absurd (omega arith)
@@ -229,11 +233,19 @@ module _ (n : ℕ) (l r : Pat) (rest : List Pat) where
   goes_two : (k : ℕ) {o : ℕ} {m : Move} → Begins o m → K.Joins o → k ≡ o → after m (pattern_node k n l r ∷ rest) ≡ some (l ∷ (r ∷ rest))
   goes_two k Begins.pairs K.pairs e = ap (λ j. after (node pair_node) (pattern_node j n l r ∷ rest)) e
   goes_two k Begins.elements K.elements e = ap (λ j. after (node element_node) (pattern_node j n l r ∷ rest)) e
+  goes_two k units x7 e = elim x7 [ ]
+  goes_two k empties x8 e = elim x8 [ ]
+  goes_two k lefts x9 e = elim x9 [ ]
+  goes_two k rights x10 e = elim x10 [ ]
 
   -- or a variable
   var_two : (k : ℕ) {o : ℕ} {m : Move} → Begins o m → K.Joins o → k ≡ 1 → after m (pattern_node k n l r ∷ rest) ≡ some (pattern_node k n l r ∷ (pattern_node k n l r ∷ rest))
   var_two k {m = m} Begins.pairs K.pairs e = ap (λ j. after m (pattern_node j n l r ∷ rest)) e ∙ ap (λ j. some (pattern_node j n l r ∷ (pattern_node j n l r ∷ rest))) (sym e)
   var_two k {m = m} Begins.elements K.elements e = ap (λ j. after m (pattern_node j n l r ∷ rest)) e ∙ ap (λ j. some (pattern_node j n l r ∷ (pattern_node j n l r ∷ rest))) (sym e)
+  var_two k units x7 e = elim x7 [ ]
+  var_two k empties x8 e = elim x8 [ ]
+  var_two k lefts x9 e = elim x9 [ ]
+  var_two k rights x10 e = elim x10 [ ]
 
 module _ (t : List ℕ) (base : ℕ) (s : List ℕ) (top c : ℕ) (h : top < length s) {k o : ℕ}
     (same : k ≡ plain_kind (cell_of t (base + get_or s top 0) 1)) (is : o ≡ kind_on c) where
@@ -283,6 +295,10 @@ module _ (t : List ℕ) (base : ℕ) (s : List ℕ) (top c : ℕ) (h : top < len
   joins_top : {n : ℕ} {m : Move} → Begins n m → K.Joins n → top_after m top ≡ top - 1
   joins_top Begins.pairs K.pairs = refl
   joins_top Begins.elements K.elements = refl
+  joins_top units x4 = elim x4 [ ]
+  joins_top empties x5 = elim x5 [ ]
+  joins_top lefts x6 = elim x6 [ ]
+  joins_top rights x7 = elim x7 [ ]
 
   pub row_var_two : k ≡ 1 → K.Joins o → 0 < top → RowStepped t base c s (set s (top - 1) p) top true
   row_var_two e j z =

@@ -2,7 +2,7 @@
 use Prim.Native.Nat.{ℕ, zero, suc, ◌+◌, ◌-◌, ◌≤◌, ◌<◌}
 use native.Mathlib.Nat.{not-suc-le-zero}
 use native.Mathlib.Omega.{arith}
-use mathlib.Core.Path.{◌≡◌, refl, sym, ap, ap₂, ◌∙◌, subst}
+use mathlib.Core.Path.{◌≡◌, refl, sym, ap, ◌∙◌, subst}
 use mathlib.Core.Logic.{◌⊎◌, inl, inr, ◌↔◌}
 use mathlib.Core.Bool.{Bool, true, false, cond, ◌||◌, false≢true, true≢false}
 use mathlib.Core.Option.{Option, none, some}
@@ -12,16 +12,16 @@ use lib.ListN.{length, get_elem?, length-append}
 use Rattle.calculus.specs.Tools.{all}
 use Rattle.calculus.specs.Refusals.{Kind, type_line, pattern_line, iso_line, clause_line, let_line, Refusal, idle}
 use Rattle.format.specs.Lines.{Row}
-use Rattle.format.specs.Judge.{Seen, start, stage, type_tree, pattern_tree, type_names_of, pattern_names_of, judge, after_kind, after, after_all}
+use Rattle.format.specs.Judge.{Seen, start, stage, type_tree, pattern_tree, type_names_of, pattern_names_of, after_kind, after, after_all}
 use Rattle.format.specs.Kinds.{TypeKind, unit_type, sum_type, product_type, list_type, no_type, type_kind, PatternKind, unit_pattern, variable_pattern}
 use Rattle.format.specs.Kinds.{left_pattern, right_pattern, pair_pattern, empty_pattern, element_pattern, no_pattern, pattern_kind}
-use Rattle.format.specs.Unfold.{exchange, turn_from, turn_rows}
+use Rattle.format.specs.Unfold.{turn_from, turn_rows}
 use Rattle.format.specs.Idle.{type_lines, type_reach, pattern_reach, reach, is_root, Reached, NoneIdle, FirstIdle, member, Reach, reach_row, reach_from, idle_fault}
 use Rattle.calculus.proofs.Basic.{none≢some, some_inj, some_pair, or_true, true_or_left, true_or_right, not_both, eqb_eq, eq_eqb, leb_le, ltb_lt, true_and}
 use Rattle.calculus.proofs.Basic.{and_true, all_append, each_nil, each_cons, index_below, le_or_lt}
 use Rattle.format.proofs.Naming.{both_named}
-use Rattle.format.proofs.Passing.{Passes, done, next, Fit, judge_fit, type_fit, iso_fit, clause_fit, let_fit}
-use Rattle.format.proofs.Turning.{AllLets, held_lets, after_turn}
+use Rattle.format.proofs.Passing.{Passes, done, next, Fit, judge_fit, iso_fit, clause_fit, let_fit}
+use Rattle.format.proofs.Turning.{after_turn}
 
 -- ---- members
 

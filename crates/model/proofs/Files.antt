@@ -18,7 +18,7 @@ use Rattle.calculus.specs.Refusals.{overlap, gap, no_iso, no_value, spent, too_m
 use Rattle.format.specs.Lines.{Row, lines, without_returns, print, print_rows}
 use Rattle.format.specs.Judge.{start, Reading, rows, faulty, read_from}
 use Rattle.format.specs.Unfold.{isos_of, turn_rows}
-use Rattle.format.specs.Idle.{NoneIdle, FirstIdle, idle_fault}
+use Rattle.format.specs.Idle.{idle_fault}
 use Rattle.format.specs.Code.{numbered}
 use Rattle.calculus.specs.Clauses.{fault, sigs_of}
 use Rattle.model.specs.Services.{Verdict, accepted, refused, judged, file_tests, after_reading, over, verdict, answer_of, refusal_by, turned, turned_of}

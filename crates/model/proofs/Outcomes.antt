@@ -6,7 +6,7 @@ use mathlib.Core.Bool.{Bool, true, false, ◌||◌, false≢true}
 use mathlib.Core.List.{List}
 use lib.Dec.{ltb}
 use lib.ListN.{length}
-use Rattle.calculus.specs.Refusals.{Refusal, number}
+use Rattle.calculus.specs.Refusals.{Refusal}
 use Rattle.format.specs.Lines.{Row, print_rows}
 use Rattle.format.specs.Unfold.{turn_rows}
 use Rattle.model.specs.Services.{Verdict, accepted, refused, verdict, unless, short, table_after, work_after, answer_of, Answer, check_by, Outcome, gives}

@@ -29,7 +29,7 @@ use Rattle.calculus.proofs.Letters.{value_letters, letters_value, letters_inject
 use Rattle.calculus.proofs.Inverse.{reduce_inverse, reduce_unfold, reduce_to_inverse}
 use Rattle.calculus.proofs.Recursion.{never_invert}
 use Rattle.calculus.proofs.Totality.{Sound, sig, reduction_keeps, on_way}
-use Rattle.calculus.proofs.Ending.{Gives, Answers, ends}
+use Rattle.calculus.proofs.Ending.{ends}
 use Rattle.calculus.proofs.Stopping.{progress, stops_none}
 use Rattle.calculus.proofs.Steps.{forward, unique}
 use Rattle.format.proofs.Passing.{Passes, formed}

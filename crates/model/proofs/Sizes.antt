@@ -15,7 +15,7 @@ use Rattle.format.specs.Judge.{Seen, start, type_tree, after_kind, after_all}
 use Rattle.format.specs.Unfold.{place, tail_from, isos_of}
 use Rattle.calculus.specs.Letters.{letters}
 use Rattle.model.specs.Services.{accepted, verdict, Ran, answer_of_run, run_rows, toward, run_of}
-use Rattle.calculus.specs.Paper.{Of, Stops}
+use Rattle.calculus.specs.Paper.{Of}
 use Rattle.calculus.specs.Lists.{is_free, Finite, ListFree}
 use Rattle.calculus.specs.Reduction.{small, reduce}
 use Rattle.model.specs.Answers.{Halts, RunIs, absent, strange, passed, large, done}

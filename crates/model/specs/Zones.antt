@@ -1,5 +1,5 @@
 -- Examples of request 14. Each holds by computation.
-use Rattle.std.specs.Prelude.{ℕ, ◌≡◌, refl, true, false, cond, List, [], ◌∷◌, ◌++◌, leb, replicate}
+use Rattle.std.specs.Prelude.{ℕ, ◌≡◌, refl, true, false, cond, List, ◌++◌, leb, replicate}
 use Rattle.calculus.specs.Tools.{concat}
 use Rattle.calculus.specs.Refusals.{spent, too_large}
 use Rattle.model.specs.Services.{fails, run}

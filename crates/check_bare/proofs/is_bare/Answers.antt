@@ -3,7 +3,7 @@ use Rattle.check_bare.proofs.Marking.{bare_by}
 use Rattle.check_bare.proofs.is_bare.Goals as goal
 
 pub returns-then-m-gt0 : goal.returns-then-m-gt0
-returns-then-m-gt0 c = 
+returns-then-m-gt0 c =
     let args = c.args in
     let if1 = c.if-base-g in
     let if2 = c.if-a-base in

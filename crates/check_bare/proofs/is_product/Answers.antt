@@ -2,7 +2,7 @@ use Rattle.check_bare.proofs.Marking.{product_test, product_of}
 use Rattle.check_bare.proofs.is_product.Goals as goal
 
 pub returns-then-mark_of-x : goal.returns-then-mark_of-x
-returns-then-mark_of-x c = 
+returns-then-mark_of-x c =
     let pre = c.requires in
     let args = c.args in
     let cell = c.cell in

@@ -2,14 +2,14 @@ use Rattle.check_bare.proofs.Marking.{suits_unit, suits_pair}
 use Rattle.check_bare.proofs.pattern_mark.Goals as goal
 
 pub returns-then-kind-eq-UNIT : goal.returns-then-kind-eq-UNIT
-returns-then-kind-eq-UNIT c = 
+returns-then-kind-eq-UNIT c =
     let args = c.args in
     let pattern-cell = c.pattern_cell-kind in
     let if1 = c.if-kind-eq-UNIT in
     (suits_unit args.t.now args.base args.j pattern-cell.ensures.0 if1.true c.unit_mark.ensures.0, c.unit_mark.ensures.1)
 
 pub returns-then-y-gt0 : goal.returns-then-y-gt0
-returns-then-y-gt0 c = 
+returns-then-y-gt0 c =
     let pre = c.requires in
     let args = c.args in
     let pattern-cell = c.pattern_cell-kind in

@@ -2,7 +2,7 @@ use Rattle.check_bare.proofs.Marking.{own_stands, unit_stands, product_stands, p
 use Rattle.check_bare.proofs.type_mark.Goals as goal
 
 pub returns-then-kind-eq-TYPE_UNIT : goal.returns-then-kind-eq-TYPE_UNIT
-returns-then-kind-eq-TYPE_UNIT c = 
+returns-then-kind-eq-TYPE_UNIT c =
     let args = c.args in
     let cell = c.cell-kind in
     let if1 = c.if-kind-eq-TYPE_UNIT in
@@ -10,7 +10,7 @@ returns-then-kind-eq-TYPE_UNIT c =
     (own_stands args.t.now args.i (unit_stands args.t.now args.i cell.ensures.0 if1.true unit-mark.ensures.0) c.or_own.ensures.0, c.or_own.ensures.1)
 
 pub returns-then-y-gt0 : goal.returns-then-y-gt0
-returns-then-y-gt0 c = 
+returns-then-y-gt0 c =
     let pre = c.requires in
     let args = c.args in
     let cell = c.cell-kind in

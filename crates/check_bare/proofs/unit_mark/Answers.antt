@@ -3,7 +3,7 @@ use Rattle.check_bare.proofs.Marking.{stands_at, unit_is}
 use Rattle.check_bare.proofs.unit_mark.Goals as goal
 
 pub returns-then-cell-eq-TYPE_UNIT : goal.returns-then-cell-eq-TYPE_UNIT
-returns-then-cell-eq-TYPE_UNIT c = 
+returns-then-cell-eq-TYPE_UNIT c =
     let pre = c.requires in
     let args = c.args in
     let loop-test = c.loop-i-test in

@@ -5,7 +5,7 @@ use Rattle.check_facts.proofs.Finding.{tags_pair, tags_element, tags_inj}
 use Rattle.check_facts.proofs.tags_of.Goals as goal
 
 pub returns-in-4 : goal.returns-in-4
-returns-in-4 c = 
+returns-in-4 c =
     let pre = c.requires in
     let pattern-cell = c.pattern_cell in
     let pattern-cell2 = c.pattern_cell-in-4 in
@@ -18,7 +18,7 @@ pub returns-in-5 : goal.returns-in-5
 returns-in-5 c = pattern_tags_empty _ _ _ c.pattern_cell.ensures.0 c.in-5.is
 
 pub returns-in-6 : goal.returns-in-6
-returns-in-6 c = 
+returns-in-6 c =
     let pre = c.requires in
     let pattern-cell = c.pattern_cell in
     let pattern-cell4 = c.pattern_cell-in-6 in
@@ -30,7 +30,7 @@ returns-in-6 c =
     c.together-in-6-2.ensures
 
 pub returns-in-2 : goal.returns-in-2
-returns-in-2 c = 
+returns-in-2 c =
     let pre = c.requires in
     let pattern-cell = c.pattern_cell in
     let pattern-cell6 = c.pattern_cell-in-2 in
@@ -41,6 +41,6 @@ pub returns-in_default : goal.returns-in_default
 returns-in_default c = pattern_tags_leaf _ _ _ c.pattern_cell.ensures.0 (plain_below _ (omega arith))
 
 pub returns-in_default-2 : goal.returns-in_default-2
-returns-in_default-2 c = 
+returns-in_default-2 c =
     let pattern-cell = c.pattern_cell in
     pattern_tags_leaf _ _ _ pattern-cell.ensures.0 (plain_beyond _ (omega arith) c.in_default.in_default-own.rest.0.0.1 c.in_default.in_default-own.rest.0.1 c.in_default.in_default-own.rest.1)

@@ -2,7 +2,7 @@ use Rattle.check_facts.proofs.Finding.{width_sum, width_product, width_other}
 use Rattle.check_facts.proofs.width_of.Goals as goal
 
 pub returns-in-1 : goal.returns-in-1
-returns-in-1 c = 
+returns-in-1 c =
     let pre = c.requires in
     let cell = c.cell in
     let cell2 = c.cell-in-1 in
@@ -12,7 +12,7 @@ returns-in-1 c =
     width_sum _ _ _ pre.1 cell.ensures.0 cell2.ensures.0 told.ensures cell3.ensures.0 told2.ensures c.in-1.is c.of_sum.ensures
 
 pub returns-in-2 : goal.returns-in-2
-returns-in-2 c = 
+returns-in-2 c =
     let pre = c.requires in
     let cell = c.cell in
     let cell4 = c.cell-in-2 in

@@ -2,7 +2,7 @@ use Rattle.check_overlap.proofs.Walking.{walks_clash, walks_unit, walks_step, wa
 use Rattle.check_overlap.proofs.+compare_below_compare_first.Goals as goal
 
 pub compare_below-returns-then-n-eq1 : goal.compare_below-returns-then-n-eq1
-compare_below-returns-then-n-eq1 t c = 
+compare_below-returns-then-n-eq1 t c =
     let loop' = c.loop-m in
     let loop-test = c.loop-m-test in
     let compare-first = c.compare_first-n in
@@ -10,7 +10,7 @@ compare_below-returns-then-n-eq1 t c =
     walks_clash a.t.now a.base a.i a.j a.count loop'.invariant loop-test.true compare-first.ensures c.if-n-eq1.true
 
 pub compare_below-returns-then-not-named : goal.compare_below-returns-then-not-named
-compare_below-returns-then-not-named t c = 
+compare_below-returns-then-not-named t c =
     let loop' = c.loop-m in
     let loop-test = c.loop-m-test in
     let compare-first = c.compare_first-n in
@@ -24,7 +24,7 @@ compare_below-returns-then-not-named t c =
     (named.ensures.1 if2.true) c.wrapping_add_usize.ensures.value
 
 pub compare_below-loop-m-preserved : goal.compare_below-loop-m-preserved
-compare_below-loop-m-preserved t c = 
+compare_below-loop-m-preserved t c =
     let loop' = c.loop-m in
     let loop-test = c.loop-m-test in
     let compare-first = c.compare_first-n in
@@ -39,12 +39,12 @@ compare_below-loop-m-preserved t c =
     c.meeting-m.ensures
 
 pub compare_below-returns : goal.compare_below-returns
-compare_below-returns t c = 
+compare_below-returns t c =
     let a = c.args in
     walks_end a.t.now a.base a.i a.j a.count c.loop-m.invariant c.loop-m-test.false c.wrapping_add_usize-2.ensures.value
 
 pub compare_first-returns-then-not-named : goal.compare_first-returns-then-not-named
-compare_first-returns-then-not-named t c = 
+compare_first-returns-then-not-named t c =
     let wrapping-add-usize = c.wrapping_add_usize-next in
     let if1 = c.if-m-ne3 in
     let number = c.number-a in
@@ -56,7 +56,7 @@ compare_first-returns-then-not-named t c =
     c.wrapping_add_usize.ensures.value
 
 pub compare_first-returns-then-k-lt2 : goal.compare_first-returns-then-k-lt2
-compare_first-returns-then-k-lt2 t c = 
+compare_first-returns-then-k-lt2 t c =
     let wrapping-add-usize = c.wrapping_add_usize-next in
     let if1 = c.if-m-ne3 in
     let number = c.number-a in

@@ -7,7 +7,7 @@ pub returns-then-number-eq0 : goal.returns-then-number-eq0
 returns-then-number-eq0 t c = told_tagless c.requires c.number.ensures.0 c.if-number-eq0.true
 
 pub walk-requires : goal.walk-requires
-walk-requires t c = 
+walk-requires t c =
     let pre = c.requires in
     let field = c.field-kind in
     let field2 = c.field-over in
@@ -23,7 +23,7 @@ walk-requires t c =
     )
 
 pub walk-requires-then-walk : goal.walk-requires-then-walk
-walk-requires-then-walk t c = 
+walk-requires-then-walk t c =
     let pre = c.requires in
     let field = c.field-kind in
     let field2 = c.field-over in
@@ -41,7 +41,7 @@ walk-requires-then-walk t c =
     )
 
 pub returns-then-walk : goal.returns-then-walk
-returns-then-walk t c = 
+returns-then-walk t c =
     let pre = c.requires in
     let field = c.field-kind in
     let field2 = c.field-over in
@@ -59,14 +59,14 @@ returns-then-walk t c =
     if6.true walk2.ensures
 
 pub mark-requires : goal.mark-requires
-mark-requires t c = 
+mark-requires t c =
     let pre = c.requires in
     let field2 = c.field-over in
     let if9 = c.if-over-eq-SUM in
     (pre.long, tag_place pre field2.ensures if9.true, pre.one)
 
 pub walk-requires-then-only : goal.walk-requires-then-only
-walk-requires-then-only t c = 
+walk-requires-then-only t c =
     let pre = c.requires in
     let field2 = c.field-over in
     let if9 = c.if-over-eq-SUM in
@@ -79,7 +79,7 @@ walk-requires-then-only t c =
     )
 
 pub returns-then-only : goal.returns-then-only
-returns-then-only t c = 
+returns-then-only t c =
     let pre = c.requires in
     let field = c.field-kind in
     let field2 = c.field-over in

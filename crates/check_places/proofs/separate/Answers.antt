@@ -2,7 +2,7 @@ use Rattle.check_places.proofs.Sides.{started}
 use Rattle.check_places.proofs.separate.Goals as goal
 
 pub placed_all-requires : goal.placed_all-requires
-placed_all-requires c = 
+placed_all-requires c =
     let pre = c.requires in
     let if1 = c.if-f-base in
     let if2 = c.if-base-a in

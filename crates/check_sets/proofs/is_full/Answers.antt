@@ -3,7 +3,7 @@ use Rattle.check_sets.proofs.Sets.{full_high}
 use Rattle.check_sets.proofs.is_full.Goals as goal
 
 pub returns-then-ones : goal.returns-then-ones
-returns-then-ones c =     let pre = c.requires in
+returns-then-ones c = let pre = c.requires in
     let if1 = c.if-i-lt-BITS in
     let ones = c.ones in
     let if2 = c.if-ones in

@@ -5,7 +5,7 @@ pub returns-then-a-b : goal.returns-then-a-b
 returns-then-a-b t c = same_line (c.args.t.now) (c.if-a-b.true)
 
 pub returns-then-names_nothing : goal.returns-then-names_nothing
-returns-then-names_nothing t c = 
+returns-then-names_nothing t c =
     let args = c.args in
     let cell = c.cell-ka in
     let cell2 = c.cell-kb in
@@ -15,7 +15,7 @@ returns-then-names_nothing t c =
     same_whole s.t.now s.a s.b (cell.ensures.0) (cell2.ensures.0) (is_whole _ (names-nothing.ensures) (if2.true)) (c.names_nothing-then-names_nothing.ensures)
 
 pub returns-then-ka-kb : goal.returns-then-ka-kb
-returns-then-ka-kb t c = 
+returns-then-ka-kb t c =
     let args = c.args in
     let cell = c.cell-ka in
     let cell2 = c.cell-kb in
@@ -25,7 +25,7 @@ returns-then-ka-kb t c =
     other_kind s.t.now s.a s.b (cell.ensures.0) (cell2.ensures.0) (is_naming _ (names-nothing.ensures) (if2.false)) (c.if-ka-kb.true)
 
 pub returns-then-ka-eq-LIST : goal.returns-then-ka-eq-LIST
-returns-then-ka-eq-LIST t c = 
+returns-then-ka-eq-LIST t c =
     let args = c.args in
     let cell = c.cell-ka in
     let cell2 = c.cell-kb in
@@ -37,7 +37,7 @@ returns-then-ka-eq-LIST t c =
     same_list args.t.now args.a args.b cell.ensures.0 cell2.ensures.0 c.if-ka-eq-LIST.true if3.false type-part.ensures type-part2.ensures same-type.ensures if4.true
 
 pub returns-then-same_type : goal.returns-then-same_type
-returns-then-same_type t c = 
+returns-then-same_type t c =
     let args = c.args in
     let cell = c.cell-ka in
     let cell2 = c.cell-kb in
@@ -57,7 +57,7 @@ returns-then-same_type t c =
     (type-part2.ensures) (same-type.ensures) (if4.true) (type-part3.ensures) (type-part4.ensures) (c.same_type-then-same_type.ensures)
 
 pub returns : goal.returns
-returns t c = 
+returns t c =
     let args = c.args in
     let cell = c.cell-ka in
     let cell2 = c.cell-kb in

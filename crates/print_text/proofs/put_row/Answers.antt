@@ -3,7 +3,7 @@ use Rattle.print_text.proofs.Written.{start_bytes, row_two, row_three}
 use Rattle.print_text.proofs.put_row.Goals as goal
 
 pub returns-then-fields_of-eq2 : goal.returns-then-fields_of-eq2
-returns-then-fields_of-eq2 c = 
+returns-then-fields_of-eq2 c =
     let r = row_view c.args.r in
     λ hx hy hz.
     row_two r c.fields_of.ensures c.if-fields_of-eq2.true
@@ -11,7 +11,7 @@ returns-then-fields_of-eq2 c =
     c.put_byte.ensures.bytes_after c.put_byte.ensures.value
 
 pub returns : goal.returns
-returns c = 
+returns c =
     let r = row_view c.args.r in
     λ hx hy hz.
     row_three r c.fields_of.ensures c.if-fields_of-eq2.false

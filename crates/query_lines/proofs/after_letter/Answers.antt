@@ -5,7 +5,7 @@ use lib.ListN.{drop}
 use Rattle.query_lines.proofs.after_letter.Goals as goal
 
 pub returns-in-Past : goal.returns-in-Past
-returns-in-Past c = 
+returns-in-Past c =
     let a = c.args in
     let s = a.s.now in
     let bs = drop a.c.at s in (

@@ -2,7 +2,7 @@ use Rattle.query_lines.proofs.Answering.{query_line_lem}
 use Rattle.query_lines.proofs.put_answer.Goals as goal
 
 pub returns : goal.returns
-returns c = 
+returns c =
     let a = c.args in
     query_line_lem
     a.number

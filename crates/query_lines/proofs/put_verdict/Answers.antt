@@ -2,7 +2,7 @@ use Rattle.query_lines.proofs.Answering.{file_line_lem}
 use Rattle.query_lines.proofs.put_verdict.Goals as goal
 
 pub returns : goal.returns
-returns c = 
+returns c =
     let a = c.args in
     λ h.
     file_line_lem

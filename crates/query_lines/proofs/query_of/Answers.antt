@@ -6,7 +6,7 @@ pub returns-then-s-gt-QUERY_LENGTH : goal.returns-then-s-gt-QUERY_LENGTH
 returns-then-s-gt-QUERY_LENGTH c = too_long_lem c.args.s.now c.if-s-gt-QUERY_LENGTH.true
 
 pub returns-in-Past : goal.returns-in-Past
-returns-in-Past c = 
+returns-in-Past c =
     let s = c.args.s.now in
     text_query
     s
@@ -19,6 +19,6 @@ returns-in-Past c =
     c.query_in.ensures.1
 
 pub returns-in-Other : goal.returns-in-Other
-returns-in-Other c = 
+returns-in-Other c =
     let s = c.args.s.now in
     no_ending s c.if-s-gt-QUERY_LENGTH.false (text_other s _ c.in-Other.is c.before_ending.ensures)

@@ -3,12 +3,12 @@ use Rattle.run_index.proofs.Indexing.{other_row}
 use Rattle.run_index.proofs.with_row.Goals as goal
 
 pub returns-then-letter-eq-CLAUSE_LINE-clause-row_indexed : goal.returns-then-letter-eq-CLAUSE_LINE-clause-row_indexed
-returns-then-letter-eq-CLAUSE_LINE-clause-row_indexed c = 
+returns-then-letter-eq-CLAUSE_LINE-clause-row_indexed c =
     let with-clause = c.with_clause in
     (λ rs types patterns lines f h late s. with-clause.ensures.kind_indexed _ rs types patterns lines f h (sym c.cell-letter.ensures.0 ∙ c.if-letter-eq-CLAUSE_LINE.true) s)
 
 pub returns-then-letter-eq-ISO_LINE-clause-row_indexed : goal.returns-then-letter-eq-ISO_LINE-clause-row_indexed
-returns-then-letter-eq-ISO_LINE-clause-row_indexed c = 
+returns-then-letter-eq-ISO_LINE-clause-row_indexed c =
     let with-iso = c.with_iso in
     (λ rs types patterns lines f h late s. with-iso.ensures.kind_indexed _ rs types patterns lines f h (sym c.cell-letter.ensures.0 ∙ c.if-letter-eq-ISO_LINE.true) s)
 

@@ -4,25 +4,25 @@ use Rattle.run_lists.proofs.Marking.{two_parts, free_not, free_whole, free_first
 use Rattle.run_lists.proofs.+is_finite.Goals as goal
 
 pub returns-then-kind-eq-LIST : goal.returns-then-kind-eq-LIST
-returns-then-kind-eq-LIST t c = 
+returns-then-kind-eq-LIST t c =
     let args = c.args in
     let cell = c.cell-kind in
     free_not args.t.now args.i cell.ensures.0 c.if-kind-eq-LIST.true
 
 pub returns-then-kind-lt-SUM : goal.returns-then-kind-lt-SUM
-returns-then-kind-lt-SUM t c = 
+returns-then-kind-lt-SUM t c =
     let args = c.args in
     let cell = c.cell-kind in
     free_whole args.t.now args.i cell.ensures.0 (whole_below _ c.if-kind-lt-SUM.true)
 
 pub returns-then-kind-gt-LIST : goal.returns-then-kind-gt-LIST
-returns-then-kind-gt-LIST t c = 
+returns-then-kind-gt-LIST t c =
     let args = c.args in
     let cell = c.cell-kind in
     free_whole args.t.now args.i cell.ensures.0 (whole_past _ c.if-kind-gt-LIST.true)
 
 pub returns-then-is_finite : goal.returns-then-is_finite
-returns-then-is_finite t c = 
+returns-then-is_finite t c =
     let args = c.args in
     let cell = c.cell-kind in
     let if1 = c.if-kind-eq-LIST in
@@ -38,7 +38,7 @@ returns-then-is_finite t c =
     (part_of args.i cell3.ensures.0 smaller2.ensures) c.is_finite-then-is_finite.ensures
 
 pub returns : goal.returns
-returns t c = 
+returns t c =
     let args = c.args in
     let cell = c.cell-kind in
     let if1 = c.if-kind-eq-LIST in

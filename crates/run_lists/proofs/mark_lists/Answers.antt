@@ -3,7 +3,7 @@ use Rattle.run_lists.proofs.Marking.{marking_step, marking_end}
 use Rattle.run_lists.proofs.mark_lists.Goals as goal
 
 pub loop-i-preserved : goal.loop-i-preserved
-loop-i-preserved c = 
+loop-i-preserved c =
     let loop' = c.loop-i in
     let loop-test = c.loop-i-test in
     let place = c.place-m in

@@ -7,7 +7,7 @@ use Prim.Native.Nat.{◌-◌}
 use Rattle.run_values.proofs.+list_end_typed_end.Goals as goal
 
 pub list_end-loop-next-smaller : goal.list_end-loop-next-smaller
-list_end-loop-next-smaller t c = 
+list_end-loop-next-smaller t c =
     let args = c.args in
     let loop' = c.loop-next in
     let loop-test = c.loop-next-test in
@@ -17,7 +17,7 @@ list_end-loop-next-smaller t c =
     list_falls (type_of args.t.now args.i) args.s.now args.at loop'.next loop'.invariant loop-test.true refl if1.false if2.false typed-end.ensures c.in-Place.is
 
 pub list_end-loop-next-preserved : goal.list_end-loop-next-preserved
-list_end-loop-next-preserved t c = 
+list_end-loop-next-preserved t c =
     let args = c.args in
     let loop' = c.loop-next in
     let loop-test = c.loop-next-test in
@@ -27,12 +27,12 @@ list_end-loop-next-preserved t c =
     list_goes (type_of args.t.now args.i) args.s.now args.at loop'.next loop'.invariant loop-test.true refl if1.false if2.false typed-end.ensures c.in-Place.is
 
 pub typed_end-returns-then-s-at : goal.typed_end-returns-then-s-at
-typed_end-returns-then-s-at t c = 
+typed_end-returns-then-s-at t c =
     let args = c.args in
     typed_none args.t.now args.i args.s.now args.at c.if-s-at.true
 
 pub typed_end-returns-then-b-eq-LETTER_LEFT : goal.typed_end-returns-then-b-eq-LETTER_LEFT
-typed_end-returns-then-b-eq-LETTER_LEFT t c = 
+typed_end-returns-then-b-eq-LETTER_LEFT t c =
     let args = c.args in
     let if1 = c.if-s-at in
     let cell = c.cell-kind in
@@ -44,7 +44,7 @@ typed_end-returns-then-b-eq-LETTER_LEFT t c =
     c.typed_end.result if2.true if3.true c.typed_end.ensures
 
 pub typed_end-returns-then-b-eq-LETTER_RIGHT : goal.typed_end-returns-then-b-eq-LETTER_RIGHT
-typed_end-returns-then-b-eq-LETTER_RIGHT t c = 
+typed_end-returns-then-b-eq-LETTER_RIGHT t c =
     let args = c.args in
     let if1 = c.if-s-at in
     let cell = c.cell-kind in
@@ -57,7 +57,7 @@ typed_end-returns-then-b-eq-LETTER_RIGHT t c =
     c.typed_end-then-b-eq-LETTER_RIGHT.result if2.true if3.false if4.true c.typed_end-then-b-eq-LETTER_RIGHT.ensures
 
 pub typed_end-returns-then-kind-eq-SUM : goal.typed_end-returns-then-kind-eq-SUM
-typed_end-returns-then-kind-eq-SUM t c = 
+typed_end-returns-then-kind-eq-SUM t c =
     let args = c.args in
     let if1 = c.if-s-at in
     let cell = c.cell-kind in
@@ -66,7 +66,7 @@ typed_end-returns-then-kind-eq-SUM t c =
     typed_not_sum args.t.now args.i args.s.now args.at if1.false cell.ensures.0 refl refl refl if2.true if3.false c.if-b-eq-LETTER_RIGHT.false
 
 pub typed_end-returns-in-Place : goal.typed_end-returns-in-Place
-typed_end-returns-in-Place t c = 
+typed_end-returns-in-Place t c =
     let args = c.args in
     let if1 = c.if-s-at in
     let cell = c.cell-kind in
@@ -81,7 +81,7 @@ typed_end-returns-in-Place t c =
     (part_of args.i cell5.ensures.0 smaller4.ensures) if5.true c.typed_end-in-Place.result if6.true c.in-Place.is typed-end3.ensures c.typed_end-in-Place.ensures
 
 pub typed_end-returns-in-Nothing : goal.typed_end-returns-in-Nothing
-typed_end-returns-in-Nothing t c = 
+typed_end-returns-in-Nothing t c =
     let args = c.args in
     let if1 = c.if-s-at in
     let cell = c.cell-kind in
@@ -94,7 +94,7 @@ typed_end-returns-in-Nothing t c =
     if6.true c.in-Nothing.is typed-end3.ensures
 
 pub typed_end-returns-then-kind-eq-PRODUCT : goal.typed_end-returns-then-kind-eq-PRODUCT
-typed_end-returns-then-kind-eq-PRODUCT t c = 
+typed_end-returns-then-kind-eq-PRODUCT t c =
     let args = c.args in
     let if1 = c.if-s-at in
     let cell = c.cell-kind in
@@ -102,7 +102,7 @@ typed_end-returns-then-kind-eq-PRODUCT t c =
     typed_not_pair args.t.now args.i args.s.now args.at if1.false cell.ensures.0 refl refl refl if5.true c.if-b-eq-LETTER_PAIR.false
 
 pub typed_end-returns-then-kind-eq-LIST : goal.typed_end-returns-then-kind-eq-LIST
-typed_end-returns-then-kind-eq-LIST t c = 
+typed_end-returns-then-kind-eq-LIST t c =
     let args = c.args in
     let if1 = c.if-s-at in
     let cell = c.cell-kind in
@@ -113,7 +113,7 @@ typed_end-returns-then-kind-eq-LIST t c =
     c.list_end.result if7.true c.list_end.ensures
 
 pub typed_end-returns-then-b-eq-LETTER_UNIT : goal.typed_end-returns-then-b-eq-LETTER_UNIT
-typed_end-returns-then-b-eq-LETTER_UNIT t c = 
+typed_end-returns-then-b-eq-LETTER_UNIT t c =
     let args = c.args in
     let if1 = c.if-s-at in
     let cell = c.cell-kind in
@@ -123,7 +123,7 @@ typed_end-returns-then-b-eq-LETTER_UNIT t c =
     typed_unit args.t.now args.i args.s.now args.at if1.false cell.ensures.0 refl if2.false if5.false if7.false c.if-b-eq-LETTER_UNIT.true
 
 pub typed_end-returns : goal.typed_end-returns
-typed_end-returns t c = 
+typed_end-returns t c =
     let args = c.args in
     let if1 = c.if-s-at in
     let cell = c.cell-kind in

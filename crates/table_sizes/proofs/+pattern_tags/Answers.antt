@@ -4,7 +4,7 @@ use Rattle.table_sizes.proofs.Counts.{pattern_tags_leaf, pattern_tags_inj, patte
 use Rattle.table_sizes.proofs.+pattern_tags.Goals as goal
 
 pub returns-in-4 : goal.returns-in-4
-returns-in-4 t c = 
+returns-in-4 t c =
     let args = c.args in
     let pattern-cell = c.pattern_cell in
     let match' = c.in-4 in
@@ -18,13 +18,13 @@ returns-in-4 t c =
     smaller2.ensures pattern-tags.ensures pattern-tags2.ensures c.together.ensures
 
 pub returns-in-5 : goal.returns-in-5
-returns-in-5 t c = 
+returns-in-5 t c =
     let args = c.args in
     let pattern-cell = c.pattern_cell in
     pattern_tags_empty args.t.now args.base args.j pattern-cell.ensures.0 c.in-5.is
 
 pub returns-in-6 : goal.returns-in-6
-returns-in-6 t c = 
+returns-in-6 t c =
     let args = c.args in
     let pattern-cell = c.pattern_cell in
     let match' = c.in-6 in
@@ -39,7 +39,7 @@ returns-in-6 t c =
     smaller4.ensures pattern-tags4.ensures pattern-tags3.ensures together2.ensures c.together-in-6.ensures
 
 pub returns-in-2 : goal.returns-in-2
-returns-in-2 t c = 
+returns-in-2 t c =
     let args = c.args in
     let pattern-cell = c.pattern_cell in
     let if1 = c.in-2.if-this-lt2-own in
@@ -51,13 +51,13 @@ returns-in-2 t c =
     pattern-tags5.ensures c.together-in-2.ensures
 
 pub returns-in_default : goal.returns-in_default
-returns-in_default t c = 
+returns-in_default t c =
     let args = c.args in
     let pattern-cell = c.pattern_cell in
     pattern_tags_leaf args.t.now args.base args.j pattern-cell.ensures.0 (plain_below _ (omega arith))
 
 pub returns-in_default-2 : goal.returns-in_default-2
-returns-in_default-2 t c = 
+returns-in_default-2 t c =
     let args = c.args in
     let pattern-cell = c.pattern_cell in
     let match' = c.in_default.in_default-own in

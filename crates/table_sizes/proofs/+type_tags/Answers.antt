@@ -4,7 +4,7 @@ use Rattle.table_sizes.proofs.Counts.{type_tags_whole, type_tags_past, type_tags
 use Rattle.table_sizes.proofs.+type_tags.Goals as goal
 
 pub returns-in-1 : goal.returns-in-1
-returns-in-1 t c = 
+returns-in-1 t c =
     let cell = c.cell-kind in
     let if1 = c.in-1.if-kind-lt1-own in
     let if2 = c.in-1.if-kind-lt3-own in

@@ -12,12 +12,11 @@ pub loop-at-smaller : goal.loop-at-smaller
 loop-at-smaller c = fewer c.loop-at.invariant.0 c.loop-at-test.true c.judge_line.result c.judge_line.ensures _ _ c.in-Good.is
 
 pub loop-at-preserved : goal.loop-at-preserved
-loop-at-preserved c = 
-    (
-      so_far_more c.loop-at.invariant.0 c.loop-at-test.true c.judge_line.result c.judge_line.ensures _ _ c.in-Good.is c.requires.0 c.row_size-size.ensures
-          c.put_row.ensures c.keep_tags.ensures c.seen_after-seen.ensures,
-      c.keep_tags.ensures.long ∙ c.loop-at.invariant.1,
-    )
+loop-at-preserved c = (
+  so_far_more c.loop-at.invariant.0 c.loop-at-test.true c.judge_line.result c.judge_line.ensures _ _ c.in-Good.is c.requires.0 c.row_size-size.ensures
+      c.put_row.ensures c.keep_tags.ensures c.seen_after-seen.ensures,
+  c.keep_tags.ensures.long ∙ c.loop-at.invariant.1,
+)
 
 pub returns-in-Bad : goal.returns-in-Bad
 returns-in-Bad c = so_far_refused c.loop-at.invariant.0 c.loop-at-test.true c.judge_line.result c.judge_line.ensures _ c.in-Bad.is

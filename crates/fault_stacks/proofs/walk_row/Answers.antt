@@ -1,0 +1,18 @@
+use Prim.Native.Nat.{◌-◌}
+use Rattle.fault_stacks.proofs.Walking.{types_on, row_on, row_none, walked_dead}
+use borrow.Author.Rules.{rules}
+use Rattle.fault_stacks.proofs.walk_row.Goals as goal
+
+pub loop-n-init : goal.loop-n-init
+loop-n-init c =
+    record {
+      types = types_on c.args.t.now c.args.w.now c.args.ts.now c.args.i c.requires.1;
+      row =
+          row_on c.args.t.now c.args.base c.args.w.now c.args.ps.now c.args.p c.requires.0;
+    }
+
+pub returns-then-top-gt-MAX_NODES : goal.returns-then-top-gt-MAX_NODES
+returns-then-top-gt-MAX_NODES c =
+    let args = c.args in
+    let loop' = c.loop-n in
+    let a = args in let l = loop' in walked_dead a.t.now a.base a.w.now l.ps l.ts a.p a.i (row_none l.invariant.row (search rules) (search rules))

@@ -1,0 +1,15 @@
+use Rattle.fault_tallies.proofs.Flowing.{poured_start, poured_more}
+use mathlib.Core.Path.{refl}
+use Prim.Native.Nat.{◌-◌}
+use borrow.Author.Rules.{rules}
+use Rattle.fault_tallies.proofs.flow_counts.Goals as goal
+
+pub loop-h-init : goal.loop-h-init
+loop-h-init c = poured_start c.args.m c.args.one.now c.args.two.now c.args.n c.args.k.now c.requires.2
+
+pub loop-h-preserved : goal.loop-h-preserved
+loop-h-preserved c =
+    let loop' = c.loop-h in
+    let step = c.step in
+    let step2 = c.step-in-loop-h in
+    poured_more loop'.invariant c.requires.3 (search rules) refl refl refl step.ensures refl refl step2.ensures (search rules) (search rules)
