@@ -55,9 +55,8 @@ returns-in_default-clause-by_index t c =
     let args = c.args in
     let pattern-cell = c.pattern_cell-kind in
     let if1 = c.if-kind-eq-VARIABLE in
-    let low = (omega arith) in
-    line_leaf args.t.now args.base args.j pattern-cell.ensures.0 if1.false (λ z. absurd (omega (arith, low, z))) (λ z. absurd (omega (arith, low, z)))
-          (λ z. absurd (omega (arith, low, z))) (λ z. absurd (omega (arith, low, z)))
+    line_leaf args.t.now args.base args.j pattern-cell.ensures.0 if1.false (λ z. absurd (omega (arith, z))) (λ z. absurd (omega (arith, z)))
+          (λ z. absurd (omega (arith, z))) (λ z. absurd (omega (arith, z)))
 
 pub returns-in_default-2-clause-by_index : goal.returns-in_default-2-clause-by_index
 returns-in_default-2-clause-by_index t c = 
@@ -66,6 +65,5 @@ returns-in_default-2-clause-by_index t c =
     let if1 = c.if-kind-eq-VARIABLE in
     let if2 = c.if-two_parts in
     let two-parts = c.two_parts in
-    let high = (omega arith) in
-    line_leaf args.t.now args.base args.j pattern-cell.ensures.0 if1.false (λ z. absurd (omega (arith, high, z))) (λ z. absurd (omega (arith, high, z)))
+    line_leaf args.t.now args.base args.j pattern-cell.ensures.0 if1.false (λ z. absurd (omega (arith, z))) (λ z. absurd (omega (arith, z)))
           (not_two two-parts.ensures if2.false).0 (not_two two-parts.ensures if2.false).1
