@@ -3,7 +3,7 @@
  * steps known beforehand, pair lists, settings that show a fault and units tried out for rule files.
  *
  * `bin/install PREFIX` puts librulefile.a, librulefile.so and this header in place, with a file for pkg-config;
- * `rt staticlib rulefile` writes target/staticlib/librulefile.a alone. The platform is x86-64 Linux. The library
+ * `rt lib`, in crates/rulefile, writes out/librulefile.a there alone. The platform is x86-64 Linux. The library
  * needs memset of the C library and nothing else; it allocates nothing, keeps nothing between calls and
  * may be called from several threads at once, each with areas of its own.
  *
@@ -180,7 +180,7 @@ struct rulefile_tally {
 /*
  * The version of the library, to be held against RULEFILE_VERSION; and the word of a number, as docs/REFUSALS.md has
  * it: `accepted` for 0, `unknown` for a number that no answer has. Both are texts that stay. They are in the library
- * that bin/install puts in place; the archive that `rt staticlib rulefile` writes has all functions but these two.
+ * that bin/install puts in place; the archive that `rt lib` writes has all functions but these two.
  */
 const char *rulefile_version(void);
 const char *rulefile_word(uint32_t number);

@@ -1,6 +1,6 @@
 //! Finds librulefile.a and holds its version to that of this crate. The archive stands in the folder that
-//! RULEFILE_LIB names; without that, where `rt staticlib rulefile` writes it, or, for a crate that is installed, in
-//! lib/ of the same place.
+//! RULEFILE_LIB names; without that, where `rt lib` writes it, in out/ of crates/rulefile, or, for a crate that is
+//! installed, in lib/ of the same place.
 
 use std::env;
 use std::fs;
@@ -25,8 +25,8 @@ fn folder() -> (PathBuf, &'static str) {
             "RULEFILE_LIB names that folder; `bin/install PREFIX` puts the archive into PREFIX/lib",
         ),
         None if here.join("../../crates.txt").is_file() => (
-            here.join("../../target/staticlib"),
-            "`rt staticlib rulefile`, run in the folder that holds crates.txt, writes it there; \
+            here.join("../../crates/rulefile/out"),
+            "`rt lib`, run in crates/rulefile, writes it there; \
              where it is installed elsewhere, set RULEFILE_LIB to its folder",
         ),
         None => (
@@ -56,9 +56,9 @@ fn stated(archive: &[u8]) -> Option<String> {
     String::from_utf8(behind[..end].to_vec()).ok()
 }
 
-/// The version of the tree whose `rt staticlib rulefile` wrote an archive, which states none itself.
+/// The version of the tree in whose crates/rulefile/out an archive stands, which states none itself.
 fn of_tree(folder: &Path) -> Option<String> {
-    let file = folder.join("../../VERSION");
+    let file = folder.join("../../../VERSION");
     println!("cargo:rerun-if-changed={}", file.display());
     let version = fs::read_to_string(file).ok()?;
     Some(version.trim().to_string())

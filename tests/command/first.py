@@ -10,18 +10,19 @@ import time
 from person import TREE
 
 RT = """#!/bin/sh
-# stands for the kit's rt: notes its call, and proves two crates and the library
-echo "rt $*" >>"$NOTES"
-mkdir -p target/staticlib
+# stands for the kit's rt: notes its call with the folder, and proves a crate, of which there are two, and the library; of the other it says nothing, as
+# of one that it has built before
+echo "rt $* in ${PWD##*/}" >>"$NOTES"
+mkdir -p out
 echo 'note: something else' >&2
-echo 'rt: one proved (unchanged since it was last proved)' >&2
-echo 'rt: two proved (3 s)' >&2
-[ ! -e "$NOTES.touch" ] || touch crates/two/source
-echo half >target/staticlib/librulefile.a
+echo 'rt: chose --jobs 2 for two' >&2
+echo 'logic=proved functions=3' >&2
+[ ! -e "$NOTES.touch" ] || touch ../two/source
+echo half >out/librulefile.a
 wait_here
-[ ! -e "$NOTES.fails" ] || { echo 'rt: FAILED: two'; exit 1; }
-echo whole >target/staticlib/librulefile.a
-echo 'rt: target/staticlib/librulefile.a has the functions of rulefile'
+[ ! -e "$NOTES.fails" ] || { echo 'logic=not-proved'; exit 1; }
+echo 'logic=proved functions=1'
+echo whole >out/librulefile.a
 """
 CARGO = """#!/bin/sh
 # stands for cargo: makes a program, where there is none, that says its words
@@ -45,7 +46,7 @@ class Tree:
         for folder in ("bin", "crates/one", "crates/two", "crates/rulefile", "command/src", "bindings/rust", "docs"):
             (self.place / folder).mkdir(parents=True)
         shutil.copy(TREE / "bin/rulefile", self.place / "bin/rulefile")
-        (self.place / "crates.txt").write_text("# what is proved\nrules: one\nrulefile: one two std\n")
+        (self.place / "crates.txt").write_text("# what is proved\nrules: one\nrulefile staticlib: one two std\n")
         for name in ("VERSION", "docs/REFUSALS.md", "crates/two/source", "command/src/main.rs", "bindings/rust/lib.rs"):
             (self.place / name).write_text("")
         self.kit.mkdir()
@@ -58,8 +59,8 @@ class Tree:
 
     def forget(self):
         """As it was before the first run."""
-        shutil.rmtree(self.place / "target", ignore_errors=True)
-        shutil.rmtree(self.place / "command/target", ignore_errors=True)
+        for made in ("target", "crates/rulefile/out", "command/target"):
+            shutil.rmtree(self.place / made, ignore_errors=True)
         self.notes.write_text("")
         for mark in ("touch", "fails", "hangs-rt", "hangs-cargo", "running"):
             self.mark(mark).unlink(missing_ok=True)
@@ -82,8 +83,8 @@ class Tree:
         return self.notes.read_text().split("\n").count(name)
 
     def left(self):
-        """What is in target/ but the library."""
-        found = (self.place / "target").rglob("*") if (self.place / "target").exists() else []
+        """What is in target/ and in the library's folder."""
+        found = [path for made in ("target", "crates/rulefile/out") for path in (self.place / made).rglob("*")]
         return sorted(str(path.relative_to(self.place)) for path in found if not path.is_dir() or path.name.startswith("rulefile"))
 
 
@@ -100,9 +101,9 @@ def numbered(name):
 
 SIGNALS = ("INT", "TERM", "HUP")
 ANSWER = (0, "program check a file\n")
-SAID = "rulefile: building the library, which takes some minutes the first time\nrulefile: 2 of 3 crates proved\nrulefile: 3 of 3 crates proved\n"
-LIBRARY = "target/staticlib/librulefile.a"
-RT_CALL = "rt staticlib rulefile"
+SAID = "rulefile: building the library, which takes some minutes the first time\nrulefile: 1 of at most 3 crates proved\nrulefile: 2 of at most 3 crates proved\n"
+LIBRARY = "crates/rulefile/out/librulefile.a"
+RT_CALL = "rt lib in rulefile"
 
 
 def run(p):
@@ -154,7 +155,7 @@ def fails(p, tree):
     tree.mark("fails").write_text("")
     status, out, said = tree.call()
     p.same("what is not proved", (2, ""), (status, out))
-    for words in ("rulefile: 2 of 3 crates proved\n", "note: something else\n", "rt: FAILED: two\n", "rulefile: the library is not proved or not built\n"):
+    for words in ("rulefile: 1 of at most 3 crates proved\n", "note: something else\n", "logic=not-proved\n", "rulefile: the library is not proved or not built\n"):
         p.expect(f"what is not proved: {words.strip()}", words in said, said)
     p.same("what is not proved: what it leaves", [], tree.left())
     tree.mark("fails").unlink()

@@ -10,7 +10,7 @@ from person import TREE
 
 H = "examples/heating-curve.rules"
 M = "examples/merged-setting.rules"
-ARCHIVE = TREE / "target/staticlib/librulefile.a"
+ARCHIVE = TREE / "crates/rulefile/out/librulefile.a"
 
 
 def run(p):

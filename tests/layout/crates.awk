@@ -6,13 +6,14 @@ function wrong(text) { print "crates.txt: " text; bad = 1 }
 
 {
     name = $1
-    if (sub(/:$/, "", name) == 0) { wrong("line " NR " has no colon behind its first word"); next }
+    first = 2
+    if ($2 == "staticlib:") first = 3
+    else if (sub(/:$/, "", name) == 0) { wrong("line " NR " has no colon behind its first word"); next }
     if (name in place) wrong(name " stands twice")
     if (comment != NR - 1) wrong(name " has no comment above it")
     place[name] = ++crates
     last = crates
-    for (i = 2; i <= NF; i++) {
-        if ($i in kit) continue
+    for (i = first; i <= NF; i++) {
         if (!($i in place)) { wrong(name " names " $i ", which does not stand above it"); continue }
         if (place[$i] >= last) wrong(name " names " $i " out of order")
         last = place[$i]
@@ -22,11 +23,6 @@ function wrong(text) { print "crates.txt: " text; bad = 1 }
         if ((name, d) in named)
             for (e in place)
                 if (((d, e) in named) && !((name, e) in named)) wrong(name " names " d " but not " e ", which that one reaches")
-}
-
-BEGIN {
-    split("std check io bytes os libc", libraries, " ")
-    for (i in libraries) kit[libraries[i]]
 }
 
 END {

@@ -62,20 +62,20 @@ def other_versions(p, top):
     mark = f"librulefile.a, version {VERSION};".encode()
     p.same("the archive states its version once", 1, archive.count(mark))
     other = mark.replace(VERSION.encode(), b"9" * len(VERSION))
-    bare = (TREE / "target/staticlib/librulefile.a").read_bytes()
+    bare = (TREE / "crates/rulefile/out/librulefile.a").read_bytes()
     folder = p.folder / "versions"
     manifest(folder, top / "share/rulefile/rust")
     for name, content, words in (
         ("other", archive.replace(mark, other), f"is of version {'9' * len(VERSION)}, and this crate of version {VERSION}"),
         ("none", bare, f"states no version, and this crate is of version {VERSION}"),
     ):
-        place = p.folder / f"archive-{name}/a/b"
+        place = p.folder / f"archive-{name}/a/b/c"
         place.mkdir(parents=True)
         (place / "librulefile.a").write_bytes(content)
         status, _, said = build(p, folder, RULEFILE_LIB=str(place))
         p.expect(f"an archive of {name} version is refused", status != 0 and words in said, said)
     # one as the kit writes it is of the version of the tree around it
-    place = p.folder / "archive-none/a/b"
+    place = p.folder / "archive-none/a/b/c"
     for version, built in (("9.9.9", False), (VERSION, True)):
         (p.folder / "archive-none/VERSION").write_text(version + "\n")
         status, _, said = build(p, folder, RULEFILE_LIB=str(place))

@@ -13,10 +13,13 @@ RT = """#!/bin/sh
 case $1 in
 version) echo 'a kit' ;;
 ci)
-    rm -rf target
-    printf 'rt: one proved (1 s)\\nrt: must-fail one/x: refused, as it must be (1 s)\\nrt: ok, 2 crates proved, 3 must-fail edits refused\\n5 passed, 0 failed\\n'
+    rm -rf crates/*/out
+    edits="3 refused$(cat bad 2>/dev/null)"
+    printf 'rt: one proved\\nrt: must-fail one/x.edit: refused, as it must be: a fact\\n'
+    echo "rt: ok; handles allowed: none; must-fail edits: $edits; every proof and must-fail edit was done in this run"
+    echo '5 passed, 0 failed'
     ;;
-staticlib) mkdir -p target/staticlib && echo archive >target/staticlib/librulefile.a ;;
+lib) mkdir -p out && echo archive >out/librulefile.a ;;
 esac
 """
 NONE = "no whole run of it is on record here: nothing is said of proofs, edits and tests"
@@ -34,7 +37,7 @@ def made(p):
     top = p.folder / f"place/tar/rulefile-{VERSION}"
     receipt = (top / "RECEIPT").read_text()
     p.same("RECEIPT in both", receipt, (p.folder / "place/deb/usr/share/doc/rulefile/RECEIPT").read_text())
-    archive = hashlib.sha256((TREE / "target/staticlib/librulefile.a").read_bytes()).hexdigest()
+    archive = hashlib.sha256((TREE / "crates/rulefile/out/librulefile.a").read_bytes()).hexdigest()
     commit = p.call("git", "rev-parse", "HEAD", where=TREE)[1].strip()
     p.expect("RECEIPT: the version", receipt.startswith(f"rulefile: {VERSION}, for x86-64 Linux\n"), receipt)
     p.expect("RECEIPT: the commit", re.search(rf"^commit: {commit}(, and .* from it)?$", receipt, re.M), receipt)
@@ -59,7 +62,7 @@ def judged(p, top, receipt):
 def small_tree(p):
     """A tree of bin/test and what the receipt is made by, with an rt of its own on the path."""
     tree, kit = p.folder / "tree", p.folder / "kit"
-    for folder in ("bin", "lib", "tests/one"):
+    for folder in ("bin", "lib", "tests/one", "crates/rulefile"):
         (tree / folder).mkdir(parents=True)
     for name in ("bin/test", "lib/state", "lib/receipt", "VERSION", ".gitignore"):
         shutil.copy(TREE / name, tree / name)
@@ -107,13 +110,21 @@ def gate(p, tree, env):
     says(p, "after a change", tree, env, f"{head}, and a file that differs from it", other)
     then = commit(p, tree, env)
     says(p, "another commit", tree, env, then, other)
-    (tree / "target/staticlib/librulefile.a").write_text("another\n")
+    (tree / "crates/rulefile/out/librulefile.a").write_text("another\n")
     p.call("git", "checkout", "-q", head, where=tree)
     says(p, "another archive", tree, env, head, other, archive=hashlib.sha256(b"another\n").hexdigest())
     # a run that fails leaves none, nor does one during which the tree changes
     p.call("git", "checkout", "-q", then, where=tree)
     p.gives("bin/test fails", ["bin/test"], 1, env=env, where=tree)
     says(p, "after a run that failed", tree, env, then, NONE)
+    # nor does one over edits of which rt ci calls some bad, though it passes
+    (tree / "bad").write_text(", 1 of them only by a limit, 2 bad")
+    test(tree, "echo '7 passed, 0 failed'")
+    then = commit(p, tree, env)
+    out = p.gives("bin/test over bad edits", ["bin/test"], 1, env=env, where=tree)
+    p.expect("bin/test over bad edits: its last line", out.endswith("\n12 passed, 2 failed\n"), out)
+    says(p, "after a run over bad edits", tree, env, then, NONE)
+    (tree / "bad").unlink()
     test(tree, "echo more >>VERSION.note; echo '7 passed, 0 failed'")
     then = commit(p, tree, env)
     out = p.gives("bin/test over a tree that changes", ["bin/test"], 0, env=env, where=tree)

@@ -36,6 +36,7 @@ fn behind(d: Desk) -> Progress
 
 // Feeds a chunk to the desk, all of it, and writes what it prints before it goes on.
 fn answer_chunk(
+    rt: &HostRuntime,
     d: Desk,
     chunk: &[u8],
     file: &mut [u8],
@@ -53,7 +54,7 @@ fn answer_chunk(
     let mut at: usize = 0;
     while at < chunk.len() {
         let f = feed(desk, tail(chunk, at), file, line, table, work, index, out);
-        if !write_front(out, f.written) {
+        if !write_front(rt, out, f.written) {
             return Progress::Failed;
         }
         desk = f.desk;
@@ -64,6 +65,7 @@ fn answer_chunk(
 
 // Answers what a read gave into a chunk.
 fn answer_input(
+    rt: &HostRuntime,
     d: Desk,
     i: Input,
     chunk: &[u8],
@@ -79,7 +81,17 @@ fn answer_input(
         index.old file.new line.new table.new index.new result }
 {
     match i {
-        Input::Bytes(n) => answer_chunk(d, front(chunk, n), file, line, table, work, index, out),
+        Input::Bytes(n) => answer_chunk(
+            rt,
+            d,
+            front(chunk, n),
+            file,
+            line,
+            table,
+            work,
+            index,
+            out,
+        ),
         Input::Again => Progress::More(d),
         Input::End => Progress::Done(d),
         Input::Failed => Progress::Failed,
@@ -88,6 +100,7 @@ fn answer_input(
 
 // Reads once and answers what came.
 fn answer_some(
+    rt: &HostRuntime,
     d: Desk,
     file: &mut [u8],
     line: &mut [u8],
@@ -101,12 +114,13 @@ fn answer_some(
         index.new out.new result }
 {
     let mut chunk = [0u8; 4096];
-    let i = read_some(&mut chunk);
-    answer_input(d, i, &chunk, file, line, table, work, index, out)
+    let i = read_some(rt, &mut chunk);
+    answer_input(rt, d, i, &chunk, file, line, table, work, index, out)
 }
 
 // Writes what the end of the input gives.
 fn answer_end(
+    rt: &HostRuntime,
     d: Desk,
     file: &[u8],
     line: &[u8],
@@ -118,12 +132,13 @@ fn answer_end(
     requires { Ready d file.now line.now table.old work.old index.now out.old }
 {
     let n = finished(d, file, line, table, work, index, out);
-    write_front(out, n);
+    write_front(rt, out, n);
 }
 
 // Answers the input up to where the rest of it can change nothing. A proved loop has to end, so it counts
 // its turns down from a number that no run uses up.
 fn answer_all(
+    rt: &HostRuntime,
     file: &mut [u8],
     line: &mut [u8],
     table: &mut [u16],
@@ -136,21 +151,21 @@ fn answer_all(
     let mut desk = opened();
     let mut turns = u64::MAX;
     while turns > 0 {
-        let p = answer_some(desk, file, line, table, work, index, out);
+        let p = answer_some(rt, desk, file, line, table, work, index, out);
         match p {
             Progress::More(d) => desk = d,
             Progress::Done(d) => {
-                answer_end(d, file, line, table, work, index, out);
+                answer_end(rt, d, file, line, table, work, index, out);
                 return;
             }
             Progress::Failed => return,
         }
         turns -= 1;
     }
-    endless();
+    endless(rt);
 }
 
-fn main() {
+fn main(rt: HostRuntime) {
     let mut file = [0u8; FILE_ROOM];
     let mut line = [0u8; LINE_ROOM];
     let mut table = [0u16; TABLE_LENGTH];
@@ -158,6 +173,6 @@ fn main() {
     let mut index = [0u16; AREA_LENGTH];
     let mut out = [0u8; 8192];
     answer_all(
-        &mut file, &mut line, &mut table, &mut work, &mut index, &mut out,
+        &rt, &mut file, &mut line, &mut table, &mut work, &mut index, &mut out,
     );
 }

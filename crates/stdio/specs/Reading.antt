@@ -1,5 +1,7 @@
 -- What a read's answer means.
-use Rattle.std.specs.Prelude.{ℕ, ◌+◌, ◌^◌, ◌≤◌, ◌<◌, min, Bool, false, cond, ltb, eqb, ℤ, pos, negsuc}
+use Rattle.std.specs.Prelude.{ℕ, ◌+◌, ◌^◌, ◌≤◌, ◌<◌, min, Bool, false, cond, ltb, eqb, ℤ, pos, negsuc, Option, None, Some, Result, Ok, Err}
+use Rattle.std.specs.IoError.{raw_os_error}
+use Rattle.std.specs.declared.io.Error.{Error}
 use Rattle.stdio.specs.declared.Input as I
 use Rattle.stdio.specs.declared.Input.TheVariants as inputs
 use Rattle.stdio.specs.declared.Step as S
@@ -11,6 +13,24 @@ use Rattle.stdio.specs.declared.Filled.TheVariants as filled
 abbrev pub is_interrupt : ℤ → Bool
 is_interrupt (pos k) = eqb k 4
 is_interrupt (negsuc k) = false
+
+-- the same by std's error, which has a number where the system answered it
+abbrev pub interrupt_number : Option ℤ → Bool
+interrupt_number (Some z) = is_interrupt z
+interrupt_number None = false
+
+abbrev pub was_interrupt : Error → Bool
+was_interrupt e = interrupt_number (raw_os_error e)
+
+-- what std answers as the number that the system's read answers: so many bytes, or below 0 where it failed
+abbrev pub answer_of : Result ℕ Error → ℤ
+answer_of (Ok n) = pos n
+answer_of (Err e) = negsuc 0
+
+-- whether a signal interrupted it
+abbrev pub signal_of : Result ℕ Error → Bool
+signal_of (Ok n) = false
+signal_of (Err e) = was_interrupt e
 
 -- by the answer of a read into n bytes, and by whether a signal interrupted it: only 0 is the end of the input
 abbrev pub input_of : ℤ → Bool → ℕ → I.Input

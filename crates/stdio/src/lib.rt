@@ -2,12 +2,17 @@
 // input and a read that failed are two things, and standard error says what failed.
 #![tactic(auto)]
 
-ghost use Rattle.std.specs.Prelude.{◌≡◌, ◌≤◌, length, true};
-ghost use Rattle.stdio.specs.Reading.{is_interrupt, input_of, Within, Room, step_of, Stays, Fits};
+ghost use Rattle.std.specs.Prelude.{◌≡◌, ◌≤◌, length, true, is_ok};
+ghost use Rattle.stdio.specs.Reading.{is_interrupt, was_interrupt, answer_of, signal_of, input_of, Within, Room, step_of, Stays, Fits};
 ghost use Rattle.stdio.specs.declared.Step.TheVariants as steps;
 ghost use Rattle.stdio.specs.declared.Filled.TheVariants as filled;
 
 use area_parts::front;
+use std::io;
+use std::io::Read;
+
+// The number of the error of a call that a signal interrupted.
+const EINTR: i32 = 4;
 
 // What a read gave: so many bytes, nothing yet where a signal came first, the end of the input, or
 // nothing, since it failed.
@@ -37,42 +42,71 @@ enum Step {
 fn interrupted(error: i32) -> bool
     ensures { result ≡ is_interrupt error }
 {
-    error == libc::EINTR
+    error == EINTR
 }
 
-// What a read into an area gave, by its answer and by whether a signal interrupted it. A failure is said
-// at once, as long as the error's number stands.
-fn input_of(got: isize, signal: bool, area: &[u8]) -> Input
-    ensures { (result ≡ input_of got signal (length area.now)) × Within (length area.now) result }
+// Whether a signal interrupted a call that failed, by its error. One without a number is none.
+fn was_interrupted(error: &io::Error) -> bool
+    ensures { result ≡ was_interrupt error.now }
 {
-    if got > 0 {
-        return Input::Bytes(io::count(got, area));
+    match error.raw_os_error() {
+        Some(number) => interrupted(number),
+        None => false,
     }
-    if got >= 0 {
-        return Input::End;
+}
+
+// The system's words for what failed, without the error's number that std puts behind them.
+fn words_alone(text: &str) -> &str {
+    match text.split_once(" (os error ") {
+        Some((words, _)) => words,
+        None => text,
     }
-    if signal {
-        return Input::Again;
+}
+
+// Writes a line to standard error: what failed, a colon and the system's words.
+fn say_failed(rt: &HostRuntime, what: &str, error: io::Error) {
+    let said = match error.to_string(rt.alloc()) {
+        Ok(text) => {
+            let words = words_alone(text.as_str());
+            eprintln!(rt; "{what}: {words}")
+        }
+        Err(_) => eprintln!(rt; "{what}: {error}"),
+    };
+    let _ = said;
+}
+
+// What a read into an area gave, by its answer. A failure is said at once.
+fn input_of(rt: &HostRuntime, got: io::Result<usize>, area: &[u8]) -> Input
+    ensures { (result ≡ input_of (answer_of got) (signal_of got) (length area.now))
+        × Within (length area.now) result }
+{
+    match got {
+        Ok(0) => Input::End,
+        Ok(n) => Input::Bytes(n.min(area.len())),
+        Err(error) => {
+            if was_interrupted(&error) {
+                return Input::Again;
+            }
+            say_failed(rt, "cannot read standard input", error);
+            Input::Failed
+        }
     }
-    os::fail(b"cannot read standard input");
-    Input::Failed
 }
 
 // Reads once into an area.
-pub fn read_some(area: &mut [u8]) -> Input
+pub fn read_some(rt: &HostRuntime, area: &mut [u8]) -> Input
     ensures { Within (length area.new) result }
 {
-    let got = libc::read(0, area);
-    let signal = interrupted(os::errno());
-    input_of(got, signal, area)
+    let got = rt.stdin().read(area);
+    input_of(rt, got, area)
 }
 
 // Says that a loop over the input, which has to end, has used up its turns: no run does. What came of
 // reading is then a failure.
-pub fn endless() -> Filled
+pub fn endless(rt: &HostRuntime) -> Filled
     ensures { result ≡ filled.Failed }
 {
-    io::write_all(2, b"standard input does not end\n");
+    let _ = eprintln!(rt; "standard input does not end");
     Filled::Failed
 }
 
@@ -90,7 +124,7 @@ fn step_of(i: Input, done: usize) -> Step
 }
 
 // One read more behind the first `done` bytes of an area, unless it is full.
-fn read_more(area: &mut [u8], done: usize) -> Step
+fn read_more(rt: &HostRuntime, area: &mut [u8], done: usize) -> Step
     requires { done ≤ length area.old }
     ensures stays { Stays (length area.old) result }
     ensures value { length area.old ≤ done → result ≡ steps.Over (filled.Bytes done) }
@@ -98,45 +132,48 @@ fn read_more(area: &mut [u8], done: usize) -> Step
     if done >= area.len() {
         return Step::Over(Filled::Bytes(done));
     }
-    let i = read_some(&mut area[done..]);
+    let i = read_some(rt, &mut area[done..]);
     step_of(i, done)
 }
 
 // Reads until an area is full or the input ends.
-pub fn read_area(area: &mut [u8]) -> Filled
+pub fn read_area(rt: &HostRuntime, area: &mut [u8]) -> Filled
     ensures { Fits (length area.new) result }
 {
     let mut done: usize = 0;
     let mut turns = u64::MAX;
     while turns > 0 {
-        let s = read_more(area, done);
+        let s = read_more(rt, area, done);
         match s {
             Step::More(n) => done = n,
             Step::Over(f) => return f,
         }
         turns -= 1;
     }
-    endless()
+    endless(rt)
 }
 
 // Answers what a write answered: whether all was written. Where it was not, standard error says why.
-fn report_write(written: bool) -> bool
-    ensures { result ≡ written }
+fn report_write(rt: &HostRuntime, written: io::Result<()>) -> bool
+    ensures { result ≡ is_ok written }
 {
-    if !written {
-        os::fail(b"cannot write standard output");
+    match written {
+        Ok(()) => true,
+        Err(error) => {
+            say_failed(rt, "cannot write standard output", error);
+            false
+        }
     }
-    written
 }
 
 // Writes the first n bytes of an area, all of them where there are fewer. Answers whether all were
 // written. What reaches standard output no contract can say; where there is nothing to write, nothing
 // can fail.
-pub fn write_front(area: &[u8], n: usize) -> bool
+pub fn write_front(rt: &HostRuntime, area: &[u8], n: usize) -> bool
     ensures { n ≡ 0 → result ≡ true }
 {
     if n == 0 {
         return true;
     }
-    report_write(io::write_all(1, front(area, n)))
+    report_write(rt, rt.write_all(front(area, n)))
 }

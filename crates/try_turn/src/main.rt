@@ -11,33 +11,33 @@ use stdio::{Filled, read_area, write_front};
 use turner::turn;
 
 // Prints `number,line`; whether that was done.
-fn print_answer(number: u8, line: usize) -> bool {
+fn print_answer(rt: &HostRuntime, number: u8, line: usize) -> bool {
     let mut text = [0u8; 32];
     let comma = put_number(&mut text, 0, number as usize);
     let from = put_byte(&mut text, comma, COMMA);
     let feed = put_number(&mut text, from, line);
     let end = put_byte(&mut text, feed, LINE_FEED);
-    write_front(&text, end)
+    write_front(rt, &text, end)
 }
 
 // Turns a file that was read whole, or as far as shows that it is too long.
-fn print_turned(file: &[u8]) {
+fn print_turned(rt: &HostRuntime, file: &[u8]) {
     let mut table = [0u16; TABLE_LENGTH];
     let mut work = [0u8; WORK_LENGTH];
     let mut output = [0u8; MAX_BYTES + 1];
     let r = turn(file, &mut table, &mut work, &mut output);
     let a = r.answer;
     let f = a.refusal;
-    if print_answer(format::number_of(f), a.place) {
-        write_front(&output, r.length);
+    if print_answer(rt, format::number_of(f), a.place) {
+        write_front(rt, &output, r.length);
     }
 }
 
-fn main() {
+fn main(rt: HostRuntime) {
     let mut input = [0u8; MAX_BYTES + 1];
-    let f = read_area(&mut input);
+    let f = read_area(&rt, &mut input);
     match f {
-        Filled::Bytes(n) => print_turned(front(&input, n)),
+        Filled::Bytes(n) => print_turned(&rt, front(&input, n)),
         Filled::Failed => {}
     }
 }

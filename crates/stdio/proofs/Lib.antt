@@ -1,2 +1,0 @@
--- A read's answer by its sign.
-pub mod Signs
