@@ -4,6 +4,7 @@ use Rattle.table_trees.specs.Unfolding.{cell_of, smaller_of, type_of}
 use Rattle.table_trees.proofs.Lines.{part_of, line_sum, line_product}
 use Rattle.number_values.specs.Numbers.{Unranks}
 use Rattle.number_values.proofs.TypeLines.{line_rest}
+use Rattle.number_values.proofs.Counting.{counted_some}
 use Rattle.number_values.proofs.Spelling.{unranks_list, unranks_unit, unranks_left, unranks_right, unranks_pair}
 use Prim.Native.Nat.{◌+◌}
 use Rattle.number_values.proofs.+unrank_at.Goals as goal
@@ -73,3 +74,17 @@ returns t c =
     let a = (args) in
     line_rest (λ x. Unranks x a.n a.out.now (set a.out.now a.at 85) a.at (a.at + 1)) a.t.now a.i (cell.ensures.0) (if2.false) (c.if-kind-eq-PRODUCT.false)
     (unranks_unit a.n a.out.now a.at (if1.false)) (λ b. unranks_list b a.n a.out.now (set a.out.now a.at 85) a.at (a.at + 1))
+
+pub nonzero_div-n : goal.nonzero_div-n
+nonzero_div-n t c = 
+    let args = c.args in
+    let smaller3 = c.smaller-right in
+    let count-values2 = c.count_values-c-then-kind-eq-PRODUCT in
+    counted_some (type_of (args.t.now) (smaller3.result)) (count-values2.ensures)
+
+pub nonzero_rem-n : goal.nonzero_rem-n
+nonzero_rem-n t c = 
+    let args = c.args in
+    let smaller3 = c.smaller-right in
+    let count-values2 = c.count_values-c-then-kind-eq-PRODUCT in
+    counted_some (type_of (args.t.now) (smaller3.result)) (count-values2.ensures)
