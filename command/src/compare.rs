@@ -32,7 +32,7 @@ const SHOWN: usize = 3;
 
 const ENDINGS: &str = "request 06, files from the other editor: a line ends with a line feed, or with a carriage return and \
     a line feed; files that differ in nothing else get the same verdict and answer everything alike. That is proved \
-    (crates/law_endings: verdict_alike, run_alike and one for each service)";
+    (crates/law_endings: verdict-alike, run-alike and one for each service)";
 
 const ORDER: &str = "request 08, clauses in any order: two files that differ only in the order of clauses within isos, let \
     steps moving with their clause, are both accepted or both refused, and if accepted answer every query alike. That is \

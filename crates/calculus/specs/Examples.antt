@@ -66,7 +66,8 @@ parts = refl
 
 -- "left and right nodes", and the most that a value of a type has: of a sum's parts the greater, of a product's both
 tag_counts : map tags
-    (pleaf unit_leaf ∷ pvar 3 ∷ pinj left (pvar 0) ∷ pinj right (pleaf unit_leaf) ∷ pnode pair_node (pinj left (pleaf unit_leaf)) (pinj right (pinj left (pleaf unit_leaf))) ∷ []) ≡ 0 ∷ 0 ∷ 1 ∷ 1 ∷ 3 ∷ []
+    (pleaf unit_leaf ∷ pvar 3 ∷ pinj left (pvar 0) ∷ pinj right (pleaf unit_leaf) ∷ pnode pair_node (pinj left (pleaf unit_leaf)) (pinj right (pinj left (pleaf unit_leaf))) ∷ []) ≡ 0 ∷ 0 ∷ 1
+    ∷ 1 ∷ 3 ∷ []
 tag_counts = refl
 
 most_tags_lem : map most_tags (tunit ∷ bit ∷ tsum bit tunit ∷ tsum tunit (tsum bit tunit) ∷ tprod bit (tsum bit tunit) ∷ []) ≡ 0 ∷ 1 ∷ 2 ∷ 3 ∷ 3 ∷ []

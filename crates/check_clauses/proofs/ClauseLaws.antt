@@ -103,7 +103,8 @@ pub record ShapesLeft (t : List ℕ) (base from to n : ℕ) : Type 0 where
 
 module _ {t : List ℕ} {base from to n : ℕ} (h : ShapesLeft t base from to n) where
   -- the L line in row n and those after it decide the whole
-  opened : n < to → (plain (pattern_of t base (cell_of t n 1)) && plain (pattern_of t base (cell_of t n 3))) && shaped (lets_in t base (n + 1) (to - (n + 1))) ≡ shaped (lets_in t base from (to - from))
+  opened : n < to → (plain (pattern_of t base (cell_of t n 1)) && plain (pattern_of t base (cell_of t n 3))) && shaped (lets_in t base (n + 1) (to - (n + 1)))
+      ≡ shaped (lets_in t base from (to - from))
   opened l = sym (ap shaped (lets_more t base n to l)) ∙ h.same
 
   plain_at : {p : ℕ} {a b : Bool} (k : ℕ) → p ≡ cell_of t n k → a ≡ plain (pattern_of t base p) → a ≡ b → plain (pattern_of t base (cell_of t n k)) ≡ b
@@ -199,7 +200,8 @@ clause_fitted t starts base a b row end start bound stepped done es el eb et er 
     let ls : List Let = lets_in t base (suc row) (end - suc row) in
     let left : env_view t bound ≡ fit_all true (pattern_of t base (cell_of t row 1)) (type_of t a) (some (replicate variables none)) = eb ∙ ap₂
     (λ k e. fit_all true (pattern_of t base k) (type_of t a) e) el (fresh_view t es) in
-    let walks : env_view t stepped ≡ fitted_lets (sigs_in t starts) ls (env_view t bound) = et ∙ ap (λ k. fitted_lets (sigs_in t starts) (lets_in t base k (end - k)) (env_view t bound)) (add-one row) in
+    let walks : env_view t stepped ≡ fitted_lets (sigs_in t starts) ls (env_view t bound) = et
+    ∙ ap (λ k. fitted_lets (sigs_in t starts) (lets_in t base k (end - k)) (env_view t bound)) (add-one row) in
     let right : env_view t done ≡ fit_all false (pattern_of t base (cell_of t row 2)) (type_of t b) (env_view t stepped) = ed ∙ ap
     (λ k. fit_all false (pattern_of t base k) (type_of t b) (env_view t stepped)) er in
     ev ∙ used_env t done ∙ ap used (right ∙ ap (fit_all false (pattern_of t base (cell_of t row 2)) (type_of t b)) (walks ∙ ap (fitted_lets (sigs_in t starts) ls) left))

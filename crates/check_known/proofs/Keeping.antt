@@ -27,7 +27,8 @@ use Rattle.check_known.proofs.Meets.{fitting_meets, meet_fresh}
 pub never : {A : Type 0} → false ≡ true → A
 never e = absurd (true≢false (sym e))
 
-pub slot_is : (k : List ℕ) (at p a : ℕ) {o l h : ℕ} → o ≡ own_at k at → o ≡ a → l ≡ get_or k (at + 34) 0 → h ≡ get_or k (at + 35) 0 → (eqb (l + h * 256) p ≡ true → (line_at k at ≡ p) × (own_at k at ≡ a))
+pub slot_is : (k : List ℕ) (at p a : ℕ) {o l h : ℕ} → o ≡ own_at k at → o ≡ a → l ≡ get_or k (at + 34) 0 → h ≡ get_or k (at + 35) 0
+    → (eqb (l + h * 256) p ≡ true → (line_at k at ≡ p) × (own_at k at ≡ a))
 slot_is k at p a {o} {l} {h} e f m n q = (sym (ap₂ (λ x y. x + y * 256) m n) ∙ eqb-true (l + h * 256) p q, sym e ∙ f)
 
 pub place_free : (k : List ℕ) (p a s : ℕ) {h : ℕ} → s * 36 + 36 ≤ length k → h ≡ get_or k (s * 36 + 33) 0 → h ≡ 0 → Place k p a (s * 36)
@@ -276,7 +277,8 @@ module _ (t k : List ℕ) (base p a : ℕ) (b : Bool) (e : Env) (wide : length e
       go none l = refl
       go (some s) l = sym (meet_fresh b s variables (l s refl))
 
-  pub known_types : (r : Env) → h ≡ 2 → ((w : Slots Ty) → Entries t k at w → env_view t r ≡ meeting b (env_view t e) (some w)) → env_view t r ≡ fit_all b (pattern_of t base p) (type_of t a) (env_view t e)
+  pub known_types : (r : Env) → h ≡ 2 → ((w : Slots Ty) → Entries t k at w → env_view t r ≡ meeting b (env_view t e) (some w)) → env_view t r
+      ≡ fit_all b (pattern_of t base p) (type_of t a) (env_view t e)
   known_types r y f = let o = (kept_there 1 y).types (sym q ∙ y) in f o.0 o.2 ∙ told o.1
 
   pub known_fails : (r : Env) → h ≡ 3 → r.fits ≡ false → env_view t r ≡ fit_all b (pattern_of t base p) (type_of t a) (env_view t e)

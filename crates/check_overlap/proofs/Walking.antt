@@ -1,5 +1,6 @@
 -- The walk over two P lines: how two nodes meet, and the count from node to node.
-use Rattle.std.proofs.Common.{◌≡◌, ℕ, zero, suc, ◌+◌, ◌*◌, ◌/◌, ◌%◌, ◌^◌, ◌<◌, ◌≤◌, Bool, true, false, cond, eqb, ◌⊎◌, List, length, get_or, sym, refl, ap, ◌∙◌, subst, ap₂, inl, inr, true≢false, add-zero, add_assoc, mod-lt, mod-eq_of_lt, zero-add, arith}
+use Rattle.std.proofs.Common.{◌≡◌, ℕ, zero, suc, ◌+◌, ◌*◌, ◌/◌, ◌%◌, ◌^◌, ◌<◌, ◌≤◌, Bool, true, false, cond, eqb, ◌⊎◌, List, length, get_or, sym, refl, ap, ◌∙◌}
+use Rattle.std.proofs.Common.{subst, ap₂, inl, inr, true≢false, add-zero, add_assoc, mod-lt, mod-eq_of_lt, zero-add, arith}
 use native.Mathlib.Nat.{mod-add-mod, mod-mod_of_dvd, div-add-mod, add-mul-mod_self_left, mul-add-div, div-eq_of_lt, dvd-mul_right}
 use Rattle.limits.specs.Limits.{max_lines, row_width, table_length}
 use Rattle.calculus.specs.Trees.{Pat, pvar, pleaf, pinj, pnode, unit_leaf}

@@ -43,7 +43,8 @@ zoned_kind (suc (suc (suc zero))) a b h l = absurd (h refl)
 zoned_kind (suc (suc (suc (suc k)))) a b h l = refl
 
 pub zoned_other : (t : List ℕ) (a : ℕ) {k : ℕ} → k ≡ cell_of t a 1 → (k ≡ 3 → ⊥) → (k ≡ 2 → ⊥) → false ≡ zoned (type_of t a)
-zoned_other t a {k} e h l = zoned_kind k _ _ h l ∙ ap (λ k. zoned (type_node k (type_of t (smaller_of (cell_of t a 2) a)) (type_of t (smaller_of (cell_of t a 3) a)))) e ∙ ap zoned (sym (type_node_lem t a))
+zoned_other t a {k} e h l = zoned_kind k _ _ h l ∙ ap (λ k. zoned (type_node k (type_of t (smaller_of (cell_of t a 2) a)) (type_of t (smaller_of (cell_of t a 3) a)))) e
+    ∙ ap zoned (sym (type_node_lem t a))
 
 -- ---- patterns: k is the kind of P line q
 
@@ -381,6 +382,7 @@ clause_told t base i back row end s {f} {p} ef ep es er =
     ∙ ap (λ k. shown_rule i (shown (pattern_of t base (cell_of t row (cond back 2 1)))) (lets_toward back t base k (end - k))) (add-one row)
     ∙ go back
   where
-    go : (b : Bool) → shown_rule i (shown (pattern_of t base (cell_of t row (cond b 2 1)))) (lets_toward b t base (suc row) (end - suc row)) ≡ clause_rule i (clause_toward b (clause_in t base row end))
+    go : (b : Bool) → shown_rule i (shown (pattern_of t base (cell_of t row (cond b 2 1)))) (lets_toward b t base (suc row) (end - suc row))
+        ≡ clause_rule i (clause_toward b (clause_in t base row end))
     go true = ap (shown_rule i (shown (pattern_of t base (cell_of t row 2)))) (sym (turned_lets t base (suc row) (end - suc row)))
     go false = refl

@@ -204,7 +204,8 @@ module _ (t : List ℕ) (base i row : ℕ) (rows : List ℕ) (last : ℕ) where
 
         settled : {v : Bool} → g ≡ v → verdict_of false false v ≡ recursion_fault i iso
         settled {v} w =
-            sym (ap₂ (λ q c. verdict_of q c v) (sym eq ∙ z) (forth ∙ y)) ∙ sym (ap (verdict_of (Silent i cs) (zoned (type_of t (cell_of t row 1)) && all (clause_rule i) cs)) (turned ∙ w)) ∙ opened_fault
+            sym (ap₂ (λ q c. verdict_of q c v) (sym eq ∙ z) (forth ∙ y)) ∙ sym (ap (verdict_of (Silent i cs) (zoned (type_of t (cell_of t row 1)) && all (clause_rule i) cs)) (turned ∙ w))
+            ∙ opened_fault
 
         pub fault_turned : g ≡ true → none ≡ recursion_fault i iso
         fault_turned w = settled w

@@ -15,7 +15,8 @@ use Rattle.format.specs.Table.{size_of, numbers, table_of}
 use Rattle.format.specs.Unfold.{exchange, turn_rows}
 use Rattle.format.specs.Judge.{Seen, start, in_order, fields_fit, named, within_ceilings, after}
 use Rattle.calculus.specs.Letters.{letters}
-use Rattle.model.specs.Services.{accepted, refused, over, verdict, filled, table_after, work_after, short, unless, answer_of, serve, turned_rows, output_by, turn, run_on, ran_by, RunResult, run_service}
+use Rattle.model.specs.Services.{accepted, refused, over, verdict, filled, table_after, work_after, short, unless, answer_of, serve, turned_rows, output_by}
+use Rattle.model.specs.Services.{turn, run_on, ran_by, RunResult, run_service}
 use Rattle.model.specs.Desk.{query_of, desk}
 use Rattle.model.specs.Sheet.{sheet_verdict}
 use Rattle.model.specs.Cases.{bytes}

@@ -131,7 +131,8 @@ rows_start m t base f rows w {k} {ts} {ts'} e g h =
           (none_taken w ts' e (subst (λ z. 1 < m → Countable z → Holds m k (λ n. how_many n z)) g h));
     }
 
-pub rows_more : (m : ℕ) (t : List ℕ) (base f : ℕ) (rows k l w : List ℕ) (ts : List Ty) (x row q p : ℕ) → RowsLeft m t base f rows k w ts x → 0 < x → length l ≡ length k → row ≡ get_or rows (x - 1) 0 → q
+pub rows_more : (m : ℕ) (t : List ℕ) (base f : ℕ) (rows k l w : List ℕ) (ts : List Ty) (x row q p : ℕ) → RowsLeft m t base f rows k w ts x → 0 < x → length l ≡ length k → row
+    ≡ get_or rows (x - 1) 0 → q
     ≡ row → p ≡ cell_of t q f
     → TakesRow m k l ts (row_along w (pattern_of t base p ∷ [])) → RowsLeft m t base f rows l w ts (x - 1)
 rows_more m t base f rows k l w ts x row q p o z e g' g h d =

@@ -87,7 +87,8 @@ module _ {t : List ℕ} {types patterns lns : ℕ} {rs : List Row} (f : FileIn t
   unfolding import_rows
   rows = refl
 
-  both : i < types → j < types → import_rows rs i j list ≡ cond (ltb max_pairs (count (type_of t i)) || ltb max_pairs (count (type_of t j))) (fails too_many) (on_lines (type_of t i) (type_of t j) (lines list))
+  both : i < types → j < types → import_rows rs i j list
+      ≡ cond (ltb max_pairs (count (type_of t i)) || ltb max_pairs (count (type_of t j))) (fails too_many) (on_lines (type_of t i) (type_of t j) (lines list))
   both h k = rows ∙ ap₂ outcome (there f i h) (there f j k)
 
   second : (x y : Option Ty) → y ≡ none → outcome x y ≡ fails no_iso

@@ -73,7 +73,8 @@ judge_cases s r = go r.kind refl
         to_former = ap (λ k. first_failing ((in_order s.above k, misplaced k) ∷ (fields_fit k r, bad_field k) ∷ (named s k r, bad_name k) ∷ (within_former s k r, ceiling k) ∷ [])) e
 
         to_today : judge s r ≡ first_failing
-            ((in_order s.above clause_line, misplaced clause_line) ∷ (true, bad_field clause_line) ∷ (named s clause_line r, bad_name clause_line) ∷ (ltb s.clauses max_clauses, ceiling clause_line) ∷ [])
+            ((in_order s.above clause_line, misplaced clause_line) ∷ (true, bad_field clause_line) ∷ (named s clause_line r, bad_name clause_line)
+            ∷ (ltb s.clauses max_clauses, ceiling clause_line) ∷ [])
         to_today = ap (λ k. first_failing ((in_order s.above k, misplaced k) ∷ (fields_fit k r, bad_field k) ∷ (named s k r, bad_name k) ∷ (within_ceilings s k r, ceiling k) ∷ [])) e
 
         on : (first_failing ((in_order s.above clause_line, misplaced clause_line) ∷ (true, bad_field clause_line) ∷ (named s clause_line r, bad_name clause_line) ∷

@@ -12,7 +12,8 @@ use lib.Seq.{take-append_seam, drop-append_seam}
 use Rattle.limits.specs.Limits.{table_length, work_length, result_length, max_values}
 use Rattle.calculus.specs.Refusals.{short_area}
 use Rattle.format.specs.Lines.{Row}
-use Rattle.model.specs.Services.{Verdict, accepted, refused, verdict, written, table_after, work_after, short, unless, answer_of, check, Outcome, gives, fails, refusal_number, bytes_from, served, serve}
+use Rattle.model.specs.Services.{Verdict, accepted, refused, verdict, written, table_after, work_after, short, unless, answer_of, check, Outcome, gives, fails}
+use Rattle.model.specs.Services.{refusal_number, bytes_from, served, serve}
 use Rattle.calculus.proofs.Basic.{lt_ltb, not_ltb, ltb_false, neither}
 use Rattle.model.proofs.Files.{number_positive}
 use Rattle.model.proofs.Outcomes.{past_short, refused_first}

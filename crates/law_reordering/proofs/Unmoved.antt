@@ -151,7 +151,8 @@ module _ (ts : List Ty) (ps : List Pat) (n : ℕ) where
       rest κ = first_failing ((fields_fit κ r, bad_field κ) ∷ (named (seen ts ps n a k m) κ r, bad_name κ) ∷ (within_ceilings (seen ts ps n a k m) κ r, ceiling κ) ∷ [])
 
       step : (κ : Kind) → (κ ≡ let_line → ⊥)
-          → first_failing ((in_order a κ, misplaced κ) ∷ (fields_fit κ r, bad_field κ) ∷ (named (seen ts ps n a k m) κ r, bad_name κ) ∷ (within_ceilings (seen ts ps n a k m) κ r, ceiling κ) ∷ []) ≡ none
+          → first_failing ((in_order a κ, misplaced κ) ∷ (fields_fit κ r, bad_field κ) ∷ (named (seen ts ps n a k m) κ r, bad_name κ) ∷ (within_ceilings (seen ts ps n a k m) κ r, ceiling κ)
+          ∷ []) ≡ none
           → after_kind κ (seen ts ps n a k m) r ≡ after_kind κ (seen ts ps n b k m') r
       step type_line v e = let o = leb_le (stage a) 0 (none_failing (in_order a type_line) (misplaced type_line) (rest type_line) e).0 in absurd (omega arith)
       step pattern_line v e = let o = leb_le (stage a) 1 (none_failing (in_order a pattern_line) (misplaced pattern_line) (rest pattern_line) e).0 in absurd (omega arith)

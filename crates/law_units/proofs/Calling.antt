@@ -110,7 +110,8 @@ module _ (file : List ℕ) (rs : List Row) (acc : verdict file ≡ accepted rs) 
 
 -- "counted from 0 in each play"
 pub play_served : (file t w : List ℕ) (us : Units) (script : List ℕ) (budget : ℕ) (tl : Tally) (ok : (play_service file t w us script budget tl).answer.number ≡ 0)
-    → PlayServed file (file_rows file t w us script budget tl ok) budget (lines script) us nothing_yet (play_service file t w us script budget tl).units (play_service file t w us script budget tl).tally
+    → PlayServed file (file_rows file t w us script budget tl ok) budget (lines script) us nothing_yet (play_service file t w us script budget tl).units
+    (play_service file t w us script budget tl).tally
 play_served file t w us script budget tl ok =
     let rs : List Row = file_rows file t w us script budget tl ok in
     let g = play_gives file t w us script budget tl ok in

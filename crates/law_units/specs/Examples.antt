@@ -126,7 +126,8 @@ matching = refl
 other_ends : map (λ b. end_of b none ∷ end_of b (some (record { kind = iso_line; x = 5; y = 6; z = 7 })) ∷ other_end [] b none ∷ []) (false ∷ true ∷ []) ≡ (0 ∷ 6 ∷ 0 ∷ []) ∷ (0 ∷ 5 ∷ 0 ∷ []) ∷ []
 other_ends = refl
 
-ends_by_line : other_end (record { kind = iso_line; x = 1; y = 2; z = 0 } ∷ record { kind = iso_line; x = 3; y = 4; z = 0 } ∷ record { kind = iso_line; x = 5; y = 6; z = 0 } ∷ []) false (some across) ≡ 4
+ends_by_line : other_end (record { kind = iso_line; x = 1; y = 2; z = 0 } ∷ record { kind = iso_line; x = 3; y = 4; z = 0 } ∷ record { kind = iso_line; x = 5; y = 6; z = 0 } ∷ []) false
+    (some across) ≡ 4
 ends_by_line = refl
 
 -- "the unit then holds …"; "both leave the unit"

@@ -203,7 +203,8 @@ overlaps_in : map (overlap_in (tsum bit tunit))
     ≡ none ∷ none ∷ none ∷ some (vinj left (vinj right (vleaf unit_leaf))) ∷ some (vinj right (vleaf unit_leaf)) ∷ []
 overlaps_in = refl
 
-list_overlaps : map (overlap_in (tlist bit)) ((pleaf empty_leaf ∷ pnode element_node (pvar 0) (pvar 1) ∷ []) ∷ (pleaf empty_leaf ∷ pvar 0 ∷ []) ∷ (pnode element_node (pvar 0) (pvar 1) ∷ pvar 0 ∷ []) ∷ [])
+list_overlaps : map (overlap_in (tlist bit))
+    ((pleaf empty_leaf ∷ pnode element_node (pvar 0) (pvar 1) ∷ []) ∷ (pleaf empty_leaf ∷ pvar 0 ∷ []) ∷ (pnode element_node (pvar 0) (pvar 1) ∷ pvar 0 ∷ []) ∷ [])
     ≡ none ∷ some (vleaf empty_leaf) ∷ some (vnode element_node (vinj left (vleaf unit_leaf)) (vleaf empty_leaf)) ∷ []
 list_overlaps = refl
 
@@ -244,7 +245,8 @@ gaps_found : map (λ ps. gap_in (tsum bit (tprod tunit bit)) ps)
     ≡ none ∷ some (bytes "RPULU") ∷ some (bytes "RPURU") ∷ some (bytes "LRU") ∷ []
 gaps_found = refl
 
-gap_lengths : map (λ ps. gap_length (tsum bit (tprod tunit bit)) ps) ((pvar 0 ∷ []) ∷ (pinj left (pvar 0) ∷ []) ∷ (pinj right (pvar 0) ∷ pinj left (pinj left (pleaf unit_leaf)) ∷ []) ∷ []) ≡ none ∷ some
+gap_lengths : map (λ ps. gap_length (tsum bit (tprod tunit bit)) ps) ((pvar 0 ∷ []) ∷ (pinj left (pvar 0) ∷ []) ∷ (pinj right (pvar 0) ∷ pinj left (pinj left (pleaf unit_leaf)) ∷ []) ∷ [])
+    ≡ none ∷ some
     5 ∷ some 3 ∷ []
 gap_lengths = refl
 

@@ -124,7 +124,8 @@ module _ (bs : List ℕ) (z : WithoutZones bs) where
         imports = λ t w i j list output. ap (λ x. import_with x t w i j list output) same;
         shows = λ t w result. ap₂ (λ x ls. show_before x ls t w result) (same_measured bs z) (same_showing bs z);
         plays = λ t w us script budget tally. ap (play_by us tally)
-            (asked_same (short t w || unequal us) (play_verdict us script (verdict bs)) (play_verdict us script (before within_ceilings bs)) (play_rows us script budget) (play_before us script budget) t w
+            (asked_same (short t w || unequal us) (play_verdict us script (verdict bs)) (play_verdict us script (before within_ceilings bs)) (play_rows us script budget)
+            (play_before us script budget) t w
             (ap (play_verdict us script) same) (λ rs e. same_play rs (row_free rs (planned us script rs e)) us script budget));
       }
 

@@ -1,5 +1,4 @@
 -- The reduction in the work area, function by function: what each assumes, what it finds, what it leaves.
-use denote.Slice.{shr_slice_at}
 use Prim.Native.Nat.{ℕ, zero, suc, ◌+◌, ◌-◌, ◌*◌, ◌≤◌, ◌<◌, min}
 use native.Mathlib.Nat.{zero-add}
 use native.Mathlib.Omega.{arith}
@@ -406,7 +405,7 @@ settle_moved p {vars} {work} {w₁} {work'} {top} {dest} {left} {last} {end} wri
     let stop = rd.ends in
     let long = rd.wide in
     let c = copy low (omega (arith, stop, fits, room, long)) in
-    let bytes : slice top last w₁ ≡ letters w = ap (λ k. slice top k w₁) stop ∙ shr_slice_at rd.spelled in
+    let bytes : slice top last w₁ ≡ letters w = ap (λ k. slice top k w₁) stop ∙ at_slice rd.spelled in
     let room' : dest + length (letters w) ≤ length w₁ = omega (arith, low, fits, room, long) in
     let fits' : dest + length (slice top last w₁) ≤ length w₁ = subst (λ bs. dest + length bs ≤ length w₁) (sym bytes) room' in
     let final : work' ≡ sets w₁ dest (letters w) = c.area fits' ∙ ap (sets w₁ dest) bytes in

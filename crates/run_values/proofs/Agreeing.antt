@@ -67,8 +67,8 @@ at_second {s} {at} {v = v} {w = w} h =
     }
 
 -- the slice from its place to its end is the value's letters
-pub slice_at_letters : {s : List ℕ} {at : ℕ} {v : Val} → At s at v → slice at (at + length (letters v)) s ≡ letters v
-slice_at_letters {s} {at} {v} h =
+pub at_slice : {s : List ℕ} {at : ℕ} {v : Val} → At s at v → slice at (at + length (letters v)) s ≡ letters v
+at_slice {s} {at} {v} h =
     drop_take at (length (letters v)) s ∙ ap (take (length (letters v))) h.spells ∙ take-append_seam (letters v) h.rest
 
 -- the letters that end at or before top stand in the first top
@@ -256,7 +256,7 @@ agrees_put n v e {e'} s vars at size slots room a h g = record { holds = λ m w 
         let k = at_within a in
         ap (range_of s (put_range vars n at (at + length (letters v)))) p
         ∙ range_same vars n at (at + length (letters v)) size small s (omega arith) (omega arith)
-        ∙ slice_at_letters a
+        ∙ at_slice a
         ∙ ap letters (some_inj (sym filled.held ∙ ap (slot e') (sym p) ∙ i))
     go m w i (no differs) =
         let k = slot_below e' m i in

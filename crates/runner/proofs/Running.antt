@@ -1,5 +1,4 @@
 -- A run on a checked table, case by case, against the model's run of the file's rows.
-use denote.Slice.{shr_slice_at}
 use Prim.Native.Nat.{ℕ, suc, ◌+◌, ◌-◌, ◌*◌, ◌≤◌, ◌<◌}
 use native.Mathlib.Nat.{zero-add}
 use native.Mathlib.Omega.{arith}
@@ -218,7 +217,7 @@ ran_done {i = i} {back = back} {budget = budget} {value = value} {rs = rs} work�
     let less = a.near in
     let done = sym told ∙ a.gives in
     let rest = range_left done in
-    let bytes : part ≡ bs = ep ∙ ap₂ (λ p q. drop p (take q work₂)) (range_begin done) (range_end done) ∙ shr_slice_at a.stands in
+    let bytes : part ≡ bs = ep ∙ ap₂ (λ p q. drop p (take q work₂)) (range_begin done) (range_end done) ∙ at_slice a.stands in
     let place : length part ≡ length bs = ap length bytes in
     let answer = g.answer ∙ ap answer_of_run (within_gives budget g.m w h y) in
     let front : take (length part) part ≡ bs = take-length part ∙ bytes in

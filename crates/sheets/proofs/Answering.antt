@@ -129,7 +129,8 @@ through_room x h e a b =
 
 pub through_next : {t : List ℕ} {base : ℕ} {index : List ℕ} {isos : ℕ} {q w₀ n₀ o₀ w n o w' n' o' : List ℕ} {at k end : ℕ} → Through t base index isos q w₀ n₀ o₀ w n o at k → at < length q
     → LineEnd q at end → (k * 3 + 3 ≤ length n) × (k * 127 + result_length ≤ length o)
-    → ((rs : List Row) → Prepared t base index isos rs → run_room ≤ length w → length w ≤ work_length → OneAnswered (answer_of_run (answer_to (accepted rs) (query_of (mid_of at (end - at) q)))) k n o n' o')
+    → ((rs : List Row) → Prepared t base index isos rs → run_room ≤ length w → length w ≤ work_length
+    → OneAnswered (answer_of_run (answer_to (accepted rs) (query_of (mid_of at (end - at) q)))) k n o n' o')
     → length w' ≡ length w → length n' ≡ length n → length o' ≡ length o → Through t base index isos q w₀ n₀ o₀ w' n' o' end (k + 1)
 through_next {q = q} {n = n} {o = o} {n' = n'} {o' = o'} {at = at} {k = k} {end = end} x h e room one kw kn ko =
     let s = ap length (e.splits h) in

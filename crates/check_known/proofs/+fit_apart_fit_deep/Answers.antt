@@ -4,7 +4,7 @@ use Rattle.check_typing.proofs.Meeting.{fit_pair}
 use Rattle.check_known.proofs.+fit_apart_fit_deep.Goals as goal
 
 pub fit_apart-returns-then-is_parted : goal.fit_apart-returns-then-is_parted
-fit_apart-returns-then-is_parted t c = 
+fit_apart-returns-then-is_parted t c =
     let is-parted = c.is_parted in
     let if1 = c.if-is_parted in
     let sooner = c.sooner-i in

@@ -46,5 +46,6 @@ pub returns-in_default-2 : goal.returns-in_default-2
 returns-in_default-2 t c =
     let args = c.args in
     let pattern-cell = c.pattern_cell in
-    holds_none args.t.now args.base args.q args.n pattern-cell.ensures.0 (leaf_beyond _ (omega arith) (λ e. c.in_default.in_default-own.rest.1 (inl e)) (λ e. c.in_default.in_default-own.rest.1 (inr e)))
+    holds_none args.t.now args.base args.q args.n pattern-cell.ensures.0
+    (leaf_beyond _ (omega arith) (λ e. c.in_default.in_default-own.rest.1 (inl e)) (λ e. c.in_default.in_default-own.rest.1 (inr e)))
     c.in_default.in_default-own.rest.0.1

@@ -50,4 +50,5 @@ pub returns-in_default-2 : goal.returns-in_default-2
 returns-in_default-2 t c =
     let args = c.args in
     let pattern-cell = c.pattern_cell in
-    plain_end args.t.now args.base args.p pattern-cell.ensures.0 (plain_beyond _ (omega arith) c.in_default.in_default-own.rest.0.0.1 c.in_default.in_default-own.rest.0.1 c.in_default.in_default-own.rest.1)
+    plain_end args.t.now args.base args.p pattern-cell.ensures.0
+    (plain_beyond _ (omega arith) c.in_default.in_default-own.rest.0.0.1 c.in_default.in_default-own.rest.0.1 c.in_default.in_default-own.rest.1)

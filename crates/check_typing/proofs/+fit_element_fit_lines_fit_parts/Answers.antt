@@ -83,7 +83,10 @@ fit_lines-returns-in_default t c =
     let match' = c.in_default-1 in
     fitted_from reach.ensures
     (fitted_unit c.args.t.now c.args.base reach.result.p reach.result.a c.args.binds c.args.line.now pattern-cell.ensures.0 cell.ensures.0
-    (elim c.in_default.branch [ fit_lines-in_default-via-then-kp-lt1 w ↦ plain_unit _ (omega arith) | fit_lines-in_default-via-else-kp-lt1+else-kp-lt5 w ↦ plain_past _ (omega arith) match'.rest.0.1 match'.rest.1 ]) match'.rest.0.0.1 c.names_nothing.ensures)
+    (elim c.in_default.branch [
+      | fit_lines-in_default-via-then-kp-lt1 w ↦ plain_unit _ (omega arith)
+      | fit_lines-in_default-via-else-kp-lt1+else-kp-lt5 w ↦ plain_past _ (omega arith) match'.rest.0.1 match'.rest.1
+    ]) match'.rest.0.0.1 c.names_nothing.ensures)
 
 pub fit_parts-returns-then-ka-eq-SUM : goal.fit_parts-returns-then-ka-eq-SUM
 fit_parts-returns-then-ka-eq-SUM t c =
