@@ -1,0 +1,10 @@
+use native.Mathlib.Omega.{arith}
+use Rattle.runner.proofs.Answering.{front_length}
+use Rattle.runner.proofs.run.run_accepted.Goals as goal
+
+pub returns-clause-on_accepted : goal.returns-clause-on_accepted
+returns-clause-on_accepted c = 
+    let a = c.args in
+    let h = c.requires in
+    let n = front_length a.room a.work.now h in
+    λ s x long short result. (c.run_checked.ensures x.file (c.prepare.ensures s x (omega arith)) (omega (arith, n, long)) (omega (arith, n, short)) result).0
