@@ -3,7 +3,7 @@ use Rattle.bound_counts.proofs.Reckoning.{reckoned_step, reckoned_end}
 use Rattle.bound_counts.proofs.reckon.Goals as goal
 
 pub loop-i-preserved : goal.loop-i-preserved
-loop-i-preserved c = 
+loop-i-preserved c =
     let loop' = c.loop-i in
     let loop-test = c.loop-i-test in
     let place = c.place-m in

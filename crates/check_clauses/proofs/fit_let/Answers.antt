@@ -3,7 +3,7 @@ use Rattle.check_clauses.proofs.ClauseLaws.{let_known, let_unknown}
 use Rattle.check_clauses.proofs.fit_let.Goals as goal
 
 pub returns-then-i-starts : goal.returns-then-i-starts
-returns-then-i-starts c = 
+returns-then-i-starts c =
     let_known
     c.args.t.now
     c.args.base
@@ -21,7 +21,7 @@ returns-then-i-starts c =
     c.fit_known.ensures
 
 pub returns : goal.returns
-returns c = 
+returns c =
     let_unknown
     c.args.t.now
     c.args.base

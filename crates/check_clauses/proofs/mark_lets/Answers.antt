@@ -3,7 +3,7 @@ use Rattle.check_clauses.proofs.ClauseLaws.{marks_step}
 use Rattle.check_clauses.proofs.mark_lets.Goals as goal
 
 pub loop-n-preserved : goal.loop-n-preserved
-loop-n-preserved c = 
+loop-n-preserved c =
     marks_step
     c.loop-n.invariant
     c.loop-n-test.true

@@ -5,7 +5,7 @@ use Rattle.check_clauses.proofs.Bare.{plain_told}
 use Rattle.check_clauses.proofs.plainly.Goals as goal
 
 pub returns-then-p-f : goal.returns-then-p-f
-returns-then-p-f c = 
+returns-then-p-f c =
     let pre = c.requires in
     let args = c.args in
     let if1 = c.if-base-f in

@@ -2,7 +2,7 @@ use Rattle.check_clauses.proofs.ClauseLaws.{clause_marked}
 use Rattle.check_clauses.proofs.variables_kept.Goals as goal
 
 pub returns-then-row-lt-MAX_LINES : goal.returns-then-row-lt-MAX_LINES
-returns-then-row-lt-MAX_LINES c h = 
+returns-then-row-lt-MAX_LINES c h =
     clause_marked
     c.args.t.now
     c.args.base

@@ -3,7 +3,7 @@ use Rattle.check_isos.proofs.Earlier.{by_sides}
 use Rattle.check_isos.proofs.iso_found.Goals as goal
 
 pub returns : goal.returns
-returns c = 
+returns c =
     let a = c.args in
     let is-refused = c.is_refused in
     let if1 = c.if-is_refused in

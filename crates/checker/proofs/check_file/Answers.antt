@@ -3,7 +3,7 @@ use Rattle.checker.proofs.Checks.{refused_flag, counts_said, early_says, early_p
 use Rattle.checker.proofs.check_file.Goals as goal
 
 pub returns-then-is_refused : goal.returns-then-is_refused
-returns-then-is_refused c = 
+returns-then-is_refused c =
     let e = c.is_refused.ensures in
     let h = c.if-is_refused.true in
     let d = c.refused.ensures in
@@ -11,7 +11,7 @@ returns-then-is_refused c =
     (s, refused_flag _ _ _ e h d.1, counts_said _ _ _ _ _ _ s (refused_flag _ _ _ e h d.1) (λ f k. d.2))
 
 pub returns : goal.returns
-returns c = 
+returns c =
     let k = early_passes _ _ _ _ _ c.early-f.ensures c.is_refused.ensures c.if-is_refused.false in
     let d = c.filed.ensures in
     let s = d.says _ _ k.1 k.2 c.clear_bytes.ensures in

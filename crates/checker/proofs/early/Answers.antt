@@ -13,6 +13,6 @@ pub returns-then-file-gt-MAX_BYTES : goal.returns-then-file-gt-MAX_BYTES
 returns-then-file-gt-MAX_BYTES c = early_long _ _ _ _ refl c.if-table-lt-TABLE_LENGTH.false c.if-work-lt-WORK_LENGTH.false (verdict_long _ c.if-file-gt-MAX_BYTES.true)
 
 pub returns-then-count_lines-gt-MAX_LINES : goal.returns-then-count_lines-gt-MAX_LINES
-returns-then-count_lines-gt-MAX_LINES c = 
+returns-then-count_lines-gt-MAX_LINES c =
     early_long _ _ _ _ refl c.if-table-lt-TABLE_LENGTH.false c.if-work-lt-WORK_LENGTH.false
     (counted_many _ c.count_lines.ensures c.if-count_lines-gt-MAX_LINES.true)

@@ -3,7 +3,7 @@ use mathlib.Core.Path.{refl}
 use Rattle.checker.proofs.judged.Goals as goal
 
 pub returns-then-is_refused : goal.returns-then-is_refused
-returns-then-is_refused c = 
+returns-then-is_refused c =
     let r = c.read_file-r.ensures in
     let e = c.is_refused.ensures in
     let h = c.if-is_refused.true in (
@@ -13,7 +13,7 @@ returns-then-is_refused c =
     )
 
 pub returns : goal.returns
-returns c = 
+returns c =
     let p = c.requires in
     let r = c.read_file-r.ensures in
     let e = c.is_refused.ensures in

@@ -8,7 +8,7 @@ use Rattle.fault_gaps.proofs.Taking.{rows_more}
 use Rattle.fault_gaps.proofs.count_gaps.Goals as goal
 
 pub loop-x-preserved : goal.loop-x-preserved
-loop-x-preserved c = 
+loop-x-preserved c =
     let loop-test = c.loop-x-test in
     let args = c.args in
     let loop' = c.loop-x in

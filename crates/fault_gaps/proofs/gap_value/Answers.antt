@@ -6,7 +6,7 @@ use mathlib.Core.Path.{refl}
 use Rattle.fault_gaps.proofs.gap_value.Goals as goal
 
 pub returns-then-n-lt-LENGTHS : goal.returns-then-n-lt-LENGTHS
-returns-then-n-lt-LENGTHS c = 
+returns-then-n-lt-LENGTHS c =
     let gap_length = c.gap_length-n in
     let write-gap = c.write_gap in
     let if1 = c.if-n-lt-LENGTHS in
@@ -14,7 +14,7 @@ returns-then-n-lt-LENGTHS c =
     gap_length.ensures refl write-gap.ensures if1.true) if1.true
 
 pub returns : goal.returns
-returns c = 
+returns c =
     let gap_length = c.gap_length-n in
     let if1 = c.if-n-lt-LENGTHS in
     value_missing (value_none (type_of c.args.t.now c.args.i) (patterns_at c.args.t.now c.args.base c.args.f c.args.rows.now)

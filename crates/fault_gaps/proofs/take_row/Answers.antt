@@ -2,7 +2,7 @@ use Rattle.fault_gaps.proofs.Taking.{live_row}
 use Rattle.fault_gaps.proofs.take_row.Goals as goal
 
 pub returns : goal.returns
-returns c = 
+returns c =
     let args = c.args in
     let walk-row = c.walk_row-top in
     let if1 = c.if-top-gt-LENGTHS in

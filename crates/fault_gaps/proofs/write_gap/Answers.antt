@@ -10,12 +10,12 @@ use borrow.Author.Rules.{rules}
 use Rattle.fault_gaps.proofs.write_gap.Goals as goal
 
 pub returns-then-top-gt-MAX_NODES : goal.returns-then-top-gt-MAX_NODES
-returns-then-top-gt-MAX_NODES c = 
+returns-then-top-gt-MAX_NODES c =
     let loop' = c.loop-m in
     never_written c.args.out.now loop'.out (never_out loop'.invariant (search rules) c.requires.1 (search rules))
 
 pub loop-m-preserved : goal.loop-m-preserved
-loop-m-preserved c = 
+loop-m-preserved c =
     let loop' = c.loop-m in
     let first-letter = c.first_letter in
     let step-types = c.step_types-top in

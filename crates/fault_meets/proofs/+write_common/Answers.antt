@@ -9,14 +9,14 @@ use mathlib.Core.Path.{refl}
 use Rattle.fault_meets.proofs.+write_common.Goals as goal
 
 pub returns-then-kp-eq-VARIABLE : goal.returns-then-kp-eq-VARIABLE
-returns-then-kp-eq-VARIABLE t c = 
+returns-then-kp-eq-VARIABLE t c =
     let pattern-cell = c.pattern_cell-kp in
     let if1 = c.if-kp-eq-VARIABLE in
     let write-least-in = c.write_least_in in
     both_var (is_var c.args.t.now c.args.base c.args.p pattern-cell.ensures.0 if1.true) write-least-in.ensures
 
 pub returns-then-kq-eq-VARIABLE : goal.returns-then-kq-eq-VARIABLE
-returns-then-kq-eq-VARIABLE t c = 
+returns-then-kq-eq-VARIABLE t c =
     let pattern-cell = c.pattern_cell-kp in
     let if1 = c.if-kp-eq-VARIABLE in
     let pattern-cell2 = c.pattern_cell-kq in
@@ -29,7 +29,7 @@ returns-then-kq-eq-VARIABLE t c =
     (is_var c.args.t.now c.args.base c.args.q pattern-cell2.ensures.0 if2.true) write-least-in2.ensures
 
 pub returns-then-has_two : goal.returns-then-has_two
-returns-then-has_two t c = 
+returns-then-has_two t c =
     let pattern-cell = c.pattern_cell-kp in
     let letter-of = c.letter_of in
     let has-two = c.has_two in
@@ -54,7 +54,7 @@ returns-then-has_two t c =
     line.0 line.1 line.2 first_part.ensures second-part.ensures write-common.ensures write-common2.ensures
 
 pub returns-then-kp-eq-LEFT : goal.returns-then-kp-eq-LEFT
-returns-then-kp-eq-LEFT t c = 
+returns-then-kp-eq-LEFT t c =
     let pattern-cell = c.pattern_cell-kp in
     let letter-of = c.letter_of in
     let if4 = c.if-kp-eq-LEFT in
@@ -72,7 +72,7 @@ returns-then-kp-eq-LEFT t c =
     (prints_one put_byte.ensures.bytes_after put_byte.ensures.value) left line.0 line.1 first-part2.ensures write-common3.ensures
 
 pub returns-then-kp-eq-RIGHT : goal.returns-then-kp-eq-RIGHT
-returns-then-kp-eq-RIGHT t c = 
+returns-then-kp-eq-RIGHT t c =
     let pattern-cell = c.pattern_cell-kp in
     let letter-of = c.letter_of in
     let if5 = c.if-kp-eq-RIGHT in
@@ -90,7 +90,7 @@ returns-then-kp-eq-RIGHT t c =
     (prints_one put_byte.ensures.bytes_after put_byte.ensures.value) right line.0 line.1 second-part2.ensures write-common4.ensures
 
 pub returns : goal.returns
-returns t c = 
+returns t c =
     let has-two = c.has_two in
     let pattern-cell = c.pattern_cell-kp in
     let letter-of = c.letter_of in

@@ -5,7 +5,7 @@ use Rattle.fault_meets.proofs.Least.{spells_unit, spells_list, spells_left, spel
 use Rattle.fault_meets.proofs.+write_least.Goals as goal
 
 pub returns-then-least_length : goal.returns-then-least_length
-returns-then-least_length t c = 
+returns-then-least_length t c =
     let args = c.args in
     let cell = c.cell-kind in
     let if1 = c.if-kind-eq-SUM in
@@ -20,7 +20,7 @@ returns-then-least_length t c =
     if2.true (prints_one put_byte.ensures.bytes_after put_byte.ensures.value) write-least.ensures
 
 pub returns-then-kind-eq-SUM : goal.returns-then-kind-eq-SUM
-returns-then-kind-eq-SUM t c = 
+returns-then-kind-eq-SUM t c =
     let args = c.args in
     let cell = c.cell-kind in
     let if1 = c.if-kind-eq-SUM in
@@ -35,7 +35,7 @@ returns-then-kind-eq-SUM t c =
     if2.false (prints_one put-byte2.ensures.bytes_after put-byte2.ensures.value) write-least2.ensures
 
 pub returns-then-kind-eq-PRODUCT : goal.returns-then-kind-eq-PRODUCT
-returns-then-kind-eq-PRODUCT t c = 
+returns-then-kind-eq-PRODUCT t c =
     let args = c.args in
     let cell = c.cell-kind in
     let if3 = c.if-kind-eq-PRODUCT in
@@ -48,7 +48,7 @@ returns-then-kind-eq-PRODUCT t c =
     (prints_one put-byte3.ensures.bytes_after put-byte3.ensures.value) write-least3.ensures write-least4.ensures
 
 pub returns-then-kind-eq-LIST : goal.returns-then-kind-eq-LIST
-returns-then-kind-eq-LIST t c = 
+returns-then-kind-eq-LIST t c =
     let args = c.args in
     let cell = c.cell-kind in
     let if4 = c.if-kind-eq-LIST in
@@ -56,7 +56,7 @@ returns-then-kind-eq-LIST t c =
     spells_list (line_list args.t.now args.i cell.ensures.0 refl if4.true) (prints_one put-byte4.ensures.bytes_after put-byte4.ensures.value)
 
 pub returns : goal.returns
-returns t c = 
+returns t c =
     let args = c.args in
     let cell = c.cell-kind in
     let if1 = c.if-kind-eq-SUM in

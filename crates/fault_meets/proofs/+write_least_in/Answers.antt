@@ -5,14 +5,14 @@ use Rattle.calculus.specs.Trees.{left, right}
 use Rattle.fault_meets.proofs.+write_least_in.Goals as goal
 
 pub returns-then-kind-eq-VARIABLE : goal.returns-then-kind-eq-VARIABLE
-returns-then-kind-eq-VARIABLE t c = 
+returns-then-kind-eq-VARIABLE t c =
     let pattern-cell = c.pattern_cell-kind in
     let if1 = c.if-kind-eq-VARIABLE in
     let write-least = c.write_least in
     in_var (is_var c.args.t.now c.args.base c.args.p pattern-cell.ensures.0 if1.true) write-least.ensures
 
 pub returns-then-has_two : goal.returns-then-has_two
-returns-then-has_two t c = 
+returns-then-has_two t c =
     let pattern-cell = c.pattern_cell-kind in
     let letter-of = c.letter_of in
     let has-two = c.has_two in
@@ -29,7 +29,7 @@ returns-then-has_two t c =
     in_node (prints_one put_byte.ensures.bytes_after put_byte.ensures.value) line.0 line.1 line.2 first_part.ensures second-part.ensures write-least-in.ensures write-least-in2.ensures
 
 pub returns-then-kind-eq-LEFT : goal.returns-then-kind-eq-LEFT
-returns-then-kind-eq-LEFT t c = 
+returns-then-kind-eq-LEFT t c =
     let pattern-cell = c.pattern_cell-kind in
     let letter-of = c.letter_of in
     let if3 = c.if-kind-eq-LEFT in
@@ -41,7 +41,7 @@ returns-then-kind-eq-LEFT t c =
     in_tag (prints_one put_byte.ensures.bytes_after put_byte.ensures.value) left line.0 line.1 first-part2.ensures write-least-in3.ensures
 
 pub returns-then-kind-eq-RIGHT : goal.returns-then-kind-eq-RIGHT
-returns-then-kind-eq-RIGHT t c = 
+returns-then-kind-eq-RIGHT t c =
     let pattern-cell = c.pattern_cell-kind in
     let letter-of = c.letter_of in
     let if4 = c.if-kind-eq-RIGHT in
@@ -53,7 +53,7 @@ returns-then-kind-eq-RIGHT t c =
     in_tag (prints_one put_byte.ensures.bytes_after put_byte.ensures.value) right line.0 line.1 second-part2.ensures write-least-in4.ensures
 
 pub returns : goal.returns
-returns t c = 
+returns t c =
     let has-two = c.has_two in
     let pattern-cell = c.pattern_cell-kind in
     let letter-of = c.letter_of in

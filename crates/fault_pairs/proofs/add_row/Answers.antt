@@ -3,7 +3,7 @@ use borrow.Author.Rules.{rules}
 use Rattle.fault_pairs.proofs.add_row.Goals as goal
 
 pub loop-y-preserved : goal.loop-y-preserved
-loop-y-preserved c = 
+loop-y-preserved c =
     let args = c.args in
     let loop' = c.loop-y in
     let wide = c.wide in

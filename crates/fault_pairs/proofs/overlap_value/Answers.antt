@@ -17,11 +17,11 @@ take_rest : (s : List ℕ) (x : ℕ) → take (length s - x) (drop x s) ≡ drop
 take_rest s x = ap (λ n. take n (drop x s)) (sym (length-drop x s)) ∙ take_all (drop x s)
 
 pub loop-x-init : goal.loop-x-init
-loop-x-init c = 
+loop-x-init c =
     let a = c.args in outer_start a.t.now a.base a.f a.rows.now (type_of a.t.now a.i) a.out.now
 
 pub loop-x-preserved : goal.loop-x-preserved
-loop-x-preserved c = 
+loop-x-preserved c =
     let args = c.args in
     let loop' = c.loop-x in
     let wide = c.wide in

@@ -3,12 +3,12 @@ use mathlib.Core.Path.{refl}
 use Rattle.imports.proofs.import.Goals as goal
 
 pub returns-then-output-lt-IMPORT_LENGTH : goal.returns-then-output-lt-IMPORT_LENGTH
-returns-then-output-lt-IMPORT_LENGTH c = 
+returns-then-output-lt-IMPORT_LENGTH c =
     let args = c.args in
     let a = args in import_short a.file.now a.table.now a.work.now a.i a.j a.list.now a.output.now _ c.if-output-lt-IMPORT_LENGTH.true refl refl refl
 
 pub returns-then-is_refused : goal.returns-then-is_refused
-returns-then-is_refused c = 
+returns-then-is_refused c =
     let args = c.args in
     let if1 = c.if-output-lt-IMPORT_LENGTH in
     let check-file = c.check_file-c in
@@ -17,7 +17,7 @@ returns-then-is_refused c =
     is-refused.ensures c.if-is_refused.true refl
 
 pub returns : goal.returns
-returns c = 
+returns c =
     let args = c.args in
     let if1 = c.if-output-lt-IMPORT_LENGTH in
     let check-file = c.check_file-c in

@@ -2,7 +2,7 @@ use Rattle.imports.proofs.Types.{types_refused, types_passed}
 use Rattle.imports.proofs.import_checked.Goals as goal
 
 pub returns-then-is_refused : goal.returns-then-is_refused
-returns-then-is_refused c = 
+returns-then-is_refused c =
     let args = c.args in
     let types-fault = c.types_fault-f in
     let is-refused = c.is_refused in
@@ -11,7 +11,7 @@ returns-then-is_refused c =
     c.not_filed.result c.not_filed.ensures.0 c.not_filed.ensures.1
 
 pub returns : goal.returns
-returns c = 
+returns c =
     let args = c.args in
     let types-fault = c.types_fault-f in
     let is-refused = c.is_refused in

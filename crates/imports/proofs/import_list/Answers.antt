@@ -4,7 +4,7 @@ use borrow.Author.Rules.{rules}
 use Rattle.imports.proofs.import_list.Goals as goal
 
 pub returns : goal.returns
-returns c = 
+returns c =
     let args = c.args in
     let count-lines = c.count_lines-n in
     let if1 = c.if-n-gt-MAX_CLAUSES in

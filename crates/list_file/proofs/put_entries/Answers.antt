@@ -6,7 +6,7 @@ pub loop-i-init : goal.loop-i-init
 loop-i-init c = printed_start _ _ _ _ _
 
 pub loop-i-preserved : goal.loop-i-preserved
-loop-i-preserved c = 
+loop-i-preserved c =
     let loop' = c.loop-i in
     let loop-test = c.loop-i-test in
     let put-entry = c.put_entry-end in

@@ -7,7 +7,7 @@ use native.Mathlib.Omega.{arith}
 use Rattle.list_file.proofs.put_file.Goals as goal
 
 pub returns : goal.returns
-returns c = 
+returns c =
     let args = c.args in
     let put_entries = c.put_entries-x in
     let put-entries2 = c.put_entries-y in

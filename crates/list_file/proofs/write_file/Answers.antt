@@ -4,7 +4,7 @@ use Rattle.calculus.specs.Trees.{most_tags}
 use Rattle.list_file.proofs.write_file.Goals as goal
 
 pub returns-then-type_tags-gt-MAX_TAGS : goal.returns-then-type_tags-gt-MAX_TAGS
-returns-then-type_tags-gt-MAX_TAGS c = 
+returns-then-type_tags-gt-MAX_TAGS c =
     let pre = c.requires in
     let args = c.args in
     let type-tags = c.type_tags in
@@ -14,7 +14,7 @@ returns-then-type_tags-gt-MAX_TAGS c =
     type-tags.ensures if1.true _ c.over.ensures
 
 pub returns-then-type_tags-gt-MAX_TAGS-2 : goal.returns-then-type_tags-gt-MAX_TAGS-2
-returns-then-type_tags-gt-MAX_TAGS-2 c = 
+returns-then-type_tags-gt-MAX_TAGS-2 c =
     let pre = c.requires in
     let args = c.args in
     let type-tags2 = c.type_tags-2 in

@@ -5,7 +5,7 @@ use borrow.Author.Rules.{rules}
 use Rattle.list_file.proofs.write_rows.Goals as goal
 
 pub returns-then-end-gt-MAX_PATTERNS : goal.returns-then-end-gt-MAX_PATTERNS
-returns-then-end-gt-MAX_PATTERNS c = 
+returns-then-end-gt-MAX_PATTERNS c =
     let pre = c.requires in
     let args = c.args in
     let write-pairs = c.write_pairs-end in
@@ -14,7 +14,7 @@ returns-then-end-gt-MAX_PATTERNS c =
     c.if-end-gt-MAX_PATTERNS.true _ refl refl
 
 pub returns : goal.returns
-returns c = 
+returns c =
     let pre = c.requires in
     let args = c.args in
     let write-type = c.write_type-a in

@@ -8,18 +8,18 @@ use Rattle.list_writing.proofs.Following.{value_unit, value_list, value_left, va
 use Rattle.list_writing.proofs.+write_pair_write_tag_write_value.Goals as goal
 
 pub write_pair-nonzero_div-n : goal.write_pair-nonzero_div-n
-write_pair-nonzero_div-n t c = 
+write_pair-nonzero_div-n t c =
     let args = c.args in
     counted_some (type_of args.t.now args.right) c.count_values-c.ensures
 
 pub write_pair-nonzero_rem-n : goal.write_pair-nonzero_rem-n
-write_pair-nonzero_rem-n t c = 
+write_pair-nonzero_rem-n t c =
     let args = c.args in
     let count-values = c.count_values-c in
     counted_some (type_of args.t.now args.right) count-values.ensures
 
 pub write_pair-returns : goal.write_pair-returns
-write_pair-returns t c = 
+write_pair-returns t c =
     let args = c.args in
     let count-values = c.count_values-c in
     let write-value = c.write_value-v in
@@ -28,7 +28,7 @@ write_pair-returns t c =
     value_pair args.n (type_of args.t.now args.left) (type_of args.t.now args.right) count-values.ensures write-value.ensures write-value2.ensures enter-entry.ensures
 
 pub write_tag-returns-then-n-c : goal.write_tag-returns-then-n-c
-write_tag-returns-then-n-c t c = 
+write_tag-returns-then-n-c t c =
     let args = c.args in
     let count-values = c.count_values-c in
     let if1 = c.if-n-c in
@@ -37,7 +37,7 @@ write_tag-returns-then-n-c t c =
     value_left args.n (type_of args.t.now args.left) (type_of args.t.now args.right) count-values.ensures if1.true write-value.ensures enter-entry.ensures
 
 pub write_tag-returns : goal.write_tag-returns
-write_tag-returns t c = 
+write_tag-returns t c =
     let args = c.args in
     let count-values = c.count_values-c in
     let if1 = c.if-n-c in
@@ -46,7 +46,7 @@ write_tag-returns t c =
     value_right args.n (type_of args.t.now args.left) (type_of args.t.now args.right) count-values.ensures if1.false write-value2.ensures enter-entry2.ensures
 
 pub write_value-returns-in-1 : goal.write_value-returns-in-1
-write_value-returns-in-1 t c = 
+write_value-returns-in-1 t c =
     let args = c.args in
     let cell = c.cell in
     let smaller = c.smaller-left in
@@ -59,7 +59,7 @@ write_value-returns-in-1 t c =
     c.in-1.is)) write-tag.ensures
 
 pub write_value-returns-in-2 : goal.write_value-returns-in-2
-write_value-returns-in-2 t c = 
+write_value-returns-in-2 t c =
     let args = c.args in
     let cell = c.cell in
     let smaller = c.smaller-left in
@@ -72,7 +72,7 @@ write_value-returns-in-2 t c =
     (part_of args.i cell2.ensures.0 smaller2.ensures) c.in-2.is)) write-pair.ensures
 
 pub write_value-returns-in_default : goal.write_value-returns-in_default
-write_value-returns-in_default t c = 
+write_value-returns-in_default t c =
     let args = c.args in
     let cell3 = c.cell-3 in
     let enter-entry = c.enter_entry in

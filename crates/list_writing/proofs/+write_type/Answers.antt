@@ -4,7 +4,7 @@ use Rattle.list_writing.proofs.Following.{unit_done, list_done, sum_done, produc
 use Rattle.list_writing.proofs.+write_type.Goals as goal
 
 pub returns-then-kind-eq-SUM : goal.returns-then-kind-eq-SUM
-returns-then-kind-eq-SUM t c = 
+returns-then-kind-eq-SUM t c =
     let args = c.args in
     let cell = c.cell-kind in
     let if1 = c.if-kind-eq-SUM in
@@ -20,7 +20,7 @@ returns-then-kind-eq-SUM t c =
     if1.true) enter-entry.ensures
 
 pub returns-then-kind-eq-PRODUCT : goal.returns-then-kind-eq-PRODUCT
-returns-then-kind-eq-PRODUCT t c = 
+returns-then-kind-eq-PRODUCT t c =
     let args = c.args in
     let cell = c.cell-kind in
     let if2 = c.if-kind-eq-PRODUCT in
@@ -36,7 +36,7 @@ returns-then-kind-eq-PRODUCT t c =
     if2.true) enter-entry2.ensures
 
 pub returns-then-kind-eq-LIST : goal.returns-then-kind-eq-LIST
-returns-then-kind-eq-LIST t c = 
+returns-then-kind-eq-LIST t c =
     let args = c.args in
     let cell = c.cell-kind in
     let if3 = c.if-kind-eq-LIST in
@@ -48,7 +48,7 @@ returns-then-kind-eq-LIST t c =
     (line_list args.t.now args.i cell.ensures.0 (part_of args.i cell6.ensures.0 smaller5.ensures) if3.true) enter-entry3.ensures
 
 pub returns : goal.returns
-returns t c = 
+returns t c =
     let args = c.args in
     let cell = c.cell-kind in
     let if1 = c.if-kind-eq-SUM in

@@ -3,7 +3,7 @@ use Rattle.table_trees.specs.Unfolding.{type_of}
 use Rattle.list_writing.proofs.write_clause.Goals as goal
 
 pub returns : goal.returns
-returns c = 
+returns c =
     let args = c.args in
     let write-value = c.write_value-v in
     let write-value2 = c.write_value-w in

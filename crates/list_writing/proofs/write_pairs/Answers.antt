@@ -6,7 +6,7 @@ pub loop-k-init : goal.loop-k-init
 loop-k-init c = pairs_start _ _ _ _ _ _
 
 pub loop-k-preserved : goal.loop-k-preserved
-loop-k-preserved c = 
+loop-k-preserved c =
     let pre = c.requires in
     let loop' = c.loop-k in
     let loop-test = c.loop-k-test in

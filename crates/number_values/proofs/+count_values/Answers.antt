@@ -5,7 +5,7 @@ use Rattle.number_values.proofs.Counting.{counts_sum, counts_product, counts_as}
 use Rattle.number_values.proofs.+count_values.Goals as goal
 
 pub returns-then-kind-eq-SUM : goal.returns-then-kind-eq-SUM
-returns-then-kind-eq-SUM t c = 
+returns-then-kind-eq-SUM t c =
     let args = c.args in
     let cell = c.cell-kind in
     let if2 = c.if-kind-eq-SUM in
@@ -21,7 +21,7 @@ returns-then-kind-eq-SUM t c =
     (if2.true)) (counts_sum (type_of a.t.now (smaller.result)) (type_of a.t.now (smaller2.result)) (count-values.ensures) (count-values2.ensures) (c.both.ensures))
 
 pub returns-then-kind-eq-PRODUCT : goal.returns-then-kind-eq-PRODUCT
-returns-then-kind-eq-PRODUCT t c = 
+returns-then-kind-eq-PRODUCT t c =
     let args = c.args in
     let cell = c.cell-kind in
     let if3 = c.if-kind-eq-PRODUCT in
@@ -37,13 +37,13 @@ returns-then-kind-eq-PRODUCT t c =
     (if3.true)) (counts_product (type_of a.t.now (smaller3.result)) (type_of a.t.now (smaller4.result)) (count-values3.ensures) (count-values4.ensures) (c.pairs.ensures))
 
 pub returns-then-kind-eq-LIST : goal.returns-then-kind-eq-LIST
-returns-then-kind-eq-LIST t c = 
+returns-then-kind-eq-LIST t c =
     let args = c.args in
     let cell = c.cell-kind in
     counts_as 4294967296 (line_list args.t.now args.i cell.ensures.0 refl c.if-kind-eq-LIST.true) refl
 
 pub returns : goal.returns
-returns t c = 
+returns t c =
     let args = c.args in
     let cell = c.cell-kind in
     let if2 = c.if-kind-eq-SUM in

@@ -7,7 +7,7 @@ use Rattle.number_values.proofs.Ranking.{ranks_list, ranks_unit, ranks_left, ran
 use Rattle.number_values.proofs.+rank_at.Goals as goal
 
 pub returns-then-byte_at-eq-LETTER_LEFT : goal.returns-then-byte_at-eq-LETTER_LEFT
-returns-then-byte_at-eq-LETTER_LEFT t c = 
+returns-then-byte_at-eq-LETTER_LEFT t c =
     let args = c.args in
     let cell = c.cell-kind in
     let behind = c.behind-next in
@@ -23,7 +23,7 @@ returns-then-byte_at-eq-LETTER_LEFT t c =
     (if2.true) (c.rank_at.ensures))
 
 pub returns-then-kind-eq-SUM : goal.returns-then-kind-eq-SUM
-returns-then-kind-eq-SUM t c = 
+returns-then-kind-eq-SUM t c =
     let args = c.args in
     let cell = c.cell-kind in
     let behind = c.behind-next in
@@ -43,7 +43,7 @@ returns-then-kind-eq-SUM t c =
     (rank-at2.ensures) (count-values.ensures) (c.times_plus.ensures))
 
 pub returns-then-kind-eq-PRODUCT : goal.returns-then-kind-eq-PRODUCT
-returns-then-kind-eq-PRODUCT t c = 
+returns-then-kind-eq-PRODUCT t c =
     let args = c.args in
     let cell = c.cell-kind in
     let behind = c.behind-next in
@@ -63,7 +63,7 @@ returns-then-kind-eq-PRODUCT t c =
     (count-values2.ensures) (c.times_plus-then-kind-eq-PRODUCT.ensures))
 
 pub returns : goal.returns
-returns t c = 
+returns t c =
     let args = c.args in
     let cell = c.cell-kind in
     let behind = c.behind-next in

@@ -10,7 +10,7 @@ use Prim.Native.Nat.{◌+◌}
 use Rattle.number_values.proofs.+unrank_at.Goals as goal
 
 pub returns-then-n-c : goal.returns-then-n-c
-returns-then-n-c t c = 
+returns-then-n-c t c =
     let args = c.args in
     let if1 = c.if-out-at in
     let cell = c.cell-kind in
@@ -27,7 +27,7 @@ returns-then-n-c t c =
     (count-values.ensures) (if3.true) (unrank-at.auto.out) (unrank-at.ensures))
 
 pub returns-then-kind-eq-SUM : goal.returns-then-kind-eq-SUM
-returns-then-kind-eq-SUM t c = 
+returns-then-kind-eq-SUM t c =
     let args = c.args in
     let if1 = c.if-out-at in
     let cell = c.cell-kind in
@@ -46,7 +46,7 @@ returns-then-kind-eq-SUM t c =
     (unrank-at2.auto.out) (unrank-at2.ensures))
 
 pub returns-then-kind-eq-PRODUCT : goal.returns-then-kind-eq-PRODUCT
-returns-then-kind-eq-PRODUCT t c = 
+returns-then-kind-eq-PRODUCT t c =
     let args = c.args in
     let if1 = c.if-out-at in
     let cell = c.cell-kind in
@@ -66,7 +66,7 @@ returns-then-kind-eq-PRODUCT t c =
     (unrank-at3.auto.out) (unrank-at3.ensures) (unrank-at4.auto.out) (unrank-at4.ensures))
 
 pub returns : goal.returns
-returns t c = 
+returns t c =
     let args = c.args in
     let if1 = c.if-out-at in
     let cell = c.cell-kind in
@@ -76,14 +76,14 @@ returns t c =
     (unranks_unit a.n a.out.now a.at (if1.false)) (λ b. unranks_list b a.n a.out.now (set a.out.now a.at 85) a.at (a.at + 1))
 
 pub nonzero_div-n : goal.nonzero_div-n
-nonzero_div-n t c = 
+nonzero_div-n t c =
     let args = c.args in
     let smaller3 = c.smaller-right in
     let count-values2 = c.count_values-c-then-kind-eq-PRODUCT in
     counted_some (type_of (args.t.now) (smaller3.result)) (count-values2.ensures)
 
 pub nonzero_rem-n : goal.nonzero_rem-n
-nonzero_rem-n t c = 
+nonzero_rem-n t c =
     let args = c.args in
     let smaller3 = c.smaller-right in
     let count-values2 = c.count_values-c-then-kind-eq-PRODUCT in

@@ -5,7 +5,7 @@ use Rattle.run_patterns.proofs.Lines.{leaf_high}
 use Rattle.run_coding.proofs.+flatten.Goals as goal
 
 pub returns-then-kind-eq-VARIABLE : goal.returns-then-kind-eq-VARIABLE
-returns-then-kind-eq-VARIABLE t c = 
+returns-then-kind-eq-VARIABLE t c =
     let args = c.args in
     let pattern-cell = c.pattern_cell-kind in
     let if1 = c.if-kind-eq-VARIABLE in
@@ -14,14 +14,14 @@ returns-then-kind-eq-VARIABLE t c =
     flatten_variable args.t.now args.base args.j pattern-cell.ensures.0 if1.true pattern-cell2.ensures.0 put-variable.ensures
 
 pub returns-then-middle-eq0 : goal.returns-then-middle-eq0
-returns-then-middle-eq0 t c = 
+returns-then-middle-eq0 t c =
     let put-number = c.put_number-next in
     let if2 = c.if-next-eq0 in
     let flatten = c.flatten-middle in
     half_none put-number.ensures (positive if2.false) flatten.ensures.before
 
 pub returns-else-middle-eq0 : goal.returns-else-middle-eq0
-returns-else-middle-eq0 t c = 
+returns-else-middle-eq0 t c =
     let args = c.args in
     let pattern-cell = c.pattern_cell-kind in
     let letter = c.letter in
@@ -36,7 +36,7 @@ returns-else-middle-eq0 t c =
     (joins_key c.in-4.is) part2.ensures (positive if3.false) flatten.auto.code flatten2.ensures
 
 pub returns-in-2 : goal.returns-in-2
-returns-in-2 t c = 
+returns-in-2 t c =
     let args = c.args in
     let pattern-cell = c.pattern_cell-kind in
     let letter = c.letter in
@@ -48,7 +48,7 @@ returns-in-2 t c =
     (injects pattern-cell.result (omega arith) (omega arith))
 
 pub returns-in_default : goal.returns-in_default
-returns-in_default t c = 
+returns-in_default t c =
     let args = c.args in
     let pattern-cell = c.pattern_cell-kind in
     let if1 = c.if-kind-eq-VARIABLE in
@@ -57,7 +57,7 @@ returns-in_default t c =
     flatten_leaf args.t.now args.base args.j pattern-cell.ensures.0 letter.ensures put-number.ensures if1.false (leaf_below pattern-cell.result (omega arith))
 
 pub returns-in_default-2 : goal.returns-in_default-2
-returns-in_default-2 t c = 
+returns-in_default-2 t c =
     let args = c.args in
     let pattern-cell = c.pattern_cell-kind in
     let if1 = c.if-kind-eq-VARIABLE in

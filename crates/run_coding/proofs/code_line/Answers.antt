@@ -5,7 +5,7 @@ use native.Mathlib.Omega.{arith}
 use Rattle.run_coding.proofs.code_line.Goals as goal
 
 pub returns-then-pattern_cell-eq-VARIABLE : goal.returns-then-pattern_cell-eq-VARIABLE
-returns-then-pattern_cell-eq-VARIABLE c = 
+returns-then-pattern_cell-eq-VARIABLE c =
     let pre = c.requires in
     let args = c.args in
     let pattern-cell = c.pattern_cell in
@@ -16,7 +16,7 @@ returns-then-pattern_cell-eq-VARIABLE c =
     line_var args.t.now args.base args.j pattern-cell.ensures.0 if1.true pattern-cell2.ensures.0 variable-number.ensures refl Store-word.ensures pre.0 pre.2
 
 pub returns-then-next-eq0 : goal.returns-then-next-eq0
-returns-then-next-eq0 c = 
+returns-then-next-eq0 c =
     let pre = c.requires in
     let args = c.args in
     let flatten = c.flatten-end in
@@ -26,7 +26,7 @@ returns-then-next-eq0 c =
     (let a = put-stop.auto.code in let b = flatten.auto.code in let l = pre.2 in omega (arith, a, b, l))
 
 pub returns : goal.returns
-returns c = 
+returns c =
     let pre = c.requires in
     let args = c.args in
     let flatten = c.flatten-end in

@@ -4,7 +4,7 @@ use native.Mathlib.Omega.{arith}
 use Rattle.run_coding.proofs.code_patterns.Goals as goal
 
 pub loop-j-preserved : goal.loop-j-preserved
-loop-j-preserved c = 
+loop-j-preserved c =
     let if2 = c.if-patterns-gt-MAX_PATTERNS in
     let loop' = c.loop-j in
     let loop-test = c.loop-j-test in
@@ -12,7 +12,7 @@ loop-j-preserved c =
     (listing_next _ loop'.invariant.0 (let a = loop-test.true in omega (arith, a)) refl code-line.ensures if2.false, code-line.auto.code ∙ loop'.invariant.1)
 
 pub returns : goal.returns
-returns c = 
+returns c =
     let args = c.args in
     let Store-word = c.store_word in
     let if1 = c.if-code-lt-LISTED in

@@ -8,7 +8,7 @@ pub loop-k-init : goal.loop-k-init
 loop-k-init c = (λ q top st b low fits. written_start top _ _ st, refl)
 
 pub loop-k-preserved-then-o-lt-LETTERS_FROM : goal.loop-k-preserved-then-o-lt-LETTERS_FROM
-loop-k-preserved-then-o-lt-LETTERS_FROM c = 
+loop-k-preserved-then-o-lt-LETTERS_FROM c =
     let loop' = c.loop-k in
     let if1 = c.if-o-lt-LETTERS_FROM in
     let wide = c.wide in
@@ -19,7 +19,7 @@ pub returns-then-o-eq-STOP : goal.returns-then-o-eq-STOP
 returns-then-o-eq-STOP c = λ q top st b low fits. written_stop (c.loop-k.invariant.0 q top st b low fits) c.if-o-eq-STOP.true fits
 
 pub loop-k-preserved : goal.loop-k-preserved
-loop-k-preserved c = 
+loop-k-preserved c =
     let loop' = c.loop-k in
     let if1 = c.if-o-lt-LETTERS_FROM in
     let if2 = c.if-o-eq-STOP in

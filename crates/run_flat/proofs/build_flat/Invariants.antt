@@ -8,7 +8,8 @@ use Rattle.run_flat.proofs.Writing.{Written}
 use Rattle.run_flat.proofs.build_flat.Given as goal
 
 abbrev pub invariant-loop-k : goal.invariant-loop-k
-invariant-loop-k l =     ((q : Pat) (top : ℕ) → Stands l.code l.p q → Below l.vars top → top ≤ l.from → l.from + length (built q (take top l.initial.work) l.vars) ≤ length l.initial.work → Written l.code l.initial.work top l.vars l.from
+invariant-loop-k l = ((q : Pat) (top : ℕ) → Stands l.code l.p q → Below l.vars top → top ≤ l.from → l.from + length (built q (take top l.initial.work) l.vars) ≤ length l.initial.work
+    → Written l.code l.initial.work top l.vars l.from
     (built q (take top l.initial.work) l.vars) l.k l.work l.at) × (length l.work ≡ length l.initial.work)
 
 abbrev pub decreases-loop-k : goal.decreases-loop-k

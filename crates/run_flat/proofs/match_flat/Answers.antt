@@ -9,7 +9,7 @@ pub loop-k-init : goal.loop-k-init
 loop-k-init c = (λ q v st a e. before_start _ st a e, refl)
 
 pub loop-k-preserved-then-o-lt-LETTERS_FROM : goal.loop-k-preserved-then-o-lt-LETTERS_FROM
-loop-k-preserved-then-o-lt-LETTERS_FROM c = 
+loop-k-preserved-then-o-lt-LETTERS_FROM c =
     let loop' = c.loop-k in
     let if1 = c.if-o-lt-LETTERS_FROM in
     let flat-end = c.flat_end-to in
@@ -21,13 +21,13 @@ pub returns-then-o-eq-STOP : goal.returns-then-o-eq-STOP
 returns-then-o-eq-STOP c = λ q v st a e. at_stop (c.loop-k.invariant.0 q v st a e) c.if-o-eq-STOP.true
 
 pub returns-then-s-at : goal.returns-then-s-at
-returns-then-s-at c = 
+returns-then-s-at c =
     let loop' = c.loop-k in
     let if2 = c.if-o-eq-STOP in
     λ q v st a e. let w = letter_within (loop'.invariant.0 q v st a e) refl if2.false in absurd (omega (arith, w, c.if-s-at.true))
 
 pub returns-then-word_of-o : goal.returns-then-word_of-o
-returns-then-word_of-o c = 
+returns-then-word_of-o c =
     let loop' = c.loop-k in
     let if1 = c.if-o-lt-LETTERS_FROM in
     let if2 = c.if-o-eq-STOP in
@@ -35,7 +35,7 @@ returns-then-word_of-o c =
     λ q v st a e. letter_differs (loop'.invariant.0 q v st a e) refl if1.false if2.false (λ z. c.if-word_of-o.true (word_of.ensures ∙ z))
 
 pub loop-k-preserved : goal.loop-k-preserved
-loop-k-preserved c = 
+loop-k-preserved c =
     let loop' = c.loop-k in
     let if1 = c.if-o-lt-LETTERS_FROM in
     let if2 = c.if-o-eq-STOP in

@@ -5,7 +5,7 @@ use Rattle.run_patterns.proofs.Building.{build_variable, build_leaf, build_tag, 
 use Rattle.run_patterns.proofs.+build_at.Goals as goal
 
 pub returns-then-kind-eq-VARIABLE : goal.returns-then-kind-eq-VARIABLE
-returns-then-kind-eq-VARIABLE t c = 
+returns-then-kind-eq-VARIABLE t c =
     let args = c.args in
     let pattern-cell = c.pattern_cell-kind in
     let if1 = c.if-kind-eq-VARIABLE in
@@ -14,7 +14,7 @@ returns-then-kind-eq-VARIABLE t c =
     build_variable args.t.now args.base args.j pattern-cell.ensures.0 if1.true pattern-cell2.ensures.0 build-var.ensures
 
 pub returns-in-4 : goal.returns-in-4
-returns-in-4 t c = 
+returns-in-4 t c =
     let args = c.args in
     let pattern-cell = c.pattern_cell-kind in
     let letter = c.letter in
@@ -27,7 +27,7 @@ returns-in-4 t c =
     part2.ensures build-at2.auto.work build-at2.ensures
 
 pub returns-in-2 : goal.returns-in-2
-returns-in-2 t c = 
+returns-in-2 t c =
     let args = c.args in
     let pattern-cell = c.pattern_cell-kind in
     let letter = c.letter in
@@ -38,7 +38,7 @@ returns-in-2 t c =
     (injects pattern-cell.result (omega arith) (omega arith))
 
 pub returns-in_default : goal.returns-in_default
-returns-in_default t c = 
+returns-in_default t c =
     let args = c.args in
     let pattern-cell = c.pattern_cell-kind in
     let if1 = c.if-kind-eq-VARIABLE in
@@ -47,10 +47,11 @@ returns-in_default t c =
     build_leaf args.t.now args.base args.j pattern-cell.ensures.0 letter.ensures (put_byte.ensures.bytes_after, put_byte.ensures.value) if1.false (leaf_below pattern-cell.result (omega arith))
 
 pub returns-in_default-2 : goal.returns-in_default-2
-returns-in_default-2 t c = 
+returns-in_default-2 t c =
     let args = c.args in
     let pattern-cell = c.pattern_cell-kind in
     let if1 = c.if-kind-eq-VARIABLE in
     let letter = c.letter in
     let put_byte = c.put_byte-next in
-    build_leaf args.t.now args.base args.j pattern-cell.ensures.0 letter.ensures (put_byte.ensures.bytes_after, put_byte.ensures.value) if1.false (leaf_high pattern-cell.result (omega arith) c.in_default.in_default-own.rest.1)
+    build_leaf args.t.now args.base args.j pattern-cell.ensures.0 letter.ensures (put_byte.ensures.bytes_after, put_byte.ensures.value) if1.false
+    (leaf_high pattern-cell.result (omega arith) c.in_default.in_default-own.rest.1)

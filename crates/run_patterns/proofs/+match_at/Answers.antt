@@ -5,7 +5,7 @@ use Rattle.run_patterns.proofs.Matching.{match_variable, match_miss, match_leaf,
 use Rattle.run_patterns.proofs.+match_at.Goals as goal
 
 pub returns-then-kind-eq-VARIABLE-clause-value : goal.returns-then-kind-eq-VARIABLE-clause-value
-returns-then-kind-eq-VARIABLE-clause-value t c = 
+returns-then-kind-eq-VARIABLE-clause-value t c =
     let args = c.args in
     let pattern-cell = c.pattern_cell-kind in
     let if1 = c.if-kind-eq-VARIABLE in
@@ -15,7 +15,7 @@ returns-then-kind-eq-VARIABLE-clause-value t c =
     (match-var.ensures.value, match-var.ensures.vars_after)).0
 
 pub returns-then-kind-eq-VARIABLE-clause-vars_after : goal.returns-then-kind-eq-VARIABLE-clause-vars_after
-returns-then-kind-eq-VARIABLE-clause-vars_after t c = 
+returns-then-kind-eq-VARIABLE-clause-vars_after t c =
     let args = c.args in
     let pattern-cell = c.pattern_cell-kind in
     let if1 = c.if-kind-eq-VARIABLE in
@@ -25,7 +25,7 @@ returns-then-kind-eq-VARIABLE-clause-vars_after t c =
     (match-var.ensures.value, match-var.ensures.vars_after)).1
 
 pub returns-in_default-clause-value : goal.returns-in_default-clause-value
-returns-in_default-clause-value t c = 
+returns-in_default-clause-value t c =
     let args = c.args in
     let pattern-cell = c.pattern_cell-kind in
     let if1 = c.if-kind-eq-VARIABLE in
@@ -35,7 +35,7 @@ returns-in_default-clause-value t c =
     if1.false c.in_default.is).0
 
 pub returns-in_default-clause-vars_after : goal.returns-in_default-clause-vars_after
-returns-in_default-clause-vars_after t c = 
+returns-in_default-clause-vars_after t c =
     let args = c.args in
     let pattern-cell = c.pattern_cell-kind in
     let if1 = c.if-kind-eq-VARIABLE in
@@ -45,7 +45,7 @@ returns-in_default-clause-vars_after t c =
     if1.false c.in_default.is).1
 
 pub returns-in-Place-match_at-clause-value : goal.returns-in-Place-match_at-clause-value
-returns-in-Place-match_at-clause-value t c = 
+returns-in-Place-match_at-clause-value t c =
     let args = c.args in
     let pattern-cell = c.pattern_cell-kind in
     let letter = c.letter in
@@ -55,10 +55,11 @@ returns-in-Place-match_at-clause-value t c =
     let part2 = c.part-in-Place-match_at in
     let match-at2 = c.match_at-in-Place-match_at in
     (match_node args.t.now args.base args.j args.s.now args.at args.end args.vars.now pattern-cell.ensures.0 letter.ensures letter-end.ensures
-    c.in-Place.is part.ensures (joins_key c.in-4.is) c.in-Place-match_at.is (match-at.ensures.value, match-at.ensures.vars_after) part2.ensures (match-at2.ensures.value, match-at2.ensures.vars_after)).0
+    c.in-Place.is part.ensures (joins_key c.in-4.is) c.in-Place-match_at.is (match-at.ensures.value, match-at.ensures.vars_after) part2.ensures
+    (match-at2.ensures.value, match-at2.ensures.vars_after)).0
 
 pub returns-in-Place-match_at-clause-vars_after : goal.returns-in-Place-match_at-clause-vars_after
-returns-in-Place-match_at-clause-vars_after t c = 
+returns-in-Place-match_at-clause-vars_after t c =
     let args = c.args in
     let pattern-cell = c.pattern_cell-kind in
     let letter = c.letter in
@@ -68,10 +69,11 @@ returns-in-Place-match_at-clause-vars_after t c =
     let part2 = c.part-in-Place-match_at in
     let match-at2 = c.match_at-in-Place-match_at in
     (match_node args.t.now args.base args.j args.s.now args.at args.end args.vars.now pattern-cell.ensures.0 letter.ensures letter-end.ensures
-    c.in-Place.is part.ensures (joins_key c.in-4.is) c.in-Place-match_at.is (match-at.ensures.value, match-at.ensures.vars_after) part2.ensures (match-at2.ensures.value, match-at2.ensures.vars_after)).1
+    c.in-Place.is part.ensures (joins_key c.in-4.is) c.in-Place-match_at.is (match-at.ensures.value, match-at.ensures.vars_after) part2.ensures
+    (match-at2.ensures.value, match-at2.ensures.vars_after)).1
 
 pub returns-in-Nothing-clause-value : goal.returns-in-Nothing-clause-value
-returns-in-Nothing-clause-value t c = 
+returns-in-Nothing-clause-value t c =
     let args = c.args in
     let pattern-cell = c.pattern_cell-kind in
     let letter = c.letter in
@@ -82,7 +84,7 @@ returns-in-Nothing-clause-value t c =
     c.in-Place.is part.ensures (joins_key c.in-4.is) c.in-Nothing.is (match-at.ensures.value, match-at.ensures.vars_after)).0
 
 pub returns-in-Nothing-clause-vars_after : goal.returns-in-Nothing-clause-vars_after
-returns-in-Nothing-clause-vars_after t c = 
+returns-in-Nothing-clause-vars_after t c =
     let args = c.args in
     let pattern-cell = c.pattern_cell-kind in
     let letter = c.letter in
@@ -93,7 +95,7 @@ returns-in-Nothing-clause-vars_after t c =
     c.in-Place.is part.ensures (joins_key c.in-4.is) c.in-Nothing.is (match-at.ensures.value, match-at.ensures.vars_after)).1
 
 pub returns-in-2-clause-value : goal.returns-in-2-clause-value
-returns-in-2-clause-value t c = 
+returns-in-2-clause-value t c =
     let args = c.args in
     let pattern-cell = c.pattern_cell-kind in
     let letter = c.letter in
@@ -104,7 +106,7 @@ returns-in-2-clause-value t c =
     c.in-Place.is part3.ensures (injects pattern-cell.result (omega arith) (omega arith)) (match-at3.ensures.value, match-at3.ensures.vars_after)).0
 
 pub returns-in-2-clause-vars_after : goal.returns-in-2-clause-vars_after
-returns-in-2-clause-vars_after t c = 
+returns-in-2-clause-vars_after t c =
     let args = c.args in
     let pattern-cell = c.pattern_cell-kind in
     let letter = c.letter in
@@ -115,7 +117,7 @@ returns-in-2-clause-vars_after t c =
     c.in-Place.is part3.ensures (injects pattern-cell.result (omega arith) (omega arith)) (match-at3.ensures.value, match-at3.ensures.vars_after)).1
 
 pub returns-in_default-kind-clause-value : goal.returns-in_default-kind-clause-value
-returns-in_default-kind-clause-value t c = 
+returns-in_default-kind-clause-value t c =
     let args = c.args in
     let pattern-cell = c.pattern_cell-kind in
     let if1 = c.if-kind-eq-VARIABLE in
@@ -125,7 +127,7 @@ returns-in_default-kind-clause-value t c =
     c.in-Place.is if1.false (leaf_below pattern-cell.result (omega arith))).0
 
 pub returns-in_default-kind-clause-vars_after : goal.returns-in_default-kind-clause-vars_after
-returns-in_default-kind-clause-vars_after t c = 
+returns-in_default-kind-clause-vars_after t c =
     let args = c.args in
     let pattern-cell = c.pattern_cell-kind in
     let if1 = c.if-kind-eq-VARIABLE in
@@ -135,7 +137,7 @@ returns-in_default-kind-clause-vars_after t c =
     c.in-Place.is if1.false (leaf_below pattern-cell.result (omega arith))).1
 
 pub returns-in_default-kind-2-clause-value : goal.returns-in_default-kind-2-clause-value
-returns-in_default-kind-2-clause-value t c = 
+returns-in_default-kind-2-clause-value t c =
     let args = c.args in
     let pattern-cell = c.pattern_cell-kind in
     let if1 = c.if-kind-eq-VARIABLE in
@@ -145,7 +147,7 @@ returns-in_default-kind-2-clause-value t c =
     c.in-Place.is if1.false (leaf_high pattern-cell.result (omega arith) c.in_default-kind.in_default-own.rest.1)).0
 
 pub returns-in_default-kind-2-clause-vars_after : goal.returns-in_default-kind-2-clause-vars_after
-returns-in_default-kind-2-clause-vars_after t c = 
+returns-in_default-kind-2-clause-vars_after t c =
     let args = c.args in
     let pattern-cell = c.pattern_cell-kind in
     let if1 = c.if-kind-eq-VARIABLE in

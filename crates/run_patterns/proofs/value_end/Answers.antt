@@ -7,12 +7,12 @@ pub loop-i-init : goal.loop-i-init
 loop-i-init c = search_start c.args.s.now c.args.at
 
 pub returns-then-left-eq0 : goal.returns-then-left-eq0
-returns-then-left-eq0 c = 
+returns-then-left-eq0 c =
     let loop' = c.loop-i in
     search_last loop'.invariant refl c.left_after-left.ensures c.if-left-eq0.true
 
 pub loop-i-preserved : goal.loop-i-preserved
-loop-i-preserved c = 
+loop-i-preserved c =
     let loop' = c.loop-i in
     search_next loop'.invariant refl c.left_after-left.ensures c.if-left-eq0.false
 

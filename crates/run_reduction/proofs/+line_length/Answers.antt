@@ -7,7 +7,7 @@ use Prim.Native.Nat.{◌+◌}
 use Rattle.run_reduction.proofs.+line_length.Goals as goal
 
 pub returns-then-kind-eq-VARIABLE-clause-by_index : goal.returns-then-kind-eq-VARIABLE-clause-by_index
-returns-then-kind-eq-VARIABLE-clause-by_index t c = 
+returns-then-kind-eq-VARIABLE-clause-by_index t c =
     let args = c.args in
     let pattern-cell = c.pattern_cell-kind in
     let if1 = c.if-kind-eq-VARIABLE in
@@ -16,7 +16,7 @@ returns-then-kind-eq-VARIABLE-clause-by_index t c =
     line_var args.t.now args.base args.j pattern-cell.ensures.0 if1.true pattern-cell2.ensures.0 e
 
 pub line_length-b-requires : goal.line_length-b-requires
-line_length-b-requires t c = 
+line_length-b-requires t c =
     let pre = c.requires in
     let args = c.args in
     let pattern-cell = c.pattern_cell-kind in
@@ -28,7 +28,7 @@ line_length-b-requires t c =
     )
 
 pub returns-then-two_parts-clause-by_index : goal.returns-then-two_parts-clause-by_index
-returns-then-two_parts-clause-by_index t c = 
+returns-then-two_parts-clause-by_index t c =
     let args = c.args in
     let pattern-cell = c.pattern_cell-kind in
     let if2 = c.if-two_parts in
@@ -39,10 +39,10 @@ returns-then-two_parts-clause-by_index t c =
     let line-length2 = c.line_length-b in
     let e = c.capped.ensures in
     line_pair args.t.now args.base args.j pattern-cell.ensures.0 (two_kinds two-parts.ensures if2.true) part.ensures part2.ensures
-          line-length.ensures.by_index line-length2.ensures.by_index e
+    line-length.ensures.by_index line-length2.ensures.by_index e
 
 pub returns-in-2-clause-by_index : goal.returns-in-2-clause-by_index
-returns-in-2-clause-by_index t c = 
+returns-in-2-clause-by_index t c =
     let args = c.args in
     let pattern-cell = c.pattern_cell-kind in
     let part3 = c.part-in-2 in
@@ -51,19 +51,19 @@ returns-in-2-clause-by_index t c =
     line_inj args.t.now args.base args.j pattern-cell.ensures.0 (omega arith) (omega arith) part3.ensures line-length3.ensures.by_index e
 
 pub returns-in_default-clause-by_index : goal.returns-in_default-clause-by_index
-returns-in_default-clause-by_index t c = 
+returns-in_default-clause-by_index t c =
     let args = c.args in
     let pattern-cell = c.pattern_cell-kind in
     let if1 = c.if-kind-eq-VARIABLE in
     line_leaf args.t.now args.base args.j pattern-cell.ensures.0 if1.false (λ z. absurd (omega (arith, z))) (λ z. absurd (omega (arith, z)))
-          (λ z. absurd (omega (arith, z))) (λ z. absurd (omega (arith, z)))
+    (λ z. absurd (omega (arith, z))) (λ z. absurd (omega (arith, z)))
 
 pub returns-in_default-2-clause-by_index : goal.returns-in_default-2-clause-by_index
-returns-in_default-2-clause-by_index t c = 
+returns-in_default-2-clause-by_index t c =
     let args = c.args in
     let pattern-cell = c.pattern_cell-kind in
     let if1 = c.if-kind-eq-VARIABLE in
     let if2 = c.if-two_parts in
     let two-parts = c.two_parts in
     line_leaf args.t.now args.base args.j pattern-cell.ensures.0 if1.false (λ z. absurd (omega (arith, z))) (λ z. absurd (omega (arith, z)))
-          (not_two two-parts.ensures if2.false).0 (not_two two-parts.ensures if2.false).1
+    (not_two two-parts.ensures if2.false).0 (not_two two-parts.ensures if2.false).1

@@ -4,7 +4,7 @@ use Rattle.table_trees.specs.Unfolding.{pattern_of}
 use Rattle.run_reduction.proofs.argument.Goals as goal
 
 pub returns-then-n-lt-VARIABLES : goal.returns-then-n-lt-VARIABLES
-returns-then-n-lt-VARIABLES c = 
+returns-then-n-lt-VARIABLES c =
     let args = c.args in
     let variable = c.variable-n in
     let if1 = c.if-n-lt-VARIABLES in
@@ -12,13 +12,13 @@ returns-then-n-lt-VARIABLES c =
     λ z. argue_var (pattern_of args.t.now args.base args.j) variable.result _ (variable.ensures.by_index _ _ z if1.true) range-from.ensures c.range_to-to.ensures refl
 
 pub returns-then-size-gt-MAX_LETTERS : goal.returns-then-size-gt-MAX_LETTERS
-returns-then-size-gt-MAX_LETTERS c = 
+returns-then-size-gt-MAX_LETTERS c =
     let args = c.args in
     let other_length = c.other_length-size in
     λ z. argue_large (pattern_of args.t.now args.base args.j) _ refl refl c.if-size-gt-MAX_LETTERS.true (other_length.ensures z)
 
 pub returns : goal.returns
-returns c = 
+returns c =
     let args = c.args in
     let if2 = c.if-size-gt-MAX_LETTERS in
     let other_length = c.other_length-size in

@@ -4,7 +4,7 @@ use Prim.Native.Nat.{◌-◌}
 use Rattle.run_reduction.proofs.choose.Goals as goal
 
 pub returns-then-match_line : goal.returns-then-match_line
-returns-then-match_line c = 
+returns-then-match_line c =
     let args = c.args in
     let side = c.side-field in
     let loop' = c.loop-m in
@@ -15,7 +15,7 @@ returns-then-match_line c =
     (λ v a z. let g = match-line.ensures w v a z in (sym c.if-match_line.true ∙ g.0, g.1))
 
 pub loop-m-preserved : goal.loop-m-preserved
-loop-m-preserved c = 
+loop-m-preserved c =
     let args = c.args in
     let side = c.side-field in
     let loop' = c.loop-m in

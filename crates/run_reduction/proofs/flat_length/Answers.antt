@@ -8,7 +8,7 @@ pub loop-k-init : goal.loop-k-init
 loop-k-init c = (λ q s st b. measured_start s _ st, omega arith)
 
 pub loop-k-preserved-then-o-lt-LETTERS_FROM : goal.loop-k-preserved-then-o-lt-LETTERS_FROM
-loop-k-preserved-then-o-lt-LETTERS_FROM c = 
+loop-k-preserved-then-o-lt-LETTERS_FROM c =
     let loop' = c.loop-k in
     let if1 = c.if-o-lt-LETTERS_FROM in
     let wide = c.wide in
@@ -17,12 +17,12 @@ loop-k-preserved-then-o-lt-LETTERS_FROM c =
     (λ q s st b. measured_var (loop'.invariant.0 q s st b) b refl if1.true wide.ensures.value range_length.ensures c.capped-n.ensures, omega (arith, e))
 
 pub returns-then-o-eq-STOP : goal.returns-then-o-eq-STOP
-returns-then-o-eq-STOP c = 
+returns-then-o-eq-STOP c =
     let loop' = c.loop-k in
     λ q s st b. measured_stop (loop'.invariant.0 q s st b) refl c.if-o-eq-STOP.true
 
 pub loop-k-preserved : goal.loop-k-preserved
-loop-k-preserved c = 
+loop-k-preserved c =
     let loop' = c.loop-k in
     let if1 = c.if-o-lt-LETTERS_FROM in
     let if2 = c.if-o-eq-STOP in
@@ -30,6 +30,6 @@ loop-k-preserved c =
     (λ q s st b. measured_letter (loop'.invariant.0 q s st b) refl if1.false if2.false c.capped-n-in-loop-k.ensures, omega (arith, e))
 
 pub returns : goal.returns
-returns c = 
+returns c =
     let loop' = c.loop-k in
     λ q s st b. let w = measured_within (loop'.invariant.0 q s st b) in absurd (omega (arith, w, c.loop-k-test.false))

@@ -5,7 +5,7 @@ use Rattle.settings.proofs.Answering.{number_fault, number_strange, number_fits,
 use Rattle.settings.proofs.number_checked.Goals as goal
 
 pub returns-then-is_refused : goal.returns-then-is_refused
-returns-then-is_refused c = 
+returns-then-is_refused c =
     let args = c.args in
     let type-fault = c.type_fault-f in
     let is-refused = c.is_refused in
@@ -14,7 +14,7 @@ returns-then-is_refused c =
     (c.not_numbered.result) (c.not_numbered.ensures.0) (c.not_numbered.ensures.1)
 
 pub returns-then-not-is_value : goal.returns-then-not-is_value
-returns-then-not-is_value c = 
+returns-then-not-is_value c =
     let args = c.args in
     let type-fault = c.type_fault-f in
     let is-refused = c.is_refused in
@@ -25,7 +25,7 @@ returns-then-not-is_value c =
     if2.true (c.not_numbered-then-not-is_value.result) (ap refusal_view (c.not_numbered-then-not-is_value.ensures.0)) (c.not_numbered-then-not-is_value.ensures.1)
 
 pub overflow_cast-result : goal.overflow_cast-result
-overflow_cast-result c = 
+overflow_cast-result c =
     let args = c.args in
     let type-fault = c.type_fault-f in
     let is-refused = c.is_refused in
@@ -40,7 +40,7 @@ overflow_cast-result c =
     )
 
 pub returns : goal.returns
-returns c = 
+returns c =
     let args = c.args in
     let type-fault = c.type_fault-f in
     let is-refused = c.is_refused in

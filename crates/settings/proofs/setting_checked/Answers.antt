@@ -3,7 +3,7 @@ use Rattle.settings.proofs.Answering.{setting_refused, setting_given}
 use Rattle.settings.proofs.setting_checked.Goals as goal
 
 pub returns-then-is_refused : goal.returns-then-is_refused
-returns-then-is_refused c = 
+returns-then-is_refused c =
     let args = c.args in
     let setting-fault = c.setting_fault-f in
     let is-refused = c.is_refused in
@@ -11,7 +11,7 @@ returns-then-is_refused c =
     setting_refused (setting-fault.ensures) (is-refused.ensures) (args.res.now) (if1.true) (c.not_lettered.result) (c.not_lettered.ensures.0) (c.not_lettered.ensures.1)
 
 pub returns : goal.returns
-returns c = 
+returns c =
     let args = c.args in
     let setting-fault = c.setting_fault-f in
     let is-refused = c.is_refused in

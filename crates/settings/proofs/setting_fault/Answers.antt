@@ -3,14 +3,14 @@ use Rattle.settings.proofs.Answering.{fault_faulty, fault_high, fault_neither}
 use Rattle.settings.proofs.setting_fault.Goals as goal
 
 pub returns-then-is_refused : goal.returns-then-is_refused
-returns-then-is_refused c = 
+returns-then-is_refused c =
     let args = c.args in
     let type-fault = c.type_fault-f in
     let is-refused = c.is_refused in
     let a = (args) in fault_faulty a.t.now a.types a.i (type-fault.result) (type-fault.ensures) (is-refused.ensures) (c.if-is_refused.true) a.n
 
 pub returns-then-count_values-n : goal.returns-then-count_values-n
-returns-then-count_values-n c = 
+returns-then-count_values-n c =
     let args = c.args in
     let type-fault = c.type_fault-f in
     let is-refused = c.is_refused in
@@ -20,7 +20,7 @@ returns-then-count_values-n c =
     (c.if-count_values-n.true) refl
 
 pub returns : goal.returns
-returns c = 
+returns c =
     let args = c.args in
     let type-fault = c.type_fault-f in
     let is-refused = c.is_refused in

@@ -2,7 +2,7 @@ use Rattle.settings.proofs.Serving.{number_refused, number_accepted}
 use Rattle.settings.proofs.to_number.Goals as goal
 
 pub returns-then-is_refused : goal.returns-then-is_refused
-returns-then-is_refused c = 
+returns-then-is_refused c =
     let args = c.args in
     let check-file = c.check_file-c in
     let is-refused = c.is_refused in
@@ -11,7 +11,7 @@ returns-then-is_refused c =
     (if1.true) (c.not_numbered.ensures.0) (c.not_numbered.ensures.1)
 
 pub returns : goal.returns
-returns c = 
+returns c =
     let args = c.args in
     let check-file = c.check_file-c in
     let is-refused = c.is_refused in

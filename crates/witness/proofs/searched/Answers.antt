@@ -2,7 +2,7 @@ use Rattle.witness.proofs.Serving.{searched_says}
 use Rattle.witness.proofs.searched.Goals as goal
 
 pub returns : goal.returns
-returns c = 
+returns c =
     let entered = c.entered-c in
     let settled = c.settled-d in
     let show-fault = c.show_fault-n in

@@ -15,7 +15,7 @@ pub returns-then-patterns-gt-MAX_LINES : goal.returns-then-patterns-gt-MAX_LINES
 returns-then-patterns-gt-MAX_LINES c = λ s a h. unprepared a (inr c.if-patterns-gt-MAX_LINES.true)
 
 pub returns : goal.returns
-returns c = 
+returns c =
     let args = c.args in
     let code-patterns = c.code_patterns in
     let index-isos = c.index_isos in

@@ -4,14 +4,14 @@ use Rattle.runner.proofs.Answering.{short_result, run_refused, run_accepted}
 use Rattle.runner.proofs.run.run.Goals as goal
 
 pub returns-then-res-lt-RESULT_LENGTH : goal.returns-then-res-lt-RESULT_LENGTH
-returns-then-res-lt-RESULT_LENGTH c = 
+returns-then-res-lt-RESULT_LENGTH c =
     let if1 = c.if-res-lt-RESULT_LENGTH in
     let a = c.args in
     short_result a.file.now a.table.now a.work.now a.i a.back a.budget a.value.now a.res.now c.refused.result if1.true
     (ap refusal_view c.refused.ensures.0) c.refused.ensures.1 c.refused.ensures.2
 
 pub returns-then-is_refused : goal.returns-then-is_refused
-returns-then-is_refused c = 
+returns-then-is_refused c =
     let is-refused = c.is_refused in
     let if2 = c.if-is_refused in
     let a = c.args in
@@ -20,7 +20,7 @@ returns-then-is_refused c =
     c.refused-then-is_refused.ensures.0 c.refused-then-is_refused.ensures.1 c.refused-then-is_refused.ensures.2
 
 pub returns : goal.returns
-returns c = 
+returns c =
     let clear-bytes = c.clear_bytes in
     let a = c.args in
     run_accepted a.file.now a.table.now a.work.now a.i a.back a.budget a.value.now a.res.now _ _ c.run_accepted-r.new.work _ _

@@ -3,7 +3,7 @@ use Rattle.runner.proofs.Answering.{front_length}
 use Rattle.runner.proofs.run.run_accepted.Goals as goal
 
 pub returns-clause-on_accepted : goal.returns-clause-on_accepted
-returns-clause-on_accepted c = 
+returns-clause-on_accepted c =
     let a = c.args in
     let h = c.requires in
     let n = front_length a.room a.work.now h in

@@ -5,7 +5,7 @@ use mathlib.Core.Path.{refl, sym, ap, subst}
 use Rattle.runner.proofs.run.run_checked.Goals as goal
 
 pub returns-then-isos-i : goal.returns-then-isos-i
-returns-then-isos-i c = 
+returns-then-isos-i c =
     let args = c.args in
     let if1 = c.if-isos-i in
     λ rs p long most room. (
@@ -15,7 +15,7 @@ returns-then-isos-i c =
     )
 
 pub returns-then-not-is_value : goal.returns-then-not-is_value
-returns-then-not-is_value c = 
+returns-then-not-is_value c =
     let args = c.args in
     let if1 = c.if-isos-i in
     let place = c.place in
@@ -32,7 +32,7 @@ returns-then-not-is_value c =
     )
 
 pub returns-in-Range : goal.returns-in-Range
-returns-in-Range c = 
+returns-in-Range c =
     let args = c.args in
     let if1 = c.if-isos-i in
     let place = c.place in
@@ -60,7 +60,7 @@ returns-in-Range c =
     )
 
 pub returns-in-Spent : goal.returns-in-Spent
-returns-in-Spent c = 
+returns-in-Spent c =
     let args = c.args in
     let if1 = c.if-isos-i in
     let place = c.place in
@@ -85,7 +85,7 @@ returns-in-Spent c =
     )
 
 pub returns-in-Large : goal.returns-in-Large
-returns-in-Large c = 
+returns-in-Large c =
     let args = c.args in
     let if1 = c.if-isos-i in
     let place = c.place in
