@@ -7,7 +7,7 @@ returns c =
     let a = c.args in
     λ roomy room.
     reaches_close c.front.ensures
-    (c.settle.ensures c.front.res.now a.file.now _ _ a.at
-    (judged_file c.front.res.now a.table.now a.work.now c.check_file-c.result c.check_file-c.ensures.0 c.check_file-c.ensures.1
+    (c.settle.ensures c.front.result.now a.file.now _ _ a.at
+    (judged_file c.front.result.now a.table.now a.work.now c.check_file-c.result c.check_file-c.ensures.0 c.check_file-c.ensures.1
     c.put_checked-end.ensures roomy.tables roomy.works room)
     roomy.lines roomy.indices)

@@ -7,7 +7,7 @@ returns-in-File c =
     let a = c.args in
     finish_file a.d c.in-File.is c.front.ensures
     (λ roomy.
-    judged_prints c.front.res.now a.table.now a.work.now c.check_file-c.result c.check_file-c.ensures.0 c.put_checked.ensures
+    judged_prints c.front.result.now a.table.now a.work.now c.check_file-c.result c.check_file-c.ensures.0 c.put_checked.ensures
     roomy.tables roomy.works)
 
 pub returns-else-held-eq0 : goal.returns-else-held-eq0
