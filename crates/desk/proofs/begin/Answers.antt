@@ -3,7 +3,7 @@ use Rattle.desk.proofs.Feeding.{reaches_close}
 use Rattle.desk.proofs.begin.Goals as goal
 
 pub returns : goal.returns
-returns c = 
+returns c =
     let a = c.args in
     λ roomy room.
     reaches_close c.front.ensures

@@ -2,13 +2,13 @@ use Rattle.desk.proofs.Feeding.{file_begins, file_more, byte_of_file}
 use Rattle.desk.proofs.feed_byte.Goals as goal
 
 pub returns-then-begins : goal.returns-then-begins
-returns-then-begins c = 
+returns-then-begins c =
     let a = c.args in
     byte_of_file a.d a.b c.in-File.is
     (λ bs h roomy room. file_begins a.d a.b bs h c.begins.ensures c.if-begins.true (c.begin.ensures roomy room))
 
 pub returns-else-begins : goal.returns-else-begins
-returns-else-begins c = 
+returns-else-begins c =
     let a = c.args in
     byte_of_file a.d a.b c.in-File.is
     (λ bs h roomy room.

@@ -2,6 +2,6 @@ use Rattle.desk.proofs.Feeding.{reaches_state, collects_more}
 use Rattle.desk.proofs.file_byte.Goals as goal
 
 pub returns : goal.returns
-returns c = 
+returns c =
     λ bs line table index out h least room.
     reaches_state c.state.ensures (collects_more c.args.b bs (c.hold-more.ensures bs h least) room)

@@ -3,7 +3,7 @@ use Rattle.desk.proofs.Feeding.{finish_file, finish_line}
 use Rattle.desk.proofs.finished.Goals as goal
 
 pub returns-in-File : goal.returns-in-File
-returns-in-File c = 
+returns-in-File c =
     let a = c.args in
     finish_file a.d c.in-File.is c.front.ensures
     (λ roomy.
@@ -11,6 +11,6 @@ returns-in-File c =
     roomy.tables roomy.works)
 
 pub returns-else-held-eq0 : goal.returns-else-held-eq0
-returns-else-held-eq0 c = 
+returns-else-held-eq0 c =
     let a = c.args in
     finish_line a.d c.in-Queries.is c.if-held-eq0.false c.front-in-Queries.ensures (λ rs p h. (c.answer.ensures rs p h).0)

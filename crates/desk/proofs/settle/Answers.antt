@@ -4,13 +4,13 @@ use Rattle.desk.proofs.Holding.{holds_letter}
 use Rattle.desk.proofs.settle.Goals as goal
 
 pub returns-then-is_down : goal.returns-then-is_down
-returns-then-is_down c = 
+returns-then-is_down c =
     let a = c.args in
     λ file area out out' at k lines indices.
     reaches_state c.state.ensures (settle_refused file area a.c _ k c.is_down.ensures a.line.now a.index.now c.if-is_down.true refl)
 
 pub returns : goal.returns
-returns c = 
+returns c =
     let a = c.args in
     λ file area out out' at k lines indices.
     reaches_state c.ready.ensures

@@ -3,18 +3,18 @@ use Rattle.exports.proofs.Serving.{short_output, export_refused, export_accepted
 use Rattle.exports.proofs.export.Goals as goal
 
 pub returns-then-output-lt-EXPORT_LENGTH : goal.returns-then-output-lt-EXPORT_LENGTH
-returns-then-output-lt-EXPORT_LENGTH c = 
+returns-then-output-lt-EXPORT_LENGTH c =
     let a = c.args in
     short_output a.file.now a.table.now a.work.now a.i a.budget a.output.now _ c.if-output-lt-EXPORT_LENGTH.true refl refl refl
 
 pub returns-then-is_refused : goal.returns-then-is_refused
-returns-then-is_refused c = 
+returns-then-is_refused c =
     let is-refused = c.is_refused in
     let a = c.args in
     export_refused a.file.now a.table.now a.work.now a.i a.budget a.output.now _ _ _ _ c.if-output-lt-EXPORT_LENGTH.false c.check_file-c.ensures.0 is-refused.ensures c.if-is_refused.true refl
 
 pub returns : goal.returns
-returns c = 
+returns c =
     let clear-bytes = c.clear_bytes in
     let a = c.args in
     export_accepted a.file.now a.table.now a.work.now a.i a.budget a.output.now _ _ c.export_accepted-l.new.work _ _ c.check_file-c.result

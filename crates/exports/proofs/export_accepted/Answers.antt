@@ -3,7 +3,7 @@ use Rattle.runner.proofs.Answering.{front_length}
 use Rattle.exports.proofs.export_accepted.Goals as goal
 
 pub returns-clause-on_accepted : goal.returns-clause-on_accepted
-returns-clause-on_accepted c = 
+returns-clause-on_accepted c =
     let prepare = c.prepare in
     let export-checked = c.export_checked in
     let a = c.args in

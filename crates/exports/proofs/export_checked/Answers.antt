@@ -5,12 +5,12 @@ use Rattle.exports.proofs.Listing.{no_iso_lem, has_lists, too_many_lem, some_spe
 use Rattle.exports.proofs.export_checked.Goals as goal
 
 pub returns-then-isos-i : goal.returns-then-isos-i
-returns-then-isos-i c = 
+returns-then-isos-i c =
     let a = c.args in
     λ rs p long short room. no_iso_lem p a.i a.budget a.output.now c.not_listed.result c.if-isos-i.true (ap refusal_view c.not_listed.ensures.0) c.not_listed.ensures.1
 
 pub returns-then-not-is_free : goal.returns-then-not-is_free
-returns-then-not-is_free c = 
+returns-then-not-is_free c =
     let if1 = c.if-isos-i in
     let is_free = c.is_free in
     let if2 = c.if-not-is_free in
@@ -19,7 +19,7 @@ returns-then-not-is_free c =
     c.too_many.ensures.0 c.too_many.ensures.1
 
 pub returns-then-n-gt-MAX_PAIRS : goal.returns-then-n-gt-MAX_PAIRS
-returns-then-n-gt-MAX_PAIRS c = 
+returns-then-n-gt-MAX_PAIRS c =
     let if1 = c.if-isos-i in
     let is_free = c.is_free in
     let if2 = c.if-not-is_free in
@@ -32,7 +32,7 @@ returns-then-n-gt-MAX_PAIRS c =
     c.too_many-then-n-gt-MAX_PAIRS.ensures.0 c.too_many-then-n-gt-MAX_PAIRS.ensures.1
 
 pub returns-then-not-find_tos : goal.returns-then-not-find_tos
-returns-then-not-find_tos c = 
+returns-then-not-find_tos c =
     let if1 = c.if-isos-i in
     let is_free = c.is_free in
     let if2 = c.if-not-is_free in
@@ -48,7 +48,7 @@ returns-then-not-find_tos c =
     if4.true (ap refusal_view c.not_listed-then-not-find_tos.ensures.0) c.not_listed-then-not-find_tos.ensures.1
 
 pub returns : goal.returns
-returns c = 
+returns c =
     let if1 = c.if-isos-i in
     let is_free = c.is_free in
     let if2 = c.if-not-is_free in

@@ -3,6 +3,6 @@ use Rattle.exports.proofs.Printing.{pair_bytes}
 use Rattle.exports.proofs.put_pair.Goals as goal
 
 pub returns : goal.returns
-returns c = 
+returns c =
     let a = c.args in
     λ hk ht. pair_bytes a.k a.to (prints_writes (c.put_number-x.ensures hk)) (prints_writes (c.put_field-y.ensures ht)) c.put_byte.ensures.bytes_after c.put_byte.ensures.value

@@ -3,7 +3,7 @@ use Rattle.sheets.proofs.Answering.{through_room, through_next}
 use Rattle.sheets.proofs.answer_lines.Goals as goal
 
 pub loop-at-preserved : goal.loop-at-preserved
-loop-at-preserved c = 
+loop-at-preserved c =
     let p = c.requires in
     through_next c.loop-at.invariant c.loop-at-test.true c.line_end-end.ensures (through_room c.loop-at.invariant c.loop-at-test.true c.line_end-end.ensures p.0 p.1)
     c.answer_one.ensures c.answer_one.auto.work c.answer_one.auto.numbers c.answer_one.auto.letters

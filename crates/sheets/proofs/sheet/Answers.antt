@@ -4,14 +4,14 @@ use Rattle.sheets.proofs.Calling.{sheet_short, sheet_many, sheet_refused, sheet_
 use Rattle.sheets.proofs.sheet.Goals as goal
 
 pub returns-then-is_short : goal.returns-then-is_short
-returns-then-is_short c = 
+returns-then-is_short c =
     let if1 = c.if-is_short in
     let a = c.args in
     sheet_short a.file.now a.table.now a.work.now a.queries.now a.numbers.now a.letters.now c.refused.result c.count_lines-n.ensures c.is_short.ensures if1.true
     (ap refusal_view c.refused.ensures.0) c.refused.ensures.1 c.refused.ensures.2
 
 pub returns-then-n-gt-MAX_QUERIES : goal.returns-then-n-gt-MAX_QUERIES
-returns-then-n-gt-MAX_QUERIES c = 
+returns-then-n-gt-MAX_QUERIES c =
     let if1 = c.if-is_short in
     let if2 = c.if-n-gt-MAX_QUERIES in
     let a = c.args in
@@ -19,7 +19,7 @@ returns-then-n-gt-MAX_QUERIES c =
     if2.true (ap refusal_view c.refused-then-n-gt-MAX_QUERIES.ensures.0) c.refused-then-n-gt-MAX_QUERIES.ensures.1 c.refused-then-n-gt-MAX_QUERIES.ensures.2
 
 pub returns-then-is_refused : goal.returns-then-is_refused
-returns-then-is_refused c = 
+returns-then-is_refused c =
     let is-refused = c.is_refused in
     let a = c.args in
     sheet_refused a.file.now a.table.now a.work.now a.queries.now a.numbers.now a.letters.now _ _ _ c.count_lines-n.ensures c.is_short.ensures
@@ -27,7 +27,7 @@ returns-then-is_refused c =
     c.check_file-c.ensures.0 is-refused.ensures c.if-is_refused.true refl
 
 pub returns : goal.returns
-returns c = 
+returns c =
     let clear-bytes = c.clear_bytes in
     let a = c.args in
     sheet_accepted a.file.now a.table.now a.work.now a.queries.now a.numbers.now a.letters.now _ _ c.answer_all.new.work _ _ _ c.check_file-c.result _
