@@ -4,7 +4,7 @@ use Rattle.unit_plays.proofs.Whole.{part_played}
 use Rattle.unit_plays.proofs.play_all.Goals as goal
 
 pub returns : goal.returns
-returns c = 
+returns c =
     let prepare = c.prepare in
     let q = c.args in
     let n = front_length q.room q.work.now c.requires.1 in

@@ -4,14 +4,14 @@ use Rattle.unit_plays.proofs.Whole.{into_refused, read, into_played}
 use Rattle.unit_plays.proofs.play_counted.Goals as goal
 
 pub returns-then-is_refused : goal.returns-then-is_refused
-returns-then-is_refused c = 
+returns-then-is_refused c =
     let args = c.args in
     let tested = c.tested-f in
     let is-refused = c.is_refused in
     let q = args in λ s a e few z. into_refused a q.script.now q.budget q.lines.now q.settings.now e few q.work.now (tested.ensures s a e) is-refused.ensures c.if-is_refused.true
 
 pub returns : goal.returns
-returns c = 
+returns c =
     let tested = c.tested-f in
     let is-refused = c.is_refused in
     let if1 = c.if-is_refused in

@@ -6,7 +6,7 @@ pub loop-at-init : goal.loop-at-init
 loop-at-init c = through_start _ _ _ _ _ _ _ _ _
 
 pub loop-at-preserved : goal.loop-at-preserved
-loop-at-preserved c = 
+loop-at-preserved c =
     let loop' = c.loop-at in
     let loop-test = c.loop-at-test in
     let line-end = c.line_end-end in

@@ -3,7 +3,7 @@ use Rattle.unit_plays.proofs.Testing.{script_told}
 use Rattle.unit_plays.proofs.script_tested.Goals as goal
 
 pub returns : goal.returns
-returns c = 
+returns c =
     let q = c.args in
     let prepare = c.prepare in
     let mark-lists = c.mark_lists in

@@ -6,7 +6,7 @@ use Rattle.unit_visits.proofs.Storing.{played, held}
 use Rattle.unit_visits.proofs.play_visit.Goals as goal
 
 pub returns-in-Done : goal.returns-in-Done
-returns-in-Done c = 
+returns-in-Done c =
     let args = c.args in
     let number_at = c.number_at-i in
     let number-at2 = c.number_at-n in
@@ -20,7 +20,7 @@ returns-in-Done c =
     (sym (ap visited_view c.in-Done.is) ∙ u.0) u.1 put-mark.ensures refl store-number.ensures store-number2.ensures
 
 pub returns-in-Skipped : goal.returns-in-Skipped
-returns-in-Skipped c = 
+returns-in-Skipped c =
     let args = c.args in
     let number_at = c.number_at-i in
     let number-at2 = c.number_at-n in
@@ -32,7 +32,7 @@ returns-in-Skipped c =
     (sym (ap visited_view c.in-Skipped.is) ∙ u.0) u.1 put-mark2.ensures refl refl refl
 
 pub returns-in-Spent : goal.returns-in-Spent
-returns-in-Spent c = 
+returns-in-Spent c =
     let args = c.args in
     let number_at = c.number_at-i in
     let number-at2 = c.number_at-n in

@@ -4,7 +4,7 @@ use Rattle.unit_visits.proofs.Sending.{send_spared, send_spent, send_large, send
 use Rattle.unit_visits.proofs.send.Goals as goal
 
 pub returns-in-Range : goal.returns-in-Range
-returns-in-Range c = 
+returns-in-Range c =
     let args = c.args in
     let unrank-at = c.unrank_at-size in
     let code-part = c.code_part-code in
@@ -20,7 +20,7 @@ returns-in-Range c =
     )
 
 pub returns-in-Spent : goal.returns-in-Spent
-returns-in-Spent c = 
+returns-in-Spent c =
     let args = c.args in
     let unrank-at = c.unrank_at-size in
     let code-part = c.code_part-code in
@@ -34,7 +34,7 @@ returns-in-Spent c =
     )
 
 pub returns-in-Large : goal.returns-in-Large
-returns-in-Large c = 
+returns-in-Large c =
     let args = c.args in
     let unrank-at = c.unrank_at-size in
     let code-part = c.code_part-code in

@@ -4,7 +4,7 @@ use Rattle.unit_visits.proofs.Visiting.{iso_of, to_end, same_types, visit_skippe
 use Rattle.unit_visits.proofs.visit.Goals as goal
 
 pub returns-then-not-same_type : goal.returns-then-not-same_type
-returns-then-not-same_type c = 
+returns-then-not-same_type c =
     let args = c.args in
     let place = c.place in
     let place2 = c.place-row in
@@ -18,7 +18,7 @@ returns-then-not-same_type c =
     )
 
 pub returns : goal.returns
-returns c = 
+returns c =
     let args = c.args in
     let place = c.place in
     let place2 = c.place-row in
