@@ -4,7 +4,7 @@
  *
  * `bin/install PREFIX` puts librulefile.a, librulefile.so and this header in place, with a file for pkg-config;
  * `rt lib`, in crates/rulefile, writes out/librulefile.a there alone. The platform is x86-64 Linux. The library
- * needs memset of the C library and nothing else; it allocates nothing, keeps nothing between calls and
+ * needs memcpy, memmove and memset of the C library and nothing else; it allocates nothing, keeps nothing between calls and
  * may be called from several threads at once, each with areas of its own.
  *
  * Every function takes any bytes, any numbers and areas of any length, and always returns: with number
