@@ -9,7 +9,7 @@ ghost use Rattle.calculus.specs.Trees.{tags};
 ghost use Rattle.check_facts.specs.Facts.{Facts};
 ghost use Rattle.calculus.specs.Tools.{all, total};
 ghost use Rattle.format.specs.Code.{refusal_view};
-ghost use Rattle.calculus.specs.Clauses.{clash as clashes, apart as apartAll, weight as weightOf};
+ghost use Rattle.calculus.specs.Clauses.{clash as clashes, apart as are_apart, weight as weight_of};
 ghost use Rattle.table_trees.specs.Unfolding.{pattern_of};
 ghost use Rattle.table_walks.specs.InTable.{patterns_at, weight_at, sides_fault};
 
@@ -44,7 +44,7 @@ fn clashes_with(t: &[u16], base: usize, p: usize, k: usize, rows: &[u16], from: 
 // Whether the patterns in field k of the clause rows are orthogonal, two by two, each compared with each.
 fn apart(t: &[u16], base: usize, k: usize, rows: &[u16]) -> bool
     requires { table_length ≤ length t.now }
-    ensures { result ≡ apartAll (patterns_at t.now base k rows.now) }
+    ensures { result ≡ are_apart (patterns_at t.now base k rows.now) }
 {
     let mut i: usize = 0;
     while i < rows.len() {
@@ -64,7 +64,7 @@ const FEW: usize = 3;
 // The same, by the places of the type that field k of the I row n names, where those tell.
 fn orthogonal(t: &[u16], f: &[u8], base: usize, k: usize, rows: &[u16], n: usize) -> bool
     requires { (table_length ≤ length t.now) × (length rows.now ≤ max_clauses) × Facts t.now base f.now × (length f.now ≤ max_lines) }
-    ensures { result ≡ apartAll (patterns_at t.now base k rows.now) }
+    ensures { result ≡ are_apart (patterns_at t.now base k rows.now) }
 {
     if FEW < rows.len() {
         let v = separate(t, f, base, k, rows, cell(t, n, k));
@@ -151,7 +151,7 @@ const FULL: u64 = 1099511627776;
 // What the patterns in field k of at most as many clause rows as an iso has weigh together.
 pub fn weigh(t: &[u16], f: &[u8], base: usize, k: usize, rows: &[u16]) -> u64
     requires { (length rows.now ≤ max_clauses) × Facts t.now base f.now }
-    ensures { result ≡ total (map weightOf (patterns_at t.now base k rows.now)) }
+    ensures { result ≡ total (map weight_of (patterns_at t.now base k rows.now)) }
 {
     let mut i = rows.len();
     let mut sum: u64 = 0;

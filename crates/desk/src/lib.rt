@@ -9,7 +9,7 @@ ghost use Rattle.model.specs.Desk.{file_line};
 ghost use Rattle.format.specs.Code.{refusal_view, number_of};
 ghost use Rattle.calculus.specs.Tools.{is_some};
 ghost use Rattle.area_cells.specs.Areas.{Prints};
-ghost use Rattle.query_lines.specs.Stream.{State, collecting, asking, settled as isSettled};
+ghost use Rattle.query_lines.specs.Stream.{State, collecting, asking, settled as is_settled};
 ghost use Rattle.desk.specs.declared.Phase.TheVariants.{Queries};
 ghost use Rattle.desk.specs.DeskSays.{answer_room, Holds, DeskAt, Took, SettleSays, BeginSays, FileByteSays, ByteSays, AnswerWithSays, ran_line, AnswerSays, FeedSays, FinishSays};
 
@@ -364,7 +364,7 @@ pub fn feed(
 // Whether the rest of the input can change nothing more of what is printed: the file has more than 65,536
 // bytes, or is refused and answered.
 pub fn settled(d: Desk) -> bool
-    ensures { (file line table index : List ℕ) (s : State) → DeskAt d file line table index s → result ≡ isSettled s }
+    ensures { (file line table index : List ℕ) (s : State) → DeskAt d file line table index s → result ≡ is_settled s }
 {
     let phase = d.phase;
     match phase {

@@ -33,7 +33,7 @@ lettered_but n = record { refusal = n.refusal; number = n.number; length = n.len
 abbrev pub bounds_but : BoundsResult → BoundsResult
 bounds_but r = record { refusal = r.refusal; bounds = r.bounds; table = []; work = r.work }
 
--- all but the table and the turned file, of which the law `Turned-same` tells
+-- all but the table and the turned file, of which the law `turned_same` tells
 abbrev pub turned_but : Output → Output
 turned_but r = record { refusal = r.refusal; answer = r.answer; length = r.length; table = []; work = r.work; output = [] }
 

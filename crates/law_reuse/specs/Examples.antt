@@ -32,11 +32,11 @@ unfolding desk former
 one_type = refl
 
 -- "S without line 17 keeps its answer"
-abbrev pub file_sWithout17 : List ℕ
-file_sWithout17 =
+abbrev pub file_s_without_17 : List ℕ
+file_s_without_17 =
     bytes "T,0,0,0\nT,1,0,0\nT,2,1,1\nP,0,0,0\nP,2,0,0\nP,3,0,0\nP,1,0,0\nP,1,1,0\nP,4,1,3\nP,4,1,4\nP,4,2,3\nI,1,1\nC,1,2\nC,2,1\nI,2,2\nC,5,6\nC,7,7\n"
 
-keeps_answer : (desk file_sWithout17 ≡ bytes "8,16\n") × (formerly file_sWithout17 ≡ bytes "8,16\n")
+keeps_answer : (desk file_s_without_17 ≡ bytes "8,16\n") × (formerly file_s_without_17 ≡ bytes "8,16\n")
 unfolding desk former
 keeps_answer = (refl, refl)
 

@@ -5,7 +5,7 @@ ghost use Rattle.std.specs.Prelude.{◌≡◌, ◌&&◌, suc, ltb, eqb};
 ghost use Rattle.std.proofs.Math.Option.{Option};
 ghost use Rattle.limits.specs.Limits.{variables};
 ghost use Rattle.calculus.specs.Refusals.{Kind as KindOf};
-ghost use Rattle.format.specs.Judge.{Seen as SeenOf, stage as stageOf, in_order, type_fields, pattern_fields, fields_fit, type_names, pattern_names, named, judge as judgeOf};
+ghost use Rattle.format.specs.Judge.{Seen as SeenOf, stage as stage_of, in_order, type_fields, pattern_fields, fields_fit, type_names, pattern_names, named, judge as judge_of};
 ghost use Rattle.format.specs.Code.{kind_view, row_view, refusal_view};
 ghost use Rattle.read_seen.specs.Told.{Counts, Weighed};
 
@@ -17,7 +17,7 @@ use read_seen::Seen;
 
 // All T lines, then all P lines, then the isos: I, its C lines, under each its L lines.
 fn in_order(stage: usize, k: Kind) -> bool
-    ensures { (a : Option KindOf) → stage ≡ stageOf a → result ≡ in_order a (kind_view k) }
+    ensures { (a : Option KindOf) → stage ≡ stage_of a → result ≡ in_order a (kind_view k) }
 {
     match k {
         Kind::Type => stage == 0,
@@ -145,7 +145,7 @@ fn names_stand(c: Seen, r: Row) -> bool
 
 // The lowest of 4 to 7, or nothing.
 pub fn judge(c: Seen, t: &[u16], g: &[u8], r: Row) -> Refusal
-    ensures { (s : SeenOf) → Weighed t.now g.now c s → refusal_view result ≡ judgeOf s (row_view r) }
+    ensures { (s : SeenOf) → Weighed t.now g.now c s → refusal_view result ≡ judge_of s (row_view r) }
 {
     let k = r.kind;
     if in_order(c.stage, k) {

@@ -28,7 +28,7 @@ use Rattle.run_values.specs.Traces.{Fitting, Over, Calls, LetTrace, LetsTrace, E
 use Rattle.run_values.proofs.Agreeing.{at_within, at_take, at_sets, take_sets, bind_alike, length_ranges, below_ranges, below_more, agrees_empty, agrees_more, agrees_bind, built_build, at_slice}
 use Rattle.run_values.proofs.Tracing.{runs_least}
 use Rattle.run_reduction.specs.declared.Given as G
-use Rattle.run_reduction.specs.declared.Given.TheVariants as goal
+use Rattle.run_reduction.specs.declared.Given.TheVariants as given
 use Rattle.run_reduction.specs.declared.Place as P
 use Rattle.run_reduction.specs.declared.Reduced as R
 use Rattle.run_reduction.specs.declared.Reduced.TheVariants as reduced
@@ -67,39 +67,39 @@ pub spent≢large : reduced.Spent ≡ reduced.Large → ⊥
 unfolding tells
 spent≢large e = let h = ap tells e in omega (arith, h)
 
-pub range_begin : {a b c d e f : ℕ} → goal.Range a b c ≡ goal.Range d e f → a ≡ d
+pub range_begin : {a b c d e f : ℕ} → given.Range a b c ≡ given.Range d e f → a ≡ d
 range_begin {a} e = ap first e
   where
     first : G.Given → ℕ
-    first (goal.Range x y z) = x
-    first goal.Spent = a
-    first goal.Large = a
+    first (given.Range x y z) = x
+    first given.Spent = a
+    first given.Large = a
 
-pub range_end : {a b c d e f : ℕ} → goal.Range a b c ≡ goal.Range d e f → b ≡ e
+pub range_end : {a b c d e f : ℕ} → given.Range a b c ≡ given.Range d e f → b ≡ e
 range_end {b = b} e = ap second e
   where
     second : G.Given → ℕ
-    second (goal.Range x y z) = y
-    second goal.Spent = b
-    second goal.Large = b
+    second (given.Range x y z) = y
+    second given.Spent = b
+    second given.Large = b
 
-pub range_left : {a b c d e f : ℕ} → goal.Range a b c ≡ goal.Range d e f → c ≡ f
+pub range_left : {a b c d e f : ℕ} → given.Range a b c ≡ given.Range d e f → c ≡ f
 range_left e = ap rest_of e
 
 shows : G.Given → ℕ
-shows (goal.Range x y z) = 0
-shows goal.Spent = 1
-shows goal.Large = 2
+shows (given.Range x y z) = 0
+shows given.Spent = 1
+shows given.Large = 2
 
-pub range≢spent : {a b c : ℕ} → goal.Range a b c ≡ goal.Spent → ⊥
+pub range≢spent : {a b c : ℕ} → given.Range a b c ≡ given.Spent → ⊥
 unfolding shows
 range≢spent e = let h = ap shows e in omega (arith, h)
 
-pub range≢large : {a b c : ℕ} → goal.Range a b c ≡ goal.Large → ⊥
+pub range≢large : {a b c : ℕ} → given.Range a b c ≡ given.Large → ⊥
 unfolding shows
 range≢large e = let h = ap shows e in omega (arith, h)
 
-pub no_budget≢large : goal.Spent ≡ goal.Large → ⊥
+pub no_budget≢large : given.Spent ≡ given.Large → ⊥
 unfolding shows
 no_budget≢large e = let h = ap shows e in omega (arith, h)
 
@@ -345,13 +345,13 @@ argue_built p {vars} {w₀} {w₁} {top} {end} {r} a ea ez ef less says writes e
 
 -- a variable's letters where they stand
 pub settle_place : (p : Pat) (n : ℕ) {vars work : List ℕ} {top dest left from to : ℕ} → p ≡ pvar n → from ≡ get_or vars n 0 → to ≡ get_or vars (32 + n) 0 → to ≤ dest
-    → SettleSays p vars work work top dest left (goal.Range from to left)
+    → SettleSays p vars work work top dest left (given.Range from to left)
 settle_place p n {vars} {work} {top} {dest} {left} {from} {to} is ea ez h e f w b fits env low room =
     let r = ranged p n is env b (omega (arith, room)) in
     let ends = r.ends in (
       record {
         begin = from;
-        gives = ap (λ k. goal.Range from k left) (ez ∙ ends ∙ ap (λ k. k + length (letters w)) (sym ea));
+        gives = ap (λ k. given.Range from k left) (ez ∙ ends ∙ ap (λ k. k + length (letters w)) (sym ea));
         stands = subst (λ k. At work k w) (sym ea) r.stands;
         near = omega (arith, ends, ea, ez, h);
       },
@@ -360,7 +360,7 @@ settle_place p n {vars} {work} {top} {dest} {left} {from} {to} is ea ez h e f w 
 
 -- copied to `dest`
 pub settle_copied : (p : Pat) (n : ℕ) {vars work work' : List ℕ} {top dest left from to end : ℕ} → p ≡ pvar n → from ≡ get_or vars n 0 → to ≡ get_or vars (32 + n) 0 → dest ≤ from
-    → (dest ≤ from → to ≤ length work → Writes work work' dest end (slice from to work)) → SettleSays p vars work work' top dest left (goal.Range dest end left)
+    → (dest ≤ from → to ≤ length work → Writes work work' dest end (slice from to work)) → SettleSays p vars work work' top dest left (given.Range dest end left)
 settle_copied p n {vars} {work} {work'} {top} {dest} {left} {from} {to} {end} is ea ez h copy e f w b fits env low room =
     let r = ranged p n is env b (omega (arith, room)) in
     let ends = r.ends in
@@ -374,7 +374,7 @@ settle_copied p n {vars} {work} {work'} {top} {dest} {left} {from} {to} {end} is
     let room' : dest + length (letters w) ≤ length work = omega (arith, far, room) in (
       record {
         begin = dest;
-        gives = ap (λ k. goal.Range dest k left) stops;
+        gives = ap (λ k. given.Range dest k left) stops;
         stands = subst (λ l. At l dest w) (sym final) (at_sets work (letters w) dest w refl room');
         near = omega (arith, fits);
       },
@@ -384,13 +384,13 @@ settle_copied p n {vars} {work} {work'} {top} {dest} {left} {from} {to} {end} is
 
 -- built at `dest`
 pub settle_built : (p : Pat) {vars work work' : List ℕ} {top dest left last : ℕ} → top ≡ dest
-    → ((n : ℕ) → Below vars n → n ≤ top → Writes work work' top last (built p (take n work) vars)) → SettleSays p vars work work' top dest left (goal.Range dest last left)
+    → ((n : ℕ) → Below vars n → n ≤ top → Writes work work' top last (built p (take n work) vars)) → SettleSays p vars work work' top dest left (given.Range dest last left)
 settle_built p {vars} {work} {work'} {top} {dest} {left} {last} here writes e f w b fits env low room =
     let rd = ready p env b (omega (arith, fits, room)) writes in
     let ends = rd.ends in (
       record {
         begin = dest;
-        gives = ap (λ k. goal.Range dest k left) (ends ∙ ap (λ k. k + length (letters w)) here);
+        gives = ap (λ k. given.Range dest k left) (ends ∙ ap (λ k. k + length (letters w)) here);
         stands = subst (λ k. At work' k w) here rd.spelled;
         near = omega (arith, fits);
       },
@@ -399,7 +399,7 @@ settle_built p {vars} {work} {work'} {top} {dest} {left} {last} here writes e f 
 
 -- built at `top`, and copied to `dest`
 pub settle_moved : (p : Pat) {vars work w₁ work' : List ℕ} {top dest left last end : ℕ} → ((n : ℕ) → Below vars n → n ≤ top → Writes work w₁ top last (built p (take n work) vars))
-    → (dest ≤ top → last ≤ length w₁ → Writes w₁ work' dest end (slice top last w₁)) → SettleSays p vars work work' top dest left (goal.Range dest end left)
+    → (dest ≤ top → last ≤ length w₁ → Writes w₁ work' dest end (slice top last w₁)) → SettleSays p vars work work' top dest left (given.Range dest end left)
 settle_moved p {vars} {work} {w₁} {work'} {top} {dest} {left} {last} {end} writes copy e f w b fits env low room =
     let rd = ready p env b (omega (arith, fits, room)) writes in
     let stop = rd.ends in
@@ -412,7 +412,7 @@ settle_moved p {vars} {work} {w₁} {work'} {top} {dest} {left} {last} {end} wri
     let stops : end ≡ dest + length (letters w) = c.place fits' ∙ ap (λ bs. dest + length bs) bytes in (
       record {
         begin = dest;
-        gives = ap (λ k. goal.Range dest k left) stops;
+        gives = ap (λ k. given.Range dest k left) stops;
         stands = subst (λ l. At l dest w) (sym final) (at_sets w₁ (letters w) dest w refl room');
         near = omega (arith, fits);
       },
@@ -423,7 +423,7 @@ settle_moved p {vars} {work} {w₁} {work'} {top} {dest} {left} {last} {end} wri
 
 -- measured before
 pub give_large : (p : Pat) {vars work : List ℕ} {top dest left r : ℕ} → max_letters < r
-    → ((s : List ℕ) → Below vars (length s) → r ≡ min (length (built p s vars)) (suc max_letters)) → GiveSays p vars work work top dest left goal.Large
+    → ((s : List ℕ) → Below vars (length s) → r ≡ min (length (built p s vars)) (suc max_letters)) → GiveSays p vars work work top dest left given.Large
 give_large p {vars} {work} {top} {dest} over says e f w b env low room =
     let n = measured_letters p env b (omega (arith, room)) says in
     record { gives = Gives.large (omega (arith, n, over)) refl; spares = spares_none work dest (top + result_length) }
@@ -477,7 +477,7 @@ module _ (t : List ℕ) (base : ℕ) (index : List ℕ) (back : Bool) (row depth
   bound_by : {jp b x y next : ℕ} {vars' : List ℕ} → length w₂ ≡ length w₁ → jp ≡ cell_of t row (cond back 3 1)
       → ((v : Val) → At w₂ b v → x ≡ b + length (letters v) → vars' ≡ ranges (pattern_of t base jp) v b vars) → (top ≤ next) × (x ≤ next) × ((next ≡ top) ⊎ (next ≡ x))
       → (l : Let) {u w : Val} {f g : Slots Val} {z : Option Val} {m rest : ℕ} → 1 ≤ depth → l ≡ sided_let back (let_at t base row)
-      → Called w₀ w₁ w₂ vars top depth left u f z m a r → Result w₂ top rest w r → r ≡ goal.Range b x y → bind l.p w f ≡ some g
+      → Called w₀ w₁ w₂ vars top depth left u f z m a r → Result w₂ top rest w r → r ≡ given.Range b x y → bind l.p w f ≡ some g
       → top + 1 * result_length + depth * frame ≤ length w₀ → length w₀ ≤ work_length → Reached w₂ vars' top 1 rest g (reduced.Done next y)
   bound_by {jp} {b} {x} {y} {next} {vars'} kept cellp range far l {u} {w} {f} {g} deep is c res told bound room most =
       let p : Pat = pattern_of t base jp in
@@ -515,7 +515,7 @@ module _ (t : List ℕ) (base : ℕ) (index : List ℕ) (back : Bool) (row depth
       bounded (inl z) k = omega (arith, z)
       bounded (inr z) k = omega (arith, z, k)
 
-  pub step_done : {jp b x y next : ℕ} {vars' : List ℕ} → length w₂ ≡ length w₁ → r ≡ goal.Range b x y → jp ≡ cell_of t row (cond back 3 1)
+  pub step_done : {jp b x y next : ℕ} {vars' : List ℕ} → length w₂ ≡ length w₁ → r ≡ given.Range b x y → jp ≡ cell_of t row (cond back 3 1)
       → ((v : Val) → At w₂ b v → x ≡ b + length (letters v) → vars' ≡ ranges (pattern_of t base jp) v b vars) → (top ≤ next) × (x ≤ next) × ((next ≡ top) ⊎ (next ≡ x))
       → StepSays t base index back depth row w₀ w₂ top vars vars' left (reduced.Done next y)
   step_done {jp} {b} {x} {y} {next} {vars'} kept told cellp range far os l e z m laid is trace env room most = go trace
@@ -540,7 +540,7 @@ module _ (t : List ℕ) (base : ℕ) (index : List ℕ) (back : Bool) (row depth
               let k' : Result w₂ top (left - m) w r = subst (λ v. Result w₂ top (left - m) v r) (sym (some_inj n)) k in
               Comes.ends g h refl (bound_by kept cellp range far l (runs_deep depth os l.iso u w m run) is c k' told bound room most)
 
-  pub step_spent : {vars' : List ℕ} → r ≡ goal.Spent → StepSays t base index back depth row w₀ w₂ top vars vars' left reduced.Spent
+  pub step_spent : {vars' : List ℕ} → r ≡ given.Spent → StepSays t base index back depth row w₀ w₂ top vars vars' left reduced.Spent
   step_spent {vars'} told os l e z m laid is trace env room most = go trace
     where
       passed : {z : Option (Slots Val)} (x : Option Val) {m : ℕ} → Answers w₂ top left x m r → Comes w₂ vars' top 1 left z m reduced.Spent
@@ -556,7 +556,7 @@ module _ (t : List ℕ) (base : ℕ) (index : List ℕ) (back : Bool) (row depth
           let c = called t base index back row depth cellq argues wide cell says os l e (some w) m laid is bu run env room most in
           record { comes = passed (some w) c.applied.answers; spares = c.spares }
 
-  pub step_large : {vars' : List ℕ} → r ≡ goal.Large → StepSays t base index back depth row w₀ w₂ top vars vars' left reduced.Large
+  pub step_large : {vars' : List ℕ} → r ≡ given.Large → StepSays t base index back depth row w₀ w₂ top vars vars' left reduced.Large
   step_large {vars'} told os l e z m laid is trace env room most = go trace
     where
       met : {z : Option (Slots Val)} (x : Option Val) {m : ℕ} → (x ≡ none → z ≡ none) → Answers w₂ top left x m r → Comes w₂ vars' top 1 left z m reduced.Large
@@ -938,22 +938,22 @@ fits_handed {at = at} {end = end} {v = v} h small = go (le_or_lt (length (letter
 
 -- no budget
 pub applied_none : (t : List ℕ) (base : ℕ) (index : List ℕ) (back : Bool) (i depth at end dest free left : ℕ) {work : List ℕ} → left ≡ 0
-    → ApplySays t base index back i depth work work at end dest free left goal.Spent
+    → ApplySays t base index back i depth work work at end dest free left given.Spent
 applied_none t base index back i depth at end dest free left {work} z os v x m laid run handed room most =
     let least = runs_least depth os i v x m run in
     record { answers = Answers.spent (omega (arith, z, least)) refl; spares = spares_none work dest (dest + depth * frame) }
 
 -- too deep, or too large an argument
 pub applied_large : (t : List ℕ) (base : ℕ) (index : List ℕ) (back : Bool) (i depth at end dest free left : ℕ) {work : List ℕ} → (left ≡ 0 → ⊥)
-    → too_large depth at end ≡ true → ApplySays t base index back i depth work work at end dest free left goal.Large
+    → too_large depth at end ≡ true → ApplySays t base index back i depth work work at end dest free left given.Large
 applied_large t base index back i depth at end dest free left {work} some' large os v x m laid run handed room most =
     record { answers = go depth (is_large depth at end large) run; spares = spares_none work dest (dest + depth * frame) }
   where
-    measured : (d : ℕ) {x : Option Val} {m : ℕ} → Applies (Runs d os) os i v x m → max_letters < end - at → Answers work dest left x m goal.Large
+    measured : (d : ℕ) {x : Option Val} {m : ℕ} → Applies (Runs d os) os i v x m → max_letters < end - at → Answers work dest left x m given.Large
     measured d (Applies.large o) far = Answers.large (one_or_more left some') refl refl
     measured d (Applies.runs fits o e c) far = let ends = (handed.fits fits).ends in absurd (omega (arith, ends, fits, far))
 
-    go : (n : ℕ) → (n ≡ 0) ⊎ (max_letters < end - at) → Runs n os i v x m → Answers work dest left x m goal.Large
+    go : (n : ℕ) → (n ≡ 0) ⊎ (max_letters < end - at) → Runs n os i v x m → Answers work dest left x m given.Large
     go zero h r = Answers.large (let one = r.1 in let least = one_or_more left some' in omega (arith, one, least)) r.0 refl
     go (suc d) (inl z) r = absurd (omega (arith, z))
     go (suc d) (inr far) r = measured d r far
@@ -995,7 +995,7 @@ module _ (t : List ℕ) (base : ℕ) (index : List ℕ) (back : Bool) (i depth r
           (omega (arith, low, near, room, most, up)) o e c in
           (p.0, p.1, s)
 
-  pub unmatched : stop ≤ r → ApplySays t base index back i depth w₀ w₀ at end dest free left goal.Spent
+  pub unmatched : stop ≤ r → ApplySays t base index back i depth w₀ w₀ at end dest free left given.Spent
   unmatched past os v x m laid run handed room most = let c = choice os v x m laid run handed room most in let c₀ = c.0 in absurd (omega (arith, c₀))
 
   module _ {w₁ vars' : List ℕ} {z : R.Reduced} (some' : left ≡ 0 → ⊥) (lets : LetsSay t base index back (depth - 1) (row + 1) below w₀ w₁ free vars vars' (left - 1) z) where
@@ -1022,22 +1022,22 @@ module _ (t : List ℕ) (base : ℕ) (index : List ℕ) (back : Bool) (i depth r
     alone q =
         within_frames dest free (length q.picked.lets) (not_large depth at end measured).0 q.picked.few q.over q.near q.steps.spares
 
-    pub apply_spent : z ≡ reduced.Spent → ApplySays t base index back i depth w₀ w₁ at end dest free left goal.Spent
+    pub apply_spent : z ≡ reduced.Spent → ApplySays t base index back i depth w₀ w₁ at end dest free left given.Spent
     apply_spent told os v x m laid run handed room most =
         let q = ran os v x m laid run handed room most in record { answers = go q.picked q.steps.comes; spares = alone q }
       where
         go : (p : Picked t base back os (depth - 1) row below w₀ end vars x m) → Comes w₁ vars' free (length p.lets) (left - 1) p.last p.count z
-            → Answers w₁ dest left x m goal.Spent
+            → Answers w₁ dest left x m given.Spent
         go p (Comes.spent h e) = let counts = p.counts in Answers.spent (omega (arith, h, counts)) refl
         go p (Comes.large h n e) = absurd (spent≢large (sym told ∙ e))
         go p (Comes.ends g h n e) = absurd (done≢spent (sym e.done ∙ told))
 
-    pub apply_large : z ≡ reduced.Large → ApplySays t base index back i depth w₀ w₁ at end dest free left goal.Large
+    pub apply_large : z ≡ reduced.Large → ApplySays t base index back i depth w₀ w₁ at end dest free left given.Large
     apply_large told os v x m laid run handed room most =
         let q = ran os v x m laid run handed room most in record { answers = go q.picked q.steps.comes; spares = alone q }
       where
         go : (p : Picked t base back os (depth - 1) row below w₀ end vars x m) → Comes w₁ vars' free (length p.lets) (left - 1) p.last p.count z
-            → Answers w₁ dest left x m goal.Large
+            → Answers w₁ dest left x m given.Large
         go p (Comes.spent h e) = absurd (spent≢large (sym e ∙ told))
         go p (Comes.large h n e) =
             let counts = p.counts in
@@ -1096,7 +1096,7 @@ step_falls n k {t} e h = omega arith
 pub rest_falls : (g : G.Given) {z : R.Reduced} {top y left : ℕ} → rest_of g ≤ y → remaining z ≤ left - 1 → z ≡ reduced.Done top y → rest_of g ≤ left
 rest_falls g a b e = let n = ap remaining e in omega (arith, a, b, n)
 
-pub range_falls : {r : G.Given} {b x y left : ℕ} → rest_of r ≤ left → r ≡ goal.Range b x y → y ≤ left
+pub range_falls : {r : G.Given} {b x y left : ℕ} → rest_of r ≤ left → r ≡ given.Range b x y → y ≤ left
 range_falls a e = let n = ap rest_of e in omega (arith, a, n)
 
 pub steps_fall : {z : R.Reduced} {top y left budget : ℕ} → remaining z ≤ left → z ≡ reduced.Done top y → left ≤ budget → y ≤ budget

@@ -37,7 +37,7 @@ use Rattle.run_values.proofs.Alone.{alone_true, alone_false}
 use Rattle.run_values.proofs.Agreeing.{value_some, value_none, at_slice}
 use Rattle.run_values.proofs.Tracing.{traced}
 use Rattle.run_reduction.specs.declared.Given as D
-use Rattle.run_reduction.specs.declared.Given.TheVariants as goal
+use Rattle.run_reduction.specs.declared.Given.TheVariants as given
 use Rattle.run_reduction.specs.Frames.{Laid, Spares, Answers, Applied, ApplySays}
 use Rattle.run_reduction.proofs.Laying.{inside, laid, from_at}
 use Rattle.run_reduction.proofs.Framing.{range_begin, range_end, range_left, range≢spent, range≢large, no_budget≢large, spares_more}
@@ -207,7 +207,7 @@ within_spent budget m x h = ap (λ b. cond b (ended x m) (fails spent)) (not_leb
 
 -- a result within the budget
 ran_done : {t : List ℕ} {base : ℕ} {index : List ℕ} {i : ℕ} {back : Bool} {budget : ℕ} {value : List ℕ} {rs : List Row} (work₂ part o o' : List ℕ) (b x left : ℕ) {z : D.Given} (r : R.Ran)
-    → (g : Begun t base index i back budget value rs) → Answers work₂ 0 budget g.x g.m z → z ≡ goal.Range b x left → result_length ≤ length o → part ≡ drop b (take x work₂)
+    → (g : Begun t base index i back budget value rs) → Answers work₂ 0 budget g.x g.m z → z ≡ given.Range b x left → result_length ≤ length o → part ≡ drop b (take x work₂)
     → (length part ≤ length part → length part ≤ length o → o' ≡ paste o 0 part (length part)) → refusal_view r.refusal ≡ none → r.count ≡ budget - left → r.length ≡ length part
     → RanAs (answer_for rs i back budget value) o o' r
 ran_done work₂ part o o' b x left r g (Answers.spent h n) told long ep copy e k l = absurd (range≢spent (sym told ∙ n))
@@ -232,7 +232,7 @@ ran_done {i = i} {back = back} {budget = budget} {value = value} {rs = rs} work�
 
 -- 17
 ran_spent : {t : List ℕ} {base : ℕ} {index : List ℕ} {i : ℕ} {back : Bool} {budget : ℕ} {value : List ℕ} {rs : List Row} (work₂ o : List ℕ) {z : D.Given} (r : R.Ran)
-    → (g : Begun t base index i back budget value rs) → Answers work₂ 0 budget g.x g.m z → z ≡ goal.Spent
+    → (g : Begun t base index i back budget value rs) → Answers work₂ 0 budget g.x g.m z → z ≡ given.Spent
     → refusal_view r.refusal ≡ some spent → r.count ≡ 0 → r.length ≡ 0 → RanAs (answer_for rs i back budget value) o o r
 ran_spent {budget = budget} work₂ o r g (Answers.spent h n) told e k l =
     ran_refused _ o r spent (g.answer ∙ ap answer_of_run (within_spent budget g.m g.x h)) e k l
@@ -241,7 +241,7 @@ ran_spent work₂ o r g (Answers.gives w h y a) told e k l = absurd (range≢spe
 
 -- 24
 ran_large : {t : List ℕ} {base : ℕ} {index : List ℕ} {i : ℕ} {back : Bool} {budget : ℕ} {value : List ℕ} {rs : List Row} (work₂ o : List ℕ) {z : D.Given} (r : R.Ran)
-    → (g : Begun t base index i back budget value rs) → Answers work₂ 0 budget g.x g.m z → z ≡ goal.Large
+    → (g : Begun t base index i back budget value rs) → Answers work₂ 0 budget g.x g.m z → z ≡ given.Large
     → refusal_view r.refusal ≡ some too_large → r.count ≡ 0 → r.length ≡ 0 → RanAs (answer_for rs i back budget value) o o r
 ran_large work₂ o r g (Answers.spent h n) told e k l = absurd (no_budget≢large (sym n ∙ told))
 ran_large {budget = budget} work₂ o r g (Answers.large h y n) told e k l =
@@ -268,15 +268,15 @@ module _ (t : List ℕ) (base : ℕ) (index : List ℕ) (isos i : ℕ) (back : B
   area : Applied work₁ work₂ 0 max_depth budget model.x model.m z
   area = applied work model long most wide en copy says
 
-  pub run_done : (mid part o o' : List ℕ) (c x left : ℕ) (r : R.Ran) → z ≡ goal.Range c x left → mid ≡ take x work₂ → part ≡ drop c mid
+  pub run_done : (mid part o o' : List ℕ) (c x left : ℕ) (r : R.Ran) → z ≡ given.Range c x left → mid ≡ take x work₂ → part ≡ drop c mid
       → (length part ≤ length part → length part ≤ length o → o' ≡ paste o 0 part (length part)) → refusal_view r.refusal ≡ none → r.count ≡ budget - left → r.length ≡ length part
       → result_length ≤ length o → RanAs (answer_for rs i back budget value) o o' r
   run_done mid part o o' c x left r told em ep copy' e k l room = ran_done work₂ part o o' c x left r model area.answers told room (ep ∙ ap (drop c) em) copy' e k l
 
-  pub run_spent : (o : List ℕ) (r : R.Ran) → z ≡ goal.Spent → refusal_view r.refusal ≡ some spent → r.count ≡ 0 → r.length ≡ 0 → RanAs (answer_for rs i back budget value) o o r
+  pub run_spent : (o : List ℕ) (r : R.Ran) → z ≡ given.Spent → refusal_view r.refusal ≡ some spent → r.count ≡ 0 → r.length ≡ 0 → RanAs (answer_for rs i back budget value) o o r
   run_spent o r told e k l = ran_spent work₂ o r model area.answers told e k l
 
-  pub run_large : (o : List ℕ) (r : R.Ran) → z ≡ goal.Large → refusal_view r.refusal ≡ some too_large → r.count ≡ 0 → r.length ≡ 0 → RanAs (answer_for rs i back budget value) o o r
+  pub run_large : (o : List ℕ) (r : R.Ran) → z ≡ given.Large → refusal_view r.refusal ≡ some too_large → r.count ≡ 0 → r.length ≡ 0 → RanAs (answer_for rs i back budget value) o o r
   run_large o r told e k l = ran_large work₂ o r model area.answers told e k l
 
   -- behind the frames of all calls the work area is as it was

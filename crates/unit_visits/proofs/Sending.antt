@@ -32,7 +32,7 @@ use Rattle.run_values.specs.Texts.{At}
 use Rattle.run_values.specs.Traces.{Runs}
 use Rattle.run_values.proofs.Tracing.{Traced, traced, finite_fits}
 use Rattle.run_reduction.specs.declared.Given as D
-use Rattle.run_reduction.specs.declared.Given.TheVariants as goal
+use Rattle.run_reduction.specs.declared.Given.TheVariants as given
 use Rattle.run_reduction.specs.Frames.{Spares, Answers, Applied, ApplySays}
 use Rattle.run_reduction.proofs.Laying.{laid}
 use Rattle.run_reduction.proofs.Framing.{range_begin, range≢spent, range≢large, no_budget≢large, spares_more}
@@ -131,7 +131,7 @@ module _ {t : List ℕ} {types : ℕ} {index : List ℕ} {isos : ℕ} {rs : List
         by_end b d = ap (sent rs budget q i n) at ∙ sends rs g budget q h e free same b d
 
         -- the budget is passed
-        pub send_spent : z ≡ goal.Spent → spent ≡ came_to j (sent rs budget q i n j)
+        pub send_spent : z ≡ given.Spent → spent ≡ came_to j (sent rs budget q i n j)
         send_spent ez = go applied.answers
           where
             go : Answers work₂ 0 budget (some w) m z → spent ≡ came_to j (sent rs budget q i n j)
@@ -140,7 +140,7 @@ module _ {t : List ℕ} {types : ℕ} {index : List ℕ} {isos : ℕ} {rs : List
             go (Answers.gives u k y x) = absurd (range≢spent (sym x.gives ∙ ez))
 
         -- nothing is too large
-        pub send_large : z ≡ goal.Large → spent ≡ came_to j (sent rs budget q i n j)
+        pub send_large : z ≡ given.Large → spent ≡ came_to j (sent rs budget q i n j)
         send_large ez = go applied.answers
           where
             go : Answers work₂ 0 budget (some w) m z → spent ≡ came_to j (sent rs budget q i n j)
@@ -149,7 +149,7 @@ module _ {t : List ℕ} {types : ℕ} {index : List ℕ} {isos : ℕ} {rs : List
             go (Answers.gives u k y x) = absurd (range≢large (sym x.gives ∙ ez))
 
         -- it is not
-        pub send_done : {b x left : ℕ} → z ≡ goal.Range b x left → {number end : ℕ} → Ranks (type_of t j) work₂ b number end → j < 65536
+        pub send_done : {b x left : ℕ} → z ≡ given.Range b x left → {number end : ℕ} → Ranks (type_of t j) work₂ b number end → j < 65536
             → {c d : ℕ} → c ≡ j % 4294967296 → d ≡ number % 4294967296 → done c d ≡ came_to j (sent rs budget q i n j)
         send_done {b} ez {number} {end} ranks low {c} {d} ec ed = go applied.answers
           where

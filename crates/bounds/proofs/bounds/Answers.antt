@@ -3,17 +3,9 @@ use Rattle.bounds.proofs.bounds.Goals as goal
 
 pub returns-then-is_refused : goal.returns-then-is_refused
 returns-then-is_refused c =
-    let check-file = c.check_file-c in
-    let is-refused = c.is_refused in
-    let if1 = c.if-is_refused in
-    let a = c.args in
-    bounds_refused a.file.now a.table.now a.work.now a.i _ _ _ c.refused.result _ check-file.ensures.0 is-refused.ensures if1.true c.refused.ensures
+    bounds_refused c.args.file.now c.args.table.now c.args.work.now c.args.i _ _ _ c.refused.result _ c.check_file-c.ensures.0 c.is_refused.ensures c.if-is_refused.true c.refused.ensures
 
 pub returns : goal.returns
 returns c =
-    let check-file = c.check_file-c in
-    let is-refused = c.is_refused in
-    let if1 = c.if-is_refused in
-    let a = c.args in
-    bounds_accepted a.file.now a.table.now a.work.now a.i _ _ check-file.result _ _ check-file.ensures.0 check-file.ensures.1 is-refused.ensures if1.false
-    c.bounds_accepted.ensures
+    bounds_accepted c.args.file.now c.args.table.now c.args.work.now c.args.i _ _ c.check_file-c.result _ _ c.check_file-c.ensures.0 c.check_file-c.ensures.1 c.is_refused.ensures
+    c.if-is_refused.false c.bounds_accepted.ensures

@@ -6,8 +6,4 @@ use Rattle.check_clauses.proofs.plainly.Goals as goal
 
 pub returns-then-p-f : goal.returns-then-p-f
 returns-then-p-f c =
-    let pre = c.requires in
-    let args = c.args in
-    let if1 = c.if-base-f in
-    let if2 = c.if-p-f in
-    plain_told (pattern_of args.t.now args.base args.p) (c.number.ensures.0 ∙ pre.tagged args.p (omega (arith, if2.true, if1.true)))
+    plain_told (pattern_of c.args.t.now c.args.base c.args.p) (c.number.ensures.0 ∙ c.requires.tagged c.args.p (omega (arith, c.if-p-f.true, c.if-base-f.true)))

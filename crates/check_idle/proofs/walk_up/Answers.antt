@@ -5,11 +5,7 @@ pub loop-n-init : goal.loop-n-init
 loop-n-init c = walking_start c.none-found.ensures.0
 
 pub loop-n-preserved : goal.loop-n-preserved
-loop-n-preserved c =
-    let loop' = c.loop-n in
-    let loop-test = c.loop-n-test in
-    let with-row = c.with_row-found in
-    walking_step loop'.invariant loop-test.true with-row.auto.marks with-row.ensures
+loop-n-preserved c = walking_step c.loop-n.invariant c.loop-n-test.true c.with_row-found.auto.marks c.with_row-found.ensures
 
 pub returns : goal.returns
 returns c = walking_end c.loop-n.invariant c.loop-n-test.false

@@ -3,69 +3,29 @@ use Rattle.check_overlap.proofs.+compare_below_compare_first.Goals as goal
 
 pub compare_below-returns-then-n-eq1 : goal.compare_below-returns-then-n-eq1
 compare_below-returns-then-n-eq1 t c =
-    let loop' = c.loop-m in
-    let loop-test = c.loop-m-test in
-    let compare-first = c.compare_first-n in
-    let a = c.args in
-    walks_clash a.t.now a.base a.i a.j a.count loop'.invariant loop-test.true compare-first.ensures c.if-n-eq1.true
+    walks_clash c.args.t.now c.args.base c.args.i c.args.j c.args.count c.loop-m.invariant c.loop-m-test.true c.compare_first-n.ensures c.if-n-eq1.true
 
 pub compare_below-returns-then-not-named : goal.compare_below-returns-then-not-named
 compare_below-returns-then-not-named t c =
-    let loop' = c.loop-m in
-    let loop-test = c.loop-m-test in
-    let compare-first = c.compare_first-n in
-    let if1 = c.if-n-eq1 in
-    let number = c.number-a in
-    let number2 = c.number-b in
-    let named = c.named in
-    let if2 = c.if-not-named in
-    let a = c.args in
-    walks_unit a.t.now a.base a.i a.j a.count loop'.invariant loop-test.true compare-first.ensures if1.false number.ensures number2.ensures
-    (named.ensures.1 if2.true) c.wrapping_add_usize.ensures.value
+    walks_unit c.args.t.now c.args.base c.args.i c.args.j c.args.count c.loop-m.invariant c.loop-m-test.true c.compare_first-n.ensures c.if-n-eq1.false c.number-a.ensures c.number-b.ensures
+    (c.named.ensures.1 c.if-not-named.true) c.wrapping_add_usize.ensures.value
 
 pub compare_below-loop-m-preserved : goal.compare_below-loop-m-preserved
 compare_below-loop-m-preserved t c =
-    let loop' = c.loop-m in
-    let loop-test = c.loop-m-test in
-    let compare-first = c.compare_first-n in
-    let if1 = c.if-n-eq1 in
-    let number = c.number-a in
-    let number2 = c.number-b in
-    let named = c.named in
-    let if2 = c.if-not-named in
-    let a = c.args in
-    let l = named.ensures.0 if2.false in
-    walks_step a.t.now a.base a.i a.j a.count loop'.invariant loop-test.true compare-first.ensures if1.false number.ensures number2.ensures l.0 l.1
+    let l = c.named.ensures.0 c.if-not-named.false in
+    walks_step c.args.t.now c.args.base c.args.i c.args.j c.args.count c.loop-m.invariant c.loop-m-test.true c.compare_first-n.ensures c.if-n-eq1.false c.number-a.ensures c.number-b.ensures l.0 l.1
     c.meeting-m.ensures
 
 pub compare_below-returns : goal.compare_below-returns
-compare_below-returns t c =
-    let a = c.args in
-    walks_end a.t.now a.base a.i a.j a.count c.loop-m.invariant c.loop-m-test.false c.wrapping_add_usize-2.ensures.value
+compare_below-returns t c = walks_end c.args.t.now c.args.base c.args.i c.args.j c.args.count c.loop-m.invariant c.loop-m-test.false c.wrapping_add_usize-2.ensures.value
 
 pub compare_first-returns-then-not-named : goal.compare_first-returns-then-not-named
 compare_first-returns-then-not-named t c =
-    let wrapping-add-usize = c.wrapping_add_usize-next in
-    let if1 = c.if-m-ne3 in
-    let number = c.number-a in
-    let number2 = c.number-b in
-    let named = c.named in
-    let if2 = c.if-not-named in
-    let a = c.args in
-    opened_unit a.t.now a.base a.p a.q a.m a.n wrapping-add-usize.ensures.value if1.false number.ensures number2.ensures (named.ensures.1 if2.true)
-    c.wrapping_add_usize.ensures.value
+    opened_unit c.args.t.now c.args.base c.args.p c.args.q c.args.m c.args.n c.wrapping_add_usize-next.ensures.value c.if-m-ne3.false c.number-a.ensures c.number-b.ensures
+    (c.named.ensures.1 c.if-not-named.true) c.wrapping_add_usize.ensures.value
 
 pub compare_first-returns-then-k-lt2 : goal.compare_first-returns-then-k-lt2
 compare_first-returns-then-k-lt2 t c =
-    let wrapping-add-usize = c.wrapping_add_usize-next in
-    let if1 = c.if-m-ne3 in
-    let number = c.number-a in
-    let number2 = c.number-b in
-    let named = c.named in
-    let if2 = c.if-not-named in
-    let meeting = c.meeting-k in
-    let if3 = c.if-k-lt2 in
-    let a = c.args in
-    let l = named.ensures.0 if2.false in
-    opened_named a.t.now a.base a.p a.q a.m a.n wrapping-add-usize.ensures.value if1.false number.ensures number2.ensures l.0 l.1
-    (lines_end a.t.now a.base _ _ meeting.ensures _ if3.true c.wrapping_add_usize-then-k-lt2.ensures.value)
+    let l = c.named.ensures.0 c.if-not-named.false in
+    opened_named c.args.t.now c.args.base c.args.p c.args.q c.args.m c.args.n c.wrapping_add_usize-next.ensures.value c.if-m-ne3.false c.number-a.ensures c.number-b.ensures l.0 l.1
+    (lines_end c.args.t.now c.args.base _ _ c.meeting-k.ensures _ c.if-k-lt2.true c.wrapping_add_usize-then-k-lt2.ensures.value)

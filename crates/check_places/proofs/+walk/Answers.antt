@@ -7,85 +7,35 @@ pub returns-then-number-eq0 : goal.returns-then-number-eq0
 returns-then-number-eq0 t c = told_tagless c.requires c.number.ensures.0 c.if-number-eq0.true
 
 pub walk-requires : goal.walk-requires
-walk-requires t c =
-    let pre = c.requires in
-    let field = c.field-kind in
-    let field2 = c.field-over in
-    let if2 = c.if-kind-eq-PAIR in
-    let if3 = c.if-over-eq-PRODUCT in
-    let parts-of = c.parts_of-one in
-    let parts-of2 = c.parts_of-two in
-    let if4 = c.if-one in
-    let if5 = c.if-two in (
-      falls_by c.decreases (parts-of.ensures.lower if4.true),
-      ready_first pre field.ensures field2.ensures if2.true if3.true parts-of.ensures parts-of2.ensures
-          if4.true if5.true,
-    )
+walk-requires t c = (
+  falls_by c.decreases (c.parts_of-one.ensures.lower c.if-one.true),
+  ready_first c.requires c.field-kind.ensures c.field-over.ensures c.if-kind-eq-PAIR.true c.if-over-eq-PRODUCT.true c.parts_of-one.ensures c.parts_of-two.ensures
+      c.if-one.true c.if-two.true,
+)
 
 pub walk-requires-then-walk : goal.walk-requires-then-walk
-walk-requires-then-walk t c =
-    let pre = c.requires in
-    let field = c.field-kind in
-    let field2 = c.field-over in
-    let if2 = c.if-kind-eq-PAIR in
-    let if3 = c.if-over-eq-PRODUCT in
-    let parts-of = c.parts_of-one in
-    let parts-of2 = c.parts_of-two in
-    let if4 = c.if-one in
-    let if5 = c.if-two in
-    let walk = c.walk in
-    let number2 = c.number-then-walk in (
-      falls_by c.decreases (parts-of2.ensures.lower if5.true),
-      ready_second pre field.ensures field2.ensures if2.true if3.true parts-of.ensures parts-of2.ensures
-          if4.true if5.true number2.ensures.0 walk.ensures.long,
-    )
+walk-requires-then-walk t c = (
+  falls_by c.decreases (c.parts_of-two.ensures.lower c.if-two.true),
+  ready_second c.requires c.field-kind.ensures c.field-over.ensures c.if-kind-eq-PAIR.true c.if-over-eq-PRODUCT.true c.parts_of-one.ensures c.parts_of-two.ensures
+      c.if-one.true c.if-two.true c.number-then-walk.ensures.0 c.walk.ensures.long,
+)
 
 pub returns-then-walk : goal.returns-then-walk
 returns-then-walk t c =
-    let pre = c.requires in
-    let field = c.field-kind in
-    let field2 = c.field-over in
-    let if2 = c.if-kind-eq-PAIR in
-    let if3 = c.if-over-eq-PRODUCT in
-    let parts-of = c.parts_of-one in
-    let parts-of2 = c.parts_of-two in
-    let if4 = c.if-one in
-    let if5 = c.if-two in
-    let walk = c.walk in
-    let if6 = c.if-walk in
-    let number2 = c.number-then-walk in
-    let walk2 = c.walk-then-walk in
-    told_pair pre field.ensures field2.ensures if2.true if3.true parts-of.ensures parts-of2.ensures if4.true if5.true number2.ensures.0 walk.ensures
-    if6.true walk2.ensures
+    told_pair c.requires c.field-kind.ensures c.field-over.ensures c.if-kind-eq-PAIR.true c.if-over-eq-PRODUCT.true c.parts_of-one.ensures c.parts_of-two.ensures c.if-one.true c.if-two.true
+    c.number-then-walk.ensures.0 c.walk.ensures c.if-walk.true c.walk-then-walk.ensures
 
 pub mark-requires : goal.mark-requires
-mark-requires t c =
-    let pre = c.requires in
-    let field2 = c.field-over in
-    let if9 = c.if-over-eq-SUM in
-    (pre.long, tag_place pre field2.ensures if9.true, pre.one)
+mark-requires t c = (c.requires.long, tag_place c.requires c.field-over.ensures c.if-over-eq-SUM.true, c.requires.one)
 
 pub walk-requires-then-only : goal.walk-requires-then-only
-walk-requires-then-only t c =
-    let pre = c.requires in
-    let field2 = c.field-over in
-    let if9 = c.if-over-eq-SUM in
-    let parts-of3 = c.parts_of-only in
-    let if10 = c.if-only in
-    let mark = c.mark in (
-      falls_by c.decreases (parts-of3.ensures.lower if10.true),
-      ready_only pre field2.ensures if9.true (injects _ (omega arith) (omega arith)) parts-of3.ensures if10.true
-          mark.ensures.long,
-    )
+walk-requires-then-only t c = (
+  falls_by c.decreases (c.parts_of-only.ensures.lower c.if-only.true),
+  ready_only c.requires c.field-over.ensures c.if-over-eq-SUM.true (injects _ (omega arith) (omega arith)) c.parts_of-only.ensures c.if-only.true
+      c.mark.ensures.long,
+)
 
 pub returns-then-only : goal.returns-then-only
 returns-then-only t c =
-    let pre = c.requires in
-    let field = c.field-kind in
-    let field2 = c.field-over in
-    let if9 = c.if-over-eq-SUM in
-    let parts-of3 = c.parts_of-only in
-    let if10 = c.if-only in
-    let mark = c.mark in
-    let walk3 = c.walk-then-only in
-    told_tag pre field2.ensures if9.true (injects _ (omega arith) (omega arith)) field.ensures parts-of3.ensures if10.true mark.ensures walk3.ensures
+    told_tag c.requires c.field-over.ensures c.if-over-eq-SUM.true (injects _ (omega arith) (omega arith)) c.field-kind.ensures c.parts_of-only.ensures c.if-only.true c.mark.ensures
+    c.walk-then-only.ensures

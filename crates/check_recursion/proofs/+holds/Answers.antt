@@ -6,46 +6,25 @@ use Rattle.check_recursion.proofs.+holds.Goals as goal
 
 pub returns-then-holds : goal.returns-then-holds
 returns-then-holds t c =
-    let args = c.args in
-    let pattern-cell = c.pattern_cell in
-    let pattern-part = c.pattern_part in
-    let holds = c.holds in
-    holds_first args.t.now args.base args.q args.n pattern-cell.ensures.0 (joins_key c.in-4.is) pattern-part.ensures holds.ensures c.if-holds.true
+    holds_first c.args.t.now c.args.base c.args.q c.args.n c.pattern_cell.ensures.0 (joins_key c.in-4.is) c.pattern_part.ensures c.holds.ensures c.if-holds.true
 
 pub returns-in-1 : goal.returns-in-1
-returns-in-1 t c =
-    let args = c.args in
-    let pattern-cell = c.pattern_cell in
-    holds_var args.t.now args.base args.q args.n pattern-cell.ensures.0 c.in-1.is c.pattern_cell-in-1.ensures.0
+returns-in-1 t c = holds_var c.args.t.now c.args.base c.args.q c.args.n c.pattern_cell.ensures.0 c.in-1.is c.pattern_cell-in-1.ensures.0
 
 pub returns-else-holds : goal.returns-else-holds
 returns-else-holds t c =
-    let args = c.args in
-    let pattern-cell = c.pattern_cell in
-    let pattern-part = c.pattern_part in
-    let holds = c.holds in
-    let if1 = c.if-holds in
-    let pattern-part2 = c.pattern_part-in-4 in
-    holds_second args.t.now args.base args.q args.n pattern-cell.ensures.0 (joins_key c.in-4.is) pattern-part.ensures holds.ensures if1.false
-    pattern-part2.ensures c.holds-in-4.ensures
+    holds_second c.args.t.now c.args.base c.args.q c.args.n c.pattern_cell.ensures.0 (joins_key c.in-4.is) c.pattern_part.ensures c.holds.ensures c.if-holds.false c.pattern_part-in-4.ensures
+    c.holds-in-4.ensures
 
 pub returns-in-2 : goal.returns-in-2
 returns-in-2 t c =
-    let args = c.args in
-    let pattern-cell = c.pattern_cell in
-    let pattern-part3 = c.pattern_part-in-2 in
-    holds_tag args.t.now args.base args.q args.n pattern-cell.ensures.0 (injects_beyond _ (omega arith) c.in-2.in_default-own.rest.0.1 (omega arith)) pattern-part3.ensures c.holds-in-2.ensures
+    holds_tag c.args.t.now c.args.base c.args.q c.args.n c.pattern_cell.ensures.0 (injects_beyond _ (omega arith) c.in-2.in_default-own.rest.0.1 (omega arith)) c.pattern_part-in-2.ensures
+    c.holds-in-2.ensures
 
 pub returns-in_default : goal.returns-in_default
-returns-in_default t c =
-    let args = c.args in
-    let pattern-cell = c.pattern_cell in
-    holds_none args.t.now args.base args.q args.n pattern-cell.ensures.0 (leaf_unit _ (omega arith)) c.in_default.in_default-own.rest.0.1
+returns-in_default t c = holds_none c.args.t.now c.args.base c.args.q c.args.n c.pattern_cell.ensures.0 (leaf_unit _ (omega arith)) c.in_default.in_default-own.rest.0.1
 
 pub returns-in_default-2 : goal.returns-in_default-2
 returns-in_default-2 t c =
-    let args = c.args in
-    let pattern-cell = c.pattern_cell in
-    holds_none args.t.now args.base args.q args.n pattern-cell.ensures.0
-    (leaf_beyond _ (omega arith) (λ e. c.in_default.in_default-own.rest.1 (inl e)) (λ e. c.in_default.in_default-own.rest.1 (inr e)))
-    c.in_default.in_default-own.rest.0.1
+    holds_none c.args.t.now c.args.base c.args.q c.args.n c.pattern_cell.ensures.0
+    (leaf_beyond _ (omega arith) (λ e. c.in_default.in_default-own.rest.1 (inl e)) (λ e. c.in_default.in_default-own.rest.1 (inr e))) c.in_default.in_default-own.rest.0.1

@@ -3,8 +3,4 @@ use Rattle.check_recursion.proofs.clause_rule.Goals as goal
 
 pub returns : goal.returns
 returns c =
-    let args = c.args in
-    let left-field = c.left_field in
-    let cell = c.cell-p in
-    let shown-line = c.shown_line-s in
-    clause_told args.t.now args.base args.i args.back args.row args.end shown-line.result left-field.ensures cell.ensures.0 shown-line.ensures c.shown_rule.ensures
+    clause_told c.args.t.now c.args.base c.args.i c.args.back c.args.row c.args.end c.shown_line-s.result c.left_field.ensures c.cell-p.ensures.0 c.shown_line-s.ensures c.shown_rule.ensures

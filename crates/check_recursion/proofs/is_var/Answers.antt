@@ -3,13 +3,7 @@ use Rattle.check_recursion.proofs.is_var.Goals as goal
 
 pub returns-then-pattern_cell-eq-VARIABLE : goal.returns-then-pattern_cell-eq-VARIABLE
 returns-then-pattern_cell-eq-VARIABLE c =
-    let args = c.args in
-    let pattern-cell = c.pattern_cell in
-    let if1 = c.if-pattern_cell-eq-VARIABLE in
-    var_is args.t.now args.base args.q args.n pattern-cell.ensures.0 if1.true c.pattern_cell-then-pattern_cell-eq-VARIABLE.ensures.0
+    var_is c.args.t.now c.args.base c.args.q c.args.n c.pattern_cell.ensures.0 c.if-pattern_cell-eq-VARIABLE.true c.pattern_cell-then-pattern_cell-eq-VARIABLE.ensures.0
 
 pub returns : goal.returns
-returns c =
-    let args = c.args in
-    let pattern-cell = c.pattern_cell in
-    var_not args.t.now args.base args.q args.n pattern-cell.ensures.0 c.if-pattern_cell-eq-VARIABLE.false
+returns c = var_not c.args.t.now c.args.base c.args.q c.args.n c.pattern_cell.ensures.0 c.if-pattern_cell-eq-VARIABLE.false

@@ -3,31 +3,11 @@ use Rattle.check_recursion.proofs.Laws.{back_call, back_used, back_step}
 use Rattle.check_recursion.proofs.tail_calls_back.Goals as goal
 
 pub returns-then-cell-i : goal.returns-then-cell-i
-returns-then-cell-i c =
-    let loop' = c.loop-n in
-    let loop-test = c.loop-n-test in
-    let cell = c.cell-p in
-    let cell2 = c.cell in
-    let if1 = c.if-cell-i in
-    back_call loop'.invariant loop-test.true cell.ensures.0 cell2.ensures.0 if1.true c.only_call.ensures
+returns-then-cell-i c = back_call c.loop-n.invariant c.loop-n-test.true c.cell-p.ensures.0 c.cell.ensures.0 c.if-cell-i.true c.only_call.ensures
 
 pub returns-then-holds : goal.returns-then-holds
 returns-then-holds c =
-    let loop' = c.loop-n in
-    let loop-test = c.loop-n-test in
-    let cell = c.cell-p in
-    let cell2 = c.cell in
-    let if1 = c.if-cell-i in
-    let holds = c.holds in
-    let if2 = c.if-holds in
-    back_used loop'.invariant loop-test.true cell.ensures.0 cell2.ensures.0 if1.false holds.ensures if2.true c.no_calls.ensures
+    back_used c.loop-n.invariant c.loop-n-test.true c.cell-p.ensures.0 c.cell.ensures.0 c.if-cell-i.false c.holds.ensures c.if-holds.true c.no_calls.ensures
 
 pub loop-n-preserved : goal.loop-n-preserved
-loop-n-preserved c =
-    let loop' = c.loop-n in
-    let loop-test = c.loop-n-test in
-    let cell = c.cell-p in
-    let cell2 = c.cell in
-    let if1 = c.if-cell-i in
-    let holds = c.holds in
-    back_step loop'.invariant loop-test.true cell.ensures.0 cell2.ensures.0 if1.false holds.ensures c.if-holds.false
+loop-n-preserved c = back_step c.loop-n.invariant c.loop-n-test.true c.cell-p.ensures.0 c.cell.ensures.0 c.if-cell-i.false c.holds.ensures c.if-holds.false

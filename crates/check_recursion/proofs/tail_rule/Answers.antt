@@ -6,30 +6,17 @@ use Rattle.check_recursion.proofs.tail_rule.Goals as goal
 
 pub returns-then-back : goal.returns-then-back
 returns-then-back c =
-    let args = c.args in
-    let pattern-cell = c.pattern_cell in
-    let if1 = c.if-pattern_cell-eq-VARIABLE in
-    let pattern-cell2 = c.pattern_cell-v in
-    let if2 = c.if-back in
-    rule_var args.t.now args.base args.q args.i (lets_toward args.back args.t.now args.base args.from (args.to - args.from)) pattern-cell.ensures.0
-    if1.true pattern-cell2.ensures.0
-    (tail_toward args.back args.t.now args.base args.i pattern-cell2.result args.from (args.to - args.from) if2.true c.tail_calls_back.ensures)
+    rule_var c.args.t.now c.args.base c.args.q c.args.i (lets_toward c.args.back c.args.t.now c.args.base c.args.from (c.args.to - c.args.from)) c.pattern_cell.ensures.0
+    c.if-pattern_cell-eq-VARIABLE.true c.pattern_cell-v.ensures.0
+    (tail_toward c.args.back c.args.t.now c.args.base c.args.i c.pattern_cell-v.result c.args.from (c.args.to - c.args.from) c.if-back.true c.tail_calls_back.ensures)
 
 pub returns-then-pattern_cell-eq-VARIABLE : goal.returns-then-pattern_cell-eq-VARIABLE
 returns-then-pattern_cell-eq-VARIABLE c =
-    let args = c.args in
-    let pattern-cell = c.pattern_cell in
-    let if1 = c.if-pattern_cell-eq-VARIABLE in
-    let pattern-cell2 = c.pattern_cell-v in
-    let if2 = c.if-back in
-    rule_var args.t.now args.base args.q args.i (lets_toward args.back args.t.now args.base args.from (args.to - args.from)) pattern-cell.ensures.0
-    if1.true pattern-cell2.ensures.0
-    (tail_forth args.back args.t.now args.base args.i pattern-cell2.result args.from (args.to - args.from) if2.false c.tail_calls.ensures)
+    rule_var c.args.t.now c.args.base c.args.q c.args.i (lets_toward c.args.back c.args.t.now c.args.base c.args.from (c.args.to - c.args.from)) c.pattern_cell.ensures.0
+    c.if-pattern_cell-eq-VARIABLE.true c.pattern_cell-v.ensures.0
+    (tail_forth c.args.back c.args.t.now c.args.base c.args.i c.pattern_cell-v.result c.args.from (c.args.to - c.args.from) c.if-back.false c.tail_calls.ensures)
 
 pub returns : goal.returns
 returns c =
-    let args = c.args in
-    let pattern-cell = c.pattern_cell in
-    let if1 = c.if-pattern_cell-eq-VARIABLE in
-    rule_other args.t.now args.base args.q args.i (lets_toward args.back args.t.now args.base args.from (args.to - args.from)) pattern-cell.ensures.0
-    if1.false (c.no_calls.ensures ∙ quiet_toward args.back args.t.now args.base args.i args.from (args.to - args.from))
+    rule_other c.args.t.now c.args.base c.args.q c.args.i (lets_toward c.args.back c.args.t.now c.args.base c.args.from (c.args.to - c.args.from)) c.pattern_cell.ensures.0
+    c.if-pattern_cell-eq-VARIABLE.false (c.no_calls.ensures ∙ quiet_toward c.args.back c.args.t.now c.args.base c.args.i c.args.from (c.args.to - c.args.from))

@@ -2,7 +2,4 @@ use Rattle.check_sets.proofs.Sets.{joined}
 use Rattle.check_sets.proofs.join.Goals as goal
 
 pub returns : goal.returns
-returns c = let pre = c.requires in
-    let power = c.power-b in
-    let word = c.word-w in
-    joined _ _ _ _ _ pre.0 pre.1 pre.2 word.ensures power.ensures
+returns c = joined _ _ _ _ _ c.requires.0 c.requires.1 c.requires.2 c.word-w.ensures c.power-b.ensures

@@ -5,50 +5,26 @@ use Rattle.check_shapes.proofs.+is_plain.Goals as goal
 
 pub returns-then-is_plain : goal.returns-then-is_plain
 returns-then-is_plain t c =
-    let args = c.args in
-    let pattern-cell = c.pattern_cell in
-    let pattern-part = c.pattern_part-a in
-    let is-plain = c.is_plain in
-    let if1 = c.if-is_plain in
-    let pattern-part2 = c.pattern_part-b in
-    plain_second args.t.now args.base args.p pattern-cell.ensures.0 c.in-4.is pattern-part.ensures is-plain.ensures if1.true pattern-part2.ensures
+    plain_second c.args.t.now c.args.base c.args.p c.pattern_cell.ensures.0 c.in-4.is c.pattern_part-a.ensures c.is_plain.ensures c.if-is_plain.true c.pattern_part-b.ensures
     c.is_plain-then-is_plain.ensures
 
 pub returns-else-is_plain : goal.returns-else-is_plain
 returns-else-is_plain t c =
-    let args = c.args in
-    let pattern-cell = c.pattern_cell in
-    let pattern-part = c.pattern_part-a in
-    let is-plain = c.is_plain in
-    plain_first args.t.now args.base args.p pattern-cell.ensures.0 c.in-4.is pattern-part.ensures is-plain.ensures c.if-is_plain.false
+    plain_first c.args.t.now c.args.base c.args.p c.pattern_cell.ensures.0 c.in-4.is c.pattern_part-a.ensures c.is_plain.ensures c.if-is_plain.false
 
 pub returns-in-5 : goal.returns-in-5
-returns-in-5 t c =
-    let args = c.args in
-    let pattern-cell = c.pattern_cell in
-    plain_no_list args.t.now args.base args.p pattern-cell.ensures.0 c.in-5.is
+returns-in-5 t c = plain_no_list c.args.t.now c.args.base c.args.p c.pattern_cell.ensures.0 c.in-5.is
 
 pub returns-in-6 : goal.returns-in-6
-returns-in-6 t c =
-    let args = c.args in
-    let pattern-cell = c.pattern_cell in
-    plain_no_element args.t.now args.base args.p pattern-cell.ensures.0 c.in-6.is
+returns-in-6 t c = plain_no_element c.args.t.now c.args.base c.args.p c.pattern_cell.ensures.0 c.in-6.is
 
 pub returns-in-2 : goal.returns-in-2
-returns-in-2 t c =
-    let args = c.args in
-    let pattern-cell = c.pattern_cell in
-    plain_not args.t.now args.base args.p pattern-cell.ensures.0 (injects _ (omega arith) (omega arith))
+returns-in-2 t c = plain_not c.args.t.now c.args.base c.args.p c.pattern_cell.ensures.0 (injects _ (omega arith) (omega arith))
 
 pub returns-in_default : goal.returns-in_default
-returns-in_default t c =
-    let args = c.args in
-    let pattern-cell = c.pattern_cell in
-    plain_end args.t.now args.base args.p pattern-cell.ensures.0 (plain_below _ (omega arith))
+returns-in_default t c = plain_end c.args.t.now c.args.base c.args.p c.pattern_cell.ensures.0 (plain_below _ (omega arith))
 
 pub returns-in_default-2 : goal.returns-in_default-2
 returns-in_default-2 t c =
-    let args = c.args in
-    let pattern-cell = c.pattern_cell in
-    plain_end args.t.now args.base args.p pattern-cell.ensures.0
+    plain_end c.args.t.now c.args.base c.args.p c.pattern_cell.ensures.0
     (plain_beyond _ (omega arith) c.in_default.in_default-own.rest.0.0.1 c.in_default.in_default-own.rest.0.1 c.in_default.in_default-own.rest.1)

@@ -6,67 +6,28 @@ returns-then-a-b t c = same_line (c.args.t.now) (c.if-a-b.true)
 
 pub returns-then-names_nothing : goal.returns-then-names_nothing
 returns-then-names_nothing t c =
-    let args = c.args in
-    let cell = c.cell-ka in
-    let cell2 = c.cell-kb in
-    let names-nothing = c.names_nothing in
-    let if2 = c.if-names_nothing in
-    let s = (args) in
-    same_whole s.t.now s.a s.b (cell.ensures.0) (cell2.ensures.0) (is_whole _ (names-nothing.ensures) (if2.true)) (c.names_nothing-then-names_nothing.ensures)
+    let s = (c.args) in
+    same_whole s.t.now s.a s.b (c.cell-ka.ensures.0) (c.cell-kb.ensures.0) (is_whole _ (c.names_nothing.ensures) (c.if-names_nothing.true)) (c.names_nothing-then-names_nothing.ensures)
 
 pub returns-then-ka-kb : goal.returns-then-ka-kb
 returns-then-ka-kb t c =
-    let args = c.args in
-    let cell = c.cell-ka in
-    let cell2 = c.cell-kb in
-    let names-nothing = c.names_nothing in
-    let if2 = c.if-names_nothing in
-    let s = (args) in
-    other_kind s.t.now s.a s.b (cell.ensures.0) (cell2.ensures.0) (is_naming _ (names-nothing.ensures) (if2.false)) (c.if-ka-kb.true)
+    let s = (c.args) in
+    other_kind s.t.now s.a s.b (c.cell-ka.ensures.0) (c.cell-kb.ensures.0) (is_naming _ (c.names_nothing.ensures) (c.if-names_nothing.false)) (c.if-ka-kb.true)
 
 pub returns-then-ka-eq-LIST : goal.returns-then-ka-eq-LIST
 returns-then-ka-eq-LIST t c =
-    let args = c.args in
-    let cell = c.cell-ka in
-    let cell2 = c.cell-kb in
-    let if3 = c.if-ka-kb in
-    let type-part = c.type_part-c in
-    let type-part2 = c.type_part-d in
-    let same-type = c.same_type in
-    let if4 = c.if-same_type in
-    same_list args.t.now args.a args.b cell.ensures.0 cell2.ensures.0 c.if-ka-eq-LIST.true if3.false type-part.ensures type-part2.ensures same-type.ensures if4.true
+    same_list c.args.t.now c.args.a c.args.b c.cell-ka.ensures.0 c.cell-kb.ensures.0 c.if-ka-eq-LIST.true c.if-ka-kb.false c.type_part-c.ensures c.type_part-d.ensures c.same_type.ensures
+    c.if-same_type.true
 
 pub returns-then-same_type : goal.returns-then-same_type
 returns-then-same_type t c =
-    let args = c.args in
-    let cell = c.cell-ka in
-    let cell2 = c.cell-kb in
-    let names-nothing = c.names_nothing in
-    let if2 = c.if-names_nothing in
-    let if3 = c.if-ka-kb in
-    let type-part = c.type_part-c in
-    let type-part2 = c.type_part-d in
-    let same-type = c.same_type in
-    let if4 = c.if-same_type in
-    let if5 = c.if-ka-eq-LIST in
-    let type-part3 = c.type_part-e in
-    let type-part4 = c.type_part-f in
-    let s = (args) in
-    same_second s.t.now s.a s.b (cell.ensures.0) (cell2.ensures.0) (naming_two (is_naming _ (names-nothing.ensures) (if2.false)) if5.false) (if3.false)
-    (type-part.ensures)
-    (type-part2.ensures) (same-type.ensures) (if4.true) (type-part3.ensures) (type-part4.ensures) (c.same_type-then-same_type.ensures)
+    let s = (c.args) in
+    same_second s.t.now s.a s.b (c.cell-ka.ensures.0) (c.cell-kb.ensures.0) (naming_two (is_naming _ (c.names_nothing.ensures) (c.if-names_nothing.false)) c.if-ka-eq-LIST.false) (c.if-ka-kb.false)
+    (c.type_part-c.ensures)
+    (c.type_part-d.ensures) (c.same_type.ensures) (c.if-same_type.true) (c.type_part-e.ensures) (c.type_part-f.ensures) (c.same_type-then-same_type.ensures)
 
 pub returns : goal.returns
 returns t c =
-    let args = c.args in
-    let cell = c.cell-ka in
-    let cell2 = c.cell-kb in
-    let names-nothing = c.names_nothing in
-    let if2 = c.if-names_nothing in
-    let if3 = c.if-ka-kb in
-    let type-part = c.type_part-c in
-    let type-part2 = c.type_part-d in
-    let same-type = c.same_type in
-    let s = (args) in
-    other_first s.t.now s.a s.b (cell.ensures.0) (cell2.ensures.0) (is_naming _ (names-nothing.ensures) (if2.false)) (if3.false) (type-part.ensures)
-    (type-part2.ensures) (same-type.ensures) (c.if-same_type.false)
+    let s = (c.args) in
+    other_first s.t.now s.a s.b (c.cell-ka.ensures.0) (c.cell-kb.ensures.0) (is_naming _ (c.names_nothing.ensures) (c.if-names_nothing.false)) (c.if-ka-kb.false) (c.type_part-c.ensures)
+    (c.type_part-d.ensures) (c.same_type.ensures) (c.if-same_type.false)

@@ -4,10 +4,7 @@ use Rattle.desk.proofs.begin.Goals as goal
 
 pub returns : goal.returns
 returns c =
-    let a = c.args in
-    λ roomy room.
-    reaches_close c.front.ensures
-    (c.settle.ensures c.front.result.now a.file.now _ _ a.at
-    (judged_file c.front.result.now a.table.now a.work.now c.check_file-c.result c.check_file-c.ensures.0 c.check_file-c.ensures.1
-    c.put_checked-end.ensures roomy.tables roomy.works room)
-    roomy.lines roomy.indices)
+    λ roomy room. reaches_close c.front.ensures
+    (c.settle.ensures c.front.result.now c.args.file.now _ _ c.args.at
+    (judged_file c.front.result.now c.args.table.now c.args.work.now c.check_file-c.result c.check_file-c.ensures.0 c.check_file-c.ensures.1 c.put_checked-end.ensures roomy.tables
+    roomy.works room) roomy.lines roomy.indices)

@@ -3,13 +3,8 @@ use Rattle.desk.proofs.feed_byte.Goals as goal
 
 pub returns-then-begins : goal.returns-then-begins
 returns-then-begins c =
-    let a = c.args in
-    byte_of_file a.d a.b c.in-File.is
-    (λ bs h roomy room. file_begins a.d a.b bs h c.begins.ensures c.if-begins.true (c.begin.ensures roomy room))
+    byte_of_file c.args.d c.args.b c.in-File.is (λ bs h roomy room. file_begins c.args.d c.args.b bs h c.begins.ensures c.if-begins.true (c.begin.ensures roomy room))
 
 pub returns-else-begins : goal.returns-else-begins
 returns-else-begins c =
-    let a = c.args in
-    byte_of_file a.d a.b c.in-File.is
-    (λ bs h roomy room.
-    file_more a.d a.b bs h c.begins.ensures c.if-begins.false (λ x. c.file_byte.ensures bs _ _ _ _ x roomy.files room))
+    byte_of_file c.args.d c.args.b c.in-File.is (λ bs h roomy room. file_more c.args.d c.args.b bs h c.begins.ensures c.if-begins.false (λ x. c.file_byte.ensures bs _ _ _ _ x roomy.files room))

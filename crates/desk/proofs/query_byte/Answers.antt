@@ -5,14 +5,11 @@ use Rattle.desk.proofs.query_byte.Goals as goal
 
 pub returns-then-b-eq-LINE_FEED : goal.returns-then-b-eq-LINE_FEED
 returns-then-b-eq-LINE_FEED c =
-    let a = c.args in
     λ file rs l h roomy room.
     reaches_state c.ready.ensures
-    (query_ends a.d a.b false rs l h c.if-b-eq-LINE_FEED.true (λ x. c.hold-held.ensures l x roomy.lines) c.front.ensures
+    (query_ends c.args.d c.args.b false rs l h c.if-b-eq-LINE_FEED.true (λ x. c.hold-held.ensures l x roomy.lines) c.front.ensures
     (λ p. let x = c.answer-end.ensures rs p roomy.works in printed x.0 x.1 room))
 
 pub returns : goal.returns
 returns c =
-    let a = c.args in
-    λ file rs l h roomy room.
-    reaches_state c.ready-2.ensures (query_more a.d a.b false rs l h c.if-b-eq-LINE_FEED.false (λ x. c.hold-held.ensures l x roomy.lines) room)
+    λ file rs l h roomy room. reaches_state c.ready-2.ensures (query_more c.args.d c.args.b false rs l h c.if-b-eq-LINE_FEED.false (λ x. c.hold-held.ensures l x roomy.lines) room)

@@ -4,20 +4,15 @@ use Rattle.exports.proofs.export.Goals as goal
 
 pub returns-then-output-lt-EXPORT_LENGTH : goal.returns-then-output-lt-EXPORT_LENGTH
 returns-then-output-lt-EXPORT_LENGTH c =
-    let a = c.args in
-    short_output a.file.now a.table.now a.work.now a.i a.budget a.output.now _ c.if-output-lt-EXPORT_LENGTH.true refl refl refl
+    short_output c.args.file.now c.args.table.now c.args.work.now c.args.i c.args.budget c.args.output.now _ c.if-output-lt-EXPORT_LENGTH.true refl refl refl
 
 pub returns-then-is_refused : goal.returns-then-is_refused
 returns-then-is_refused c =
-    let is-refused = c.is_refused in
-    let a = c.args in
-    export_refused a.file.now a.table.now a.work.now a.i a.budget a.output.now _ _ _ _ c.if-output-lt-EXPORT_LENGTH.false c.check_file-c.ensures.0 is-refused.ensures c.if-is_refused.true refl
+    export_refused c.args.file.now c.args.table.now c.args.work.now c.args.i c.args.budget c.args.output.now _ _ _ _ c.if-output-lt-EXPORT_LENGTH.false c.check_file-c.ensures.0
+    c.is_refused.ensures c.if-is_refused.true refl
 
 pub returns : goal.returns
 returns c =
-    let clear-bytes = c.clear_bytes in
-    let a = c.args in
-    export_accepted a.file.now a.table.now a.work.now a.i a.budget a.output.now _ _ c.export_accepted-l.new.work _ _ c.check_file-c.result
-    c.export_accepted-l.result _ _ c.if-output-lt-EXPORT_LENGTH.false c.check_file-c.auto.work c.check_file-c.ensures.0 c.check_file-c.ensures.1
-    c.is_refused.ensures c.if-is_refused.false c.export_accepted-l.auto.work c.export_accepted-l.ensures.work_unchanged c.export_accepted-l.ensures.on_accepted
-    clear-bytes.ensures refl refl refl
+    export_accepted c.args.file.now c.args.table.now c.args.work.now c.args.i c.args.budget c.args.output.now _ _ c.export_accepted-l.new.work _ _ c.check_file-c.result
+    c.export_accepted-l.result _ _ c.if-output-lt-EXPORT_LENGTH.false c.check_file-c.auto.work c.check_file-c.ensures.0 c.check_file-c.ensures.1 c.is_refused.ensures
+    c.if-is_refused.false c.export_accepted-l.auto.work c.export_accepted-l.ensures.work_unchanged c.export_accepted-l.ensures.on_accepted c.clear_bytes.ensures refl refl refl

@@ -4,9 +4,5 @@ use Rattle.exports.proofs.export_accepted.Goals as goal
 
 pub returns-clause-on_accepted : goal.returns-clause-on_accepted
 returns-clause-on_accepted c =
-    let prepare = c.prepare in
-    let export-checked = c.export_checked in
-    let a = c.args in
-    let h = c.requires in
-    let n = front_length a.room a.work.now h in
-    λ s x long short output. export-checked.ensures x.file (prepare.ensures s x (omega arith)) (omega (arith, n, long)) (omega (arith, n, short)) output
+    let n = front_length c.args.room c.args.work.now c.requires in
+    λ s x long short output. c.export_checked.ensures x.file (c.prepare.ensures s x (omega arith)) (omega (arith, n, long)) (omega (arith, n, short)) output

@@ -9,12 +9,6 @@ use Rattle.fault_gaps.proofs.count_gaps.Goals as goal
 
 pub loop-x-preserved : goal.loop-x-preserved
 loop-x-preserved c =
-    let loop-test = c.loop-x-test in
-    let args = c.args in
-    let loop' = c.loop-x in
-    let wide = c.wide in
-    let cell = c.cell-p in
-    let take_row = c.take_row in
-    let a = args in let l = loop' in rows_more a.m a.t.now a.base a.f a.rows.now l.k take_row.new.k a.w.now
-    (types_along a.w.now (type_of a.t.now a.i ∷ [])) l.x (get_or a.rows.now (l.x - 1) 0) wide.result cell.result l.invariant loop-test.true
-    take_row.auto.k refl wide.ensures.value cell.ensures.0 take_row.ensures
+    let l = c.loop-x in rows_more c.args.m c.args.t.now c.args.base c.args.f c.args.rows.now l.k c.take_row.new.k c.args.w.now
+    (types_along c.args.w.now (type_of c.args.t.now c.args.i ∷ [])) l.x (get_or c.args.rows.now (l.x - 1) 0) c.wide.result c.cell-p.result l.invariant c.loop-x-test.true
+    c.take_row.auto.k refl c.wide.ensures.value c.cell-p.ensures.0 c.take_row.ensures

@@ -2,26 +2,10 @@ use Rattle.fault_gaps.proofs.Descending.{first_few, first_other, first_one}
 use Rattle.fault_gaps.proofs.gap_length.Goals as goal
 
 pub returns-then-n-le-SHORT : goal.returns-then-n-le-SHORT
-returns-then-n-le-SHORT c =
-    let count-gaps = c.count_gaps in
-    let first_count = c.first_count-n in
-    let if1 = c.if-n-le-SHORT in
-    first_few count-gaps.ensures first_count.ensures if1.true
+returns-then-n-le-SHORT c = first_few c.count_gaps.ensures c.first_count-n.ensures c.if-n-le-SHORT.true
 
 pub returns-then-p-n : goal.returns-then-p-n
-returns-then-p-n c =
-    let count-gaps = c.count_gaps in
-    let first_count = c.first_count-n in
-    let count-gaps2 = c.count_gaps-2 in
-    let first-count2 = c.first_count-p in
-    let if2 = c.if-p-n in
-    first_other count-gaps.ensures first_count.ensures count-gaps2.ensures first-count2.ensures if2.true
+returns-then-p-n c = first_other c.count_gaps.ensures c.first_count-n.ensures c.count_gaps-2.ensures c.first_count-p.ensures c.if-p-n.true
 
 pub returns : goal.returns
-returns c =
-    let count-gaps = c.count_gaps in
-    let first_count = c.first_count-n in
-    let count-gaps2 = c.count_gaps-2 in
-    let first-count2 = c.first_count-p in
-    let if2 = c.if-p-n in
-    first_one count-gaps.ensures first_count.ensures count-gaps2.ensures first-count2.ensures if2.false
+returns c = first_one c.count_gaps.ensures c.first_count-n.ensures c.count_gaps-2.ensures c.first_count-p.ensures c.if-p-n.false

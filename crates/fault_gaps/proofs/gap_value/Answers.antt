@@ -7,15 +7,9 @@ use Rattle.fault_gaps.proofs.gap_value.Goals as goal
 
 pub returns-then-n-lt-LENGTHS : goal.returns-then-n-lt-LENGTHS
 returns-then-n-lt-LENGTHS c =
-    let gap_length = c.gap_length-n in
-    let write-gap = c.write_gap in
-    let if1 = c.if-n-lt-LENGTHS in
-    value_found (value_some (type_of c.args.t.now c.args.i) (patterns_at c.args.t.now c.args.base c.args.f c.args.rows.now)
-    gap_length.ensures refl write-gap.ensures if1.true) if1.true
+    value_found (value_some (type_of c.args.t.now c.args.i) (patterns_at c.args.t.now c.args.base c.args.f c.args.rows.now) c.gap_length-n.ensures refl c.write_gap.ensures
+    c.if-n-lt-LENGTHS.true) c.if-n-lt-LENGTHS.true
 
 pub returns : goal.returns
 returns c =
-    let gap_length = c.gap_length-n in
-    let if1 = c.if-n-lt-LENGTHS in
-    value_missing (value_none (type_of c.args.t.now c.args.i) (patterns_at c.args.t.now c.args.base c.args.f c.args.rows.now)
-    gap_length.ensures refl c.args.out.now if1.false)
+    value_missing (value_none (type_of c.args.t.now c.args.i) (patterns_at c.args.t.now c.args.base c.args.f c.args.rows.now) c.gap_length-n.ensures refl c.args.out.now c.if-n-lt-LENGTHS.false)

@@ -3,10 +3,5 @@ use Rattle.fault_gaps.proofs.take_row.Goals as goal
 
 pub returns : goal.returns
 returns c =
-    let args = c.args in
-    let walk-row = c.walk_row-top in
-    let if1 = c.if-top-gt-LENGTHS in
-    let count-row = c.count_row in
-    let take-away = c.take_away in
-    let a = args in let d = walk-row in live_row a.t.now a.base a.w.now d.new.ps d.new.ts a.p a.i d.result d.ensures
-    if1.false count-row.ensures take-away.ensures
+    let d = c.walk_row-top in live_row c.args.t.now c.args.base c.args.w.now d.new.ps d.new.ts c.args.p c.args.i d.result d.ensures
+    c.if-top-gt-LENGTHS.false c.count_row.ensures c.take_away.ensures

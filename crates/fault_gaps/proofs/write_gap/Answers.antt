@@ -10,18 +10,12 @@ use borrow.Author.Rules.{rules}
 use Rattle.fault_gaps.proofs.write_gap.Goals as goal
 
 pub returns-then-top-gt-MAX_NODES : goal.returns-then-top-gt-MAX_NODES
-returns-then-top-gt-MAX_NODES c =
-    let loop' = c.loop-m in
-    never_written c.args.out.now loop'.out (never_out loop'.invariant (search rules) c.requires.1 (search rules))
+returns-then-top-gt-MAX_NODES c = never_written c.args.out.now c.loop-m.out (never_out c.loop-m.invariant (search rules) c.requires.1 (search rules))
 
 pub loop-m-preserved : goal.loop-m-preserved
 loop-m-preserved c =
-    let loop' = c.loop-m in
-    let first-letter = c.first_letter in
-    let step-types = c.step_types-top in
-    let letter = c.letter-c in
-    let e : loop'.m + 1 - 0 ≡ loop'.m + 1 = omega arith in
-    writing_next loop'.invariant (search rules) c.requires.1 first-letter.ensures (search rules) c.requires.0 step-types.auto.ts step-types.ensures
+    let e : c.loop-m.m + 1 - 0 ≡ c.loop-m.m + 1 = omega arith in
+    writing_next c.loop-m.invariant (search rules) c.requires.1 c.first_letter.ensures (search rules) c.requires.0 c.step_types-top.auto.ts c.step_types-top.ensures
     (subst (λ z. Picks (type_of c.args.t.now c.args.i) (patterns_at c.args.t.now c.args.base c.args.f c.args.rows.now)
-    (take z (set loop'.out loop'.m first-letter.result))
-    (type_of c.args.t.now (get_or loop'.ts loop'.top 0)) (c.args.n - loop'.m - 1) letter.result) e letter.ensures)
+    (take z (set c.loop-m.out c.loop-m.m c.first_letter.result))
+    (type_of c.args.t.now (get_or c.loop-m.ts c.loop-m.top 0)) (c.args.n - c.loop-m.m - 1) c.letter-c.result) e c.letter-c.ensures)

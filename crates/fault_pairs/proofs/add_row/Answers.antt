@@ -4,10 +4,5 @@ use Rattle.fault_pairs.proofs.add_row.Goals as goal
 
 pub loop-y-preserved : goal.loop-y-preserved
 loop-y-preserved c =
-    let args = c.args in
-    let loop' = c.loop-y in
-    let wide = c.wide in
-    let cell = c.cell-q in
-    let with_pair = c.with_pair-b in
-    let a = args in let l = loop' in inner_more a.t.now a.base a.f a.rows.now wide.result cell.result l.invariant (search rules) with_pair.auto.out
-    with_pair.ensures.0 wide.ensures.value cell.ensures.0 with_pair.ensures.1
+    let l = c.loop-y in inner_more c.args.t.now c.args.base c.args.f c.args.rows.now c.wide.result c.cell-q.result l.invariant (search rules) c.with_pair-b.auto.out
+    c.with_pair-b.ensures.0 c.wide.ensures.value c.cell-q.ensures.0 c.with_pair-b.ensures.1

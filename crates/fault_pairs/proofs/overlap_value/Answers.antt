@@ -17,17 +17,11 @@ take_rest : (s : List ℕ) (x : ℕ) → take (length s - x) (drop x s) ≡ drop
 take_rest s x = ap (λ n. take n (drop x s)) (sym (length-drop x s)) ∙ take_all (drop x s)
 
 pub loop-x-init : goal.loop-x-init
-loop-x-init c =
-    let a = c.args in outer_start a.t.now a.base a.f a.rows.now (type_of a.t.now a.i) a.out.now
+loop-x-init c = outer_start c.args.t.now c.args.base c.args.f c.args.rows.now (type_of c.args.t.now c.args.i) c.args.out.now
 
 pub loop-x-preserved : goal.loop-x-preserved
 loop-x-preserved c =
-    let args = c.args in
-    let loop' = c.loop-x in
-    let wide = c.wide in
-    let cell = c.cell-p in
-    let add_row = c.add_row-best in
-    let a = args in let l = loop' in outer_more a.t.now a.base a.f a.rows.now wide.result cell.result l.invariant (search rules) add_row.auto.out
-    add_row.ensures.0 wide.ensures.value cell.ensures.0
-    (subst (λ z. AddsAll (type_of a.t.now a.i) (pattern_of a.t.now a.base cell.result) (patterns_at a.t.now a.base a.f z) l.out
-    add_row.new.out l.best add_row.result) (take_rest a.rows.now l.x) add_row.ensures.1)
+    let l = c.loop-x in outer_more c.args.t.now c.args.base c.args.f c.args.rows.now c.wide.result c.cell-p.result l.invariant (search rules) c.add_row-best.auto.out
+    c.add_row-best.ensures.0 c.wide.ensures.value c.cell-p.ensures.0
+    (subst (λ z. AddsAll (type_of c.args.t.now c.args.i) (pattern_of c.args.t.now c.args.base c.cell-p.result) (patterns_at c.args.t.now c.args.base c.args.f z) l.out
+    c.add_row-best.new.out l.best c.add_row-best.result) (take_rest c.args.rows.now l.x) c.add_row-best.ensures.1)

@@ -14,14 +14,11 @@ pub returns-then-c : goal.returns-then-c
 returns-then-c c = (c.requires.2, adds_clash c.args.out.now c.args.best (sym c.compare-c.ensures.0 ∙ c.if-c.true))
 
 pub returns-then-best-eq0 : goal.returns-then-best-eq0
-returns-then-best-eq0 c =
-    let if2 = c.if-n-gt-RESULT_LENGTH in
-    let if3 = c.if-best-eq0 in
-    let copy-front = c.copy_front in (
-      if2.false,
-      adds_first (tried {blank = replicate 128 0} (sym c.compare-c.ensures.0 ∙ c.if-c.false)
-          (length-replicate {A = ℕ} 128 0) c.write_common-n.ensures) if2.false if3.true copy-front.ensures.0,
-    )
+returns-then-best-eq0 c = (
+  c.if-n-gt-RESULT_LENGTH.false,
+  adds_first (tried {blank = replicate 128 0} (sym c.compare-c.ensures.0 ∙ c.if-c.false)
+      (length-replicate {A = ℕ} 128 0) c.write_common-n.ensures) c.if-n-gt-RESULT_LENGTH.false c.if-best-eq0.true c.copy_front.ensures.0,
+)
 
 pub returns-then-is_sooner : goal.returns-then-is_sooner
 returns-then-is_sooner c = (

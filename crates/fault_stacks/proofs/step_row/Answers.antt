@@ -5,73 +5,36 @@ use Rattle.fault_stacks.proofs.step_row.Goals as goal
 
 pub returns-then-has_two : goal.returns-then-has_two
 returns-then-has_two c =
-    let kind-of = c.kind_of-kind in
-    let kind-on = c.kind_on-own in
-    let if1 = c.if-kind-eq-VARIABLE in
-    let has-two = c.has_two in
-    let if2 = c.if-has_two in
-    row_var_two c.args.t.now c.args.base c.args.ps.now c.args.top c.args.c (omega (arith, c.requires.0, c.requires.2)) kind-of.ensures kind-on.ensures
-    if1.true (has-two.ensures.joins if2.true) c.requires.1
+    row_var_two c.args.t.now c.args.base c.args.ps.now c.args.top c.args.c (omega (arith, c.requires.0, c.requires.2)) c.kind_of-kind.ensures c.kind_on-own.ensures c.if-kind-eq-VARIABLE.true
+    (c.has_two.ensures.joins c.if-has_two.true) c.requires.1
 
 pub returns-else-has_two : goal.returns-else-has_two
 returns-else-has_two c =
-    let kind-of = c.kind_of-kind in
-    let kind-on = c.kind_on-own in
-    let if1 = c.if-kind-eq-VARIABLE in
-    let has-two = c.has_two in
-    let if2 = c.if-has_two in
-    row_var c.args.t.now c.args.base c.args.ps.now c.args.top c.args.c (omega (arith, c.requires.0, c.requires.2)) kind-of.ensures kind-on.ensures
-    if1.true (has-two.ensures.no_pair if2.false) (has-two.ensures.no_element if2.false)
+    row_var c.args.t.now c.args.base c.args.ps.now c.args.top c.args.c (omega (arith, c.requires.0, c.requires.2)) c.kind_of-kind.ensures c.kind_on-own.ensures c.if-kind-eq-VARIABLE.true
+    (c.has_two.ensures.no_pair c.if-has_two.false) (c.has_two.ensures.no_element c.if-has_two.false)
 
 pub returns-then-kind-own : goal.returns-then-kind-own
 returns-then-kind-own c =
-    let kind-of = c.kind_of-kind in
-    let kind-on = c.kind_on-own in
-    let if1 = c.if-kind-eq-VARIABLE in
-    let if3 = c.if-kind-own in
-    row_not c.args.t.now c.args.base c.args.ps.now c.args.top c.args.c (omega (arith, c.requires.0, c.requires.2)) kind-of.ensures kind-on.ensures
-    if1.false if3.true
+    row_not c.args.t.now c.args.base c.args.ps.now c.args.top c.args.c (omega (arith, c.requires.0, c.requires.2)) c.kind_of-kind.ensures c.kind_on-own.ensures c.if-kind-eq-VARIABLE.false
+    c.if-kind-own.true
 
 pub returns-then-has_two-2 : goal.returns-then-has_two-2
 returns-then-has_two-2 c =
-    let kind-of = c.kind_of-kind in
-    let kind-on = c.kind_on-own in
-    let pattern-part2 = c.pattern_part-then-has_two-2 in
-    let pattern-part = c.pattern_part in
-    let if3 = c.if-kind-own in
-    let has-two2 = c.has_two-2 in
-    let if4 = c.if-has_two-2 in
-    row_two c.args.t.now c.args.base c.args.ps.now c.args.top c.args.c (omega (arith, c.requires.0, c.requires.2)) kind-of.ensures kind-on.ensures
-    pattern-part2.result pattern-part.result if3.false (has-two2.ensures.joins if4.true) c.requires.1 pattern-part2.ensures pattern-part.ensures
+    row_two c.args.t.now c.args.base c.args.ps.now c.args.top c.args.c (omega (arith, c.requires.0, c.requires.2)) c.kind_of-kind.ensures c.kind_on-own.ensures
+    c.pattern_part-then-has_two-2.result c.pattern_part.result c.if-kind-own.false (c.has_two-2.ensures.joins c.if-has_two-2.true) c.requires.1 c.pattern_part-then-has_two-2.ensures
+    c.pattern_part.ensures
 
 pub returns-then-own-eq-LEFT : goal.returns-then-own-eq-LEFT
 returns-then-own-eq-LEFT c =
-    let kind-of = c.kind_of-kind in
-    let kind-on = c.kind_on-own in
-    let pattern-part3 = c.pattern_part-then-own-eq-LEFT in
-    let if3 = c.if-kind-own in
-    let if5 = c.if-own-eq-LEFT in
-    row_one c.args.t.now c.args.base c.args.ps.now c.args.top c.args.c (omega (arith, c.requires.0, c.requires.2)) kind-of.ensures kind-on.ensures
-    pattern-part3.result if3.false (inl if5.true) pattern-part3.ensures
+    row_one c.args.t.now c.args.base c.args.ps.now c.args.top c.args.c (omega (arith, c.requires.0, c.requires.2)) c.kind_of-kind.ensures c.kind_on-own.ensures
+    c.pattern_part-then-own-eq-LEFT.result c.if-kind-own.false (inl c.if-own-eq-LEFT.true) c.pattern_part-then-own-eq-LEFT.ensures
 
 pub returns-then-own-eq-RIGHT : goal.returns-then-own-eq-RIGHT
 returns-then-own-eq-RIGHT c =
-    let kind-of = c.kind_of-kind in
-    let kind-on = c.kind_on-own in
-    let pattern-part4 = c.pattern_part-then-own-eq-RIGHT in
-    let if3 = c.if-kind-own in
-    let if6 = c.if-own-eq-RIGHT in
-    row_one c.args.t.now c.args.base c.args.ps.now c.args.top c.args.c (omega (arith, c.requires.0, c.requires.2)) kind-of.ensures kind-on.ensures
-    pattern-part4.result if3.false (inr if6.true) pattern-part4.ensures
+    row_one c.args.t.now c.args.base c.args.ps.now c.args.top c.args.c (omega (arith, c.requires.0, c.requires.2)) c.kind_of-kind.ensures c.kind_on-own.ensures
+    c.pattern_part-then-own-eq-RIGHT.result c.if-kind-own.false (inr c.if-own-eq-RIGHT.true) c.pattern_part-then-own-eq-RIGHT.ensures
 
 pub returns-else-own-eq-RIGHT : goal.returns-else-own-eq-RIGHT
 returns-else-own-eq-RIGHT c =
-    let kind-of = c.kind_of-kind in
-    let kind-on = c.kind_on-own in
-    let if3 = c.if-kind-own in
-    let has-two2 = c.has_two-2 in
-    let if4 = c.if-has_two-2 in
-    let if5 = c.if-own-eq-LEFT in
-    let if6 = c.if-own-eq-RIGHT in
-    row_leaf c.args.t.now c.args.base c.args.ps.now c.args.top c.args.c (omega (arith, c.requires.0, c.requires.2)) kind-of.ensures kind-on.ensures
-    if3.false (has-two2.ensures.no_pair if4.false) (has-two2.ensures.no_element if4.false) if5.false if6.false
+    row_leaf c.args.t.now c.args.base c.args.ps.now c.args.top c.args.c (omega (arith, c.requires.0, c.requires.2)) c.kind_of-kind.ensures c.kind_on-own.ensures c.if-kind-own.false
+    (c.has_two-2.ensures.no_pair c.if-has_two-2.false) (c.has_two-2.ensures.no_element c.if-has_two-2.false) c.if-own-eq-LEFT.false c.if-own-eq-RIGHT.false

@@ -13,6 +13,4 @@ loop-n-init c =
 
 pub returns-then-top-gt-MAX_NODES : goal.returns-then-top-gt-MAX_NODES
 returns-then-top-gt-MAX_NODES c =
-    let args = c.args in
-    let loop' = c.loop-n in
-    let a = args in let l = loop' in walked_dead a.t.now a.base a.w.now l.ps l.ts a.p a.i (row_none l.invariant.row (search rules) (search rules))
+    let l = c.loop-n in walked_dead c.args.t.now c.args.base c.args.w.now l.ps l.ts c.args.p c.args.i (row_none l.invariant.row (search rules) (search rules))

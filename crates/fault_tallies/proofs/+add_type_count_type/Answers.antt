@@ -5,50 +5,24 @@ use borrow.Author.Rules.{rules}
 use Rattle.fault_tallies.proofs.+add_type_count_type.Goals as goal
 
 pub add_type-loop-k-init : goal.add_type-loop-k-init
-add_type-loop-k-init t c =
-    let copy = c.copy in
-    going_start c.args.m c.args.t.now c.args.i (search rules) (search rules) copy.ensures
+add_type-loop-k-init t c = going_start c.args.m c.args.t.now c.args.i (search rules) (search rules) c.copy.ensures
 
 pub add_type-returns-then-kind-eq-LIST : goal.add_type-returns-then-kind-eq-LIST
-add_type-returns-then-kind-eq-LIST t c =
-    let loop' = c.loop-k in
-    let count-list = c.count_list in
-    let add = c.add in
-    going_list c.args.m c.args.t.now c.args.i loop'.invariant count-list.ensures add.ensures
+add_type-returns-then-kind-eq-LIST t c = going_list c.args.m c.args.t.now c.args.i c.loop-k.invariant c.count_list.ensures c.add.ensures
 
 pub add_type-loop-k-preserved-then-kind-eq-SUM : goal.add_type-loop-k-preserved-then-kind-eq-SUM
 add_type-loop-k-preserved-then-kind-eq-SUM t c =
-    let loop' = c.loop-k in
-    let shift = c.shift in
-    let cell = c.cell-kind in
-    let halves = c.halves-h in
-    let if2 = c.if-kind-eq-SUM in
-    let add-type = c.add_type in
-    going_sum c.args.m c.args.t.now c.args.i loop'.invariant shift.ensures cell.ensures.0 halves.ensures if2.true (search rules) (search rules) add-type.ensures
+    going_sum c.args.m c.args.t.now c.args.i c.loop-k.invariant c.shift.ensures c.cell-kind.ensures.0 c.halves-h.ensures c.if-kind-eq-SUM.true (search rules) (search rules) c.add_type.ensures
 
 pub add_type-loop-k-preserved : goal.add_type-loop-k-preserved
 add_type-loop-k-preserved t c =
-    let loop' = c.loop-k in
-    let shift = c.shift in
-    let cell = c.cell-kind in
-    let halves2 = c.halves-h-then-kind-eq-PRODUCT in
-    let if3 = c.if-kind-eq-PRODUCT in
-    let count-type = c.count_type in
-    going_product c.args.m c.args.t.now c.args.i loop'.invariant shift.ensures cell.ensures.0 halves2.ensures if3.true (search rules) count-type.ensures
+    going_product c.args.m c.args.t.now c.args.i c.loop-k.invariant c.shift.ensures c.cell-kind.ensures.0 c.halves-h-then-kind-eq-PRODUCT.ensures c.if-kind-eq-PRODUCT.true (search rules)
+    c.count_type.ensures
 
 pub add_type-returns-else-kind-eq-PRODUCT : goal.add_type-returns-else-kind-eq-PRODUCT
 add_type-returns-else-kind-eq-PRODUCT t c =
-    let loop' = c.loop-k in
-    let shift = c.shift in
-    let cell = c.cell-kind in
-    let if2 = c.if-kind-eq-SUM in
-    let if3 = c.if-kind-eq-PRODUCT in
-    let if1 = c.if-kind-eq-LIST in
-    let add2 = c.add-else-kind-eq-PRODUCT in
-    going_end c.args.m c.args.t.now c.args.i loop'.invariant shift.ensures cell.ensures.0 if2.false if3.false if1.false add2.ensures
+    going_end c.args.m c.args.t.now c.args.i c.loop-k.invariant c.shift.ensures c.cell-kind.ensures.0 c.if-kind-eq-SUM.false c.if-kind-eq-PRODUCT.false c.if-kind-eq-LIST.false
+    c.add-else-kind-eq-PRODUCT.ensures
 
 pub count_type-returns : goal.count_type-returns
-count_type-returns t c =
-    let copy = c.copy in
-    let add-type = c.add_type in
-    λ z W h. held_copy copy.ensures (held_as _ (λ n. zero-add _) (add-type.ensures z W (λ n. 0) h (held_zeros h.wide)))
+count_type-returns t c = λ z W h. held_copy c.copy.ensures (held_as _ (λ n. zero-add _) (c.add_type.ensures z W (λ n. 0) h (held_zeros h.wide)))

@@ -6,63 +6,29 @@ use Rattle.fault_tallies.proofs.+count_pattern.Goals as goal
 
 pub returns-then-kind-eq-VARIABLE : goal.returns-then-kind-eq-VARIABLE
 returns-then-kind-eq-VARIABLE t c =
-    let pattern-cell = c.pattern_cell-kind in
-    let if1 = c.if-kind-eq-VARIABLE in
-    let count-type = c.count_type in
-    as_var c.args.m (type_of c.args.t.now c.args.i) (is_var c.args.t.now c.args.base c.args.p pattern-cell.ensures.0 if1.true)
-    count-type.ensures
+    as_var c.args.m (type_of c.args.t.now c.args.i) (is_var c.args.t.now c.args.base c.args.p c.pattern_cell-kind.ensures.0 c.if-kind-eq-VARIABLE.true) c.count_type.ensures
 
 pub returns-then-kind-eq-LEFT : goal.returns-then-kind-eq-LEFT
 returns-then-kind-eq-LEFT t c =
-    let pattern-cell = c.pattern_cell-kind in
-    let if2 = c.if-kind-eq-LEFT in
-    let pattern-part = c.pattern_part in
-    let first_part = c.first_part in
-    let count-pattern = c.count_pattern in
-    let shift = c.shift in
-    as_tag c.args.m (type_of c.args.t.now c.args.i) left
-    (is_left c.args.t.now c.args.base c.args.p pattern-cell.ensures.0 if2.true pattern-part.ensures) first_part.ensures count-pattern.ensures
-    shift.ensures
+    as_tag c.args.m (type_of c.args.t.now c.args.i) left (is_left c.args.t.now c.args.base c.args.p c.pattern_cell-kind.ensures.0 c.if-kind-eq-LEFT.true c.pattern_part.ensures)
+    c.first_part.ensures c.count_pattern.ensures c.shift.ensures
 
 pub returns-then-kind-eq-RIGHT : goal.returns-then-kind-eq-RIGHT
 returns-then-kind-eq-RIGHT t c =
-    let pattern-cell = c.pattern_cell-kind in
-    let if3 = c.if-kind-eq-RIGHT in
-    let pattern-part2 = c.pattern_part-then-kind-eq-RIGHT in
-    let second-part = c.second_part in
-    let count-pattern2 = c.count_pattern-then-kind-eq-RIGHT in
-    let shift2 = c.shift-then-kind-eq-RIGHT in
     as_tag c.args.m (type_of c.args.t.now c.args.i) right
-    (is_right c.args.t.now c.args.base c.args.p pattern-cell.ensures.0 if3.true pattern-part2.ensures) second-part.ensures
-    count-pattern2.ensures shift2.ensures
+    (is_right c.args.t.now c.args.base c.args.p c.pattern_cell-kind.ensures.0 c.if-kind-eq-RIGHT.true c.pattern_part-then-kind-eq-RIGHT.ensures) c.second_part.ensures
+    c.count_pattern-then-kind-eq-RIGHT.ensures c.shift-then-kind-eq-RIGHT.ensures
 
 pub returns-then-has_two : goal.returns-then-has_two
 returns-then-has_two t c =
-    let pattern-cell = c.pattern_cell-kind in
-    let has-two = c.has_two in
-    let if4 = c.if-has_two in
-    let pattern-part4 = c.pattern_part-then-has_two-2 in
-    let pattern-part3 = c.pattern_part-then-has_two in
-    let first-part2 = c.first_part-then-has_two in
-    let second-part2 = c.second_part-then-has_two in
-    let count-pattern3 = c.count_pattern-then-has_two in
-    let count-pattern4 = c.count_pattern-then-has_two-2 in
-    let shift3 = c.shift-then-has_two in
-    let line = a_node c.args.t.now c.args.base c.args.p pattern-cell.ensures.0 (has-two.ensures.joins if4.true) pattern-part4.ensures
-    pattern-part3.ensures in
-    as_node c.args.m (type_of c.args.t.now c.args.i) line.0 line.1 first-part2.ensures second-part2.ensures count-pattern3.ensures
-    count-pattern4.ensures shift3.ensures
+    let line = a_node c.args.t.now c.args.base c.args.p c.pattern_cell-kind.ensures.0 (c.has_two.ensures.joins c.if-has_two.true) c.pattern_part-then-has_two-2.ensures
+    c.pattern_part-then-has_two.ensures in
+    as_node c.args.m (type_of c.args.t.now c.args.i) line.0 line.1 c.first_part-then-has_two.ensures c.second_part-then-has_two.ensures c.count_pattern-then-has_two.ensures
+    c.count_pattern-then-has_two-2.ensures c.shift-then-has_two.ensures
 
 pub returns : goal.returns
 returns t c =
-    let has-two = c.has_two in
-    let pattern-cell = c.pattern_cell-kind in
-    let if1 = c.if-kind-eq-VARIABLE in
-    let if2 = c.if-kind-eq-LEFT in
-    let if3 = c.if-kind-eq-RIGHT in
-    let if4 = c.if-has_two in
-    let shift4 = c.shift-2 in
-    let none = has-two.ensures in
-    let line = a_leaf c.args.t.now c.args.base c.args.p pattern-cell.ensures.0 if1.false if2.false if3.false (none.no_pair if4.false)
-    (none.no_element if4.false) in
-    as_leaf c.args.m (type_of c.args.t.now c.args.i) line.0 line.1 shift4.ensures
+    let line = a_leaf c.args.t.now c.args.base c.args.p c.pattern_cell-kind.ensures.0 c.if-kind-eq-VARIABLE.false c.if-kind-eq-LEFT.false c.if-kind-eq-RIGHT.false
+    (c.has_two.ensures.no_pair c.if-has_two.false)
+    (c.has_two.ensures.no_element c.if-has_two.false) in
+    as_leaf c.args.m (type_of c.args.t.now c.args.i) line.0 line.1 c.shift-2.ensures

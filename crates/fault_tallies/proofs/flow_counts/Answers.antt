@@ -9,7 +9,4 @@ loop-h-init c = poured_start c.args.m c.args.one.now c.args.two.now c.args.n c.a
 
 pub loop-h-preserved : goal.loop-h-preserved
 loop-h-preserved c =
-    let loop' = c.loop-h in
-    let step = c.step in
-    let step2 = c.step-in-loop-h in
-    poured_more loop'.invariant c.requires.3 (search rules) refl refl refl step.ensures refl refl step2.ensures (search rules) (search rules)
+    poured_more c.loop-h.invariant c.requires.3 (search rules) refl refl refl c.step.ensures refl refl c.step-in-loop-h.ensures (search rules) (search rules)

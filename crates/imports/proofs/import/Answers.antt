@@ -4,25 +4,14 @@ use Rattle.imports.proofs.import.Goals as goal
 
 pub returns-then-output-lt-IMPORT_LENGTH : goal.returns-then-output-lt-IMPORT_LENGTH
 returns-then-output-lt-IMPORT_LENGTH c =
-    let args = c.args in
-    let a = args in import_short a.file.now a.table.now a.work.now a.i a.j a.list.now a.output.now _ c.if-output-lt-IMPORT_LENGTH.true refl refl refl
+    import_short c.args.file.now c.args.table.now c.args.work.now c.args.i c.args.j c.args.list.now c.args.output.now _ c.if-output-lt-IMPORT_LENGTH.true refl refl refl
 
 pub returns-then-is_refused : goal.returns-then-is_refused
 returns-then-is_refused c =
-    let args = c.args in
-    let if1 = c.if-output-lt-IMPORT_LENGTH in
-    let check-file = c.check_file-c in
-    let is-refused = c.is_refused in
-    let a = args in import_refused a.file.now a.table.now a.work.now a.i a.j a.list.now a.output.now if1.false _ _ _ check-file.ensures.0
-    is-refused.ensures c.if-is_refused.true refl
+    import_refused c.args.file.now c.args.table.now c.args.work.now c.args.i c.args.j c.args.list.now c.args.output.now c.if-output-lt-IMPORT_LENGTH.false _ _ _ c.check_file-c.ensures.0
+    c.is_refused.ensures c.if-is_refused.true refl
 
 pub returns : goal.returns
 returns c =
-    let args = c.args in
-    let if1 = c.if-output-lt-IMPORT_LENGTH in
-    let check-file = c.check_file-c in
-    let is-refused = c.is_refused in
-    let if2 = c.if-is_refused in
-    let import-checked = c.import_checked-made in
-    let a = args in import_accepted a.file.now a.table.now a.work.now a.i a.j a.list.now a.output.now if1.false _ _ _ check-file.result
-    import-checked.result _ check-file.ensures.0 check-file.ensures.1 is-refused.ensures if2.false import-checked.ensures refl refl refl
+    import_accepted c.args.file.now c.args.table.now c.args.work.now c.args.i c.args.j c.args.list.now c.args.output.now c.if-output-lt-IMPORT_LENGTH.false _ _ _ c.check_file-c.result
+    c.import_checked-made.result _ c.check_file-c.ensures.0 c.check_file-c.ensures.1 c.is_refused.ensures c.if-is_refused.false c.import_checked-made.ensures refl refl refl

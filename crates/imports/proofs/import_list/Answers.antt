@@ -5,14 +5,5 @@ use Rattle.imports.proofs.import_list.Goals as goal
 
 pub returns : goal.returns
 returns c =
-    let args = c.args in
-    let count-lines = c.count_lines-n in
-    let if1 = c.if-n-gt-MAX_CLAUSES in
-    let count-values = c.count_values-from in
-    let count-values2 = c.count_values-to in
-    let read-list = c.read_list in
-    let if2 = c.if-not-read_list in
-    let write-file = c.write_file in
-    let a = args in list_good (type_of a.t.now a.i) (type_of a.t.now a.j) a.list.now a.out.now count-lines.ensures if1.false count-values.ensures
-    count-values2.ensures read-list.new.tos read-list.result (search rules) read-list.ensures if2.false read-list.auto.tos
-    write-file.ensures
+    list_good (type_of c.args.t.now c.args.i) (type_of c.args.t.now c.args.j) c.args.list.now c.args.out.now c.count_lines-n.ensures c.if-n-gt-MAX_CLAUSES.false c.count_values-from.ensures
+    c.count_values-to.ensures c.read_list.new.tos c.read_list.result (search rules) c.read_list.ensures c.if-not-read_list.false c.read_list.auto.tos c.write_file.ensures

@@ -6,8 +6,4 @@ pub returns-then-same_entry : goal.returns-then-same_entry
 returns-then-same_entry c = searched_hit c.loop-i.invariant c.loop-i-test.true c.same_entry.ensures c.if-same_entry.true
 
 pub loop-i-preserved : goal.loop-i-preserved
-loop-i-preserved c =
-    let loop' = c.loop-i in
-    let loop-test = c.loop-i-test in
-    let same-entry = c.same_entry in
-    searched_step loop'.invariant loop-test.true same-entry.ensures c.if-same_entry.false
+loop-i-preserved c = searched_step c.loop-i.invariant c.loop-i-test.true c.same_entry.ensures c.if-same_entry.false

@@ -5,11 +5,7 @@ pub returns-then-cell-x : goal.returns-then-cell-x
 returns-then-cell-x c = same_first _ _ _ _ _ c.cell.ensures.0 c.if-cell-x.true
 
 pub returns-then-cell-y : goal.returns-then-cell-y
-returns-then-cell-y c =
-    let cell = c.cell in
-    let if1 = c.if-cell-x in
-    let cell2 = c.cell-2 in
-    same_second _ _ _ _ _ cell.ensures.0 if1.false cell2.ensures.0 c.if-cell-y.true
+returns-then-cell-y c = same_second _ _ _ _ _ c.cell.ensures.0 c.if-cell-x.false c.cell-2.ensures.0 c.if-cell-y.true
 
 pub returns-then-cell-z : goal.returns-then-cell-z
 returns-then-cell-z c =

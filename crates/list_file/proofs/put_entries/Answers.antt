@@ -6,8 +6,4 @@ pub loop-i-init : goal.loop-i-init
 loop-i-init c = printed_start _ _ _ _ _
 
 pub loop-i-preserved : goal.loop-i-preserved
-loop-i-preserved c =
-    let loop' = c.loop-i in
-    let loop-test = c.loop-i-test in
-    let put-entry = c.put_entry-end in
-    printed_next loop'.invariant loop-test.true put-entry.ensures put-entry.auto.out
+loop-i-preserved c = printed_next c.loop-i.invariant c.loop-i-test.true c.put_entry-end.ensures c.put_entry-end.auto.out

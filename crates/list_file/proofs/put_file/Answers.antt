@@ -8,11 +8,6 @@ use Rattle.list_file.proofs.put_file.Goals as goal
 
 pub returns : goal.returns
 returns c =
-    let args = c.args in
-    let put_entries = c.put_entries-x in
-    let put-entries2 = c.put_entries-y in
-    let put-row = c.put_row-z in
-    let put-entries3 = c.put_entries in
-    (λ x y. let a = args in file_printed (entries_at type_line a.ts.now 0 a.m.types) (entries_at pattern_line a.ps.now 0 a.m.patterns)
-    (entries_at clause_line a.cs.now 0 a.m.clauses) (iso_row a.m.from a.m.to) put_entries.ensures put-entries2.ensures
-    (prints_writes (put-row.ensures x y (omega arith))) put-entries3.ensures)
+    (λ x y. let a = c.args in file_printed (entries_at type_line a.ts.now 0 a.m.types) (entries_at pattern_line a.ps.now 0 a.m.patterns)
+    (entries_at clause_line a.cs.now 0 a.m.clauses) (iso_row a.m.from a.m.to) c.put_entries-x.ensures c.put_entries-y.ensures
+    (prints_writes (c.put_row-z.ensures x y (omega arith))) c.put_entries.ensures)

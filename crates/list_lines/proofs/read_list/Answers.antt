@@ -8,9 +8,4 @@ pub returns-then-n-most : goal.returns-then-n-most
 returns-then-n-most c = (λ a b f g n l m. tos_differ a b _ c.if-n-most.true g n)
 
 pub returns : goal.returns
-returns c =
-    let args = c.args in
-    let if1 = c.if-n-froms in
-    let if2 = c.if-n-most in
-    let read-tos = c.read_tos in
-    (λ a b. list_read a b _ args.tos.now read-tos.new.tos read-tos.result if1.false if2.false read-tos.ensures)
+returns c = (λ a b. list_read a b _ c.args.tos.now c.read_tos.new.tos c.read_tos.result c.if-n-froms.false c.if-n-most.false c.read_tos.ensures)

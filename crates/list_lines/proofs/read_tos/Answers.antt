@@ -6,26 +6,12 @@ pub loop-at-init : goal.loop-at-init
 loop-at-init c = reading_start _ _ _
 
 pub returns-then-is_among : goal.returns-then-is_among
-returns-then-is_among c =
-    let loop' = c.loop-at in
-    let loop-test = c.loop-at-test in
-    let line-end = c.line_end-end in
-    let to-of = c.to_of in
-    let is_among = c.is_among in
-    to_again loop'.invariant loop-test.true line-end.ensures to-of.ensures c.in-Of.is is_among.ensures c.if-is_among.true
+returns-then-is_among c = to_again c.loop-at.invariant c.loop-at-test.true c.line_end-end.ensures c.to_of.ensures c.in-Of.is c.is_among.ensures c.if-is_among.true
 
 pub loop-at-preserved : goal.loop-at-preserved
 loop-at-preserved c =
-    let loop' = c.loop-at in
-    let loop-test = c.loop-at-test in
-    let line-end = c.line_end-end in
-    let to-of = c.to_of in
-    let if1 = c.if-most-to in
-    let is_among = c.is_among in
-    let if2 = c.if-is_among in
-    let narrow = c.narrow in
-    let Store-word = c.store_word in
-    reading_next loop'.invariant loop-test.true line-end.ensures to-of.ensures c.in-Of.is if1.false is_among.ensures if2.false narrow.ensures Store-word.ensures
+    reading_next c.loop-at.invariant c.loop-at-test.true c.line_end-end.ensures c.to_of.ensures c.in-Of.is c.if-most-to.false c.is_among.ensures c.if-is_among.false c.narrow.ensures
+    c.store_word.ensures
 
 pub returns : goal.returns
 returns c = reading_end c.loop-at.invariant c.loop-at-test.false

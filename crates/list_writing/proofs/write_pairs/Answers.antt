@@ -7,11 +7,4 @@ loop-k-init c = pairs_start _ _ _ _ _ _
 
 pub loop-k-preserved : goal.loop-k-preserved
 loop-k-preserved c =
-    let pre = c.requires in
-    let loop' = c.loop-k in
-    let loop-test = c.loop-k-test in
-    let word_at = c.word_at in
-    let wide = c.wide in
-    let write-clause = c.write_clause-end in
-    pairs_next loop'.invariant loop-test.true pre.1 word_at.ensures wide.ensures.value write-clause.ensures write-clause.auto.s
-    write-clause.auto.q
+    pairs_next c.loop-k.invariant c.loop-k-test.true c.requires.1 c.word_at.ensures c.wide.ensures.value c.write_clause-end.ensures c.write_clause-end.auto.s c.write_clause-end.auto.q

@@ -6,46 +6,24 @@ use Rattle.number_values.proofs.+count_values.Goals as goal
 
 pub returns-then-kind-eq-SUM : goal.returns-then-kind-eq-SUM
 returns-then-kind-eq-SUM t c =
-    let args = c.args in
-    let cell = c.cell-kind in
-    let if2 = c.if-kind-eq-SUM in
-    let cell2 = c.cell in
-    let smaller = c.smaller in
-    let count-values = c.count_values-a in
-    let cell3 = c.cell-then-kind-eq-SUM in
-    let smaller2 = c.smaller-then-kind-eq-SUM in
-    let count-values2 = c.count_values-b in
-    let a = (args) in
+    let a = (c.args) in
     counts_as (c.both.result)
-    (line_sum a.t.now a.i (cell.ensures.0) (part_of a.i (cell2.ensures.0) (smaller.ensures)) (part_of a.i (cell3.ensures.0) (smaller2.ensures))
-    (if2.true)) (counts_sum (type_of a.t.now (smaller.result)) (type_of a.t.now (smaller2.result)) (count-values.ensures) (count-values2.ensures) (c.both.ensures))
+    (line_sum a.t.now a.i (c.cell-kind.ensures.0) (part_of a.i (c.cell.ensures.0) (c.smaller.ensures)) (part_of a.i (c.cell-then-kind-eq-SUM.ensures.0) (c.smaller-then-kind-eq-SUM.ensures))
+    (c.if-kind-eq-SUM.true))
+    (counts_sum (type_of a.t.now (c.smaller.result)) (type_of a.t.now (c.smaller-then-kind-eq-SUM.result)) (c.count_values-a.ensures) (c.count_values-b.ensures) (c.both.ensures))
 
 pub returns-then-kind-eq-PRODUCT : goal.returns-then-kind-eq-PRODUCT
 returns-then-kind-eq-PRODUCT t c =
-    let args = c.args in
-    let cell = c.cell-kind in
-    let if3 = c.if-kind-eq-PRODUCT in
-    let cell4 = c.cell-then-kind-eq-PRODUCT in
-    let smaller3 = c.smaller-then-kind-eq-PRODUCT in
-    let count-values3 = c.count_values-a-then-kind-eq-PRODUCT in
-    let cell5 = c.cell-then-kind-eq-PRODUCT-2 in
-    let smaller4 = c.smaller-then-kind-eq-PRODUCT-2 in
-    let count-values4 = c.count_values-b-then-kind-eq-PRODUCT in
-    let a = (args) in
+    let a = (c.args) in
     counts_as (c.pairs.result)
-    (line_product a.t.now a.i (cell.ensures.0) (part_of a.i (cell4.ensures.0) (smaller3.ensures)) (part_of a.i (cell5.ensures.0) (smaller4.ensures))
-    (if3.true)) (counts_product (type_of a.t.now (smaller3.result)) (type_of a.t.now (smaller4.result)) (count-values3.ensures) (count-values4.ensures) (c.pairs.ensures))
+    (line_product a.t.now a.i (c.cell-kind.ensures.0) (part_of a.i (c.cell-then-kind-eq-PRODUCT.ensures.0) (c.smaller-then-kind-eq-PRODUCT.ensures))
+    (part_of a.i (c.cell-then-kind-eq-PRODUCT-2.ensures.0) (c.smaller-then-kind-eq-PRODUCT-2.ensures))
+    (c.if-kind-eq-PRODUCT.true))
+    (counts_product (type_of a.t.now (c.smaller-then-kind-eq-PRODUCT.result)) (type_of a.t.now (c.smaller-then-kind-eq-PRODUCT-2.result)) (c.count_values-a-then-kind-eq-PRODUCT.ensures)
+    (c.count_values-b-then-kind-eq-PRODUCT.ensures) (c.pairs.ensures))
 
 pub returns-then-kind-eq-LIST : goal.returns-then-kind-eq-LIST
-returns-then-kind-eq-LIST t c =
-    let args = c.args in
-    let cell = c.cell-kind in
-    counts_as 4294967296 (line_list args.t.now args.i cell.ensures.0 refl c.if-kind-eq-LIST.true) refl
+returns-then-kind-eq-LIST t c = counts_as 4294967296 (line_list c.args.t.now c.args.i c.cell-kind.ensures.0 refl c.if-kind-eq-LIST.true) refl
 
 pub returns : goal.returns
-returns t c =
-    let args = c.args in
-    let cell = c.cell-kind in
-    let if2 = c.if-kind-eq-SUM in
-    let if3 = c.if-kind-eq-PRODUCT in
-    counts_as 1 (line_other args.t.now args.i cell.ensures.0 if2.false if3.false c.if-kind-eq-LIST.false) refl
+returns t c = counts_as 1 (line_other c.args.t.now c.args.i c.cell-kind.ensures.0 c.if-kind-eq-SUM.false c.if-kind-eq-PRODUCT.false c.if-kind-eq-LIST.false) refl

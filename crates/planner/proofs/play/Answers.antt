@@ -3,6 +3,5 @@ use Rattle.planner.proofs.play.Goals as goal
 
 pub returns : goal.returns
 returns c =
-    let a = c.args in
-    let p = c.play_marked-p in
-    play_says a.file.now a.table.now a.work.now a.lines.now a.settings.now a.script.now a.budget a.tally.now p.result p.ensures c.count_visits.ensures
+    play_says c.args.file.now c.args.table.now c.args.work.now c.args.lines.now c.args.settings.now c.args.script.now c.args.budget c.args.tally.now c.play_marked-p.result
+    c.play_marked-p.ensures c.count_visits.ensures

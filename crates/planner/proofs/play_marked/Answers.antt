@@ -5,50 +5,22 @@ use Rattle.planner.proofs.play_marked.Goals as goal
 
 pub returns-then-is_short : goal.returns-then-is_short
 returns-then-is_short c =
-    let args = c.args in
-    let is-short = c.is_short in
-    let if1 = c.if-is_short in
-    let a = args in let e = c.refused.ensures in marked_short a.file.now a.table.now a.work.now a.lines.now a.settings.now a.script.now a.budget
-    is-short.ensures if1.true c.refused.result e.0 (ap refusal_view e.1) e.2 e.3
+    let e = c.refused.ensures in marked_short c.args.file.now c.args.table.now c.args.work.now c.args.lines.now c.args.settings.now c.args.script.now c.args.budget
+    c.is_short.ensures c.if-is_short.true c.refused.result e.0 (ap refusal_view e.1) e.2 e.3
 
 pub returns-then-is_long : goal.returns-then-is_long
 returns-then-is_long c =
-    let args = c.args in
-    let is-short = c.is_short in
-    let if1 = c.if-is_short in
-    let count-lines = c.count_lines-n in
-    let is-long = c.is_long in
-    let if2 = c.if-is_long in
-    let a = args in let e = c.refused-then-is_long.ensures in marked_long a.file.now a.table.now a.work.now a.lines.now a.settings.now a.script.now a.budget
-    is-short.ensures if1.false count-lines.ensures is-long.ensures if2.true c.refused-then-is_long.result e.0 (ap refusal_view e.1) e.2 e.3
+    let e = c.refused-then-is_long.ensures in marked_long c.args.file.now c.args.table.now c.args.work.now c.args.lines.now c.args.settings.now c.args.script.now c.args.budget
+    c.is_short.ensures c.if-is_short.false c.count_lines-n.ensures c.is_long.ensures c.if-is_long.true c.refused-then-is_long.result e.0 (ap refusal_view e.1) e.2 e.3
 
 pub returns-then-is_refused : goal.returns-then-is_refused
 returns-then-is_refused c =
-    let args = c.args in
-    let is-short = c.is_short in
-    let if1 = c.if-is_short in
-    let count-lines = c.count_lines-n in
-    let is-long = c.is_long in
-    let if2 = c.if-is_long in
-    let check-file = c.check_file-c in
-    let is-refused = c.is_refused in
-    let if3 = c.if-is_refused in
-    let a = args in let e = c.refused-then-is_refused.ensures in marked_refused a.file.now a.table.now a.work.now a.lines.now a.settings.now a.script.now a.budget
-    is-short.ensures if1.false count-lines.ensures is-long.ensures if2.false check-file.result check-file.ensures.0 is-refused.ensures if3.true
+    let e = c.refused-then-is_refused.ensures in marked_refused c.args.file.now c.args.table.now c.args.work.now c.args.lines.now c.args.settings.now c.args.script.now c.args.budget
+    c.is_short.ensures c.if-is_short.false c.count_lines-n.ensures c.is_long.ensures c.if-is_long.false c.check_file-c.result c.check_file-c.ensures.0 c.is_refused.ensures c.if-is_refused.true
     c.refused-then-is_refused.result e.0 e.1 e.2 e.3
 
 pub returns : goal.returns
 returns c =
-    let args = c.args in
-    let is-short = c.is_short in
-    let if1 = c.if-is_short in
-    let count-lines = c.count_lines-n in
-    let is-long = c.is_long in
-    let if2 = c.if-is_long in
-    let check-file = c.check_file-c in
-    let is-refused = c.is_refused in
-    let if3 = c.if-is_refused in
-    let play-accepted = c.play_accepted-g in
-    let a = args in let e = c.settled.ensures in marked_played a.file.now a.table.now a.work.now a.lines.now a.settings.now a.script.now a.budget
-    is-short.ensures if1.false count-lines.ensures is-long.ensures if2.false check-file.result check-file.ensures.0 is-refused.ensures if3.false
-    check-file.ensures.1 play-accepted.ensures c.settled.result e.0 e.1 e.2 e.3
+    let e = c.settled.ensures in marked_played c.args.file.now c.args.table.now c.args.work.now c.args.lines.now c.args.settings.now c.args.script.now c.args.budget
+    c.is_short.ensures c.if-is_short.false c.count_lines-n.ensures c.is_long.ensures c.if-is_long.false c.check_file-c.result c.check_file-c.ensures.0 c.is_refused.ensures c.if-is_refused.false
+    c.check_file-c.ensures.1 c.play_accepted-g.ensures c.settled.result e.0 e.1 e.2 e.3

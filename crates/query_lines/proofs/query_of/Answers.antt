@@ -7,18 +7,8 @@ returns-then-s-gt-QUERY_LENGTH c = too_long_lem c.args.s.now c.if-s-gt-QUERY_LEN
 
 pub returns-in-Past : goal.returns-in-Past
 returns-in-Past c =
-    let s = c.args.s.now in
-    text_query
-    s
-    c.if-s-gt-QUERY_LENGTH.false
-    c.in-Past.c.at
-    c.query_in.result
-    (text_past s _ _ c.in-Past.is c.before_ending.ensures)
-    c.front.ensures
-    c.query_in.ensures.0
-    c.query_in.ensures.1
+    text_query c.args.s.now c.if-s-gt-QUERY_LENGTH.false c.in-Past.c.at c.query_in.result (text_past c.args.s.now _ _ c.in-Past.is c.before_ending.ensures) c.front.ensures
+    c.query_in.ensures.0 c.query_in.ensures.1
 
 pub returns-in-Other : goal.returns-in-Other
-returns-in-Other c =
-    let s = c.args.s.now in
-    no_ending s c.if-s-gt-QUERY_LENGTH.false (text_other s _ c.in-Other.is c.before_ending.ensures)
+returns-in-Other c = no_ending c.args.s.now c.if-s-gt-QUERY_LENGTH.false (text_other c.args.s.now _ c.in-Other.is c.before_ending.ensures)

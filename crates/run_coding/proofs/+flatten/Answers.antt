@@ -6,62 +6,27 @@ use Rattle.run_coding.proofs.+flatten.Goals as goal
 
 pub returns-then-kind-eq-VARIABLE : goal.returns-then-kind-eq-VARIABLE
 returns-then-kind-eq-VARIABLE t c =
-    let args = c.args in
-    let pattern-cell = c.pattern_cell-kind in
-    let if1 = c.if-kind-eq-VARIABLE in
-    let pattern-cell2 = c.pattern_cell in
-    let put-variable = c.put_variable in
-    flatten_variable args.t.now args.base args.j pattern-cell.ensures.0 if1.true pattern-cell2.ensures.0 put-variable.ensures
+    flatten_variable c.args.t.now c.args.base c.args.j c.pattern_cell-kind.ensures.0 c.if-kind-eq-VARIABLE.true c.pattern_cell.ensures.0 c.put_variable.ensures
 
 pub returns-then-middle-eq0 : goal.returns-then-middle-eq0
-returns-then-middle-eq0 t c =
-    let put-number = c.put_number-next in
-    let if2 = c.if-next-eq0 in
-    let flatten = c.flatten-middle in
-    half_none put-number.ensures (positive if2.false) flatten.ensures.before
+returns-then-middle-eq0 t c = half_none c.put_number-next.ensures (positive c.if-next-eq0.false) c.flatten-middle.ensures.before
 
 pub returns-else-middle-eq0 : goal.returns-else-middle-eq0
 returns-else-middle-eq0 t c =
-    let args = c.args in
-    let pattern-cell = c.pattern_cell-kind in
-    let letter = c.letter in
-    let put-number = c.put_number-next in
-    let if2 = c.if-next-eq0 in
-    let part = c.part in
-    let flatten = c.flatten-middle in
-    let if3 = c.if-middle-eq0 in
-    let part2 = c.part-in-4 in
-    let flatten2 = c.flatten in
-    flatten_node args.t.now args.base args.j pattern-cell.ensures.0 letter.ensures put-number.ensures (positive if2.false) part.ensures flatten.ensures
-    (joins_key c.in-4.is) part2.ensures (positive if3.false) flatten.auto.code flatten2.ensures
+    flatten_node c.args.t.now c.args.base c.args.j c.pattern_cell-kind.ensures.0 c.letter.ensures c.put_number-next.ensures (positive c.if-next-eq0.false) c.part.ensures
+    c.flatten-middle.ensures (joins_key c.in-4.is) c.part-in-4.ensures (positive c.if-middle-eq0.false) c.flatten-middle.auto.code c.flatten.ensures
 
 pub returns-in-2 : goal.returns-in-2
 returns-in-2 t c =
-    let args = c.args in
-    let pattern-cell = c.pattern_cell-kind in
-    let letter = c.letter in
-    let put-number = c.put_number-next in
-    let if2 = c.if-next-eq0 in
-    let part3 = c.part-in-2 in
-    let flatten3 = c.flatten-in-2 in
-    flatten_tag args.t.now args.base args.j pattern-cell.ensures.0 letter.ensures put-number.ensures (positive if2.false) part3.ensures flatten3.ensures
-    (injects pattern-cell.result (omega arith) (omega arith))
+    flatten_tag c.args.t.now c.args.base c.args.j c.pattern_cell-kind.ensures.0 c.letter.ensures c.put_number-next.ensures (positive c.if-next-eq0.false) c.part-in-2.ensures
+    c.flatten-in-2.ensures (injects c.pattern_cell-kind.result (omega arith) (omega arith))
 
 pub returns-in_default : goal.returns-in_default
 returns-in_default t c =
-    let args = c.args in
-    let pattern-cell = c.pattern_cell-kind in
-    let if1 = c.if-kind-eq-VARIABLE in
-    let letter = c.letter in
-    let put-number = c.put_number-next in
-    flatten_leaf args.t.now args.base args.j pattern-cell.ensures.0 letter.ensures put-number.ensures if1.false (leaf_below pattern-cell.result (omega arith))
+    flatten_leaf c.args.t.now c.args.base c.args.j c.pattern_cell-kind.ensures.0 c.letter.ensures c.put_number-next.ensures c.if-kind-eq-VARIABLE.false
+    (leaf_below c.pattern_cell-kind.result (omega arith))
 
 pub returns-in_default-2 : goal.returns-in_default-2
 returns-in_default-2 t c =
-    let args = c.args in
-    let pattern-cell = c.pattern_cell-kind in
-    let if1 = c.if-kind-eq-VARIABLE in
-    let letter = c.letter in
-    let put-number = c.put_number-next in
-    flatten_leaf args.t.now args.base args.j pattern-cell.ensures.0 letter.ensures put-number.ensures if1.false
-    (leaf_high pattern-cell.result (omega arith) c.in_default.in_default-own.rest.1)
+    flatten_leaf c.args.t.now c.args.base c.args.j c.pattern_cell-kind.ensures.0 c.letter.ensures c.put_number-next.ensures c.if-kind-eq-VARIABLE.false
+    (leaf_high c.pattern_cell-kind.result (omega arith) c.in_default.in_default-own.rest.1)

@@ -6,33 +6,15 @@ use Rattle.run_coding.proofs.code_line.Goals as goal
 
 pub returns-then-pattern_cell-eq-VARIABLE : goal.returns-then-pattern_cell-eq-VARIABLE
 returns-then-pattern_cell-eq-VARIABLE c =
-    let pre = c.requires in
-    let args = c.args in
-    let pattern-cell = c.pattern_cell in
-    let if1 = c.if-pattern_cell-eq-VARIABLE in
-    let pattern-cell2 = c.pattern_cell-n in
-    let variable-number = c.variable_number in
-    let Store-word = c.store_word in
-    line_var args.t.now args.base args.j pattern-cell.ensures.0 if1.true pattern-cell2.ensures.0 variable-number.ensures refl Store-word.ensures pre.0 pre.2
+    line_var c.args.t.now c.args.base c.args.j c.pattern_cell.ensures.0 c.if-pattern_cell-eq-VARIABLE.true c.pattern_cell-n.ensures.0 c.variable_number.ensures refl c.store_word.ensures
+    c.requires.0 c.requires.2
 
 pub returns-then-next-eq0 : goal.returns-then-next-eq0
 returns-then-next-eq0 c =
-    let pre = c.requires in
-    let args = c.args in
-    let flatten = c.flatten-end in
-    let put-stop = c.put_stop-next in
-    let store-word2 = c.store_word-then-next-eq0 in
-    line_none _ args.j flatten.ensures put-stop.ensures.0 put-stop.ensures.2 refl store-word2.ensures pre.0
-    (let a = put-stop.auto.code in let b = flatten.auto.code in let l = pre.2 in omega (arith, a, b, l))
+    line_none _ c.args.j c.flatten-end.ensures c.put_stop-next.ensures.0 c.put_stop-next.ensures.2 refl c.store_word-then-next-eq0.ensures c.requires.0
+    (let a = c.put_stop-next.auto.code in let b = c.flatten-end.auto.code in let l = c.requires.2 in omega (arith, a, b, l))
 
 pub returns : goal.returns
 returns c =
-    let pre = c.requires in
-    let args = c.args in
-    let flatten = c.flatten-end in
-    let put-stop = c.put_stop-next in
-    let if2 = c.if-next-eq0 in
-    let narrow = c.narrow in
-    let store-word3 = c.store_word-2 in
-    line_flat _ args.j flatten.ensures put-stop.ensures.0 (put-stop.ensures.1 (positive if2.false)) (positive if2.false) refl narrow.ensures store-word3.ensures
-    pre.0 pre.1 flatten.auto.code
+    line_flat _ c.args.j c.flatten-end.ensures c.put_stop-next.ensures.0 (c.put_stop-next.ensures.1 (positive c.if-next-eq0.false)) (positive c.if-next-eq0.false) refl c.narrow.ensures
+    c.store_word-2.ensures c.requires.0 c.requires.1 c.flatten-end.auto.code

@@ -9,38 +9,26 @@ pub loop-k-init : goal.loop-k-init
 loop-k-init c = (λ q v st a e. before_start _ st a e, refl)
 
 pub loop-k-preserved-then-o-lt-LETTERS_FROM : goal.loop-k-preserved-then-o-lt-LETTERS_FROM
-loop-k-preserved-then-o-lt-LETTERS_FROM c =
-    let loop' = c.loop-k in
-    let if1 = c.if-o-lt-LETTERS_FROM in
-    let flat-end = c.flat_end-to in
-    let wide = c.wide in
-    let put-range = c.put_range in
-    (λ q v st a e. var_next (loop'.invariant.0 q v st a e) refl if1.true wide.ensures.value flat-end.ensures put-range.ensures, put-range.auto.vars ∙ loop'.invariant.1)
+loop-k-preserved-then-o-lt-LETTERS_FROM c = (
+  λ q v st a e. var_next (c.loop-k.invariant.0 q v st a e) refl c.if-o-lt-LETTERS_FROM.true c.wide.ensures.value c.flat_end-to.ensures c.put_range.ensures,
+  c.put_range.auto.vars
+      ∙ c.loop-k.invariant.1,
+)
 
 pub returns-then-o-eq-STOP : goal.returns-then-o-eq-STOP
 returns-then-o-eq-STOP c = λ q v st a e. at_stop (c.loop-k.invariant.0 q v st a e) c.if-o-eq-STOP.true
 
 pub returns-then-s-at : goal.returns-then-s-at
 returns-then-s-at c =
-    let loop' = c.loop-k in
-    let if2 = c.if-o-eq-STOP in
-    λ q v st a e. let w = letter_within (loop'.invariant.0 q v st a e) refl if2.false in absurd (omega (arith, w, c.if-s-at.true))
+    λ q v st a e. let w = letter_within (c.loop-k.invariant.0 q v st a e) refl c.if-o-eq-STOP.false in absurd (omega (arith, w, c.if-s-at.true))
 
 pub returns-then-word_of-o : goal.returns-then-word_of-o
 returns-then-word_of-o c =
-    let loop' = c.loop-k in
-    let if1 = c.if-o-lt-LETTERS_FROM in
-    let if2 = c.if-o-eq-STOP in
-    let word_of = c.word_of in
-    λ q v st a e. letter_differs (loop'.invariant.0 q v st a e) refl if1.false if2.false (λ z. c.if-word_of-o.true (word_of.ensures ∙ z))
+    λ q v st a e. letter_differs (c.loop-k.invariant.0 q v st a e) refl c.if-o-lt-LETTERS_FROM.false c.if-o-eq-STOP.false (λ z. c.if-word_of-o.true (c.word_of.ensures ∙ z))
 
 pub loop-k-preserved : goal.loop-k-preserved
 loop-k-preserved c =
-    let loop' = c.loop-k in
-    let if1 = c.if-o-lt-LETTERS_FROM in
-    let if2 = c.if-o-eq-STOP in
-    let word_of = c.word_of in
-    (λ q v st a e. letter_next (loop'.invariant.0 q v st a e) refl if1.false if2.false (sym word_of.ensures ∙ c.if-word_of-o.false), loop'.invariant.1)
+    (λ q v st a e. letter_next (c.loop-k.invariant.0 q v st a e) refl c.if-o-lt-LETTERS_FROM.false c.if-o-eq-STOP.false (sym c.word_of.ensures ∙ c.if-word_of-o.false), c.loop-k.invariant.1)
 
 pub returns : goal.returns
 returns c = λ q v st a e. let w = code_within (c.loop-k.invariant.0 q v st a e) in absurd (omega (arith, w, c.loop-k-test.false))

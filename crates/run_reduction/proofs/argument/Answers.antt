@@ -5,22 +5,13 @@ use Rattle.run_reduction.proofs.argument.Goals as goal
 
 pub returns-then-n-lt-VARIABLES : goal.returns-then-n-lt-VARIABLES
 returns-then-n-lt-VARIABLES c =
-    let args = c.args in
-    let variable = c.variable-n in
-    let if1 = c.if-n-lt-VARIABLES in
-    let range-from = c.range_from-from in
-    λ z. argue_var (pattern_of args.t.now args.base args.j) variable.result _ (variable.ensures.by_index _ _ z if1.true) range-from.ensures c.range_to-to.ensures refl
+    λ z. argue_var (pattern_of c.args.t.now c.args.base c.args.j) c.variable-n.result _ (c.variable-n.ensures.by_index _ _ z c.if-n-lt-VARIABLES.true) c.range_from-from.ensures
+    c.range_to-to.ensures refl
 
 pub returns-then-size-gt-MAX_LETTERS : goal.returns-then-size-gt-MAX_LETTERS
 returns-then-size-gt-MAX_LETTERS c =
-    let args = c.args in
-    let other_length = c.other_length-size in
-    λ z. argue_large (pattern_of args.t.now args.base args.j) _ refl refl c.if-size-gt-MAX_LETTERS.true (other_length.ensures z)
+    λ z. argue_large (pattern_of c.args.t.now c.args.base c.args.j) _ refl refl c.if-size-gt-MAX_LETTERS.true (c.other_length-size.ensures z)
 
 pub returns : goal.returns
 returns c =
-    let args = c.args in
-    let if2 = c.if-size-gt-MAX_LETTERS in
-    let other_length = c.other_length-size in
-    let build-line = c.build_line-end in
-    λ z. argue_built (pattern_of args.t.now args.base args.j) _ refl refl refl if2.false (other_length.ensures z) (build-line.ensures z)
+    λ z. argue_built (pattern_of c.args.t.now c.args.base c.args.j) _ refl refl refl c.if-size-gt-MAX_LETTERS.false (c.other_length-size.ensures z) (c.build_line-end.ensures z)

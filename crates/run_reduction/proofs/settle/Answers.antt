@@ -4,35 +4,16 @@ use Rattle.run_reduction.proofs.settle.Goals as goal
 
 pub returns-then-to-dest-clause-settle_says : goal.returns-then-to-dest-clause-settle_says
 returns-then-to-dest-clause-settle_says c =
-    let args = c.args in
-    let variable = c.variable-n in
-    let if1 = c.if-n-lt-VARIABLES in
-    let range-from = c.range_from-from in
-    let range-to = c.range_to-to in
-    λ z. settle_place (pattern_of args.t.now args.base args.j) variable.result (variable.ensures.by_index _ _ z if1.true) range-from.ensures range-to.ensures
-    c.if-to-dest.true
+    λ z. settle_place (pattern_of c.args.t.now c.args.base c.args.j) c.variable-n.result (c.variable-n.ensures.by_index _ _ z c.if-n-lt-VARIABLES.true) c.range_from-from.ensures
+    c.range_to-to.ensures c.if-to-dest.true
 
 pub returns-then-dest-from-clause-settle_says : goal.returns-then-dest-from-clause-settle_says
 returns-then-dest-from-clause-settle_says c =
-    let args = c.args in
-    let variable = c.variable-n in
-    let if1 = c.if-n-lt-VARIABLES in
-    let range-from = c.range_from-from in
-    let range-to = c.range_to-to in
-    let if3 = c.if-dest-from in
-    let copy-range = c.copy_range-end in
-    λ z. settle_copied (pattern_of args.t.now args.base args.j) variable.result (variable.ensures.by_index _ _ z if1.true) range-from.ensures range-to.ensures
-    if3.true copy-range.ensures.writes_2
+    λ z. settle_copied (pattern_of c.args.t.now c.args.base c.args.j) c.variable-n.result (c.variable-n.ensures.by_index _ _ z c.if-n-lt-VARIABLES.true) c.range_from-from.ensures
+    c.range_to-to.ensures c.if-dest-from.true c.copy_range-end.ensures.writes_2
 
 pub returns-then-top-dest-clause-settle_says : goal.returns-then-top-dest-clause-settle_says
-returns-then-top-dest-clause-settle_says c =
-    let args = c.args in
-    let build-again = c.build_again-last in
-    λ z. settle_built (pattern_of args.t.now args.base args.j) c.if-top-dest.true (build-again.ensures z)
+returns-then-top-dest-clause-settle_says c = λ z. settle_built (pattern_of c.args.t.now c.args.base c.args.j) c.if-top-dest.true (c.build_again-last.ensures z)
 
 pub returns-clause-settle_says : goal.returns-clause-settle_says
-returns-clause-settle_says c =
-    let args = c.args in
-    let build-again = c.build_again-last in
-    let copy-range2 = c.copy_range-end-2 in
-    λ z. settle_moved (pattern_of args.t.now args.base args.j) (build-again.ensures z) copy-range2.ensures.writes_2
+returns-clause-settle_says c = λ z. settle_moved (pattern_of c.args.t.now c.args.base c.args.j) (c.build_again-last.ensures z) c.copy_range-end-2.ensures.writes_2

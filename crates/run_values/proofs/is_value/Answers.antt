@@ -3,7 +3,4 @@ use Rattle.run_values.proofs.Alone.{alone_place}
 use Rattle.run_values.proofs.is_value.Goals as goal
 
 pub returns-in-Place : goal.returns-in-Place
-returns-in-Place c =
-    let args = c.args in
-    let typed-end = c.typed_end in
-    alone_place (type_of args.t.now args.i) args.value.now c.in-Place.n c.in-Place.is typed-end.ensures
+returns-in-Place c = alone_place (type_of c.args.t.now c.args.i) c.args.value.now c.in-Place.n c.in-Place.is c.typed_end.ensures

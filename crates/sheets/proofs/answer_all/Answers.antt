@@ -4,6 +4,5 @@ use Rattle.sheets.proofs.answer_all.Goals as goal
 
 pub returns-clause-on_accepted : goal.returns-clause-on_accepted
 returns-clause-on_accepted c =
-    let a = c.args in
-    let n = front_length a.room a.work.now c.requires.0 in
+    let n = front_length c.args.room c.args.work.now c.requires.0 in
     λ s x long short. c.answer_lines.ensures x.file (c.prepare.ensures s x (omega arith)) (omega (arith, n, long)) (omega (arith, n, short))

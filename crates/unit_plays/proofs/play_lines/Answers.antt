@@ -7,12 +7,7 @@ loop-at-init c = through_start _ _ _ _ _ _ _ _ _
 
 pub loop-at-preserved : goal.loop-at-preserved
 loop-at-preserved c =
-    let loop' = c.loop-at in
-    let loop-test = c.loop-at-test in
-    let line-end = c.line_end-end in
-    let play-line = c.play_line in
-    through_next loop'.invariant loop-test.true line-end.ensures play-line.ensures play-line.auto.work play-line.auto.lines
-    play-line.auto.settings
+    through_next c.loop-at.invariant c.loop-at-test.true c.line_end-end.ensures c.play_line.ensures c.play_line.auto.work c.play_line.auto.lines c.play_line.auto.settings
 
 pub returns : goal.returns
 returns c = through_end c.loop-at.invariant c.loop-at-test.false

@@ -4,9 +4,5 @@ use Rattle.unit_plays.proofs.script_tested.Goals as goal
 
 pub returns : goal.returns
 returns c =
-    let q = c.args in
-    let prepare = c.prepare in
-    let mark-lists = c.mark_lists in
-    λ s a. script_told q.table.now _ mark-lists.new.marks q.script.now q.c.types q.c.isos q.units a.file c.script_fault.result
-    (prepare.ensures s a (omega arith)) mark-lists.ensures
-    c.script_fault.ensures
+    λ s a. script_told c.args.table.now _ c.mark_lists.new.marks c.args.script.now c.args.c.types c.args.c.isos c.args.units a.file c.script_fault.result
+    (c.prepare.ensures s a (omega arith)) c.mark_lists.ensures c.script_fault.ensures

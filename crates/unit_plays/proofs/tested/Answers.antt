@@ -6,16 +6,9 @@ use Rattle.unit_plays.proofs.tested.Goals as goal
 
 pub returns-then-is_refused : goal.returns-then-is_refused
 returns-then-is_refused c =
-    let q = c.args in
-    let units-fault = c.units_fault-f in
-    let is-refused = c.is_refused in
-    λ s a e. first_fault (units-fault.ensures _ _ _ a.table e) is-refused.ensures (script_fault (length q.lines.now) (isos_of a.file) q.script.now) c.if-is_refused.true
+    λ s a e. first_fault (c.units_fault-f.ensures _ _ _ a.table e) c.is_refused.ensures (script_fault (length c.args.lines.now) (isos_of a.file) c.args.script.now) c.if-is_refused.true
 
 pub returns : goal.returns
 returns c =
-    let q = c.args in
-    let units-fault = c.units_fault-f in
-    let is-refused = c.is_refused in
-    let if1 = c.if-is_refused in
-    λ s a e. second_fault (units-fault.ensures _ _ _ a.table e) is-refused.ensures (script_fault (length q.lines.now) (isos_of a.file) q.script.now) if1.false
+    λ s a e. second_fault (c.units_fault-f.ensures _ _ _ a.table e) c.is_refused.ensures (script_fault (length c.args.lines.now) (isos_of a.file) c.args.script.now) c.if-is_refused.false
     (c.script_tested.ensures s a)

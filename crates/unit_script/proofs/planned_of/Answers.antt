@@ -3,14 +3,7 @@ use Rattle.unit_script.proofs.Line.{in_text, no_ending}
 use Rattle.unit_script.proofs.planned_of.Goals as goal
 
 pub returns-in-Past : goal.returns-in-Past
-returns-in-Past c =
-    let args = c.args in
-    let before-ending = c.before_ending in
-    let front = c.front in
-    let l = args.line.now in in_text l (text_past l _ _ c.in-Past.is before-ending.ensures) front.ensures c.planned_in.ensures
+returns-in-Past c = in_text c.args.line.now (text_past c.args.line.now _ _ c.in-Past.is c.before_ending.ensures) c.front.ensures c.planned_in.ensures
 
 pub returns-in-Other : goal.returns-in-Other
-returns-in-Other c =
-    let args = c.args in
-    let before-ending = c.before_ending in
-    let l = args.line.now in no_ending l (text_other l _ c.in-Other.is before-ending.ensures)
+returns-in-Other c = no_ending c.args.line.now (text_other c.args.line.now _ c.in-Other.is c.before_ending.ensures)

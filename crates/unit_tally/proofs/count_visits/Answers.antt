@@ -20,14 +20,11 @@ tallied_step n i w t h =
 
 pub loop-i-preserved : goal.loop-i-preserved
 loop-i-preserved c =
-    let n = c.args.n in
-    let l = c.loop-i in
-    let marked = c.take_mark-v.ensures in
     record {
       within = omega arith;
-      left = ap (emptied (n - (l.i + 1)) (l.i + 1)) marked.1 ∙ emptied_step n l.i l.work c.loop-i-test.true ∙ l.invariant.left;
+      left = ap (emptied (c.args.n - (c.loop-i.i + 1)) (c.loop-i.i + 1)) c.take_mark-v.ensures.1 ∙ emptied_step c.args.n c.loop-i.i c.loop-i.work c.loop-i-test.true ∙ c.loop-i.invariant.left;
       counted =
-          ap (λ w. tallied (n - (l.i + 1)) (l.i + 1) w c.add_visit.new.t) marked.1
-          ∙ ap (tallied (n - (l.i + 1)) (l.i + 1) (set l.work (place_of l.i) 0)) (c.add_visit.ensures ∙ ap (added_of l.tally) marked.0)
-          ∙ tallied_step n l.i l.work l.tally c.loop-i-test.true ∙ l.invariant.counted;
+          ap (λ w. tallied (c.args.n - (c.loop-i.i + 1)) (c.loop-i.i + 1) w c.add_visit.new.t) c.take_mark-v.ensures.1
+          ∙ ap (tallied (c.args.n - (c.loop-i.i + 1)) (c.loop-i.i + 1) (set c.loop-i.work (place_of c.loop-i.i) 0)) (c.add_visit.ensures ∙ ap (added_of c.loop-i.tally) c.take_mark-v.ensures.0)
+          ∙ tallied_step c.args.n c.loop-i.i c.loop-i.work c.loop-i.tally c.loop-i-test.true ∙ c.loop-i.invariant.counted;
     }

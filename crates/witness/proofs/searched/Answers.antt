@@ -3,11 +3,5 @@ use Rattle.witness.proofs.searched.Goals as goal
 
 pub returns : goal.returns
 returns c =
-    let entered = c.entered-c in
-    let settled = c.settled-d in
-    let show-fault = c.show_fault-n in
-    let number_of = c.number_of-number in
-    let measured = c.measured in
-    searched_says c.args.file.now c.args.table.now c.args.res.now _ _ _ entered.result settled.result show-fault.result
-    c.requires.0 c.requires.1 c.requires.2 entered.ensures settled.ensures number_of.result number_of.ensures
-    show-fault.ensures _ measured.ensures
+    searched_says c.args.file.now c.args.table.now c.args.res.now _ _ _ c.entered-c.result c.settled-d.result c.show_fault-n.result c.requires.0 c.requires.1 c.requires.2 c.entered-c.ensures
+    c.settled-d.ensures c.number_of-number.result c.number_of-number.ensures c.show_fault-n.ensures _ c.measured.ensures

@@ -16,10 +16,7 @@ returns-then-patterns-gt-MAX_LINES c = λ s a h. unprepared a (inr c.if-patterns
 
 pub returns : goal.returns
 returns c =
-    let args = c.args in
-    let code-patterns = c.code_patterns in
-    let index-isos = c.index_isos in
-    λ s a h. let k = same_len_mid 4162 (length args.index.now - 4162) args.index.now code-patterns.new.code code-patterns.auto.code in prepared a
-    (index-isos.ensures.isos_indexed a.file _ _ a.table refl a.isos (omega (arith, k, h)))
-    (coded_behind args.table.now args.c.types args.index.now code-patterns.new.code index-isos.new.index code-patterns.ensures h
-    (index-isos.ensures.index_unchanged (isos_within a)))
+    λ s a h. let k = same_len_mid 4162 (length c.args.index.now - 4162) c.args.index.now c.code_patterns.new.code c.code_patterns.auto.code in prepared a
+    (c.index_isos.ensures.isos_indexed a.file _ _ a.table refl a.isos (omega (arith, k, h)))
+    (coded_behind c.args.table.now c.args.c.types c.args.index.now c.code_patterns.new.code c.index_isos.new.index c.code_patterns.ensures h
+    (c.index_isos.ensures.index_unchanged (isos_within a)))

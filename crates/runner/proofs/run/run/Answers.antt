@@ -5,25 +5,17 @@ use Rattle.runner.proofs.run.run.Goals as goal
 
 pub returns-then-res-lt-RESULT_LENGTH : goal.returns-then-res-lt-RESULT_LENGTH
 returns-then-res-lt-RESULT_LENGTH c =
-    let if1 = c.if-res-lt-RESULT_LENGTH in
-    let a = c.args in
-    short_result a.file.now a.table.now a.work.now a.i a.back a.budget a.value.now a.res.now c.refused.result if1.true
+    short_result c.args.file.now c.args.table.now c.args.work.now c.args.i c.args.back c.args.budget c.args.value.now c.args.res.now c.refused.result c.if-res-lt-RESULT_LENGTH.true
     (ap refusal_view c.refused.ensures.0) c.refused.ensures.1 c.refused.ensures.2
 
 pub returns-then-is_refused : goal.returns-then-is_refused
 returns-then-is_refused c =
-    let is-refused = c.is_refused in
-    let if2 = c.if-is_refused in
-    let a = c.args in
-    run_refused a.file.now a.table.now a.work.now a.i a.back a.budget a.value.now a.res.now _ _ _ c.refused-then-is_refused.result _ c.if-res-lt-RESULT_LENGTH.false
-    c.check_file-c.ensures.0 is-refused.ensures if2.true
-    c.refused-then-is_refused.ensures.0 c.refused-then-is_refused.ensures.1 c.refused-then-is_refused.ensures.2
+    run_refused c.args.file.now c.args.table.now c.args.work.now c.args.i c.args.back c.args.budget c.args.value.now c.args.res.now _ _ _ c.refused-then-is_refused.result _
+    c.if-res-lt-RESULT_LENGTH.false c.check_file-c.ensures.0 c.is_refused.ensures c.if-is_refused.true c.refused-then-is_refused.ensures.0 c.refused-then-is_refused.ensures.1
+    c.refused-then-is_refused.ensures.2
 
 pub returns : goal.returns
 returns c =
-    let clear-bytes = c.clear_bytes in
-    let a = c.args in
-    run_accepted a.file.now a.table.now a.work.now a.i a.back a.budget a.value.now a.res.now _ _ c.run_accepted-r.new.work _ _
-    c.check_file-c.result _ _ c.if-res-lt-RESULT_LENGTH.false c.check_file-c.auto.work c.check_file-c.ensures.0 c.check_file-c.ensures.1
-    c.is_refused.ensures c.if-is_refused.false c.run_accepted-r.auto.work c.run_accepted-r.ensures.work_unchanged
-    c.run_accepted-r.ensures.on_accepted clear-bytes.ensures
+    run_accepted c.args.file.now c.args.table.now c.args.work.now c.args.i c.args.back c.args.budget c.args.value.now c.args.res.now _ _ c.run_accepted-r.new.work _ _ c.check_file-c.result _
+    _ c.if-res-lt-RESULT_LENGTH.false c.check_file-c.auto.work c.check_file-c.ensures.0 c.check_file-c.ensures.1 c.is_refused.ensures c.if-is_refused.false c.run_accepted-r.auto.work
+    c.run_accepted-r.ensures.work_unchanged c.run_accepted-r.ensures.on_accepted c.clear_bytes.ensures

@@ -4,7 +4,5 @@ use Rattle.runner.proofs.run.run_accepted.Goals as goal
 
 pub returns-clause-on_accepted : goal.returns-clause-on_accepted
 returns-clause-on_accepted c =
-    let a = c.args in
-    let h = c.requires in
-    let n = front_length a.room a.work.now h in
+    let n = front_length c.args.room c.args.work.now c.requires in
     λ s x long short result. (c.run_checked.ensures x.file (c.prepare.ensures s x (omega arith)) (omega (arith, n, long)) (omega (arith, n, short)) result).0
