@@ -1,5 +1,5 @@
-// Element access over lent areas of bytes and of 32-bit numbers, total: reading past the end gives 0,
-// storing past the end changes nothing, and callers owe no index. Both as places, and places as both.
+// Element access over lent areas, total: reading past the end gives what the caller names, storing past the
+// end changes nothing, and callers owe no index. Bytes and 32-bit numbers as places, and places as both.
 #![tactic(auto)]
 
 ghost use Rattle.std.specs.Prelude.{◌≡◌, cond, suc, ◌<◌, ◌%◌, ltb, length, get_or, set};
@@ -7,20 +7,19 @@ ghost use Rattle.limits.specs.Limits.{budget_bound};
 
 use limits::NUMBER_BOUND;
 
-pub fn byte_at(bytes: &[u8], i: usize) -> u8
-    ensures { result ≡ get_or bytes.now i 0 }
+// Element i, or `none` past the end.
+pub fn item_at<T: Copy>(items: &[T], i: usize, none: T) -> T
+    ensures { result ≡ get_or items.now i none }
 {
-    if i < bytes.len() {
-        return bytes[i];
-    }
-    0u8
+    items.get(i).copied().unwrap_or(none)
 }
 
-pub fn store_number(numbers: &mut [u32], i: usize, v: u32)
-    ensures { numbers.new ≡ set numbers.old i v }
+// Stores element i, past the end nothing.
+pub fn store<T: Copy>(items: &mut [T], i: usize, v: T)
+    ensures { items.new ≡ set items.old i v }
 {
-    if i < numbers.len() {
-        numbers[i] = v;
+    if i < items.len() {
+        items[i] = v;
     }
 }
 

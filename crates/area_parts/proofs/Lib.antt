@@ -1,4 +1,2 @@
--- The front of an area, and what lies behind it.
-pub mod Parts
--- A front part filled with zeros, for both widths.
-pub mod Filled
+-- A front part filled, element by element.
+mod Filled

@@ -2,52 +2,28 @@
 #![tactic(auto)]
 
 ghost use Rattle.std.specs.Prelude.{◌≡◌, min, take, drop};
-ghost use Rattle.area_parts.specs.Cleared.{cleared};
-
-fn least(a: usize, b: usize) -> usize
-    ensures { result ≡ min a b }
-{
-    if a < b {
-        return a;
-    }
-    b
-}
+ghost use Rattle.area_parts.specs.Cleared.{filled};
 
 // The first n bytes, all of them where there are fewer.
 pub fn front(bytes: &[u8], n: usize) -> &[u8]
     ensures { result.now ≡ take n bytes.now }
 {
-    let end = least(n, bytes.len());
-    &bytes[0..end]
+    &bytes[..n.min(bytes.len())]
 }
 
 // The bytes from a place on, none where there are fewer.
 pub fn tail(bytes: &[u8], from: usize) -> &[u8]
     ensures { result.now ≡ drop from bytes.now }
 {
-    let start = least(from, bytes.len());
-    &bytes[start..]
+    &bytes[from.min(bytes.len())..]
 }
 
-// The first n elements become 0, all of them where there are fewer.
-pub fn clear_words(words: &mut [u16], n: usize)
-    ensures { words.new ≡ cleared n words.old }
+// The first n elements become `zero`, all of them where there are fewer.
+pub fn clear<T: Copy>(items: &mut [T], n: usize, zero: T)
+    ensures { items.new ≡ filled zero n items.old }
 {
-    let most = least(n, words.len());
-    let mut i: usize = 0;
-    while i < most {
-        words[i] = 0;
-        i += 1;
-    }
-}
-
-pub fn clear_bytes(bytes: &mut [u8], n: usize)
-    ensures { bytes.new ≡ cleared n bytes.old }
-{
-    let most = least(n, bytes.len());
-    let mut i: usize = 0;
-    while i < most {
-        bytes[i] = 0;
-        i += 1;
+    let most = n.min(items.len());
+    for item in items[..most].iter_mut() {
+        *item = zero;
     }
 }

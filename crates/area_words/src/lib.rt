@@ -1,27 +1,10 @@
-// The 16-bit words of a lent area, read and stored as the areas' elements are, and as places.
+// The 16-bit words of a lent area as places and as bytes, and both as words.
 #![tactic(auto)]
 
 ghost use Rattle.std.specs.Prelude.{◌≡◌, ◌%◌, ◌<◌, get_or, set};
 ghost use Rattle.limits.specs.Limits.{word_bound};
 
 use limits::WORD_BOUND;
-
-pub fn word_at(words: &[u16], i: usize) -> u16
-    ensures { result ≡ get_or words.now i 0 }
-{
-    if i < words.len() {
-        return words[i];
-    }
-    0u16
-}
-
-pub fn store_word(words: &mut [u16], i: usize, v: u16)
-    ensures { words.new ≡ set words.old i v }
-{
-    if i < words.len() {
-        words[i] = v;
-    }
-}
 
 // A number of 16 bits as a place.
 pub fn wide(n: u16) -> usize

@@ -1,5 +1,5 @@
 -- What the loops of the crate have reckoned so far: sums over L rows, the least and the greatest over clauses, the numbers of the isos in order.
-use Prim.Native.Nat.{ℕ, zero, suc, ◌+◌, ◌-◌, ◌≤◌, ◌<◌, min, max}
+use Prim.Native.Nat.{ℕ, zero, suc, ◌+◌, ◌-◌, ◌≤◌, ◌<◌, min}
 use native.Mathlib.Omega.{arith}
 use mathlib.Core.Path.{◌≡◌, refl, sym, ap, ap₂, ◌∙◌, subst}
 use mathlib.Core.Bool.{Bool, true, false}
@@ -20,17 +20,16 @@ sum_of t base ks n count = total (map (let_cost ks) (lets_in t base n count))
 
 -- the sum over the L rows from n on
 pub record Summed (t known : List ℕ) (row end n sum : ℕ) : Type 0 where
-  pub low : row ≤ n
+  pub low : min row end ≤ n
   pub high : n ≤ end
   pub is : (base : ℕ) (ks : List ℕ) → Holds known ks → sum ≡ min (total (map (let_cost ks) (lets_in t base n (end - n)))) cap
 
-pub no_sum : (t known : List ℕ) (row end : ℕ) → end ≤ row → (base : ℕ) (ks : List ℕ) → Holds known ks
-    → 0 ≡ min (total (map (let_cost ks) (lets_in t base row (end - row)))) cap
-no_sum t known row end h base ks k =
-    let z : 0 ≡ end - row = omega arith in ap (λ c. min (sum_of t base ks row c) cap) z
-
-pub summed_start : (t known : List ℕ) (row end : ℕ) → row ≤ end → Summed t known row end end 0
-summed_start t known row end h = record { low = h; high = omega arith; is = no_sum t known end end (omega arith) }
+pub summed_start : (t known : List ℕ) (row end : ℕ) → Summed t known row end end 0
+summed_start t known row end = record { low = omega arith; high = omega arith; is = no_sum }
+  where
+    no_sum : (base : ℕ) (ks : List ℕ) → Holds known ks → 0 ≡ min (sum_of t base ks end (end - end)) cap
+    no_sum base ks k =
+        let z : 0 ≡ end - end = omega arith in ap (λ c. min (sum_of t base ks end c) cap) z
 
 pub summed_step : {t known : List ℕ} {row end n sum : ℕ} → Summed t known row end n sum → row < n → (x y sum' : ℕ)
     → x ≡ cell_of t (n - 1) 2 → y ≡ get_or known x 0 → sum' ≡ min (min y cap + min sum cap) cap → Summed t known row end (n - 1) sum'
@@ -55,9 +54,14 @@ summed_step {t} {known} {row} {end} {n} {sum} s h x y sum' ex ey es =
 pub summed_end : {t known : List ℕ} {row end n sum : ℕ} → Summed t known row end n sum → n ≤ row → (base : ℕ) (ks : List ℕ) → Holds known ks
     → sum ≡ min (total (map (let_cost ks) (lets_in t base row (end - row)))) cap
 summed_end {t} {known} {row} {end} {n} s h base ks k =
-    let b = s.low in
-    let z : n ≡ row = omega arith in
-    s.is base ks k ∙ ap (λ i. min (sum_of t base ks i (end - i)) cap) z
+    s.is base ks k ∙ ap (λ m. min m cap) (all_rows t base ks row end n s.low s.high h (end - row) refl)
+  where
+    all_rows : (t : List ℕ) (base : ℕ) (ks : List ℕ) (row end n : ℕ) → min row end ≤ n → n ≤ end → n ≤ row → (count : ℕ) → count ≡ end - row
+        → sum_of t base ks n (end - n) ≡ sum_of t base ks row (end - row)
+    all_rows t base ks row end n low high h zero e =
+        let none : end - n ≡ 0 = omega arith in ap (sum_of t base ks n) none ∙ ap (sum_of t base ks row) e
+    all_rows t base ks row end n low high h (suc c) e =
+        let z : n ≡ row = omega arith in ap (λ i. sum_of t base ks i (end - i)) z
 
 -- ---- clauses
 

@@ -11,6 +11,7 @@ ghost use Rattle.table_walks.specs.InTable.{lets_in};
 ghost use Rattle.run_index.specs.Index.{clauses_at, clause_at};
 ghost use Rattle.bound_counts.specs.Held.{cap, pick_of, pick_two, ReckonedFrom, AllReckoned};
 
+use area_cells::{item_at, store};
 use codes::LET_ISO;
 use limits::MAX_COUNT;
 use run_direction::place;
@@ -19,57 +20,11 @@ use table_trees::cell;
 // Stands for all numbers above those that are told.
 const CAP: u64 = MAX_COUNT + 1;
 
-// A number, or 4,294,967,296 for all above.
-fn capped(n: u64) -> u64
-    ensures { result ≡ min n cap }
-{
-    if n < CAP {
-        return n;
-    }
-    CAP
-}
-
-// The sum of two numbers that are held so.
+// The sum of two numbers, each held as 4,294,967,296 where it is above, and held so itself.
 fn plus(a: u64, b: u64) -> u64
     ensures { result ≡ min (min a cap + min b cap) cap }
 {
-    capped(capped(a) + capped(b))
-}
-
-fn lesser(a: u64, b: u64) -> u64
-    ensures { result ≡ min a b }
-{
-    if a < b {
-        return a;
-    }
-    b
-}
-
-fn greater(a: u64, b: u64) -> u64
-    ensures { result ≡ max a b }
-{
-    if a < b {
-        return b;
-    }
-    a
-}
-
-// The number of an iso, 0 past the last.
-pub fn number_at(numbers: &[u64], i: usize) -> u64
-    ensures { result ≡ get_or numbers.now i 0 }
-{
-    if i < numbers.len() {
-        return numbers[i];
-    }
-    0
-}
-
-fn store_number(numbers: &mut [u64], i: usize, v: u64)
-    ensures { numbers.new ≡ set numbers.old i v }
-{
-    if i < numbers.len() {
-        numbers[i] = v;
-    }
+    (a.min(CAP) + b.min(CAP)).min(CAP)
 }
 
 // The sum over the L rows from a row up to another, given the numbers of the isos.
@@ -77,14 +32,9 @@ fn let_sum(t: &[u16], known: &[u64], row: usize, end: usize) -> u64
     ensures { ReckonedFrom known.now
         (λ base ks. total (map (let_cost ks) (lets_in t.now base row (end - row)))) result }
 {
-    if end <= row {
-        return 0;
-    }
-    let mut n = end;
     let mut sum: u64 = 0;
-    while row < n {
-        n -= 1;
-        sum = plus(number_at(known, cell(t, n, LET_ISO)), sum);
+    for n in (row..end).rev() {
+        sum = plus(item_at(known, cell(t, n, LET_ISO), 0), sum);
     }
     sum
 }
@@ -100,14 +50,12 @@ fn clause_cost(t: &[u16], known: &[u64], index: &[u16], m: usize) -> u64
     plus(1, let_sum(t, known, row + 1, end))
 }
 
-// The lesser of two numbers or, where the most is asked for, the greater.
+// The lesser of two numbers or, where the most is asked for, the greater. A flag and no closure: `pick_of` in the
+// clause of `best_cost` takes the flag, and a closure would need a clause of its own beside it.
 fn better(most: bool, a: u64, b: u64) -> u64
     ensures { result ≡ pick_two most a b }
 {
-    if most {
-        return greater(a, b);
-    }
-    lesser(a, b)
+    if most { a.max(b) } else { a.min(b) }
 }
 
 // The least or the greatest over the clauses from place m of the index up to another.
@@ -119,10 +67,8 @@ fn best_cost(t: &[u16], known: &[u64], index: &[u16], m: usize, end: usize, most
     if end <= m {
         return 0;
     }
-    let mut n = end - 1;
-    let mut best = clause_cost(t, known, index, n);
-    while m < n {
-        n -= 1;
+    let mut best = clause_cost(t, known, index, end - 1);
+    for n in (m..end - 1).rev() {
         best = better(most, clause_cost(t, known, index, n), best);
     }
     best
@@ -133,14 +79,12 @@ pub fn reckon(t: &[u16], index: &[u16], isos: usize, least: &mut [u64], greatest
     ensures all_reckoned { AllReckoned least_of t.now index.now isos least.old least.new }
     ensures all_reckoned_2 { AllReckoned greatest_of t.now index.now isos greatest.old greatest.new }
 {
-    let mut i: usize = 0;
-    while i < isos {
+    for i in 0..isos {
         let m = place(index, i);
         let end = place(index, i + 1);
         let low = best_cost(t, least, index, m + 1, end, false);
-        store_number(least, i, low);
+        store(least, i, low);
         let high = best_cost(t, greatest, index, m + 1, end, true);
-        store_number(greatest, i, high);
-        i += 1;
+        store(greatest, i, high);
     }
 }

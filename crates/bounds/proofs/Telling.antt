@@ -1,4 +1,5 @@
 -- The bounds on a checked table and as a service, case by case, against the model's.
+use Rattle.std.specs.Prelude.{Option as CodeOption}
 use Prim.Native.Nat.{ℕ, zero, suc, ◌≤◌, ◌<◌, min}
 use native.Mathlib.Omega.{arith}
 use mathlib.Core.Path.{◌≡◌, refl, sym, ap, ◌∙◌, subst}
@@ -41,10 +42,10 @@ past (x ∷ xs) zero h = absurd (omega arith)
 past (x ∷ xs) (suc i) h = past xs i (omega arith)
 
 -- what `refused` gives
-abbrev pub Refused : F.Refusal → B.Bounded → Type 0
+abbrev pub Refused : CodeOption F.Refusal → B.Bounded → Type 0
 Refused f r = (r.refusal ≡ f) × (r.least ≡ 0) × (r.greatest ≡ 0) × (r.least_over ≡ false) × (r.greatest_over ≡ false)
 
-pub no_iso_lem : (t index : List ℕ) (isos i : ℕ) (f : F.Refusal) (r : B.Bounded) → isos ≤ i → refusal_view f ≡ some no_iso → Refused f r
+pub no_iso_lem : (t index : List ℕ) (isos i : ℕ) (f : CodeOption F.Refusal) (r : B.Bounded) → isos ≤ i → refusal_view f ≡ some no_iso → Refused f r
     → (base : ℕ) (rs : List Row) → Prepared t base index isos rs → ToldOf (bounds_rows i rs) r
 no_iso_lem t index isos i f r h n z base rs p =
     let k = p.count in
@@ -59,7 +60,7 @@ module _ (t index : List ℕ) (isos i : ℕ) {b : Bool} (tells : FreeTold t inde
   free_as : is_free (isos_of rs) i ≡ b
   free_as = sym (free_of t index base isos rs p.good.passes p.indexed p.count i tells)
 
-pub has_lists : (t index : List ℕ) (isos i : ℕ) (f : F.Refusal) (r : B.Bounded) → i < isos → {b : Bool} → FreeTold t index isos i b → b ≡ false
+pub has_lists : (t index : List ℕ) (isos i : ℕ) (f : CodeOption F.Refusal) (r : B.Bounded) → i < isos → {b : Bool} → FreeTold t index isos i b → b ≡ false
     → refusal_view f ≡ some too_many → Refused f r → (base : ℕ) (rs : List Row) → Prepared t base index isos rs → ToldOf (bounds_rows i rs) r
 has_lists t index isos i f r h tells off n z base rs p =
     let k = p.count in

@@ -1,32 +1,32 @@
 // Steps known beforehand: a lower and an upper bound on the count of any run of an iso, without a run.
 #![tactic(auto)]
 
-ghost use Rattle.std.specs.Prelude.{◌≡◌, false, List, ℕ, min, ltb};
-ghost use Rattle.limits.specs.Limits.{max_count};
+ghost use Rattle.std.specs.Prelude.{◌≡◌, false, List, ℕ};
 ghost use Rattle.format.specs.Lines.{Row as RowOf};
 ghost use Rattle.law_costs.specs.Bounds.{bounds_rows};
 ghost use Rattle.runner.specs.RunSays.{Prepared};
 ghost use Rattle.checker.specs.CheckSays.{Accepted};
 ghost use Rattle.bounds.specs.BoundsSays.{ToldOf, BoundsSays};
 
-use bound_counts::{number_at, reckon};
+use area_cells::item_at;
+use bound_counts::reckon;
 use checker::{Checked, check_file};
 use format::{Refusal, is_refused};
-use limits::{INDEX_LENGTH, MAX_COUNT, MAX_ISOS, MAX_NUMBER};
+use limits::{INDEX_LENGTH, MAX_COUNT, MAX_ISOS};
 use run_lists::is_free;
 use runner::run::prepare;
 
 // A refusal or none, the two bounds, and for each whether the number reckoned is above 4,294,967,295.
 #[derive(Clone, Copy)]
 pub struct Bounded {
-    pub refusal: Refusal,
+    pub refusal: Option<Refusal>,
     pub least: u32,
     pub greatest: u32,
     pub least_over: bool,
     pub greatest_over: bool,
 }
 
-fn refused(f: Refusal) -> Bounded
+fn refused(f: Option<Refusal>) -> Bounded
     ensures { (result.refusal ≡ f) × (result.least ≡ 0) × (result.greatest ≡ 0) × (result.least_over ≡ false) × (result.greatest_over ≡ false) }
 {
     Bounded {
@@ -38,44 +38,28 @@ fn refused(f: Refusal) -> Bounded
     }
 }
 
-// A number as it is told.
-fn stopped(n: u64) -> u32
-    ensures { result ≡ min n max_count }
-{
-    if n < MAX_COUNT {
-        return n as u32;
-    }
-    MAX_NUMBER
-}
-
-fn is_over(n: u64) -> bool
-    ensures { result ≡ ltb max_count n }
-{
-    MAX_COUNT < n
-}
-
 // The bounds of iso i of a table that holds a checked file, whose isos the index finds.
 pub fn bounds_checked(t: &[u16], index: &[u16], isos: usize, i: usize) -> Bounded
     ensures { (base : ℕ) (rs : List RowOf) → Prepared t.now base index.now isos rs
         → ToldOf (bounds_rows i rs) result }
 {
     if isos <= i {
-        return refused(Refusal::NoIso);
+        return refused(Some(Refusal::NoIso));
     }
     if !is_free(t, index, isos, i) {
-        return refused(Refusal::TooMany);
+        return refused(Some(Refusal::TooMany));
     }
     let mut least = [0u64; MAX_ISOS];
     let mut greatest = [0u64; MAX_ISOS];
     reckon(t, index, isos, &mut least, &mut greatest);
-    let l = number_at(&least, i);
-    let g = number_at(&greatest, i);
+    let l = item_at(&least, i, 0);
+    let g = item_at(&greatest, i, 0);
     Bounded {
-        refusal: Refusal::Nothing,
-        least: stopped(l),
-        greatest: stopped(g),
-        least_over: is_over(l),
-        greatest_over: is_over(g),
+        refusal: None,
+        least: l.min(MAX_COUNT) as u32,
+        greatest: g.min(MAX_COUNT) as u32,
+        least_over: MAX_COUNT < l,
+        greatest_over: MAX_COUNT < g,
     }
 }
 

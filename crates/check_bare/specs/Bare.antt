@@ -1,5 +1,5 @@
 -- Patterns that hold only units and pairs: each fits one type only, which is found once.
-use Rattle.std.specs.Prelude.{ℕ, suc, ◌+◌, ◌<◌, ◌≤◌, ◌≡◌, Bool, true, List, length, get_or}
+use Rattle.std.specs.Prelude.{ℕ, suc, ◌+◌, ◌<◌, ◌≡◌, List, length, get_or}
 use Rattle.calculus.specs.Trees.{Ty, tunit, tprod, Pat, pleaf, unit_leaf, pnode, pair_node}
 use Rattle.table_trees.specs.Unfolding.{type_of, pattern_of}
 

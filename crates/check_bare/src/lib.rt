@@ -1,5 +1,6 @@
 // The type of each P line that holds only units and pairs, found once. T lines of such types are marked by one more than the first line
-// with an equal tree, P lines by the mark of their type; 0 marks any other line.
+// with an equal tree, P lines by the mark of their type; 0 marks any other line. A mark stays the word that is stored, and no Option, since
+// marks are compared and stored as they are read.
 #![tactic(auto)]
 
 ghost use Rattle.std.specs.Prelude.{◌≡◌, cond, true, List, ℕ, ◌+◌, ◌≤◌, ◌<◌, suc, ltb, length, get_or};
@@ -8,7 +9,8 @@ ghost use Rattle.calculus.specs.Trees.{tunit};
 ghost use Rattle.table_trees.specs.Unfolding.{type_of, pattern_of};
 ghost use Rattle.check_bare.specs.Bare.{Bare, Stands, Suits, Types, Patterns, Bares, Multiplies};
 
-use area_words::{narrow, store_word, wide, word_at};
+use area_cells::{item_at, store};
+use area_words::{narrow, wide};
 use codes::{FIRST, KIND, PAIR, PRODUCT, SECOND, TYPE_UNIT, UNIT};
 use table_trees::{cell, pattern_cell};
 
@@ -23,10 +25,7 @@ fn mark_of(g: &[u16], from: usize, a: usize, i: usize) -> usize
     requires { from + i ≤ length g.now }
     ensures { result ≡ cond (ltb a i) (get_or g.now (from + a) 0) 0 }
 {
-    if a < i {
-        return wide(g[from + a]);
-    }
-    0
+    if a < i { wide(g[from + a]) } else { 0 }
 }
 
 // Whether T line i is the product of two lines with these marks.
@@ -34,12 +33,9 @@ fn is_product(t: &[u16], g: &[u16], i: usize, x: usize, y: usize) -> bool
     requires { (i ≤ length g.now) × Types t.now g.now i }
     ensures { result ≡ true → Multiplies t.now (type_of t.now i) x y }
 {
-    if cell(t, i, KIND) == PRODUCT {
-        if mark_of(g, 0, cell(t, i, FIRST), i) == x {
-            return mark_of(g, 0, cell(t, i, SECOND), i) == y;
-        }
-    }
-    false
+    cell(t, i, KIND) == PRODUCT
+        && mark_of(g, 0, cell(t, i, FIRST), i) == x
+        && mark_of(g, 0, cell(t, i, SECOND), i) == y
 }
 
 // The mark of T line c - 1 where it is the product of two marked lines and among the first n, else 0.
@@ -71,9 +67,8 @@ fn product_mark(t: &[u16], g: &[u16], h: &[u16], n: usize, x: usize, y: usize) -
     ensures { ((c : ℕ) → result ≡ suc c → Multiplies t.now (type_of t.now c) x y) × (result < 65536) }
 {
     let from = hint_of(x, y);
-    let mut k: usize = 0;
-    while k < TRIES {
-        let c = wide(word_at(h, from + k));
+    for k in 0..TRIES {
+        let c = wide(item_at(h, from + k, 0));
         if c == 0 {
             return 0;
         }
@@ -81,7 +76,6 @@ fn product_mark(t: &[u16], g: &[u16], h: &[u16], n: usize, x: usize, y: usize) -
         if 0 < m {
             return m;
         }
-        k += 1;
     }
     0
 }
@@ -92,13 +86,11 @@ fn hint(h: &mut [u16], x: usize, y: usize, i: usize)
     ensures { length h.new ≡ length h.old }
 {
     let from = hint_of(x, y);
-    let mut k: usize = 0;
-    while k < TRIES {
-        if wide(word_at(h, from + k)) == 0 {
-            store_word(h, from + k, narrow(i + 1));
+    for k in 0..TRIES {
+        if wide(item_at(h, from + k, 0)) == 0 {
+            store(h, from + k, narrow(i + 1));
             return;
         }
-        k += 1;
     }
 }
 
@@ -121,12 +113,10 @@ fn unit_mark(t: &[u16], g: &[u16], n: usize) -> usize
     requires { (n ≤ length g.now) × Types t.now g.now n }
     ensures { Stands t.now result tunit × (result < 65536) }
 {
-    let mut i: usize = 0;
-    while i < n {
+    for i in 0..n {
         if cell(t, i, KIND) == TYPE_UNIT {
             return wide(g[i]);
         }
-        i += 1;
     }
     0
 }
@@ -136,10 +126,7 @@ fn or_own(r: usize, i: usize) -> usize
     requires { (r < 65536) × (i < max_lines) }
     ensures { (result ≡ cond (ltb 0 r) r (suc i)) × (result < 65536) }
 {
-    if 0 < r {
-        return r;
-    }
-    i + 1
+    if 0 < r { r } else { i + 1 }
 }
 
 // The mark of T line i.
@@ -189,11 +176,9 @@ fn mark_types(t: &[u16], g: &mut [u16], h: &mut [u16], n: usize)
     requires { (n ≤ length g.old) × (n ≤ max_lines) }
     ensures { (length g.new ≡ length g.old) × Types t.now g.new n }
 {
-    let mut i: usize = 0;
-    while i < n {
+    for i in 0..n {
         g[i] = narrow(type_mark(t, g, h, i));
         hint_line(t, g, h, i);
-        i += 1;
     }
 }
 
@@ -204,10 +189,8 @@ fn mark_patterns(t: &[u16], g: &mut [u16], h: &[u16], base: usize, n: usize)
         × Types t.now g.new base
         × Patterns t.now base g.new n }
 {
-    let mut j: usize = 0;
-    while j < n {
+    for j in 0..n {
         g[base + j] = narrow(pattern_mark(t, g, h, base, j));
-        j += 1;
     }
 }
 
@@ -221,24 +204,18 @@ pub fn find_bares(t: &[u16], g: &mut [u16], base: usize)
     if base <= most {
         mark_types(t, g, &mut h, base);
         mark_patterns(t, g, &h, base, most - base);
-        return;
+    } else {
+        mark_types(t, g, &mut h, most);
     }
-    mark_types(t, g, &mut h, most);
 }
 
 // Whether P line p is marked by the type of T line a: it then fits that type and has no variables.
 pub fn is_bare(g: &[u16], base: usize, p: usize, a: usize) -> bool
     ensures { result ≡ true → (t : List ℕ) → Bares t base g.now → Bare (pattern_of t base p) (type_of t a) }
 {
-    if base <= g.len() {
-        if a < base {
-            if p < g.len() - base {
-                let m = wide(g[base + p]);
-                if 0 < m {
-                    return m == wide(g[a]);
-                }
-            }
-        }
+    if base <= g.len() && a < base && p < g.len() - base {
+        let m = wide(g[base + p]);
+        return 0 < m && m == wide(g[a]);
     }
     false
 }

@@ -42,12 +42,10 @@ fn no_marks() -> Marks
 fn mark_lets(t: &[u16], base: usize, from: usize, to: usize, m: Marks) -> Marks
     ensures { result.state ≡ mark_events (let_events (lets_in t.now base from (to - from))) m.state }
 {
-    let mut n = from;
     let mut now = m;
-    while n < to {
+    for n in from..to {
         let used = mark(t, base, cell(t, n, LET_Q), false, now);
         now = mark(t, base, cell(t, n, LET_P), true, used);
-        n += 1;
     }
     now
 }
@@ -69,10 +67,8 @@ fn plainly(t: &[u16], f: &[u8], base: usize, p: usize) -> bool
     requires { Facts t.now base f.now }
     ensures { result ≡ plain (pattern_of t.now base p) }
 {
-    if base <= f.len() {
-        if p < f.len() - base {
-            return number(f[base + p]) == 0;
-        }
+    if base <= f.len() && p < f.len() - base {
+        return number(f[base + p]) == 0;
     }
     is_plain(t, base, p)
 }
@@ -82,15 +78,8 @@ fn shapes_kept(t: &[u16], f: &[u8], base: usize, from: usize, to: usize) -> bool
     requires { Facts t.now base f.now }
     ensures { result ≡ shaped (lets_in t.now base from (to - from)) }
 {
-    let mut n = from;
-    while n < to {
-        if plainly(t, f, base, cell(t, n, LET_P)) {
-            if plainly(t, f, base, cell(t, n, LET_Q)) {
-                n += 1;
-            } else {
-                return false;
-            }
-        } else {
+    for n in from..to {
+        if !plainly(t, f, base, cell(t, n, LET_P)) || !plainly(t, f, base, cell(t, n, LET_Q)) {
             return false;
         }
     }
@@ -101,9 +90,7 @@ fn shapes_kept(t: &[u16], f: &[u8], base: usize, from: usize, to: usize) -> bool
 fn misfit(e: Env) -> Env
     ensures { (t : List ℕ) → env_view t result ≡ none }
 {
-    let mut r = e;
-    r.fits = false;
-    r
+    Env { fits: false, ..e }
 }
 
 // The types after the L row n: q fits the from-type of its iso, p the to-type.
@@ -155,11 +142,9 @@ fn fit_lets(
     ensures { env_view t.now result ≡ fitted_lets (sigs_in t.now starts.now)
         (lets_in t.now base from (to - from)) (env_view t.now e) }
 {
-    let mut n = from;
     let mut env = e;
-    while n < to {
+    for n in from..to {
         env = fit_let(t, g, k, base, starts, n, env);
-        n += 1;
     }
     env
 }
@@ -212,24 +197,24 @@ pub fn clause_fault(
     b: usize,
     row: usize,
     end: usize,
-) -> Refusal
+) -> Option<Refusal>
     requires { Facts t.now base f.now × Bares t.now base g.now × Known t.now base k.now }
     ensures { ClauseTold t.now base starts.now a b row end (refusal_view result) }
 {
     if MAX_LINES <= row {
-        return Refusal::Nothing;
+        return None;
     }
     if shapes_kept(t, f, base, row + 1, end) {
         if types_fit(t, g, k, base, starts, a, b, row, end) {
-            return Refusal::Nothing;
+            return None;
         }
         if variables_kept(t, base, row, end) {
-            return Refusal::BadType(Kind::Clause);
+            return Some(Refusal::BadType(Kind::Clause));
         }
-        return Refusal::Variable(Kind::Clause);
+        return Some(Refusal::Variable(Kind::Clause));
     }
     if variables_kept(t, base, row, end) {
-        return Refusal::LetShape(Kind::Clause);
+        return Some(Refusal::LetShape(Kind::Clause));
     }
-    Refusal::Variable(Kind::Clause)
+    Some(Refusal::Variable(Kind::Clause))
 }

@@ -38,26 +38,26 @@ from_end t base k rows i h = ap (patterns_at t base k) (drop_of_length-le rows h
 
 -- ---- a pattern against the rest
 
--- what a loop from place a knows at place i: the rest decides
-pub record Clashing (t : List ℕ) (base p k : ℕ) (rows : List ℕ) (a i : ℕ) : Type 0 where
-  pub rest : all (clash (pattern_of t base p)) (from t base k rows a) ≡ all (clash (pattern_of t base p)) (from t base k rows i)
+-- what a loop over the places knows at place i: the rest decides
+pub record Clashing (t : List ℕ) (base p k : ℕ) (rows : List ℕ) (i : ℕ) : Type 0 where
+  pub rest : all (clash (pattern_of t base p)) (patterns_at t base k rows) ≡ all (clash (pattern_of t base p)) (from t base k rows i)
 
-pub clashing_start : (t : List ℕ) (base p k : ℕ) (rows : List ℕ) (a : ℕ) → Clashing t base p k rows a a
-clashing_start t base p k rows a = record { rest = refl }
+pub clashing_start : (t : List ℕ) (base p k : ℕ) (rows : List ℕ) → Clashing t base p k rows 0
+clashing_start t base p k rows = record { rest = refl }
 
-pub clashing_all : (t : List ℕ) (base p k : ℕ) (rows : List ℕ) (a i : ℕ) → Clashing t base p k rows a i → length rows ≤ i
-    → true ≡ all (clash (pattern_of t base p)) (from t base k rows a)
-clashing_all t base p k rows a i w h = sym (w.rest ∙ ap (all (clash (pattern_of t base p))) (from_end t base k rows i h))
+pub clashing_all : (t : List ℕ) (base p k : ℕ) (rows : List ℕ) (i : ℕ) → Clashing t base p k rows i → length rows ≤ i
+    → true ≡ all (clash (pattern_of t base p)) (patterns_at t base k rows)
+clashing_all t base p k rows i w h = sym (w.rest ∙ ap (all (clash (pattern_of t base p))) (from_end t base k rows i h))
 
-module _ (t : List ℕ) (base p k : ℕ) (rows : List ℕ) (a i : ℕ) {r q : ℕ} {b : Bool} (w : Clashing t base p k rows a i) (below : i < length rows)
+module _ (t : List ℕ) (base p k : ℕ) (rows : List ℕ) (i : ℕ) {r q : ℕ} {b : Bool} (w : Clashing t base p k rows i) (below : i < length rows)
     (row : r ≡ get_or rows i 0) (field : q ≡ cell_of t r k) (test : b ≡ (compare (pattern_of t base p) (pattern_of t base q)).clash) where
-  clashing_next : all (clash (pattern_of t base p)) (from t base k rows a) ≡ (b && all (clash (pattern_of t base p)) (from t base k rows (suc i)))
+  clashing_next : all (clash (pattern_of t base p)) (patterns_at t base k rows) ≡ (b && all (clash (pattern_of t base p)) (from t base k rows (suc i)))
   clashing_next =
       w.rest
       ∙ ap (all (clash (pattern_of t base p))) (from_next t base k rows i below row field)
       ∙ ap (λ x. x && all (clash (pattern_of t base p)) (from t base k rows (suc i))) (sym (test ∙ compare_clash (pattern_of t base p) (pattern_of t base q)))
 
-  pub clashing_step : b ≡ true → Clashing t base p k rows a (i + 1)
+  pub clashing_step : b ≡ true → Clashing t base p k rows (i + 1)
   clashing_step e = record {
     rest =
         clashing_next
@@ -65,7 +65,7 @@ module _ (t : List ℕ) (base p k : ℕ) (rows : List ℕ) (a i : ℕ) {r q : �
         ∙ sym (ap (λ n. all (clash (pattern_of t base p)) (from t base k rows n)) (add-one i));
   }
 
-  pub clashing_not : b ≡ false → false ≡ all (clash (pattern_of t base p)) (from t base k rows a)
+  pub clashing_not : b ≡ false → false ≡ all (clash (pattern_of t base p)) (patterns_at t base k rows)
   clashing_not e = sym (clashing_next ∙ ap (λ x. x && all (clash (pattern_of t base p)) (from t base k rows (suc i))) e)
 
 -- ---- two by two
@@ -94,25 +94,6 @@ module _ (t : List ℕ) (base k : ℕ) (rows : List ℕ) (i : ℕ) {r p : ℕ} {
 
   pub apart_not : b ≡ false → false ≡ apart (patterns_at t base k rows)
   apart_not e = sym (apart_next ∙ ap (λ x. x && apart (from t base k rows (i + 1))) e)
-
--- ---- one weight
-
--- the powers of two from the n-th down to the zeroth
-abbrev pub powers : ℕ → List ℕ
-powers zero = 1 ∷ []
-powers (suc n) = 2 ^ suc n ∷ powers n
-
-power_at : (n k : ℕ) → k ≤ n → get_or (powers n) k 0 ≡ 2 ^ (n - k)
-power_at zero zero h = refl
-power_at zero (suc k) h = absurd (omega arith)
-power_at (suc n) zero h = ap (λ m. 2 ^ m) (sym (sub-zero (suc n)))
-power_at (suc n) (suc k) h = power_at n k (omega arith) ∙ ap (λ m. 2 ^ m) (sym (suc-sub-suc n k))
-
-pub weight_within : (k : ℕ) → k < 41 → get_or (powers max_tags) k 0 ≡ weight_at k
-weight_within k h = power_at max_tags k (omega arith)
-
-pub weight_past : (k : ℕ) → 41 ≤ k → 1 ≡ weight_at k
-weight_past k h = let none_left : 0 ≡ 40 - k = omega arith in ap (λ n. 2 ^ n) none_left
 
 -- ---- the sum of weights
 

@@ -18,23 +18,18 @@ use check_facts::number;
 use check_overlap::compare;
 use check_places::separate;
 use format::{Kind, Refusal, Side};
-use limits::MANY_TAGS;
+use limits::MAX_TAGS;
 use table_sizes::pattern_tags;
 use table_trees::cell;
 
-// Whether P line p clashes with field k of each clause row from place `from` on.
-fn clashes_with(t: &[u16], base: usize, p: usize, k: usize, rows: &[u16], from: usize) -> bool
+// Whether P line p clashes with field k of each of these clause rows.
+fn clashes_with(t: &[u16], base: usize, p: usize, k: usize, rows: &[u16]) -> bool
     requires { table_length ≤ length t.now }
-    ensures { result ≡ all (clashes (pattern_of t.now base p))
-        (patterns_at t.now base k (drop from rows.now)) }
+    ensures { result ≡ all (clashes (pattern_of t.now base p)) (patterns_at t.now base k rows.now) }
 {
-    let mut i = from;
-    while i < rows.len() {
-        let q = cell(t, wide(rows[i]), k);
-        let c = compare(t, base, p, q);
-        if c.clash {
-            i += 1;
-        } else {
+    for row in rows {
+        let c = compare(t, base, p, cell(t, wide(*row), k));
+        if !c.clash {
             return false;
         }
     }
@@ -46,12 +41,8 @@ fn apart(t: &[u16], base: usize, k: usize, rows: &[u16]) -> bool
     requires { table_length ≤ length t.now }
     ensures { result ≡ are_apart (patterns_at t.now base k rows.now) }
 {
-    let mut i: usize = 0;
-    while i < rows.len() {
-        let p = cell(t, wide(rows[i]), k);
-        if clashes_with(t, base, p, k, rows, i + 1) {
-            i += 1;
-        } else {
+    for (i, row) in rows.iter().enumerate() {
+        if !clashes_with(t, base, cell(t, wide(*row), k), k, &rows[i + 1..]) {
             return false;
         }
     }
@@ -67,12 +58,8 @@ fn orthogonal(t: &[u16], f: &[u8], base: usize, k: usize, rows: &[u16], n: usize
     ensures { result ≡ are_apart (patterns_at t.now base k rows.now) }
 {
     if FEW < rows.len() {
-        let v = separate(t, f, base, k, rows, cell(t, n, k));
-        if v == 1 {
-            return true;
-        }
-        if v == 2 {
-            return false;
+        if let Some(known) = separate(t, f, base, k, rows, cell(t, n, k)) {
+            return known;
         }
     }
     apart(t, base, k, rows)
@@ -83,80 +70,29 @@ fn tags_at(t: &[u16], f: &[u8], base: usize, p: usize) -> usize
     requires { Facts t.now base f.now }
     ensures { result ≡ min many_tags (tags (pattern_of t.now base p)) }
 {
-    if base <= f.len() {
-        if p < f.len() - base {
-            return number(f[base + p]);
-        }
+    if base <= f.len() && p < f.len() - base {
+        return number(f[base + p]);
     }
     pattern_tags(t, base, p)
 }
 
-// 2 to the power of 40 - k for k left, right, empty and element nodes.
-pub const WEIGHTS: [u64; MANY_TAGS] = [
-    1099511627776,
-    549755813888,
-    274877906944,
-    137438953472,
-    68719476736,
-    34359738368,
-    17179869184,
-    8589934592,
-    4294967296,
-    2147483648,
-    1073741824,
-    536870912,
-    268435456,
-    134217728,
-    67108864,
-    33554432,
-    16777216,
-    8388608,
-    4194304,
-    2097152,
-    1048576,
-    524288,
-    262144,
-    131072,
-    65536,
-    32768,
-    16384,
-    8192,
-    4096,
-    2048,
-    1024,
-    512,
-    256,
-    128,
-    64,
-    32,
-    16,
-    8,
-    4,
-    2,
-    1,
-];
-
+// What a pattern with k left, right, empty and element nodes weighs: 2 to the power of 40 - k.
 fn weight(k: usize) -> u64
     ensures { result ≡ weight_at k }
 {
-    if k < MANY_TAGS {
-        return WEIGHTS[k];
-    }
-    1
+    1 << MAX_TAGS.saturating_sub(k)
 }
 
 // What the patterns of a side weigh together where they leave no gap.
-const FULL: u64 = 1099511627776;
+const FULL: u64 = 1 << MAX_TAGS;
 
 // What the patterns in field k of at most as many clause rows as an iso has weigh together.
 pub fn weigh(t: &[u16], f: &[u8], base: usize, k: usize, rows: &[u16]) -> u64
     requires { (length rows.now ≤ max_clauses) × Facts t.now base f.now }
     ensures { result ≡ total (map weight_of (patterns_at t.now base k rows.now)) }
 {
-    let mut i = rows.len();
     let mut sum: u64 = 0;
-    while 0 < i {
-        i -= 1;
+    for i in (0..rows.len()).rev() {
         let p = cell(t, wide(rows[i]), k);
         sum += weight(tags_at(t, f, base, p));
     }
@@ -164,7 +100,7 @@ pub fn weigh(t: &[u16], f: &[u8], base: usize, k: usize, rows: &[u16]) -> u64
 }
 
 // The lowest of 11 to 14, or nothing, of the iso whose I row is n.
-pub fn side_fault(t: &[u16], f: &[u8], base: usize, rows: &[u16], n: usize) -> Refusal
+pub fn side_fault(t: &[u16], f: &[u8], base: usize, rows: &[u16], n: usize) -> Option<Refusal>
     requires { (table_length ≤ length t.now) × (length rows.now ≤ max_clauses) × Facts t.now base f.now × (length f.now ≤ max_lines) }
     ensures { refusal_view result ≡ sides_fault (patterns_at t.now base clause_left rows.now)
         (patterns_at t.now base clause_right rows.now) }
@@ -173,13 +109,13 @@ pub fn side_fault(t: &[u16], f: &[u8], base: usize, rows: &[u16], n: usize) -> R
         if orthogonal(t, f, base, 2, rows, n) {
             if weigh(t, f, base, 1, rows) == FULL {
                 if weigh(t, f, base, 2, rows) == FULL {
-                    return Refusal::Nothing;
+                    return None;
                 }
-                return Refusal::Gap(Kind::Iso, Side::Right);
+                return Some(Refusal::Gap(Kind::Iso, Side::Right));
             }
-            return Refusal::Gap(Kind::Iso, Side::Left);
+            return Some(Refusal::Gap(Kind::Iso, Side::Left));
         }
-        return Refusal::Overlap(Kind::Iso, Side::Right);
+        return Some(Refusal::Overlap(Kind::Iso, Side::Right));
     }
-    Refusal::Overlap(Kind::Iso, Side::Left)
+    Some(Refusal::Overlap(Kind::Iso, Side::Left))
 }

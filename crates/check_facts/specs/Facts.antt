@@ -1,5 +1,5 @@
 -- What is found once of each T and P line: the places of a type, and the nodes of a pattern that count towards the 40.
-use Rattle.std.specs.Prelude.{ℕ, zero, suc, ◌+◌, ◌<◌, ◌≤◌, min, max, ◌≡◌, List, length, get_or}
+use Rattle.std.specs.Prelude.{ℕ, suc, ◌+◌, ◌<◌, min, max, ◌≡◌, List, length, get_or}
 use Rattle.limits.specs.Limits.{many_tags, max_types, max_patterns}
 use Rattle.calculus.specs.Trees.{Ty, tunit, tlist, tsum, tprod, tags}
 use Rattle.table_trees.specs.Unfolding.{type_of, pattern_of}

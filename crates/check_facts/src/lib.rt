@@ -26,11 +26,11 @@ const MANY_PLACES: usize = PLACES + 1;
 pub fn number(b: u8) -> usize
     ensures { (result ≡ b) × (result < 256) }
 {
-    b as usize
+    usize::from(b)
 }
 
 // A small number as a byte.
-fn byte(n: usize) -> u8
+pub fn byte(n: usize) -> u8
     ensures { n < 256 → result ≡ n }
 {
     (n % 256) as u8
@@ -41,37 +41,20 @@ fn told(f: &[u8], from: usize, a: usize, i: usize) -> usize
     requires { from + i ≤ length f.now }
     ensures { result ≡ cond (ltb a i) (get_or f.now (from + a) 0) 0 }
 {
-    if a < i {
-        return number(f[from + a]);
-    }
-    0
+    if a < i { number(f[from + a]) } else { 0 }
 }
 
 // The places of a sum, and of a product, from those of its parts.
 fn of_sum(m: usize, n: usize) -> usize
     ensures { result ≡ min many_places (suc (max m n)) }
 {
-    if PLACES <= m {
-        return MANY_PLACES;
-    }
-    if PLACES <= n {
-        return MANY_PLACES;
-    }
-    if m < n {
-        return n + 1;
-    }
-    m + 1
+    m.max(n).saturating_add(1).min(MANY_PLACES)
 }
 
 fn of_product(m: usize, n: usize) -> usize
     ensures { result ≡ min many_places (m + n) }
 {
-    if m < MANY_PLACES {
-        if n < MANY_PLACES - m {
-            return m + n;
-        }
-    }
-    MANY_PLACES
+    m.saturating_add(n).min(MANY_PLACES)
 }
 
 // The places of T line i; a list has none.
@@ -121,10 +104,8 @@ fn find_widths(t: &[u16], f: &mut [u8], n: usize)
     requires { n ≤ length f.old }
     ensures { (length f.new ≡ length f.old) × Widths t.now f.new n }
 {
-    let mut i: usize = 0;
-    while i < n {
+    for i in 0..n {
         f[i] = byte(width_of(t, f, i));
-        i += 1;
     }
 }
 
@@ -135,10 +116,8 @@ fn find_tags(t: &[u16], f: &mut [u8], base: usize, n: usize)
         × Widths t.now f.new base
         × Tagged t.now base f.new n }
 {
-    let mut j: usize = 0;
-    while j < n {
+    for j in 0..n {
         f[base + j] = byte(tags_of(t, f, base, j));
-        j += 1;
     }
 }
 
@@ -150,7 +129,7 @@ pub fn find_facts(t: &[u16], f: &mut [u8], base: usize)
     if base <= most {
         find_widths(t, f, base);
         find_tags(t, f, base, most - base);
-        return;
+    } else {
+        find_widths(t, f, most);
     }
-    find_widths(t, f, most);
 }

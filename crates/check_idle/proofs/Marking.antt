@@ -1,9 +1,10 @@
 -- What the marks tell, and the walk row by row.
 use Prim.Native.Nat.{ℕ, zero, suc, ◌+◌, ◌-◌, ◌≤◌, ◌<◌}
+use native.Mathlib.Nat.{zero-add}
 use native.Mathlib.Numerals.{add-one}
 use native.Mathlib.Omega.{arith}
 use mathlib.Core.Path.{◌≡◌, refl, sym, ap, ap₂, ◌∙◌, subst}
-use mathlib.Core.Bool.{Bool, true, false, cond, not, ◌||◌, false≢true, true≢false}
+use mathlib.Core.Bool.{Bool, true, false, cond, ◌||◌, true≢false}
 use mathlib.Core.Option.{Option, none, some}
 use mathlib.Core.List.{List, [], ◌∷◌, ◌++◌}
 use lib.Dec.{eqb}
@@ -14,16 +15,15 @@ use Rattle.calculus.specs.Refusals.{Kind, type_line, pattern_line, iso_line, cla
 use Rattle.calculus.specs.Clauses.{at}
 use Rattle.format.specs.Lines.{Row, letter}
 use Rattle.format.specs.Kinds.{type_kind, pattern_kind}
-use Rattle.format.specs.Judge.{start, after_all}
 use Rattle.format.specs.Idle.{type_lines, type_reach, pattern_reach, reach, is_root, member, Reach, reach_row, reach_from, idle_fault}
 use Rattle.format.specs.Code.{refusal_view}
 use Rattle.format.specs.declared.Answer as A
-use Rattle.calculus.proofs.Basic.{eqb_eq, eqb_false, not_both, bool_cases}
+use Rattle.calculus.proofs.Basic.{eqb_eq, eqb_false}
 use Rattle.format.proofs.Idling.{member_append, or_swap}
 use Rattle.table_trees.specs.Unfolding.{cell_of}
 use Rattle.table_trees.proofs.Cases.{Parted, sums, products, Whole, units, others, Injects, lefts, rights, Joins, pairs, elements, Leaf, unit, var, empty, other}
 use Rattle.table_walks.specs.Walk.{FileIn}
-use Rattle.table_walks.proofs.Rows.{drop_row, row_at, kind_iso, kind_clause, kind_let}
+use Rattle.table_walks.proofs.Rows.{drop_row, row_at, kind_iso, kind_clause}
 use Rattle.check_idle.specs.Marks.{mark_all, bit, idle_at, Marked}
 
 -- ---- marks
@@ -162,9 +162,10 @@ module _ {t : List ℕ} {ts patterns lines : ℕ} {rs : List Row} (f : FileIn t 
       ∙ ap (λ z. mark_all (pattern_reach ts (pattern_kind z) (cell_of t n 2) (cell_of t n 3)) m) (f.xs n r e)
       ∙ ap₂ (λ y z. mark_all (pattern_reach ts (pattern_kind r.x) y z) m) (f.ys n r e) (f.zs n r e))
 
-  pub row_iso : {m' : List ℕ} → l ≡ 73 → m' ≡ set (set m (cell_of t n 1) 1) (cell_of t n 2) 1 → m' ≡ mark_all (reach ts r.kind r) m
+  pub row_iso : {m' : List ℕ} → l ≡ 73 → m' ≡ set (set m (0 + cell_of t n 1) 1) (0 + cell_of t n 2) 1 → m' ≡ mark_all (reach ts r.kind r) m
   row_iso h same =
-      by_kind iso_line (kind_iso r.kind (sym told ∙ h)) (same ∙ ap₂ (λ y z. set (set m y 1) z 1) (f.xs n r e) (f.ys n r e))
+      by_kind iso_line (kind_iso r.kind (sym told ∙ h))
+      (same ∙ ap₂ (λ y z. set (set m y 1) z 1) (zero-add (cell_of t n 1) ∙ f.xs n r e) (zero-add (cell_of t n 2) ∙ f.ys n r e))
 
   pub row_clause : {m' : List ℕ} → l ≡ 67 → m' ≡ set (set m (ts + cell_of t n 1) 1) (ts + cell_of t n 2) 1 → m' ≡ mark_all (reach ts r.kind r) m
   row_clause h same =

@@ -17,7 +17,7 @@ ghost use Rattle.table_trees.specs.Unfolding.{cell_of};
 ghost use Rattle.table_walks.specs.Walk.{FileIn};
 ghost use Rattle.check_idle.specs.Marks.{mark_all, idle_at, RowMarked, RowWalked, AllWalked};
 
-use area_cells::{byte_at, put_byte};
+use area_cells::{item_at, store};
 use codes::{
     CLAUSE_LEFT, CLAUSE_LINE, CLAUSE_RIGHT, ELEMENT, FIRST, ISO_FROM, ISO_LINE, ISO_TO, KIND, LEFT,
     LET_P, LET_Q, LIST, PAIR, PATTERN_LINE, PRODUCT, RIGHT, ROW_LETTER, SECOND, SUM, TYPE_LINE,
@@ -26,35 +26,22 @@ use format::{Answer, Kind, Refusal};
 use limits::MAX_LINES;
 use table_trees::cell;
 
-// Marks the T line that number k of row n names.
-fn mark_type(t: &[u16], n: usize, k: usize, marks: &mut [u8])
-    ensures { marks.new ≡ set marks.old (cell_of t.now n k) 1 }
+// Marks the line that number k of row n names: a T line where `first` is 0, and else a P line, those from row
+// `first` on.
+fn mark_line(t: &[u16], first: usize, n: usize, k: usize, marks: &mut [u8])
+    requires { first ≤ max_lines }
+    ensures { marks.new ≡ set marks.old (first + cell_of t.now n k) 1 }
 {
-    put_byte(marks, cell(t, n, k), 1);
-}
-
-// Marks the P line that number k of row n names; the P lines begin at row `base`.
-fn mark_pattern(t: &[u16], base: usize, n: usize, k: usize, marks: &mut [u8])
-    requires { base ≤ max_lines }
-    ensures { marks.new ≡ set marks.old (base + cell_of t.now n k) 1 }
-{
-    put_byte(marks, base + cell(t, n, k), 1);
+    store(marks, first + cell(t, n, k), 1);
 }
 
 // The same for two numbers of a row.
-fn mark_types(t: &[u16], n: usize, i: usize, j: usize, marks: &mut [u8])
-    ensures { marks.new ≡ set (set marks.old (cell_of t.now n i) 1) (cell_of t.now n j) 1 }
+fn mark_both(t: &[u16], first: usize, n: usize, i: usize, j: usize, marks: &mut [u8])
+    requires { first ≤ max_lines }
+    ensures { marks.new ≡ set (set marks.old (first + cell_of t.now n i) 1) (first + cell_of t.now n j) 1 }
 {
-    mark_type(t, n, i, marks);
-    mark_type(t, n, j, marks);
-}
-
-fn mark_patterns(t: &[u16], base: usize, n: usize, i: usize, j: usize, marks: &mut [u8])
-    requires { base ≤ max_lines }
-    ensures { marks.new ≡ set (set marks.old (base + cell_of t.now n i) 1) (base + cell_of t.now n j) 1 }
-{
-    mark_pattern(t, base, n, i, marks);
-    mark_pattern(t, base, n, j, marks);
+    mark_line(t, first, n, i, marks);
+    mark_line(t, first, n, j, marks);
 }
 
 // Marks the lines that T row n names.
@@ -63,8 +50,8 @@ fn name_types(t: &[u16], n: usize, marks: &mut [u8])
         ≡ mark_all (type_reach (type_kind (cell_of t.now n kind_field)) (cell_of t.now n first_field) (cell_of t.now n second_field)) marks.old }
 {
     match cell(t, n, KIND) {
-        SUM | PRODUCT => mark_types(t, n, FIRST, SECOND, marks),
-        LIST => mark_type(t, n, FIRST, marks),
+        SUM | PRODUCT => mark_both(t, 0, n, FIRST, SECOND, marks),
+        LIST => mark_line(t, 0, n, FIRST, marks),
         _ => {}
     }
 }
@@ -76,8 +63,8 @@ fn name_patterns(t: &[u16], base: usize, n: usize, marks: &mut [u8])
         ≡ mark_all (pattern_reach base (pattern_kind (cell_of t.now n kind_field)) (cell_of t.now n first_field) (cell_of t.now n second_field)) marks.old }
 {
     match cell(t, n, KIND) {
-        LEFT | RIGHT => mark_pattern(t, base, n, FIRST, marks),
-        PAIR | ELEMENT => mark_patterns(t, base, n, FIRST, SECOND, marks),
+        LEFT | RIGHT => mark_line(t, base, n, FIRST, marks),
+        PAIR | ELEMENT => mark_both(t, base, n, FIRST, SECOND, marks),
         _ => {}
     }
 }
@@ -87,37 +74,20 @@ fn name_row(t: &[u16], base: usize, n: usize, marks: &mut [u8])
     requires { base ≤ max_lines }
     ensures { RowMarked t.now base n marks.old marks.new }
 {
-    let letter = cell(t, n, ROW_LETTER);
-    if letter == TYPE_LINE {
-        name_types(t, n, marks);
-        return;
+    match cell(t, n, ROW_LETTER) {
+        TYPE_LINE => name_types(t, n, marks),
+        PATTERN_LINE => name_patterns(t, base, n, marks),
+        ISO_LINE => mark_both(t, 0, n, ISO_FROM, ISO_TO, marks),
+        CLAUSE_LINE => mark_both(t, base, n, CLAUSE_LEFT, CLAUSE_RIGHT, marks),
+        _ => mark_both(t, base, n, LET_P, LET_Q, marks),
     }
-    if letter == PATTERN_LINE {
-        name_patterns(t, base, n, marks);
-        return;
-    }
-    if letter == ISO_LINE {
-        mark_types(t, n, ISO_FROM, ISO_TO, marks);
-        return;
-    }
-    if letter == CLAUSE_LINE {
-        mark_patterns(t, base, n, CLAUSE_LEFT, CLAUSE_RIGHT, marks);
-        return;
-    }
-    mark_patterns(t, base, n, LET_P, LET_Q, marks);
 }
 
 // Whether a letter is that of an I, C or L line.
 fn is_root(letter: usize) -> bool
     ensures { (k : KindOf) → letter ≡ letter_of k → result ≡ is_root k }
 {
-    if letter == TYPE_LINE {
-        return false;
-    }
-    if letter == PATTERN_LINE {
-        return false;
-    }
-    true
+    !matches!(letter, TYPE_LINE | PATTERN_LINE)
 }
 
 fn none() -> Answer
@@ -125,7 +95,7 @@ fn none() -> Answer
 {
     Answer {
         place: 0,
-        refusal: Refusal::Nothing,
+        refusal: None,
     }
 }
 
@@ -137,12 +107,12 @@ fn idle(letter: usize, n: usize) -> Answer
     if letter == TYPE_LINE {
         return Answer {
             place: n + 1,
-            refusal: Refusal::Idle(Kind::Type),
+            refusal: Some(Refusal::Idle(Kind::Type)),
         };
     }
     Answer {
         place: n + 1,
-        refusal: Refusal::Idle(Kind::Pattern),
+        refusal: Some(Refusal::Idle(Kind::Pattern)),
     }
 }
 
@@ -152,11 +122,7 @@ fn with_row(t: &[u16], base: usize, n: usize, marks: &mut [u8], found: Answer) -
     ensures { RowWalked t.now base n marks.old marks.new found result }
 {
     let letter = cell(t, n, ROW_LETTER);
-    if is_root(letter) {
-        name_row(t, base, n, marks);
-        return found;
-    }
-    if byte_at(marks, n) == 1 {
+    if is_root(letter) || item_at(marks, n, 0) == 1 {
         name_row(t, base, n, marks);
         return found;
     }
@@ -169,9 +135,7 @@ fn walk_up(t: &[u16], base: usize, lines: usize, marks: &mut [u8]) -> Answer
     ensures { AllWalked t.now base lines marks.old result }
 {
     let mut found = none();
-    let mut n = lines;
-    while 0 < n {
-        n -= 1;
+    for n in (0..lines).rev() {
         found = with_row(t, base, n, marks, found);
     }
     found

@@ -1,4 +1,5 @@
 -- The walk over the rows as the code holds it: where it starts, what each row makes of it, and where it ends.
+use Rattle.std.specs.Prelude.{Option as CodeOption}
 use Prim.Native.Nat.{ℕ, suc, ◌+◌, ◌-◌, ◌%◌, ◌≤◌, ◌<◌}
 use native.Mathlib.Numerals.{add-one}
 use native.Mathlib.Omega.{arith}
@@ -76,7 +77,7 @@ module _ {t : List ℕ} {base patterns lines : ℕ} {rs : List Row} (f : FileIn 
       }
 
   -- a C row
-  pub walked_clause : (starts : List ℕ) → starts ≡ iso_rows 0 rs → cell_of t n 0 ≡ letter clause_line → (g : R.Refusal) → OwnFault t base starts (w.iso - 1) n w.below (refusal_view g)
+  pub walked_clause : (starts : List ℕ) → starts ≡ iso_rows 0 rs → cell_of t n 0 ≡ letter clause_line → (g : CodeOption R.Refusal) → OwnFault t base starts (w.iso - 1) n w.below (refusal_view g)
       → {m : ℕ} → m ≡ n % 65536 → (p : A.Answer) → as_fault p ≡ or_else (at (n + 1) (refusal_view g)) (as_fault w.pending)
       → Walked t base rs n
       (record { clauses = set w.clauses (w.first - 1) m; first = w.first - 1; below = n; last = w.last; iso = w.iso; pending = p; found = w.found })

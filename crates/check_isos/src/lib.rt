@@ -19,7 +19,8 @@ ghost use Rattle.table_walks.specs.Walk.{FileIn};
 ghost use Rattle.check_isos.specs.Answers.{as_fault, OwnFault};
 ghost use Rattle.check_isos.specs.Walked.{LineCollected, LinesCollected, KindWalked, ClauseWalked, RowWalked, AllWalked};
 
-use area_words::{narrow, wide, word_at};
+use area_cells::item_at;
+use area_words::{narrow, wide};
 use check_bare::find_bares;
 use check_clauses::clause_fault;
 use check_coverage::side_fault;
@@ -39,15 +40,12 @@ pub struct Starts {
 }
 
 // One I line more, where there is room for it.
-fn with_start(s: Starts, n: usize) -> Starts
+fn with_start(mut s: Starts, n: usize) -> Starts
     ensures { s.count < max_isos → n < 65536 → (result.rows ≡ set s.rows s.count n) × (result.count ≡ s.count + 1) }
 {
-    let count = s.count;
-    if count < MAX_ISOS {
-        let mut r = s;
-        r.rows[count] = narrow(n);
-        r.count = count + 1;
-        return r;
+    if s.count < MAX_ISOS {
+        s.rows[s.count] = narrow(n);
+        s.count += 1;
     }
     s
 }
@@ -66,14 +64,12 @@ fn with_line(t: &[u16], s: Starts, n: usize) -> Starts
 fn iso_rows(t: &[u16], from: usize, to: usize) -> Starts
     ensures { LinesCollected t.now from to result }
 {
-    let mut n = from;
     let mut s = Starts {
         rows: [0u16; MAX_ISOS],
         count: 0,
     };
-    while n < to {
+    for n in from..to {
         s = with_line(t, s, n);
-        n += 1;
     }
     s
 }
@@ -98,7 +94,7 @@ fn none() -> Answer
 {
     Answer {
         place: 0,
-        refusal: Refusal::Nothing,
+        refusal: None,
     }
 }
 
@@ -114,7 +110,7 @@ fn told(a: Answer) -> Answer
 }
 
 // The refusal of an earlier row, or else what was found further down.
-fn sooner(f: Refusal, place: usize, later: Answer) -> Answer
+fn sooner(f: Option<Refusal>, place: usize, later: Answer) -> Answer
     ensures { as_fault result ≡ or_else (at place (refusal_view f)) (as_fault later) }
 {
     if is_refused(f) {
@@ -137,11 +133,11 @@ fn own_fault(
     own: usize,
     n: usize,
     below: usize,
-) -> Refusal
+) -> Option<Refusal>
     requires { Facts t.now base f.now × Bares t.now base g.now × Known t.now base k.now }
     ensures { OwnFault t.now base starts.now own n below (refusal_view result) }
 {
-    let head = wide(word_at(starts, own));
+    let head = wide(item_at(starts, own, 0));
     let a = cell(t, head, ISO_FROM);
     let b = cell(t, head, ISO_TO);
     clause_fault(t, f, g, k, base, starts, a, b, n, below)
@@ -151,16 +147,7 @@ fn own_fault(
 fn is_inside(i: usize, first: usize, n: usize) -> bool
     ensures { (result ≡ true → (0 < i) × (first ≤ max_clauses) × (n < max_lines)) × (0 < i → first ≤ max_clauses → n < max_lines → result ≡ true) }
 {
-    if i == 0 {
-        return false;
-    }
-    if MAX_CLAUSES < first {
-        return false;
-    }
-    if MAX_LINES <= n {
-        return false;
-    }
-    true
+    0 < i && first <= MAX_CLAUSES && n < MAX_LINES
 }
 
 // The walk with the C row n.
@@ -179,22 +166,19 @@ fn with_clause(
 {
     let i = w.iso;
     let first = w.first;
+    // One test in another: with both in one the proof of the way past them has not closed.
     if is_inside(i, first, n) {
         if 0 < first {
             let fault = own_fault(t, f, g, k, base, starts, i - 1, n, w.below);
             let slot = first - 1;
             let mut clauses = w.clauses;
             clauses[slot] = narrow(n);
-            let found = w.found;
-            let pending = w.pending;
             return Walk {
                 clauses: clauses,
                 first: slot,
                 below: n,
-                last: w.last,
-                iso: i,
-                pending: sooner(fault, n + 1, pending),
-                found: found,
+                pending: sooner(fault, n + 1, w.pending),
+                ..w
             };
         }
     }
@@ -238,14 +222,10 @@ fn with_iso(t: &[u16], f: &[u8], base: usize, w: Walk, n: usize) -> Walk
     let i = w.iso;
     let first = w.first;
     if is_inside(i, first, n) {
-        let clauses = w.clauses;
-        let found = w.found;
-        let pending = w.pending;
         let clear = none();
         let above = i - 1;
         let last = w.last;
         return Walk {
-            clauses: clauses,
             first: MAX_CLAUSES,
             below: n,
             last: n,
@@ -257,11 +237,12 @@ fn with_iso(t: &[u16], f: &[u8], base: usize, w: Walk, n: usize) -> Walk
                 base,
                 above,
                 n,
-                &clauses[first..MAX_CLAUSES],
+                &w.clauses[first..MAX_CLAUSES],
                 last,
-                pending,
-                found,
+                w.pending,
+                w.found,
             ),
+            ..w
         };
     }
     w
@@ -281,14 +262,11 @@ fn with_row(
     requires { (table_length ≤ length t.now) × Facts t.now base f.now × (length f.now ≤ max_lines) × Bares t.now base g.now × Known t.now base k.now }
     ensures { RowWalked t.now base starts.now n w result }
 {
-    let letter = cell(t, n, ROW_LETTER);
-    if letter == CLAUSE_LINE {
-        return with_clause(t, f, g, k, base, starts, w, n);
+    match cell(t, n, ROW_LETTER) {
+        CLAUSE_LINE => with_clause(t, f, g, k, base, starts, w, n),
+        ISO_LINE => with_iso(t, f, base, w, n),
+        _ => w,
     }
-    if letter == ISO_LINE {
-        return with_iso(t, f, base, w, n);
-    }
-    w
 }
 
 // The first refusal of the isos of a table of `lines` rows, of which `types` are T lines and then
@@ -330,7 +308,6 @@ fn walk_up(
     ensures { AllWalked t.now base starts.now stop lines isos result }
 {
     let clean = none();
-    let mut n = lines;
     let mut w = Walk {
         clauses: [0u16; MAX_CLAUSES],
         first: MAX_CLAUSES,
@@ -340,8 +317,7 @@ fn walk_up(
         pending: clean,
         found: clean,
     };
-    while stop < n {
-        n -= 1;
+    for n in (stop..lines).rev() {
         w = with_row(t, f, g, k, base, starts, w, n);
     }
     w.found
@@ -410,10 +386,7 @@ fn walk_with(
 fn known(stop: usize) -> usize
     ensures { result ≤ facts_length }
 {
-    if FACTS < stop {
-        return 0;
-    }
-    stop
+    if stop <= FACTS { stop } else { 0 }
 }
 
 fn walk_lines(

@@ -12,9 +12,10 @@ ghost use Rattle.table_trees.specs.Unfolding.{cell_of, type_of, pattern_of};
 ghost use Rattle.check_typing.specs.Fitting.{env_view, fit_all};
 ghost use Rattle.check_known.specs.Known.{meeting, MetEntry, NextEntry, Skipped, Entries, line_at, own_at, Known, Slot, Place, Full, Went, Entered, Stored, large_row, any_large, head_at};
 
-use area_words::{wide, word_at};
+use area_cells::item_at;
+use area_words::wide;
 use check_bare::is_bare;
-use check_facts::number;
+use check_facts::{byte, number};
 use check_shapes::same_type;
 use check_typing::{Env, fit, later, no_types, sooner};
 use codes::{
@@ -62,12 +63,6 @@ const LARGE: usize = 16;
 // What no entry is.
 const MISFIT: usize = 65536;
 
-fn byte(n: usize) -> u8
-    ensures { n < 256 → result ≡ n }
-{
-    (n % 256) as u8
-}
-
 // ---- slots
 
 // Whether the slot at place `at` is that of P line p on T line a.
@@ -75,10 +70,7 @@ fn is_slot_of(k: &[u8], at: usize, p: usize, a: usize) -> bool
     requires { at + 35 < length k.now }
     ensures { result ≡ true → (line_at k.now at ≡ p) × (own_at k.now at ≡ a) }
 {
-    if number(k[at + OWN]) == a {
-        return number(k[at + LOW]) + number(k[at + HIGH]) * 256 == p;
-    }
-    false
+    number(k[at + OWN]) == a && number(k[at + LOW]) + number(k[at + HIGH]) * 256 == p
 }
 
 // The first place among some slots at which P line p is kept on T line a or nothing is; the end where there is none.
@@ -86,8 +78,7 @@ fn slot_of(k: &[u8], p: usize, a: usize) -> usize
     ensures { result < length k.now → Place k.now p a result }
 {
     let first = (p % SLOTS) * 633 + (a % SLOTS) * 67;
-    let mut i: usize = 0;
-    while i < TRIES {
+    for i in 0..TRIES {
         let at = ((first + i) % SLOTS) * WIDTH;
         if k.len() < at + WIDTH {
             return k.len();
@@ -98,7 +89,6 @@ fn slot_of(k: &[u8], p: usize, a: usize) -> usize
         if is_slot_of(k, at, p, a) {
             return at;
         }
-        i += 1;
     }
     k.len()
 }
@@ -159,10 +149,8 @@ fn next_entry(k: &[u8], at: usize, from: usize) -> usize
     requires { at + 35 < length k.now }
     ensures { NextEntry k.now at from result }
 {
-    if from < VARIABLES {
-        if 0 < number(k[at + from]) {
-            return from;
-        }
+    if from < VARIABLES && 0 < number(k[at + from]) {
+        return from;
     }
     let mut i = skip_empty(k, at, from);
     while i < VARIABLES {
@@ -178,9 +166,7 @@ fn next_entry(k: &[u8], at: usize, from: usize) -> usize
 fn misfit(e: Env) -> Env
     ensures { result.fits ≡ false }
 {
-    let mut r = e;
-    r.fits = false;
-    r
+    Env { fits: false, ..e }
 }
 
 // The types of the live variables once a pattern with the entries from place `at` on is bound or used.
@@ -246,42 +232,24 @@ fn fit_kept(
 
 // Whether P line p has a mark: it holds only units and pairs, and its mark tells its fit.
 fn has_mark(g: &[u16], base: usize, p: usize) -> bool {
-    if base <= g.len() {
-        if p < g.len() - base {
-            return 0 < wide(g[base + p]);
-        }
-    }
-    false
+    base <= g.len() && p < g.len() - base && 0 < g[base + p]
 }
 
 // Whether P line p is large and without a mark, and both lines have numbers that a slot has room for.
 fn is_large(t: &[u16], g: &[u16], base: usize, p: usize, a: usize) -> bool
     ensures { result ≡ true → (p < 65536) × (a < 256) }
 {
-    if pattern_cell(t, base, p, SIZE) < LARGE {
-        return false;
-    }
-    if has_mark(g, base, p) {
-        return false;
-    }
-    if p < 65536 {
-        return a < 256;
-    }
-    false
+    LARGE <= pattern_cell(t, base, p, SIZE) && !has_mark(g, base, p) && p < 65536 && a < 256
 }
 
 // Whether the parts of P line p and T line a, a pair and a product, are looked up: both lines are large, and parts are left to go down to.
 fn is_parted(t: &[u16], g: &[u16], base: usize, p: usize, a: usize, depth: usize) -> bool
     ensures { result ≡ true → (cell_of t.now (base + p) 1 ≡ 4) × (cell_of t.now a 1 ≡ 2) × (0 < depth) }
 {
-    if 0 < depth {
-        if is_large(t, g, base, p, a) {
-            if pattern_cell(t, base, p, KIND) == PAIR {
-                return cell(t, a, KIND) == PRODUCT;
-            }
-        }
-    }
-    false
+    0 < depth
+        && is_large(t, g, base, p, a)
+        && pattern_cell(t, base, p, KIND) == PAIR
+        && cell(t, a, KIND) == PRODUCT
 }
 
 // The place at which the fit of P line p to T line a is kept; the end where it is not.
@@ -292,10 +260,8 @@ fn kept_at(t: &[u16], g: &[u16], k: &[u8], base: usize, p: usize, a: usize) -> u
         let at = slot_of(k, p, a);
         if at < k.len() {
             let how = number(k[at + HOW]);
-            if 0 < how {
-                if how < NO_ROOM {
-                    return at;
-                }
+            if 0 < how && how < NO_ROOM {
+                return at;
             }
         }
     }
@@ -395,26 +361,13 @@ pub fn fit_known(
 
 // ---- a fit kept
 
-// The greater of two numbers.
-fn larger(m: usize, n: usize) -> usize
-    ensures { (m ≤ result) × (n ≤ result) }
-{
-    if m < n {
-        return n;
-    }
-    m
-}
-
 // The greatest entry.
 fn greatest(e: Env) -> usize
     ensures { (i : ℕ) → i < variables → get_or e.line i 0 ≤ result }
 {
-    let line = e.line;
     let mut most: usize = 0;
-    let mut i: usize = 0;
-    while i < VARIABLES {
-        most = larger(most, wide(line[i]));
-        i += 1;
+    for entry in &e.line {
+        most = most.max(wide(*entry));
     }
     most
 }
@@ -442,10 +395,8 @@ fn enter(k: &mut [u8], at: usize, e: Env)
     ensures { Entered k.new k.old at e.line }
 {
     let line = e.line;
-    let mut i: usize = 0;
-    while i < VARIABLES {
+    for i in 0..VARIABLES {
         k[at + i] = byte(wide(line[i]));
-        i += 1;
     }
 }
 
@@ -478,10 +429,7 @@ fn is_free(k: &[u8], at: usize) -> bool
     requires { at < length k.now → at + 35 < length k.now }
     ensures { result ≡ true → at < length k.now }
 {
-    if at < k.len() {
-        return number(k[at + HOW]) == 0;
-    }
-    false
+    at < k.len() && number(k[at + HOW]) == 0
 }
 
 // The fit of P line p to T line a kept, and before it those of its parts down to some depth: of large lines, where the fit is not kept yet
@@ -512,8 +460,6 @@ fn keep_deep(t: &[u16], g: &[u16], k: &mut [u8], base: usize, p: usize, a: usize
                     type_part(t, a, SECOND),
                     depth - 1,
                 );
-                keep_fit(t, g, k, base, p, a, at);
-                return;
             }
             keep_fit(t, g, k, base, p, a, at);
         }
@@ -586,9 +532,10 @@ fn head_at(t: &[u16], n: usize, head: usize) -> usize
     ensures { result ≡ head_at t.now n head }
 {
     if cell(t, n, ROW_LETTER) == ISO_LINE {
-        return n;
+        n
+    } else {
+        head
     }
-    head
 }
 
 // The fits of the rows from `stop` up to `lines`, C and L rows under their I rows.
@@ -605,11 +552,9 @@ pub fn find_known(
     ensures { (length k.new ≡ length k.old) × Known t.now base k.new }
 {
     let mut head = stop;
-    let mut n = stop;
-    while n < lines {
+    for n in stop..lines {
         head = head_at(t, n, head);
         keep_row(t, g, k, base, starts, n, head);
-        n += 1;
     }
 }
 
@@ -617,22 +562,17 @@ pub fn find_known(
 fn is_large_row(t: &[u16], g: &[u16], n: usize) -> bool
     ensures { result ≡ large_row t.now g.now n }
 {
-    if cell(t, n, SIZE) < LARGE {
-        return false;
-    }
-    wide(word_at(g, n)) == 0
+    LARGE <= cell(t, n, SIZE) && item_at(g, n, 0) == 0
 }
 
 // Whether one of the rows from `from` up to `to`, which are P lines, is large and without a mark.
 pub fn any_large(t: &[u16], g: &[u16], from: usize, to: usize) -> bool
     ensures { result ≡ any_large t.now g.now from (to - from) }
 {
-    let mut n = from;
-    while n < to {
+    for n in from..to {
         if is_large_row(t, g, n) {
             return true;
         }
-        n += 1;
     }
     false
 }

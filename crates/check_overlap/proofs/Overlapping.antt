@@ -5,7 +5,7 @@ use mathlib.Core.Option.{Option, none, some}
 use lib.ListN.{get_elem?}
 use Rattle.limits.specs.Limits.{max_nodes}
 use Rattle.calculus.specs.Trees.{Pat, pleaf, unit_leaf, nodes}
-use Rattle.calculus.specs.Refusals.{Kind, type_line, pattern_line, iso_line, clause_line, let_line, number}
+use Rattle.calculus.specs.Refusals.{Kind, type_line, pattern_line, iso_line, clause_line, let_line}
 use Rattle.format.specs.Lines.{Row}
 use Rattle.format.specs.Judge.{Seen, start, pattern_tree, after_kind, after_all}
 use Rattle.model.specs.Services.{Verdict, accepted, refused, verdict, short, unless, check, Outcome, gives, fails, refusal_number, line_of, served}

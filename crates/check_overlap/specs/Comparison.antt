@@ -1,6 +1,6 @@
 -- Request 04, "Stop at the first clash": two patterns compared node with node.
 use Rattle.std.specs.Prelude.{ℕ, ◌+◌, Bool, true, false, cond, not, ◌||◌, List, [], ◌∷◌, ◌++◌}
-use Rattle.calculus.specs.Trees.{Pat, pvar, pleaf, pinj, pnode, Node, pair_node, element_node, same_tag, same_node}
+use Rattle.calculus.specs.Trees.{Pat, pvar, pleaf, pinj, pnode, same_tag, same_node}
 use Rattle.calculus.specs.Clauses.{clash_leaf}
 
 -- whether two patterns clash, and "the number of node pairs compared, the clash included"

@@ -9,11 +9,9 @@ ghost use Rattle.table_trees.specs.Unfolding.{cell_of, pattern_of};
 ghost use Rattle.check_overlap.specs.Comparison.{compare as compared};
 ghost use Rattle.check_overlap.specs.Walking.{counted, opening, part_of, Meets, Within};
 
-use area_words::wide;
 use codes::{ELEMENT, EMPTY, LEFT, PAIR, RIGHT};
-use limits::ROW_WIDTH;
 use std::num::wrapping_add_usize;
-use table_trees::ROWS;
+use table_trees::{ROWS, field};
 
 // Whether two patterns clash, and how many node pairs were compared.
 #[derive(Clone, Copy)]
@@ -22,26 +20,14 @@ pub struct Compared {
     pub pairs: usize,
 }
 
-// Number k of a row of the table.
-fn number(t: &[u16], row: usize, k: usize) -> usize
-    requires { (table_length ≤ length t.now) × (row < max_lines) × (k < row_width) }
-    ensures { result ≡ cell_of t.now row k }
-{
-    wide(t[row * ROW_WIDTH + k])
-}
-
 // How nodes of two kinds meet: 0 where nothing below them is compared, 1 where they clash, else the field
-// that names their last parts: 2 of two lefts or two rights, 3 of two pairs or two elements.
+// that names their last parts: 2 of two lefts or two rights, 3 of two pairs or two elements. A number, and no enum, since it is that
+// field and, on the count, the node pair and its clash.
 fn meet(k: usize, j: usize) -> usize
     ensures { Meets k j result }
 {
     match k {
-        PAIR => {
-            if j == PAIR {
-                return 3;
-            }
-            0
-        }
+        PAIR => { if j == PAIR { 3 } else { 0 } }
         LEFT | RIGHT => {
             if k == j {
                 return 2;
@@ -75,17 +61,7 @@ fn meeting(t: &[u16], base: usize, p: usize, q: usize) -> usize
     requires { Within t.now base p q }
     ensures { Meets (cell_of t.now (base + p) kind_field) (cell_of t.now (base + q) kind_field) result }
 {
-    meet(number(t, base + p, 1), number(t, base + q, 1))
-}
-
-// Whether two names are those of earlier lines.
-fn named(a: usize, p: usize, b: usize, q: usize) -> bool
-    ensures { (result ≡ true → (a < p) × (b < q)) × (result ≡ false → (p ≤ a) ⊎ (q ≤ b)) }
-{
-    if a < p {
-        return b < q;
-    }
-    false
+    meet(field(t, base + p, 1), field(t, base + q, 1))
 }
 
 // The count n, with the nodes of P lines p and q that meet so and, where they have two parts, the first ones.
@@ -98,9 +74,9 @@ fn compare_first(t: &[u16], base: usize, p: usize, q: usize, m: usize, n: usize)
     if m != 3 {
         return next;
     }
-    let a = number(t, base + p, 2);
-    let b = number(t, base + q, 2);
-    if !named(a, p, b, q) {
+    let a = field(t, base + p, 2);
+    let b = field(t, base + q, 2);
+    if p <= a || q <= b {
         return wrapping_add_usize(next, 2);
     }
     let k = meeting(t, base, a, b);
@@ -125,9 +101,9 @@ fn compare_below(t: &[u16], base: usize, i: usize, j: usize, k: usize, count: us
         if n % 2 == 1 {
             return n;
         }
-        let a = number(t, base + p, m);
-        let b = number(t, base + q, m);
-        if !named(a, p, b, q) {
+        let a = field(t, base + p, m);
+        let b = field(t, base + q, m);
+        if p <= a || q <= b {
             return wrapping_add_usize(n, 2);
         }
         p = a;
@@ -141,10 +117,7 @@ fn compare_below(t: &[u16], base: usize, i: usize, j: usize, k: usize, count: us
 fn is_row(base: usize, p: usize) -> bool
     ensures { (result ≡ true → base + p < max_lines) × (result ≡ false → max_lines ≤ base + p) }
 {
-    if base < ROWS {
-        return p < ROWS - base;
-    }
-    false
+    base < ROWS && p < ROWS - base
 }
 
 // The count of P lines p and q of a whole table. A line that is no row of it stands for a unit.

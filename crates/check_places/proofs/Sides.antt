@@ -1,24 +1,25 @@
 -- The clauses of a side, one after the other: each clashes with those before it exactly where it meets them at some place.
-use Prim.Native.Nat.{ℕ, zero, suc, ◌+◌, ◌%◌, ◌<◌, ◌≤◌, min}
+use Prim.Native.Nat.{ℕ, zero, suc, ◌+◌, ◌%◌, ◌<◌, ◌≤◌}
 use native.Mathlib.Nat.{le_refl, eq-or-lt_of_le}
 use native.Mathlib.Omega.{arith}
 use mathlib.Core.Path.{◌≡◌, refl, sym, ap, ap₂, ◌∙◌, subst}
-use mathlib.Core.Bool.{Bool, true, false, cond, not, ◌&&◌, ◌||◌, true≢false}
+use mathlib.Core.Bool.{Bool, true, false, not, ◌&&◌, ◌||◌, true≢false}
 use mathlib.Core.Logic.{◌⊎◌, inl, inr}
-use mathlib.Core.List.{List, [], ◌∷◌, map}
+use mathlib.Core.List.{List, [], ◌∷◌}
+use Rattle.std.proofs.Common.{Option, Some, None}
 use lib.ListN.{length, get_or, replicate, length-replicate, get_or-map, length-map}
 use Rattle.limits.specs.Limits.{table_length, max_lines}
 use Rattle.calculus.specs.Tools.{all}
-use Rattle.calculus.specs.Trees.{Ty, Tag, left, right, Pat, pleaf, unit_leaf, pvar, pinj, pnode, pair_node, same_tag}
+use Rattle.calculus.specs.Trees.{Ty, Tag, Pat}
 use Rattle.calculus.specs.Clauses.{clash, apart}
 use Rattle.calculus.proofs.Orthogonal.{clash_sym}
 use Rattle.table_trees.specs.Unfolding.{cell_of, type_of, pattern_of}
 use Rattle.table_walks.specs.InTable.{patterns_at}
-use Rattle.check_facts.specs.Facts.{Facts, places, many_places, width}
+use Rattle.check_facts.specs.Facts.{Facts, places, width}
 use Rattle.check_sets.specs.Sets.{bit, gatherer, area, members, word_of, has, Emptied, Full}
 use Rattle.check_sets.proofs.Digits.{bit_zero}
 use Rattle.check_places.specs.Places.{flip, Mark, marks, shaped, member, meets}
-use Rattle.check_places.specs.Walking.{set_at, met, Walked, Ready, Told, Sided, Ordered, Started, Seen, Separated}
+use Rattle.check_places.specs.Walking.{set_at, met, Ready, Told, Sided, Ordered, Started, Seen, Separated}
 use Rattle.check_places.proofs.Places.{Between, none, more, wider, marks_between, clash_places}
 use Rattle.check_places.proofs.Walking.{set_low}
 
@@ -91,24 +92,35 @@ module _ {t f : List ℕ} {base p a i : ℕ} {s e z : List ℕ} (o : Ordered t f
   sided_not : (k : ℕ) × (k < i) × (has z gatherer k ≡ false) → (k : ℕ) × (k < i) × (clash (pat k) (pat i) ≡ false)
   sided_not g = (g.0, g.1, sym (gathered g.0 g.1) ∙ g.2)
 
-pub seen_unknown : {t : List ℕ} {base p a i : ℕ} {s z : List ℕ} → length z ≡ length s → Seen t base p a i s z 0
-seen_unknown e = record { yes = λ h. absurd (omega arith); no = λ h. absurd (omega arith); long = e }
+-- ---- answers
 
-module _ {t f : List ℕ} {base p a i : ℕ} {s e z : List ℕ} (o : Ordered t f base a i s) (m : Emptied s e) {r : Bool} (w : Told t base p a 0 i e z r) (h : r ≡ true)
-    {b : Bool} (g : Full z i b) where
-  pub seen_all : b ≡ true → Seen t base p a i s z 1
-  seen_all q = record {
-    yes = λ l pat same d. sided_next o m w h pat same d (g.yes q);
-    no = λ l. absurd (omega arith);
-    long = w.long ∙ m.long;
-  }
+abbrev answer : Option Bool → Bool
+answer None = false
+answer (Some b) = b
 
-  pub seen_not : b ≡ false → Seen t base p a i s z 2
-  seen_not q = record {
-    yes = λ l. absurd (omega arith);
-    no = λ l pat same d. sided_not o m w h pat same d (g.no q);
-    long = w.long ∙ m.long;
-  }
+abbrev denied : Option Bool → Bool
+denied None = false
+denied (Some b) = not b
+
+abbrev unknown : Option Bool
+unknown = None
+
+unknown_yes : {A : Type 0} → unknown ≡ Some true → A
+unknown_yes e = absurd (true≢false (sym (ap answer e)))
+
+unknown_no : {A : Type 0} → unknown ≡ Some false → A
+unknown_no e = absurd (true≢false (sym (ap denied e)))
+
+pub seen_unknown : {t : List ℕ} {base p a i : ℕ} {s z : List ℕ} → length z ≡ length s → Seen t base p a i s z None
+seen_unknown e = record { yes = λ h. unknown_yes h; no = λ h. unknown_no h; long = e }
+
+pub seen_known : {t f : List ℕ} {base p a i : ℕ} {s e z : List ℕ} → Ordered t f base a i s → Emptied s e → {r : Bool} → Told t base p a 0 i e z r → r ≡ true
+    → {b : Bool} → Full z i b → Seen t base p a i s z (Some b)
+seen_known o m w h g = record {
+  yes = λ l pat same d. sided_next o m w h pat same d (g.yes (ap answer l));
+  no = λ l pat same d. sided_not o m w h pat same d (g.no (ap answer l));
+  long = w.long ∙ m.long;
+}
 
 pub ordered_ready : {t f : List ℕ} {base p a i : ℕ} {s e : List ℕ} → Ordered t f base a i s → base + p < length f → length e ≡ length s → Ready t f base p a 0 i e
 ordered_ready o l q = record {
@@ -204,11 +216,11 @@ module _ {t f : List ℕ} {base a k : ℕ} {rows s : List ℕ} {i : ℕ} (w : Pl
     one = omega (arith, w.clauses);
   }
 
-  module _ {q p v : ℕ} {z : List ℕ} (row : q ≡ get_or rows i 0) (line : p ≡ cell_of t q k) (g : Seen t base p a i s z v) where
+  module _ {q p : ℕ} {v : Option Bool} {z : List ℕ} (row : q ≡ get_or rows i 0) (line : p ≡ cell_of t q k) (g : Seen t base p a i s z v) where
     line_pattern : pattern_of t base p ≡ pat_at t base k rows i
     line_pattern = ap (pattern_of t base) (line ∙ ap (λ x. cell_of t x k) row)
 
-    pub placing_next : v ≡ 1 → Placing t f base a k rows z (i + 1)
+    pub placing_next : v ≡ Some true → Placing t f base a k rows z (i + 1)
     placing_next e =
         let next : suc i ≡ i + 1 = omega arith in
         record {
@@ -225,8 +237,8 @@ module _ {t f : List ℕ} {base a k : ℕ} {rows s : List ℕ} {i : ℕ} (w : Pl
         subst_place : {x y : ℕ} → x ≡ y → Sided (type_of t a) (pat_at t base k rows) x z → Sided (type_of t a) (pat_at t base k rows) y z
         subst_place e d = subst (λ n. Sided (type_of t a) (pat_at t base k rows) n z) e d
 
-    pub placing_not : (v ≡ 1 → ⊥) → Separated t base k rows v
-    placing_not n = record { yes = λ e. absurd (n e); no = λ e. overlaps (g.no e (pat_at t base k rows) line_pattern w.sided) }
+    pub placing_not : v ≡ Some false → Separated t base k rows (Some false)
+    placing_not n = record { yes = λ e. absurd (true≢false (sym (ap answer e))); no = λ e. overlaps (g.no n (pat_at t base k rows) line_pattern w.sided) }
       where
         overlaps : (j : ℕ) × (j < i) × (clash (pat_at t base k rows j) (pat_at t base k rows i) ≡ false) → apart (patterns_at t base k rows) ≡ false
         overlaps x =
@@ -234,8 +246,8 @@ module _ {t f : List ℕ} {base a k : ℕ} {rows s : List ℕ} {i : ℕ} (w : Pl
             apart_false (patterns_at t base k rows) (pattern_of t base (cell_of t 0 k)) x.0 i x.1 (omega (arith, long))
             (ap₂ clash (get_or-map (λ r. pattern_of t base (cell_of t r k)) rows x.0 0) (get_or-map (λ r. pattern_of t base (cell_of t r k)) rows i 0) ∙ x.2)
 
-pub placing_all : {t f : List ℕ} {base a k : ℕ} {rows s : List ℕ} {i : ℕ} → Placing t f base a k rows s i → length rows ≤ i → Separated t base k rows 1
-placing_all {t} {f} {base} {a} {k} {rows} {s} {i} w h = record { yes = λ e. clear; no = λ e. absurd (omega arith) }
+pub placing_all : {t f : List ℕ} {base a k : ℕ} {rows s : List ℕ} {i : ℕ} → Placing t f base a k rows s i → length rows ≤ i → Separated t base k rows (Some true)
+placing_all {t} {f} {base} {a} {k} {rows} {s} {i} w h = record { yes = λ e. clear; no = λ e. absurd (true≢false (ap answer e)) }
   where
     clear : apart (patterns_at t base k rows) ≡ true
     clear =
@@ -255,8 +267,8 @@ zero_at (suc n) (suc i) = zero_at n i
 pub none_there : (n c k : ℕ) → has (replicate n zero) c k ≡ false
 none_there n c k = ap (bit (k % 64)) (zero_at n (word_of c k)) ∙ bit_zero (k % 64)
 
-pub separated_unknown : (t : List ℕ) (base k : ℕ) (rows : List ℕ) → Separated t base k rows 0
-separated_unknown t base k rows = record { yes = λ e. absurd (omega arith); no = λ e. absurd (omega arith) }
+pub separated_unknown : (t : List ℕ) (base k : ℕ) (rows : List ℕ) → Separated t base k rows None
+separated_unknown t base k rows = record { yes = λ e. unknown_yes e; no = λ e. unknown_no e }
 
 -- the facts say how many places the type has
 pub width_known : {t f : List ℕ} {base a v : ℕ} → Facts t base f → base ≤ length f → a < base → v ≡ get_or f a 0 → v ≤ places → width (type_of t a) ≤ places

@@ -1,23 +1,23 @@
 -- The walk over a pattern: what it marks and gathers, from what it does for the parts.
-use Prim.Native.Nat.{ℕ, zero, suc, ◌+◌, ◌*◌, ◌<◌, ◌≤◌, min, max}
+use Prim.Native.Nat.{ℕ, suc, ◌+◌, ◌*◌, ◌<◌, ◌≤◌, min, max}
 use native.Mathlib.Nat.{le_refl}
 use native.Mathlib.Omega.{arith}
 use mathlib.Core.Path.{◌≡◌, refl, sym, ap, ap₂, ◌∙◌, subst}
-use mathlib.Core.Bool.{Bool, true, false, cond, ◌&&◌, ◌||◌, true≢false}
+use mathlib.Core.Bool.{Bool, true, false, ◌&&◌, ◌||◌, true≢false}
 use mathlib.Core.List.{List, [], ◌∷◌, ◌++◌}
 use lib.Dec.{eqb}
 use lib.ListN.{length, get_or}
-use borrow.Author.Tests.{eqb-true, eqb-false, eq-eqb, ne_eqb, lt-ltb}
-use Rattle.limits.specs.Limits.{table_length, max_lines, row_width, many_tags}
+use borrow.Author.Tests.{eqb-true, eq-eqb}
+use Rattle.limits.specs.Limits.{row_width, many_tags}
 use Rattle.calculus.specs.Trees.{Ty, tsum, tprod, Tag, left, right, Pat, pinj, pnode, pair_node, same_tag, part, tags}
 use Rattle.table_trees.specs.Unfolding.{cell_of, smaller_of, type_of, pattern_of}
-use Rattle.table_trees.proofs.Unfolding.{cell_within}
 use Rattle.table_trees.proofs.Cases.{Injects, lefts, rights}
 use Rattle.table_trees.proofs.Lines.{line_sum, line_product, is_left, is_right, is_pair}
-use Rattle.check_facts.specs.Facts.{Facts, places, width}
-use Rattle.check_sets.specs.Sets.{gatherer, area, members, has, United, Joined}
+use Rattle.table_parts.specs.Naming.{Named}
+use Rattle.check_facts.specs.Facts.{places, width}
+use Rattle.check_sets.specs.Sets.{gatherer, members, has, United, Joined}
 use Rattle.check_places.specs.Places.{flip, Mark, marks, shaped, member}
-use Rattle.check_places.specs.Walking.{set_at, met, Walked, Marked, Named, Ready, Told}
+use Rattle.check_places.specs.Walking.{set_at, met, Walked, Marked, Ready, Told}
 use Rattle.check_places.proofs.Places.{Between, none, more, wider, marks_between, member_join, tagless_shaped, tagless_marks}
 
 -- ---- booleans
@@ -155,12 +155,12 @@ rest_between q b m h = wider (le_refl m) h (marks_between q b m)
 
 -- a pair
 module _ {t f : List ℕ} {base p a n i : ℕ} {s : List ℕ} (w : Ready t f base p a n i s) {k o : ℕ} (ek : k ≡ cell_of t (base + p) 1) (eo : o ≡ cell_of t a 1)
-    (zk : k ≡ 4) (zo : o ≡ 2) {x y : Bool} {q b r c : ℕ} (one : Named t base p a 2 2 x q b) (two : Named t base p a 3 3 y r c) (hx : x ≡ true) (hy : y ≡ true) where
+    (zk : k ≡ 4) (zo : o ≡ 2) {q b r c : ℕ} (one : Named t base p a 2 2 q b) (two : Named t base p a 3 3 r c) where
   pair_pattern : pattern_of t base p ≡ pnode pair_node (pattern_of t base q) (pattern_of t base r)
-  pair_pattern = is_pair t base p ek zk (one.pattern hx) (two.pattern hy)
+  pair_pattern = is_pair t base p ek zk (one.pattern) (two.pattern)
 
   pair_type : type_of t a ≡ tprod (type_of t b) (type_of t c)
-  pair_type = line_product t a eo (one.type hx) (two.type hy) zo
+  pair_type = line_product t a eo (one.type) (two.type) zo
 
   pair_width : width (type_of t a) ≡ width (type_of t b) + width (type_of t c)
   pair_width = ap width pair_type
@@ -170,8 +170,8 @@ module _ {t f : List ℕ} {base p a n i : ℕ} {s : List ℕ} (w : Ready t f bas
     whole = w.whole;
     facts = w.facts;
     few = w.few;
-    line = omega (arith, w.line, one.lower hx);
-    type = omega (arith, w.type, one.below hx);
+    line = omega (arith, w.line, one.lower);
+    type = omega (arith, w.type, one.below);
     room = omega (arith, w.room, pair_width);
     one = w.one;
     long = w.long;
@@ -180,7 +180,7 @@ module _ {t f : List ℕ} {base p a n i : ℕ} {s : List ℕ} (w : Ready t f bas
   module _ {v : ℕ} (ev : v ≡ get_or f b 0) where
     first_width : v ≡ width (type_of t b)
     first_width =
-        let known = w.facts.widths b (omega (arith, w.type, one.below hx)) (omega (arith, w.line, w.type, one.below hx)) in
+        let known = w.facts.widths b (omega (arith, w.type, one.below)) (omega (arith, w.line, w.type, one.below)) in
         omega (arith, known, w.room, pair_width)
 
     pub ready_second : {u : List ℕ} → length u ≡ length s → Ready t f base r c (n + v) i u
@@ -188,8 +188,8 @@ module _ {t f : List ℕ} {base p a n i : ℕ} {s : List ℕ} (w : Ready t f bas
       whole = w.whole;
       facts = w.facts;
       few = w.few;
-      line = omega (arith, w.line, two.lower hy);
-      type = omega (arith, w.type, two.below hy);
+      line = omega (arith, w.line, two.lower);
+      type = omega (arith, w.type, two.below);
       room = omega (arith, w.room, pair_width, first_width);
       one = w.one;
       long = e ∙ w.long;
@@ -238,52 +238,28 @@ module _ {t f : List ℕ} {base p a n i : ℕ} {s : List ℕ} (w : Ready t f bas
   part_room q b lefts e = let same : width (type_of t b) ≡ width (type_of t (smaller_of (cell_of t a 2) a)) = ap (λ x. width (type_of t x)) e in omega (arith, w.room, sum_width, same)
   part_room q b rights e = let same : width (type_of t b) ≡ width (type_of t (smaller_of (cell_of t a 3) a)) = ap (λ x. width (type_of t x)) e in omega (arith, w.room, sum_width, same)
 
-  pub ready_only : {k q b : ℕ} {x : Bool} {u : List ℕ} → Injects k → Named t base p a 2 k x q b → x ≡ true → length u ≡ length s → Ready t f base q b (n + 1) i u
-  ready_only {k} {q} {b} h m hx e = record {
+  pub ready_only : {k q b : ℕ} {u : List ℕ} → Injects k → Named t base p a 2 k q b → length u ≡ length s → Ready t f base q b (n + 1) i u
+  ready_only {k} {q} {b} h m e = record {
     whole = w.whole;
     facts = w.facts;
     few = w.few;
-    line = omega (arith, w.line, m.lower hx);
-    type = omega (arith, w.type, m.below hx);
-    room = omega (arith, part_room q b h (m.type hx));
+    line = omega (arith, w.line, m.lower);
+    type = omega (arith, w.type, m.below);
+    room = omega (arith, part_room q b h (m.type));
     one = w.one;
     long = e ∙ w.long;
   }
 
-  pub told_tag : {k q b : ℕ} {x r : Bool} {u z : List ℕ} → Injects k → k ≡ cell_of t (base + p) 1 → Named t base p a 2 k x q b → x ≡ true → Marked s u n k i
+  pub told_tag : {k q b : ℕ} {r : Bool} {u z : List ℕ} → Injects k → k ≡ cell_of t (base + p) 1 → Named t base p a 2 k q b → Marked s u n k i
       → Told t base q b (n + 1) i u z r → Told t base p a n i s z r
-  told_tag {q = q} {b = b} lefts ek m hx v h =
-      below left (type_of t (smaller_of (cell_of t a 2) a)) (type_of t (smaller_of (cell_of t a 3) a)) (is_left t base p ek refl (m.pattern hx)) (sum_part t a eo zo)
-      (ap (type_of t) (m.type hx)) (part_room q b lefts (m.type hx)) (v.lefts refl) h
-  told_tag {q = q} {b = b} rights ek m hx v h =
-      below right (type_of t (smaller_of (cell_of t a 2) a)) (type_of t (smaller_of (cell_of t a 3) a)) (is_right t base p ek refl (m.pattern hx)) (sum_part t a eo zo)
-      (ap (type_of t) (m.type hx)) (part_room q b rights (m.type hx)) (v.rights (λ e. omega arith)) h
+  told_tag {q = q} {b = b} lefts ek m v h =
+      below left (type_of t (smaller_of (cell_of t a 2) a)) (type_of t (smaller_of (cell_of t a 3) a)) (is_left t base p ek refl (m.pattern)) (sum_part t a eo zo)
+      (ap (type_of t) (m.type)) (part_room q b lefts (m.type)) (v.lefts refl) h
+  told_tag {q = q} {b = b} rights ek m v h =
+      below right (type_of t (smaller_of (cell_of t a 2) a)) (type_of t (smaller_of (cell_of t a 3) a)) (is_right t base p ek refl (m.pattern)) (sum_part t a eo zo)
+      (ap (type_of t) (m.type)) (part_room q b rights (m.type)) (v.rights (λ e. omega arith)) h
 
--- ---- the lines that two lines name
-
-pub named_both : {t : List ℕ} {base p a j k q b : ℕ} {x : Bool} → q ≡ cell_of t (base + p) j → b ≡ cell_of t a k → q < p → (x ≡ true → b < a) → Named t base p a j k x q b
-named_both {q = q} {b = b} eq eb l m = record {
-  lower = λ h. l;
-  below = m;
-  pattern = λ h. earlier q _ eq l;
-  type = λ h. earlier b _ eb (m h);
-}
-  where
-    earlier : (v i : ℕ) {c : ℕ} → v ≡ c → v < i → v ≡ smaller_of c i
-    earlier v i e h = sym (ap (λ y. smaller_of y i) (sym e) ∙ ap (λ b. cond b v max_lines) (lt-ltb v i h))
-
-pub named_not : {t : List ℕ} {base p a j k q b : ℕ} → Named t base p a j k false q b
-named_not = record {
-  lower = λ h. absurd (true≢false (sym h));
-  below = λ h. absurd (true≢false (sym h));
-  pattern = λ h. absurd (true≢false (sym h));
-  type = λ h. absurd (true≢false (sym h));
-}
-
--- ---- numbers of a row, and the measure
-
-pub field_is : (t : List ℕ) (row k : ℕ) → row < max_lines → k < row_width → get_or t (row * row_width + k) 0 ≡ cell_of t row k
-field_is t row k h l = sym (cell_within t row k h l)
+-- ---- a number of a row, and the measure
 
 -- the kind of a left or right is the place of a number of its row too
 pub tag_field : {k : ℕ} → k < 4 → k < row_width

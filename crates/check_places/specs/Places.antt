@@ -1,5 +1,5 @@
 -- The places of a type at which patterns of it hold a left or a right, and two patterns compared by what they hold there.
-use Rattle.std.specs.Prelude.{ℕ, zero, suc, ◌+◌, ◌*◌, Bool, true, false, ◌&&◌, ◌||◌, List, [], ◌∷◌, ◌++◌, eqb}
+use Rattle.std.specs.Prelude.{ℕ, suc, ◌+◌, Bool, true, false, ◌&&◌, ◌||◌, List, [], ◌∷◌, ◌++◌, eqb}
 use Rattle.calculus.specs.Trees.{Ty, tunit, tlist, tsum, tprod, unit_leaf, empty_leaf, Tag, left, right, pair_node, element_node, Pat, pvar, pleaf, pinj, pnode, same_tag, part, tags}
 use Rattle.check_facts.specs.Facts.{width}
 

@@ -1,9 +1,9 @@
 -- What the walk over a pattern comes to: the sets of clauses by places, before and after.
-use Rattle.std.specs.Prelude.{ℕ, zero, suc, ◌+◌, ◌*◌, ◌<◌, ◌≤◌, ◌≡◌, Bool, true, false, ◌||◌, List, [], ◌∷◌, length, get_or}
+use Rattle.std.specs.Prelude.{ℕ, suc, ◌+◌, ◌*◌, ◌<◌, ◌≤◌, ◌≡◌, Bool, true, false, ◌||◌, List, [], ◌∷◌, length, Option, Some}
 use Rattle.limits.specs.Limits.{table_length, max_lines}
 use Rattle.calculus.specs.Trees.{Ty, Tag, left, right, Pat}
 use Rattle.calculus.specs.Clauses.{clash, apart}
-use Rattle.table_trees.specs.Unfolding.{cell_of, smaller_of, type_of, pattern_of}
+use Rattle.table_trees.specs.Unfolding.{type_of, pattern_of}
 use Rattle.table_walks.specs.InTable.{patterns_at}
 use Rattle.check_facts.specs.Facts.{Facts, places, width}
 use Rattle.check_sets.specs.Sets.{gatherer, area, members, has}
@@ -31,13 +31,6 @@ pub record Marked (s z : List ℕ) (n kind i : ℕ) : Type 0 where
   pub long : length z ≡ length s
   pub lefts : kind ≡ 2 → Walked s z i ((n, left) ∷ [])
   pub rights : (kind ≡ 2 → ⊥) → Walked s z i ((n, right) ∷ [])
-
--- the lines that number j of P line p and number k of T line a name, where both are earlier lines
-pub record Named (t : List ℕ) (base p a j k : ℕ) (known : Bool) (q b : ℕ) : Type 0 where
-  pub lower : known ≡ true → q < p
-  pub below : known ≡ true → b < a
-  pub pattern : known ≡ true → q ≡ smaller_of (cell_of t (base + p) j) p
-  pub type : known ≡ true → b ≡ smaller_of (cell_of t a k) a
 
 -- what the walk needs
 pub record Ready (t f : List ℕ) (base p a n i : ℕ) (s : List ℕ) : Type 0 where
@@ -87,12 +80,12 @@ pub record Started (t f : List ℕ) (base a : ℕ) (s : List ℕ) : Type 0 where
   pub clear : (c k : ℕ) → has s c k ≡ false
 
 -- what it comes to for patterns of which that of clause i is P line p
-pub record Seen (t : List ℕ) (base p a i : ℕ) (s z : List ℕ) (r : ℕ) : Type 0 where
-  pub yes : r ≡ 1 → (pat : ℕ → Pat) → pattern_of t base p ≡ pat i → Sided (type_of t a) pat i s → Sided (type_of t a) pat (suc i) z
-  pub no : r ≡ 2 → (pat : ℕ → Pat) → pattern_of t base p ≡ pat i → Sided (type_of t a) pat i s → (k : ℕ) × (k < i) × (clash (pat k) (pat i) ≡ false)
+pub record Seen (t : List ℕ) (base p a i : ℕ) (s z : List ℕ) (r : Option Bool) : Type 0 where
+  pub yes : r ≡ Some true → (pat : ℕ → Pat) → pattern_of t base p ≡ pat i → Sided (type_of t a) pat i s → Sided (type_of t a) pat (suc i) z
+  pub no : r ≡ Some false → (pat : ℕ → Pat) → pattern_of t base p ≡ pat i → Sided (type_of t a) pat i s → (k : ℕ) × (k < i) × (clash (pat k) (pat i) ≡ false)
   pub long : length z ≡ length s
 
 -- the answer for a side
-pub record Separated (t : List ℕ) (base k : ℕ) (rows : List ℕ) (r : ℕ) : Type 0 where
-  pub yes : r ≡ 1 → apart (patterns_at t base k rows) ≡ true
-  pub no : r ≡ 2 → apart (patterns_at t base k rows) ≡ false
+pub record Separated (t : List ℕ) (base k : ℕ) (rows : List ℕ) (r : Option Bool) : Type 0 where
+  pub yes : r ≡ Some true → apart (patterns_at t base k rows) ≡ true
+  pub no : r ≡ Some false → apart (patterns_at t base k rows) ≡ false

@@ -3,7 +3,7 @@ use Prim.Native.Nat.{ℕ, zero, suc, ◌+◌, ◌-◌, ◌<◌, ◌≤◌}
 use native.Mathlib.Nat.{add-zero, add-suc, suc-add}
 use native.Mathlib.Omega.{arith}
 use native.Mathlib.Numerals.{add-one}
-use mathlib.Core.Path.{◌≡◌, refl, sym, ap, ap₂, ◌∙◌, subst}
+use mathlib.Core.Path.{◌≡◌, refl, sym, ap, ap₂, ◌∙◌}
 use mathlib.Core.Bool.{Bool, true, false, cond, not, ◌&&◌, ◌||◌}
 use mathlib.Core.List.{List, [], ◌∷◌, ◌++◌, map, reverse, reverse-cons}
 use lib.Dec.{eqb}
@@ -202,52 +202,6 @@ module _ {t : List ℕ} {base i from to n : ℕ} (h : CallsLeft t base i from to
   pub calls_end : to ≤ n → true ≡ no_calls i (lets_in t base from (to - from))
   calls_end l = sym (ap (no_calls i) (lets_none t base n to l)) ∙ h.same
 
-pub record TailLeft (t : List ℕ) (base i v from to n : ℕ) : Type 0 where
-  pub same : tail_calls i v (lets_in t base n (to - n)) ≡ tail_calls i v (lets_in t base from (to - from))
-
-module _ {t : List ℕ} {base i v from to n : ℕ} (h : TailLeft t base i v from to n) where
-  abbrev further : List Let
-  further = lets_in t base (n + 1) (to - (n + 1))
-
-  tail_open : n < to
-      → cond (eqb (cell_of t n 2) i) (on_tail v (pattern_of t base (cell_of t n 3)) && no_calls i further)
-      (cond (elem v (vars (pattern_of t base (cell_of t n 3)))) (no_calls i further) (tail_calls i v further))
-      ≡ tail_calls i v (lets_in t base from (to - from))
-  tail_open l = sym (ap (tail_calls i v) (lets_more t base n to l)) ∙ h.same
-
-  module _ (l : n < to) {q x : ℕ} (eq : q ≡ cell_of t n 3) (e : x ≡ cell_of t n 2) where
-    calling : x ≡ i → (on_tail v (pattern_of t base (cell_of t n 3)) && no_calls i further) ≡ tail_calls i v (lets_in t base from (to - from))
-    calling z =
-        sym
-        (ap
-        (λ b. cond b (on_tail v (pattern_of t base (cell_of t n 3)) && no_calls i further)
-        (cond (elem v (vars (pattern_of t base (cell_of t n 3)))) (no_calls i further) (tail_calls i v further)))
-        (eq_eqb (sym e ∙ z)))
-        ∙ tail_open l
-
-    passing : (x ≡ i → ⊥) → cond (elem v (vars (pattern_of t base (cell_of t n 3)))) (no_calls i further) (tail_calls i v further) ≡ tail_calls i v (lets_in t base from (to - from))
-    passing z =
-        sym
-        (ap
-        (λ b. cond b (on_tail v (pattern_of t base (cell_of t n 3)) && no_calls i further)
-        (cond (elem v (vars (pattern_of t base (cell_of t n 3)))) (no_calls i further) (tail_calls i v further)))
-        (not_eqb (λ y. z (e ∙ y))))
-        ∙ tail_open l
-
-    pub tail_call : {r : Bool} → x ≡ i → r ≡ (on_tail v (pattern_of t base q) && no_calls i further) → r ≡ tail_calls i v (lets_in t base from (to - from))
-    tail_call z o = o ∙ ap (λ p. on_tail v (pattern_of t base p) && no_calls i further) eq ∙ calling z
-
-    pub tail_used : {a r : Bool} → (x ≡ i → ⊥) → a ≡ elem v (vars (pattern_of t base q)) → a ≡ true → r ≡ no_calls i further → r ≡ tail_calls i v (lets_in t base from (to - from))
-    tail_used z y w o =
-        o ∙ sym (ap (λ b. cond b (no_calls i further) (tail_calls i v further)) (ap (λ p. elem v (vars (pattern_of t base p))) (sym eq) ∙ sym y ∙ w)) ∙ passing z
-
-    pub tail_step : {a : Bool} → (x ≡ i → ⊥) → a ≡ elem v (vars (pattern_of t base q)) → a ≡ false → TailLeft t base i v from to (n + 1)
-    tail_step z y w =
-        record { same = sym (ap (λ b. cond b (no_calls i further) (tail_calls i v further)) (ap (λ p. elem v (vars (pattern_of t base p))) (sym eq) ∙ sym y ∙ w)) ∙ passing z }
-
-  pub tail_end : to ≤ n → true ≡ tail_calls i v (lets_in t base from (to - from))
-  tail_end l = sym (ap (tail_calls i v) (lets_none t base n to l)) ∙ h.same
-
 -- ---- the L rows of the turned file
 
 -- one row more at the end
@@ -284,12 +238,6 @@ pub quiet_toward : (back : Bool) (t : List ℕ) (base i n count : ℕ) → no_ca
 quiet_toward true t base i n count = quiet_back t base i n count
 quiet_toward false t base i n count = refl
 
-pub tail_toward : (back : Bool) (t : List ℕ) (base i v n count : ℕ) {r : Bool} → back ≡ true → r ≡ tail_calls i v (lets_back t base n count) → r ≡ tail_calls i v (lets_toward back t base n count)
-tail_toward back t base i v n count e h = h ∙ sym (ap (λ b. tail_calls i v (lets_toward b t base n count)) e)
-
-pub tail_forth : (back : Bool) (t : List ℕ) (base i v n count : ℕ) {r : Bool} → back ≡ false → r ≡ tail_calls i v (lets_in t base n count) → r ≡ tail_calls i v (lets_toward back t base n count)
-tail_forth back t base i v n count e h = h ∙ sym (ap (λ b. tail_calls i v (lets_toward b t base n count)) e)
-
 -- it is the turned clause's list
 append_map : (ls ms : List Let) → map invert_let (ls ++ ms) ≡ map invert_let ls ++ map invert_let ms
 append_map [] ms = refl
@@ -319,56 +267,80 @@ back_none t base from n h =
     let nothing : n - from ≡ 0 = omega arith in
     ap (lets_back t base from) nothing
 
-pub record BackLeft (t : List ℕ) (base i v from to n : ℕ) : Type 0 where
-  pub same : tail_calls i v (lets_back t base from (n - from)) ≡ tail_calls i v (lets_back t base from (to - from))
+abbrev toward_let : Bool → Let → Let
+toward_let back l = cond back (invert_let l) l
 
-module _ {t : List ℕ} {base i v from to n : ℕ} (h : BackLeft t base i v from to n) where
-  abbrev before : List Let
-  before = lets_back t base from (n - 1 - from)
+-- the L rows from a up to b, of which n comes first in the direction of a run: q is what it uses, and those from c up to d are left
+pub record Shrunk (t : List ℕ) (base : ℕ) (back : Bool) (a b n q c d : ℕ) : Type 0 where
+  pub more : lets_toward back t base a (b - a) ≡ toward_let back (let_at t base n) ∷ lets_toward back t base c (d - c)
+  pub uses : pattern_of t base q ≡ (toward_let back (let_at t base n)).q
 
-  back_open : from < n
-      → cond (eqb (cell_of t (n - 1) 2) i) (on_tail v (pattern_of t base (cell_of t (n - 1) 1)) && no_calls i before)
-      (cond (elem v (vars (pattern_of t base (cell_of t (n - 1) 1)))) (no_calls i before) (tail_calls i v before))
-      ≡ tail_calls i v (lets_back t base from (to - from))
-  back_open l = sym (ap (tail_calls i v) (back_more t base from n l)) ∙ h.same
+-- m is the row and the field of what it uses
+pub shrunk_forth : (t : List ℕ) (base : ℕ) (back : Bool) {a b q c d : ℕ} {m : ℕ × ℕ} → a < b → back ≡ false → m ≡ (a + 1 - 1, 3) → q ≡ cell_of t m.0 m.1 → c ≡ a + 1 → d ≡ b
+    → Shrunk t base back a b m.0 q c d
+shrunk_forth t base true l z en eq ec ed = cc
+shrunk_forth t base false {a} {b} {q} {c} {d} {m} l z en eq ec ed =
+    let n : m.0 ≡ a = ap (λ (x : ℕ × ℕ). x.0) en ∙ omega arith in
+    record {
+      more = lets_more t base a b l ∙ ap₂ (λ x y. let_at t base a ∷ lets_in t base x (y - x)) (sym ec) (sym ed) ∙ ap (λ x. let_at t base x ∷ lets_in t base c (d - c)) (sym n);
+      uses = ap (pattern_of t base) (eq ∙ ap (cell_of t m.0) (ap (λ (x : ℕ × ℕ). x.1) en));
+    }
 
-  module _ (l : from < n) {q x : ℕ} (eq : q ≡ cell_of t (n - 1) 1) (e : x ≡ cell_of t (n - 1) 2) where
-    calling_back : x ≡ i → (on_tail v (pattern_of t base (cell_of t (n - 1) 1)) && no_calls i before) ≡ tail_calls i v (lets_back t base from (to - from))
-    calling_back z =
-        sym
-        (ap
-        (λ b. cond b (on_tail v (pattern_of t base (cell_of t (n - 1) 1)) && no_calls i before)
-        (cond (elem v (vars (pattern_of t base (cell_of t (n - 1) 1)))) (no_calls i before) (tail_calls i v before)))
-        (eq_eqb (sym e ∙ z)))
-        ∙ back_open l
+pub shrunk_back : (t : List ℕ) (base : ℕ) (back : Bool) {a b q c d : ℕ} {m : ℕ × ℕ} → a < b → back ≡ true → m ≡ (b - 1, 1) → q ≡ cell_of t m.0 m.1 → c ≡ a → d ≡ b - 1
+    → Shrunk t base back a b m.0 q c d
+shrunk_back t base false l z en eq ec ed = cc
+shrunk_back t base true {a} {b} {q} {c} {d} {m} l z en eq ec ed =
+    let n : m.0 ≡ b - 1 = ap (λ (x : ℕ × ℕ). x.0) en in
+    record {
+      more = back_more t base a b l ∙ ap₂ (λ x y. invert_let (let_at t base (b - 1)) ∷ lets_back t base x (y - x)) (sym ec) (sym ed)
+          ∙ ap (λ x. invert_let (let_at t base x) ∷ lets_back t base c (d - c)) (sym n);
+      uses = ap (pattern_of t base) (eq ∙ ap (cell_of t m.0) (ap (λ (x : ℕ × ℕ). x.1) en));
+    }
 
-    passing_back : (x ≡ i → ⊥) → cond (elem v (vars (pattern_of t base (cell_of t (n - 1) 1)))) (no_calls i before) (tail_calls i v before) ≡ tail_calls i v (lets_back t base from (to - from))
-    passing_back z =
-        sym
-        (ap
-        (λ b. cond b (on_tail v (pattern_of t base (cell_of t (n - 1) 1)) && no_calls i before)
-        (cond (elem v (vars (pattern_of t base (cell_of t (n - 1) 1)))) (no_calls i before) (tail_calls i v before)))
-        (not_eqb (λ y. z (e ∙ y))))
-        ∙ back_open l
+pub record TailLeft (t : List ℕ) (base i v : ℕ) (back : Bool) (from to a b : ℕ) : Type 0 where
+  pub same : tail_calls i v (lets_toward back t base a (b - a)) ≡ tail_calls i v (lets_toward back t base from (to - from))
 
-    pub back_call : {r : Bool} → x ≡ i → r ≡ (on_tail v (pattern_of t base q) && no_calls i (lets_in t base from (n - 1 - from)))
-        → r ≡ tail_calls i v (lets_back t base from (to - from))
-    back_call z o = o ∙ ap₂ (λ p b. on_tail v (pattern_of t base p) && b) eq (quiet_back t base i from (n - 1 - from)) ∙ calling_back z
+module _ {t : List ℕ} {base i v : ℕ} {back : Bool} {from to a b n q c d : ℕ} (h : TailLeft t base i v back from to a b) (s : Shrunk t base back a b n q c d) where
+  abbrev further : List Let
+  further = lets_toward back t base c (d - c)
 
-    pub back_used : {a r : Bool} → (x ≡ i → ⊥) → a ≡ elem v (vars (pattern_of t base q)) → a ≡ true → r ≡ no_calls i (lets_in t base from (n - 1 - from))
-        → r ≡ tail_calls i v (lets_back t base from (to - from))
-    back_used z y w o =
-        o
-        ∙ quiet_back t base i from (n - 1 - from)
-        ∙ sym (ap (λ b. cond b (no_calls i before) (tail_calls i v before)) (ap (λ p. elem v (vars (pattern_of t base p))) (sym eq) ∙ sym y ∙ w))
-        ∙ passing_back z
+  abbrev whole : Bool
+  whole = tail_calls i v (lets_toward back t base from (to - from))
 
-    pub back_step : {a : Bool} → (x ≡ i → ⊥) → a ≡ elem v (vars (pattern_of t base q)) → a ≡ false → BackLeft t base i v from to (n - 1)
-    back_step z y w =
-        record { same = sym (ap (λ b. cond b (no_calls i before) (tail_calls i v before)) (ap (λ p. elem v (vars (pattern_of t base p))) (sym eq) ∙ sym y ∙ w)) ∙ passing_back z }
+  abbrev by_call : Bool → Bool
+  by_call z = cond z (on_tail v (pattern_of t base q) && no_calls i further) (cond (elem v (vars (pattern_of t base q))) (no_calls i further) (tail_calls i v further))
 
-  pub back_end : n ≤ from → true ≡ tail_calls i v (lets_back t base from (to - from))
-  back_end l = sym (ap (tail_calls i v) (back_none t base from n l)) ∙ h.same
+  same_calls : (b : Bool) → calls i (toward_let b (let_at t base n)) ≡ eqb (cell_of t n 2) i
+  same_calls true = refl
+  same_calls false = refl
+
+  tail_open : by_call (eqb (cell_of t n 2) i) ≡ whole
+  tail_open =
+      ap by_call (sym (same_calls back))
+      ∙ ap (λ r. cond (calls i (toward_let back (let_at t base n))) (on_tail v r && no_calls i further) (cond (elem v (vars r)) (no_calls i further) (tail_calls i v further))) s.uses
+      ∙ sym (ap (tail_calls i v) s.more)
+      ∙ h.same
+
+  module _ {x : ℕ} (e : x ≡ cell_of t n 2) where
+    pub tail_call : {r : Bool} → x ≡ i → r ≡ (on_tail v (pattern_of t base q) && no_calls i (lets_in t base c (d - c))) → r ≡ whole
+    tail_call z o = o ∙ ap (λ y. on_tail v (pattern_of t base q) && y) (quiet_toward back t base i c (d - c)) ∙ sym (ap by_call (eq_eqb (sym e ∙ z))) ∙ tail_open
+
+    passing : (x ≡ i → ⊥) → by_call false ≡ whole
+    passing z = sym (ap by_call (not_eqb (λ y. z (e ∙ y)))) ∙ tail_open
+
+    pub tail_used : {u r : Bool} → (x ≡ i → ⊥) → u ≡ elem v (vars (pattern_of t base q)) → u ≡ true → r ≡ no_calls i (lets_in t base c (d - c)) → r ≡ whole
+    tail_used z y w o =
+        o ∙ quiet_toward back t base i c (d - c) ∙ sym (ap (λ b. cond b (no_calls i further) (tail_calls i v further)) (sym y ∙ w)) ∙ passing z
+
+    pub tail_step : {u : Bool} → (x ≡ i → ⊥) → u ≡ elem v (vars (pattern_of t base q)) → u ≡ false → TailLeft t base i v back from to c d
+    tail_step z y w = record { same = sym (ap (λ b. cond b (no_calls i further) (tail_calls i v further)) (sym y ∙ w)) ∙ passing z }
+
+pub tail_end : {t : List ℕ} {base i v : ℕ} (back : Bool) {from to a b : ℕ} → TailLeft t base i v back from to a b → b ≤ a → true ≡ tail_calls i v (lets_toward back t base from (to - from))
+tail_end {t} {base} {i} {v} back {a = a} {b = b} h l = sym (ap (tail_calls i v) (none_toward back)) ∙ h.same
+  where
+    none_toward : (back : Bool) → lets_toward back t base a (b - a) ≡ []
+    none_toward true = back_none t base a b l
+    none_toward false = lets_none t base a b l
 
 -- ---- a clause
 

@@ -1,5 +1,5 @@
 -- The rule over the C rows of an iso, and the refusal.
-use Prim.Native.Nat.{ℕ, zero, suc, ◌+◌, ◌-◌, ◌<◌, ◌≤◌}
+use Prim.Native.Nat.{ℕ, suc, ◌+◌, ◌-◌, ◌<◌, ◌≤◌}
 use native.Mathlib.Nat.{zero-add}
 use native.Mathlib.Omega.{arith}
 use native.Mathlib.Numerals.{add-one}
@@ -12,7 +12,7 @@ use lib.Dec.{eqb}
 use lib.ListN.{length, get_or, drop, drop_of_length-le}
 use lib.Seq.{drop-cons}
 use Rattle.calculus.specs.Tools.{all, first_of, or_else}
-use Rattle.calculus.specs.Trees.{Ty, Clause, Iso, invert_clause}
+use Rattle.calculus.specs.Trees.{Clause, Iso, invert_clause}
 use Rattle.calculus.specs.Refusals.{Refusal, iso_line, clause_line, recursion}
 use Rattle.calculus.specs.Clauses.{no_calls, zoned, clause_rule, structural, recursion_rule, at_breach, breach, recursion_fault}
 use Rattle.calculus.proofs.Basic.{eq_eqb, not_eqb, eqb_eq, eqb_false, bool_cases}

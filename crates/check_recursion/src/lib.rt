@@ -11,9 +11,10 @@ ghost use Rattle.calculus.specs.Trees.{vars};
 ghost use Rattle.calculus.specs.Clauses.{is_list, zoned, is_var, on_tail, elem, no_calls, tail_calls, tail_rule, shown_rule, shown, clause_rule, recursion_fault, at};
 ghost use Rattle.table_trees.specs.Unfolding.{type_of, pattern_of};
 ghost use Rattle.table_walks.specs.InTable.{lets_in, clause_in, next_row, clauses_in, iso_in};
-ghost use Rattle.check_recursion.specs.Turned.{lets_back, lets_toward, clause_toward, kept_of};
+ghost use Rattle.check_recursion.specs.Turned.{lets_toward, clause_toward, kept_of};
 
-use area_words::{wide, word_at};
+use area_cells::item_at;
+use area_words::wide;
 use codes::{
     CLAUSE_LEFT, CLAUSE_RIGHT, ELEMENT, EMPTY, FIRST, ISO_FROM, ISO_TO, KIND, LEFT, LET_ISO, LET_P,
     LET_Q, LIST, PAIR, PRODUCT, RIGHT, SECOND, VARIABLE,
@@ -44,10 +45,7 @@ pub fn is_zoned(t: &[u16], a: usize) -> bool
 fn is_var(t: &[u16], base: usize, q: usize, n: usize) -> bool
     ensures { result ≡ is_var n (pattern_of t.now base q) }
 {
-    if pattern_cell(t, base, q, KIND) == VARIABLE {
-        return n == pattern_cell(t, base, q, FIRST);
-    }
-    false
+    pattern_cell(t, base, q, KIND) == VARIABLE && n == pattern_cell(t, base, q, FIRST)
 }
 
 // Whether P line q is variable n, alone or as the first part of a pair.
@@ -69,10 +67,8 @@ fn holds(t: &[u16], base: usize, q: usize, n: usize) -> bool
         VARIABLE => n == pattern_cell(t, base, q, FIRST),
         LEFT | RIGHT => holds(t, base, pattern_part(t, base, q, FIRST), n),
         PAIR | ELEMENT => {
-            if holds(t, base, pattern_part(t, base, q, FIRST), n) {
-                return true;
-            }
-            holds(t, base, pattern_part(t, base, q, SECOND), n)
+            holds(t, base, pattern_part(t, base, q, FIRST), n)
+                || holds(t, base, pattern_part(t, base, q, SECOND), n)
         }
         _ => false,
     }
@@ -82,12 +78,10 @@ fn holds(t: &[u16], base: usize, q: usize, n: usize) -> bool
 pub fn no_calls(t: &[u16], base: usize, i: usize, from: usize, to: usize) -> bool
     ensures { result ≡ no_calls i (lets_in t.now base from (to - from)) }
 {
-    let mut n = from;
-    while n < to {
+    for n in from..to {
         if cell(t, n, LET_ISO) == i {
             return false;
         }
-        n += 1;
     }
     true
 }
@@ -97,44 +91,38 @@ pub fn no_calls(t: &[u16], base: usize, i: usize, from: usize, to: usize) -> boo
 fn only_call(t: &[u16], base: usize, i: usize, v: usize, q: usize, from: usize, to: usize) -> bool
     ensures { result ≡ (on_tail v (pattern_of t.now base q) && no_calls i (lets_in t.now base from (to - from))) }
 {
-    if on_tail(t, base, q, v) {
-        return no_calls(t, base, i, from, to);
-    }
-    false
+    on_tail(t, base, q, v) && no_calls(t, base, i, from, to)
 }
 
 // Whether the L rows from `from` up to `to` name iso i at most once, on the tail that variable v holds until
-// one of them uses it.
-fn tail_calls(t: &[u16], base: usize, i: usize, v: usize, from: usize, to: usize) -> bool
-    ensures { result ≡ tail_calls i v (lets_in t.now base from (to - from)) }
+// one of them uses it. In the turned file the last row comes first, and p and q are exchanged.
+fn tail_calls(
+    t: &[u16],
+    base: usize,
+    i: usize,
+    v: usize,
+    back: bool,
+    from: usize,
+    to: usize,
+) -> bool
+    ensures { result ≡ tail_calls i v (lets_toward back t.now base from (to - from)) }
 {
-    let mut n = from;
-    while n < to {
-        let q = cell(t, n, LET_Q);
+    let mut first = from;
+    let mut end = to;
+    while first < end {
+        let (n, used) = if back {
+            end -= 1;
+            (end, LET_P)
+        } else {
+            first += 1;
+            (first - 1, LET_Q)
+        };
+        let q = cell(t, n, used);
         if cell(t, n, LET_ISO) == i {
-            return only_call(t, base, i, v, q, n + 1, to);
+            return only_call(t, base, i, v, q, first, end);
         }
         if holds(t, base, q, v) {
-            return no_calls(t, base, i, n + 1, to);
-        }
-        n += 1;
-    }
-    true
-}
-
-// The same in the turned file, where the last L row comes first, and p and q are exchanged.
-fn tail_calls_back(t: &[u16], base: usize, i: usize, v: usize, from: usize, to: usize) -> bool
-    ensures { result ≡ tail_calls i v (lets_back t.now base from (to - from)) }
-{
-    let mut n = to;
-    while from < n {
-        n -= 1;
-        let p = cell(t, n, LET_P);
-        if cell(t, n, LET_ISO) == i {
-            return only_call(t, base, i, v, p, from, n);
-        }
-        if holds(t, base, p, v) {
-            return no_calls(t, base, i, from, n);
+            return no_calls(t, base, i, first, end);
         }
     }
     true
@@ -147,10 +135,7 @@ fn tail_rule(t: &[u16], base: usize, i: usize, q: usize, back: bool, from: usize
 {
     if pattern_cell(t, base, q, KIND) == VARIABLE {
         let v = pattern_cell(t, base, q, FIRST);
-        if back {
-            return tail_calls_back(t, base, i, v, from, to);
-        }
-        return tail_calls(t, base, i, v, from, to);
+        return tail_calls(t, base, i, v, back, from, to);
     }
     no_calls(t, base, i, from, to)
 }
@@ -189,10 +174,7 @@ pub fn shown_line(t: &[u16], base: usize, p: usize) -> usize
 fn left_field(back: bool) -> usize
     ensures { result ≡ cond back clause_right clause_left }
 {
-    if back {
-        return CLAUSE_RIGHT;
-    }
-    CLAUSE_LEFT
+    if back { CLAUSE_RIGHT } else { CLAUSE_LEFT }
 }
 
 // Whether the clause with its C row at `row` and its L rows up to `end` keeps the rule, as written or as turned.
@@ -210,24 +192,15 @@ fn next_row(rows: &[u16], k: usize, last: usize) -> usize
     requires { k < length rows.now }
     ensures { result ≡ next_row (drop (suc k) rows.now) last }
 {
-    let j = k + 1;
-    if j < rows.len() {
-        return wide(rows[j]);
-    }
-    last
+    rows.get(k + 1).map_or(last, |row| wide(*row))
 }
 
 // Whether no clause of these rows calls iso i.
 fn is_quiet(t: &[u16], base: usize, i: usize, rows: &[u16], last: usize) -> bool
     ensures { result ≡ all (λ c. no_calls i c.lets) (clauses_in t.now base rows.now last) }
 {
-    let mut k: usize = 0;
-    while k < rows.len() {
-        let end = next_row(rows, k, last);
-        let row = wide(rows[k]);
-        if no_calls(t, base, i, row + 1, end) {
-            k += 1;
-        } else {
+    for (k, row) in rows.iter().enumerate() {
+        if !no_calls(t, base, i, wide(*row) + 1, next_row(rows, k, last)) {
             return false;
         }
     }
@@ -239,17 +212,12 @@ fn kept(t: &[u16], base: usize, i: usize, back: bool, rows: &[u16], last: usize)
     ensures { result ≡ kept_of (λ c. clause_rule i (clause_toward back c))
         (clauses_in t.now base rows.now last) }
 {
-    let mut k: usize = 0;
-    while k < rows.len() {
-        let end = next_row(rows, k, last);
-        let row = wide(rows[k]);
-        if clause_rule(t, base, i, back, row, end) {
-            k += 1;
-        } else {
+    for (k, row) in rows.iter().enumerate() {
+        if !clause_rule(t, base, i, back, wide(*row), next_row(rows, k, last)) {
             return k;
         }
     }
-    k
+    rows.len()
 }
 
 // Whether an iso from T line a with these clauses keeps the rule, as written or as turned.
@@ -265,10 +233,7 @@ fn is_structural(
     ensures { result ≡ (zoned (type_of t.now a) && all (λ c. clause_rule i (clause_toward back c))
         (clauses_in t.now base rows.now last)) }
 {
-    if is_zoned(t, a) {
-        return kept(t, base, i, back, rows, last) == rows.len();
-    }
-    false
+    is_zoned(t, a) && kept(t, base, i, back, rows, last) == rows.len()
 }
 
 fn passed() -> Answer
@@ -276,7 +241,7 @@ fn passed() -> Answer
 {
     Answer {
         place: 0,
-        refusal: Refusal::Nothing,
+        refusal: None,
     }
 }
 
@@ -306,14 +271,14 @@ pub fn recursion_fault(
         let k = kept(t, base, i, false, rows, last);
         if k < rows.len() {
             return Answer {
-                place: wide(word_at(rows, k)) + 1,
-                refusal: Refusal::Recursion(Kind::Clause),
+                place: wide(item_at(rows, k, 0)) + 1,
+                refusal: Some(Refusal::Recursion(Kind::Clause)),
             };
         }
         return passed();
     }
     Answer {
         place: row + 1,
-        refusal: Refusal::Recursion(Kind::Iso),
+        refusal: Some(Refusal::Recursion(Kind::Iso)),
     }
 }

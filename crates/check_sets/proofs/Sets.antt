@@ -1,5 +1,5 @@
 -- The sets after a word or two of the area are stored.
-use Prim.Native.Nat.{ℕ, zero, suc, ◌+◌, ◌-◌, ◌*◌, ◌/◌, ◌%◌, ◌^◌, ◌<◌, ◌≤◌}
+use Prim.Native.Nat.{ℕ, ◌+◌, ◌-◌, ◌*◌, ◌%◌, ◌^◌, ◌<◌, ◌≤◌}
 use native.Mathlib.Nat.{mod-eq_of_lt}
 use native.Mathlib.Omega.{arith}
 use mathlib.Core.Path.{◌≡◌, refl, sym, ap, ap₂, ◌∙◌}
@@ -9,7 +9,7 @@ use lib.Dec.{eqb, ltb}
 use lib.ListN.{length, get_or, set, length-set}
 use lib.Seq.{get_or-set_same, get_or-set_other}
 use lib.Bits.{bit_or}
-use lib.Pow.{pow_mono, pow_pos}
+use lib.Pow.{pow_mono}
 use borrow.Author.Tests.{ltb-true, ltb-false, lt-ltb, le-ltb, eqb-true, eqb-false}
 use Rattle.check_sets.specs.Sets.{bit, gatherer, half, area, members, word_of, has, Emptied, United, Joined, Low, Full}
 use Rattle.check_sets.proofs.Digits.{bit_or_lem, bit_zero, bit_same, bit_other, low_ones, low_clear}

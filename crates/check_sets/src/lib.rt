@@ -2,8 +2,8 @@
 // halves of the area.
 #![tactic(auto)]
 
-ghost use Rattle.std.specs.Prelude.{◌≡◌, true, false, ℕ, ◌<◌, ◌^◌, length};
-ghost use Rattle.check_sets.specs.Sets.{gatherer, half, area, members, word_of, Emptied, United, Joined, Low, Full};
+ghost use Rattle.std.specs.Prelude.{◌≡◌, true, false, ℕ, ◌<◌};
+ghost use Rattle.check_sets.specs.Sets.{gatherer, half, members, word_of, Emptied, United, Joined, Low, Full};
 
 // The set that gathers, the sets of a half, and the words of the area.
 pub const GATHERER: usize = 128;
@@ -16,8 +16,7 @@ pub const AREA: usize = 2 * HALF;
 const BITS: usize = 64;
 
 // The gathering set becomes empty.
-pub fn empty(s: &mut [u64])
-    requires { length s.old ≡ area }
+pub fn empty(s: &mut [u64; AREA])
     ensures { Emptied s.old s.new }
 {
     s[GATHERER] = 0;
@@ -25,12 +24,12 @@ pub fn empty(s: &mut [u64])
 }
 
 // The gathering set takes in all of set c.
-pub fn unite(s: &mut [u64], c: usize)
-    requires { (length s.old ≡ area) × (c < gatherer) }
+pub fn unite(s: &mut [u64; AREA], c: usize)
+    requires { c < gatherer }
     ensures { United s.old s.new c }
 {
-    s[GATHERER] = s[GATHERER] | s[c];
-    s[HALF + GATHERER] = s[HALF + GATHERER] | s[HALF + c];
+    s[GATHERER] |= s[c];
+    s[HALF + GATHERER] |= s[HALF + c];
 }
 
 // The word of clause i.
@@ -38,28 +37,15 @@ fn word(c: usize, i: usize) -> usize
     requires { c < half }
     ensures { result ≡ word_of c i }
 {
-    if i < BITS {
-        return c;
-    }
-    HALF + c
-}
-
-// 2 to the power of k.
-fn power(k: usize) -> u64
-    requires { k < 64 }
-    ensures { result ≡ 2 ^ k }
-{
-    1u64 << k
+    if i < BITS { c } else { HALF + c }
 }
 
 // Clause i joins set c.
-pub fn join(s: &mut [u64], c: usize, i: usize)
-    requires { (length s.old ≡ area) × (c < gatherer) × (i < members) }
+pub fn join(s: &mut [u64; AREA], c: usize, i: usize)
+    requires { (c < gatherer) × (i < members) }
     ensures { Joined s.old s.new c i }
 {
-    let b = power(i % BITS);
-    let w = word(c, i);
-    s[w] = s[w] | b;
+    s[word(c, i)] |= 1 << (i % BITS);
 }
 
 // Whether the k low bits of a word are all set.
@@ -67,7 +53,7 @@ fn low(w: u64, k: usize) -> bool
     requires { k < 64 }
     ensures { Low w k result }
 {
-    let p = power(k);
+    let p = 1u64 << k;
     w % p == p - 1
 }
 
@@ -75,19 +61,17 @@ fn low(w: u64, k: usize) -> bool
 fn ones(w: u64) -> bool
     ensures { Low w 64 result }
 {
-    w == 18446744073709551615
+    w == u64::MAX
 }
 
 // Whether the gathering set has every clause below i.
-pub fn is_full(s: &[u64], i: usize) -> bool
-    requires { (length s.now ≡ area) × (i < members) }
+pub fn is_full(s: &[u64; AREA], i: usize) -> bool
+    requires { i < members }
     ensures { Full s.now i result }
 {
     if i < BITS {
-        return low(s[GATHERER], i);
+        low(s[GATHERER], i)
+    } else {
+        ones(s[GATHERER]) && low(s[HALF + GATHERER], i - BITS)
     }
-    if ones(s[GATHERER]) {
-        return low(s[HALF + GATHERER], i - BITS);
-    }
-    false
 }

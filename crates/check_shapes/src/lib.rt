@@ -39,15 +39,8 @@ pub fn same_type(t: &[u16], a: usize, b: usize) -> bool
     }
     let c = type_part(t, a, FIRST);
     let d = type_part(t, b, FIRST);
-    if same_type(t, c, d) {
-        if ka == LIST {
-            return true;
-        }
-        let e = type_part(t, a, SECOND);
-        let f = type_part(t, b, SECOND);
-        return same_type(t, e, f);
-    }
-    false
+    same_type(t, c, d)
+        && (ka == LIST || same_type(t, type_part(t, a, SECOND), type_part(t, b, SECOND)))
 }
 
 // Whether P line p holds only unit, variables and pairs.
@@ -58,11 +51,7 @@ pub fn is_plain(t: &[u16], base: usize, p: usize) -> bool
         LEFT | RIGHT => false,
         PAIR => {
             let a = pattern_part(t, base, p, FIRST);
-            if is_plain(t, base, a) {
-                let b = pattern_part(t, base, p, SECOND);
-                return is_plain(t, base, b);
-            }
-            false
+            is_plain(t, base, a) && is_plain(t, base, pattern_part(t, base, p, SECOND))
         }
         EMPTY => false,
         ELEMENT => false,

@@ -1,48 +1,32 @@
 -- The way down through parts that alone matter, and the fit of lines in the code's entries.
-use Prim.Native.Nat.{ℕ, suc, ◌+◌, ◌*◌, ◌-◌, ◌<◌, ◌≤◌}
+use Prim.Native.Nat.{ℕ, suc, ◌+◌, ◌-◌, ◌<◌, ◌≤◌}
 use native.Mathlib.Omega.{arith}
 use mathlib.Core.Path.{◌≡◌, refl, sym, ap, ◌∙◌, subst}
 use mathlib.Core.Logic.{◌⊎◌, inl, inr}
-use mathlib.Core.Bool.{Bool, true, false, cond, true≢false}
+use mathlib.Core.Bool.{Bool, true, false, cond}
 use mathlib.Core.Option.{Option}
 use mathlib.Core.List.{List}
 use lib.Dec.{ltb, eqb}
-use lib.ListN.{length, get_or}
-use borrow.Author.Tests.{lt-ltb, ltb-true, ltb-false, eqb-true, eqb-false}
+use lib.ListN.{length}
+use borrow.Author.Tests.{ltb-true, ltb-false, eqb-true, eqb-false}
 use Rattle.limits.specs.Limits.{max_lines, row_width, table_length}
 use Rattle.calculus.specs.Trees.{Ty, Pat, pvar}
 use Rattle.calculus.specs.Slots.{Slots}
 use Rattle.calculus.proofs.Basic.{bool_cases}
 use Rattle.table_trees.specs.Unfolding.{cell_of, smaller_of, type_of, pattern_of}
 use Rattle.table_trees.proofs.Cases.{Injects, lefts, rights, Plain}
-use Rattle.table_trees.proofs.Unfolding.{rank, rank_within, cell_within}
+use Rattle.table_trees.proofs.Unfolding.{rank, rank_within}
 use Rattle.check_shapes.specs.Naming.{names_nothing}
 use Rattle.check_shapes.proofs.Sameness.{is_whole, is_naming}
 use Rattle.check_bare.specs.Bare.{Bare}
-use Rattle.check_typing.specs.Fitting.{fit_all, view_of, Fitted, HasParts, of_left, of_right, Ready, Named, Alike, Stepped, Reached, list_part}
+use Rattle.std.specs.Prelude as O
+use Rattle.std.specs.Prelude.{None, Some}
+use Rattle.table_parts.specs.Naming.{Named, Parts}
+use Rattle.table_parts.specs.declared.Lines.{Lines}
+use Rattle.check_typing.specs.Fitting.{fit_all, view_of, Fitted, HasParts, of_left, of_right, Ready, Alike, Earlier, Stepped, Reached, list_part}
 use Rattle.check_typing.proofs.Meeting.{bare_same, fit_unit, fit_unit_not, fit_var, fit_tag_not, fit_tag, fit_pair_not, fit_pair, fit_empty, fit_empty_not, fit_element_not, fit_element}
 
--- ---- numbers of a row, and the lines that two lines name
-
-pub field_is : (t : List ℕ) (row k : ℕ) → row < max_lines → k < row_width → get_or t (row * row_width + k) 0 ≡ cell_of t row k
-field_is t row k h l = sym (cell_within t row k h l)
-
-pub named_both : {t : List ℕ} {base p a j k q b : ℕ} {x : Bool} → q ≡ cell_of t (base + p) j → b ≡ cell_of t a k → q < p → (x ≡ true → b < a) → Named t base p a j k x q b
-named_both {q = q} {b = b} eq eb l m = record {
-  lower = λ h. l;
-  below = m;
-  pattern = λ h. earlier q _ eq l;
-  type = λ h. earlier b _ eb (m h);
-}
-  where
-    earlier : (v i : ℕ) {c : ℕ} → v ≡ c → v < i → v ≡ smaller_of c i
-    earlier v i e h = sym (ap (λ y. smaller_of y i) (sym e) ∙ ap (λ b. cond b v max_lines) (lt-ltb v i h))
-
-pub never : {A : Type 0} → false ≡ true → A
-never h = absurd (true≢false (sym h))
-
-pub named_not : {t : List ℕ} {base p a j k q b : ℕ} → Named t base p a j k false q b
-named_not = record { lower = λ h. never h; below = λ h. never h; pattern = λ h. never h; type = λ h. never h }
+-- ---- lines that have marks
 
 -- lines that have marks have rows
 pub parts_rows : {t g : List ℕ} {base p a j k : ℕ} → Ready t g base p a → j < row_width → k < row_width
@@ -54,9 +38,6 @@ marks_there base p a n f l w e = (f, omega (arith, ltb-true p (n - base) e, w), 
 
 -- ---- one step down
 
-pub stepped_not : {t : List ℕ} {base p a q b : ℕ} → Stepped t base p a false q b
-stepped_not = record { lower = λ h. never h; below = λ h. never h; same = λ h. never h }
-
 injected : {k : ℕ} → Injects k → HasParts k
 injected lefts = of_left
 injected rights = of_right
@@ -67,12 +48,17 @@ injects_no_pair rights e = absurd (omega arith)
 
 module _ {t : List ℕ} {base p a : ℕ} where
   -- a left or a right on a sum: its part on the part of that side
-  pub step_tag : {j k q b : ℕ} {x : Bool} → j ≡ cell_of t (base + p) 1 → k ≡ cell_of t a 1 → Injects j → k ≡ 1 → Named t base p a 2 j x q b → Stepped t base p a x q b
+  pub step_tag : {j k q b : ℕ} → j ≡ cell_of t (base + p) 1 → k ≡ cell_of t a 1 → Injects j → k ≡ 1 → Named t base p a 2 j q b → Earlier t base p a q b
   step_tag u v i y m = record {
     lower = m.lower;
     below = m.below;
-    same = λ h. record { alike = λ c x. fit_tag t base p a c x u v (injected i) (injects_no_pair i) y (m.pattern h) (m.type h) refl };
+    same = record { alike = λ c x. fit_tag t base p a c x u v (injected i) (injects_no_pair i) y m.pattern m.type refl };
   }
+
+pub stepped_tag : (t : List ℕ) (base p a : ℕ) {j k : ℕ} (r : O.Option Lines) → j ≡ cell_of t (base + p) 1 → k ≡ cell_of t a 1 → Injects j → k ≡ 1 → Parts t base p a 2 j r
+    → Stepped t base p a r
+stepped_tag t base p a None u v i y m = tt
+stepped_tag t base p a (Some l) u v i y m = step_tag u v i y m
 
 -- a pair on a product, of which one part changes nothing: the other part
 module _ (t : List ℕ) (base p a : ℕ) where
@@ -89,21 +75,12 @@ module _ (t : List ℕ) (base p a : ℕ) where
     pair_second h false x = fit_pair t base p a false x (sym u) (sym v) refl refl refl refl s' w' refl s w (bare_same false h _)
 
 module _ {t : List ℕ} {base p a : ℕ} where
-  module _ {q b q' b' : ℕ} {x y : Bool} (u : cell_of t (base + p) 1 ≡ 4) (v : cell_of t a 1 ≡ 2) (m : Named t base p a 2 2 x q b) (n : Named t base p a 3 3 y q' b')
-      (hx : x ≡ true) (hy : y ≡ true) where
-    pub step_first : Bare (pattern_of t base q') (type_of t b') → Stepped t base p a x q b
-    step_first h = record {
-      lower = m.lower;
-      below = m.below;
-      same = λ _. record { alike = pair_first t base p a u v (m.pattern hx) (m.type hx) (n.pattern hy) (n.type hy) h };
-    }
+  module _ {q b q' b' : ℕ} (u : cell_of t (base + p) 1 ≡ 4) (v : cell_of t a 1 ≡ 2) (m : Named t base p a 2 2 q b) (n : Named t base p a 3 3 q' b') where
+    pub step_first : Bare (pattern_of t base q') (type_of t b') → Earlier t base p a q b
+    step_first h = record { lower = m.lower; below = m.below; same = record { alike = pair_first t base p a u v m.pattern m.type n.pattern n.type h } }
 
-    pub step_second : Bare (pattern_of t base q) (type_of t b) → Stepped t base p a y q' b'
-    step_second h = record {
-      lower = n.lower;
-      below = n.below;
-      same = λ _. record { alike = pair_second t base p a u v (m.pattern hx) (m.type hx) (n.pattern hy) (n.type hy) h };
-    }
+    pub step_second : Bare (pattern_of t base q) (type_of t b) → Earlier t base p a q' b'
+    step_second h = record { lower = n.lower; below = n.below; same = record { alike = pair_second t base p a u v m.pattern m.type n.pattern n.type h } }
 
 -- ---- all the way down
 
@@ -119,17 +96,17 @@ alike_self = record { alike = λ c x. refl }
 pub descended_start : {t g : List ℕ} {base i b : ℕ} → Ready t g base i b → Descended t g base i b i b
 descended_start w = record { ready = w; lower = omega arith; same = alike_self }
 
-pub descended_next : {t g : List ℕ} {base i b p a q d : ℕ} {x : Bool} → Descended t g base i b p a → x ≡ true → Stepped t base p a x q d → Descended t g base i b q d
-descended_next h e s = record {
+pub descended_next : {t g : List ℕ} {base i b p a q d : ℕ} → Descended t g base i b p a → Earlier t base p a q d → Descended t g base i b q d
+descended_next h s = record {
   ready = record {
     whole = h.ready.whole;
     bares = h.ready.bares;
     few = h.ready.few;
-    line = omega (arith, h.ready.line, s.lower e);
-    type = omega (arith, h.ready.type, s.below e);
+    line = omega (arith, h.ready.line, s.lower);
+    type = omega (arith, h.ready.type, s.below);
   };
-  lower = omega (arith, h.lower, s.lower e);
-  same = record { alike = λ c x. (s.same e).alike c x ∙ h.same.alike c x };
+  lower = omega (arith, h.lower, s.lower);
+  same = record { alike = λ c x. s.same.alike c x ∙ h.same.alike c x };
 }
 
 pub descended_end : {t g : List ℕ} {base i b p a : ℕ} → Ready t g base i b → Descended t g base i b p a → Reached t base i b p a

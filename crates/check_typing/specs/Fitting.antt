@@ -1,5 +1,6 @@
 -- The types of live variables while patterns are fitted, as the code keeps them.
-use Rattle.std.specs.Prelude.{ℕ, zero, suc, ◌+◌, ◌<◌, ◌≤◌, ◌≡◌, Bool, true, false, cond, List, map, eqb, length, replicate}
+use Rattle.std.specs.Prelude.{ℕ, zero, suc, ◌+◌, ◌<◌, ◌≤◌, ◌≡◌, Bool, true, false, cond, List, map, eqb, length, replicate, MatchOption}
+use Rattle.std.specs.Prelude as O
 use Rattle.std.proofs.Math.Option.{Option, none, some}
 use Rattle.limits.specs.Limits.{variables, max_lines, table_length}
 use Rattle.calculus.specs.Tools.{◌>>=◌}
@@ -8,6 +9,7 @@ use Rattle.calculus.specs.Slots.{Slots}
 use Rattle.calculus.specs.Clauses.{learn, spend}
 use Rattle.table_trees.specs.Unfolding.{cell_of, smaller_of, type_of, pattern_of}
 use Rattle.check_bare.specs.Bare.{Bares}
+use Rattle.table_parts.specs.declared.Lines.{Lines}
 use Rattle.check_typing.specs.declared.Env as E
 
 -- a pattern bound, or used, where it fits a type
@@ -76,22 +78,19 @@ pub record Ready (t g : List ℕ) (base p a : ℕ) : Type 0 where
   pub line : base + p < length g
   pub type : a < base
 
--- the lines q and b that number j of P line p and number k of T line a name, where both are earlier lines
-pub record Named (t : List ℕ) (base p a j k : ℕ) (known : Bool) (q b : ℕ) : Type 0 where
-  pub lower : known ≡ true → q < p
-  pub below : known ≡ true → b < a
-  pub pattern : known ≡ true → q ≡ smaller_of (cell_of t (base + p) j) p
-  pub type : known ≡ true → b ≡ smaller_of (cell_of t a k) a
-
 -- P line q fits T line b as P line p fits T line a, whatever has fitted so far
 pub record Alike (t : List ℕ) (base p a q b : ℕ) : Type 0 where
   pub alike : (c : Bool) (x : Option (Slots Ty)) → fit_all c (pattern_of t base q) (type_of t b) x ≡ fit_all c (pattern_of t base p) (type_of t a) x
 
--- earlier lines that do, where there are such
-pub record Stepped (t : List ℕ) (base p a : ℕ) (known : Bool) (q b : ℕ) : Type 0 where
-  pub lower : known ≡ true → q < p
-  pub below : known ≡ true → b < a
-  pub same : known ≡ true → Alike t base p a q b
+-- earlier lines that do
+pub record Earlier (t : List ℕ) (base p a q b : ℕ) : Type 0 where
+  pub lower : q < p
+  pub below : b < a
+  pub same : Alike t base p a q b
+
+-- where there are such
+abbrev pub Stepped : List ℕ → ℕ → ℕ → ℕ → O.Option Lines → Type 0
+Stepped t base p a r = MatchOption r (Unit {0}) (λ l. Earlier t base p a l.p l.a)
 
 -- lines that do, these or earlier ones
 pub record Reached (t : List ℕ) (base p a q b : ℕ) : Type 0 where

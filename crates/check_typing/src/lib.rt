@@ -2,20 +2,20 @@
 #![tactic(auto)]
 
 ghost use Rattle.std.specs.Prelude.{◌≡◌, true, cond, ◌&&◌, List, ℕ, ◌+◌, ◌<◌, ◌≤◌, length};
-ghost use Rattle.limits.specs.Limits.{table_length, max_lines, row_width, variables};
+ghost use Rattle.limits.specs.Limits.{max_lines, variables};
 ghost use Rattle.calculus.specs.Trees.{pvar, same_type};
 ghost use Rattle.check_variables.specs.Marks.{settled_all};
 ghost use Rattle.check_bare.specs.Bare.{Bare, Bares};
 ghost use Rattle.table_trees.specs.Unfolding.{cell_of, type_of, pattern_of};
-ghost use Rattle.check_typing.specs.Fitting.{env_view, EntryOf, fit_all, fresh_env, Parted, Element, list_part, Ready, Named, Stepped, Reached, Fitted};
+ghost use Rattle.check_typing.specs.Fitting.{env_view, EntryOf, fit_all, fresh_env, Parted, Element, list_part, Ready, Stepped, Reached, Fitted};
 
 use area_words::wide;
 use check_bare::is_bare;
 use check_shapes::{names_nothing, same_type};
 use codes::{ELEMENT, EMPTY, FIRST, KIND, LEFT, LIST, PAIR, PRODUCT, RIGHT, SECOND, SUM, VARIABLE};
-use limits::{MAX_LINES, ROW_WIDTH, TABLE_LENGTH, VARIABLES};
-use table_parts::{pattern_part, type_part};
-use table_trees::{cell, pattern_cell};
+use limits::{MAX_LINES, TABLE_LENGTH, VARIABLES};
+use table_parts::{Lines, parts_of, pattern_part, type_part};
+use table_trees::{cell, field, pattern_cell};
 
 // The type of each live variable, as one more than its T line, 0 for none; and whether all fitted so far.
 #[derive(Clone, Copy)]
@@ -47,10 +47,7 @@ fn entry_of(a: usize) -> u16
 fn same_line(t: &[u16], b: usize, a: usize) -> bool
     ensures { result ≡ same_type (type_of t.now b) (type_of t.now a) }
 {
-    if b == a {
-        return true;
-    }
-    same_type(t, b, a)
+    b == a || same_type(t, b, a)
 }
 
 // Variable n is bound to the type of T line a, and must not be live; or it is used with that type, and is live no more.
@@ -79,103 +76,44 @@ fn assign(t: &[u16], n: usize, a: usize, binds: bool, line: &mut [u16; VARIABLES
     false
 }
 
-// Number k of a row of a whole table.
-fn field(t: &[u16], row: usize, k: usize) -> usize
-    requires { (table_length ≤ length t.now) × (row < max_lines) × (k < row_width) }
-    ensures { result ≡ cell_of t.now row k }
-{
-    wide(t[row * ROW_WIDTH + k])
-}
-
-// A P line and a T line, and whether there are such.
-#[derive(Clone, Copy)]
-struct Lines {
-    known: bool,
-    p: usize,
-    a: usize,
-}
-
-// The lines that number j of P line p and number k of T line a name, known where both are earlier lines.
-fn parts_of(t: &[u16], base: usize, p: usize, a: usize, j: usize, k: usize) -> Lines
-    requires { (table_length ≤ length t.now) × (base + p < max_lines) × (a < max_lines) × (j < row_width) × (k < row_width) }
-    ensures { Named t.now base p a j k result.known result.p result.a }
-{
-    let q = field(t, base + p, j);
-    let b = field(t, a, k);
-    if q < p {
-        return Lines {
-            known: b < a,
-            p: q,
-            a: b,
-        };
-    }
-    Lines {
-        known: false,
-        p: q,
-        a: b,
-    }
-}
-
 // Whether P line p is marked by the type of T line a, where both have a mark.
 fn is_marked(g: &[u16], base: usize, p: usize, a: usize) -> bool
     requires { (base + p < length g.now) × (a < base) }
     ensures { result ≡ true → (t : List ℕ) → Bares t base g.now → Bare (pattern_of t base p) (type_of t a) }
 {
     let m = wide(g[base + p]);
-    if 0 < m {
-        return m == wide(g[a]);
-    }
-    false
+    0 < m && m == wide(g[a])
 }
 
 // Of a pair and a product the part that alone matters: the one beside a part of units and pairs.
-fn beside(t: &[u16], g: &[u16], base: usize, p: usize, a: usize) -> Lines
+fn beside(t: &[u16], g: &[u16], base: usize, p: usize, a: usize) -> Option<Lines>
     requires { Ready t.now g.now base p a × (cell_of t.now (base + p) 1 ≡ 4) × (cell_of t.now a 1 ≡ 2) }
-    ensures { Stepped t.now base p a result.known result.p result.a }
+    ensures { Stepped t.now base p a result }
 {
-    let one = parts_of(t, base, p, a, FIRST, FIRST);
-    let two = parts_of(t, base, p, a, SECOND, SECOND);
-    if one.known {
-        if two.known {
-            if is_marked(g, base, two.p, two.a) {
-                return one;
-            }
-            if is_marked(g, base, one.p, one.a) {
-                return two;
-            }
-        }
+    let one = parts_of(t, base, p, a, FIRST, FIRST)?;
+    let two = parts_of(t, base, p, a, SECOND, SECOND)?;
+    if is_marked(g, base, two.p, two.a) {
+        return Some(one);
     }
-    Lines {
-        known: false,
-        p: p,
-        a: a,
+    if is_marked(g, base, one.p, one.a) {
+        return Some(two);
     }
+    None
 }
 
-// The parts of P line p and T line a that alone matter, known where there are such.
-fn step(t: &[u16], g: &[u16], base: usize, p: usize, a: usize) -> Lines
+// The parts of P line p and T line a that alone matter, where there are such.
+fn step(t: &[u16], g: &[u16], base: usize, p: usize, a: usize) -> Option<Lines>
     requires { Ready t.now g.now base p a }
-    ensures { Stepped t.now base p a result.known result.p result.a }
+    ensures { Stepped t.now base p a result }
 {
     let kind = field(t, base + p, KIND);
     let over = field(t, a, KIND);
-    if kind == PAIR {
-        if over == PRODUCT {
-            return beside(t, g, base, p, a);
-        }
+    if kind == PAIR && over == PRODUCT {
+        return beside(t, g, base, p, a);
     }
-    if over == SUM {
-        match kind {
-            LEFT | RIGHT => {
-                return parts_of(t, base, p, a, FIRST, kind);
-            }
-            _ => {}
-        }
-    }
-    Lines {
-        known: false,
-        p: p,
-        a: a,
+    match kind {
+        LEFT | RIGHT if over == SUM => parts_of(t, base, p, a, FIRST, kind),
+        _ => None,
     }
 }
 
@@ -184,39 +122,18 @@ fn descend(t: &[u16], g: &[u16], base: usize, i: usize, b: usize) -> Lines
     requires { Ready t.now g.now base i b }
     ensures { Reached t.now base i b result.p result.a }
 {
-    let mut p = i;
-    let mut a = b;
-    while 0 < p {
-        let next = step(t, g, base, p, a);
-        if !next.known {
-            return Lines {
-                known: true,
-                p: p,
-                a: a,
-            };
-        }
-        p = next.p;
-        a = next.a;
+    let mut at = Lines { p: i, a: b };
+    while let Some(next) = step(t, g, base, at.p, at.a) {
+        at = next;
     }
-    Lines {
-        known: true,
-        p: p,
-        a: a,
-    }
+    at
 }
 
 // Whether P line p and T line a have marks, and rows of the table.
 fn has_marks(g: &[u16], base: usize, p: usize, a: usize) -> bool
     ensures { result ≡ true → (length g.now ≤ max_lines) × (base + p < length g.now) × (a < base) }
 {
-    if g.len() <= MAX_LINES {
-        if a < base {
-            if base <= g.len() {
-                return p < g.len() - base;
-            }
-        }
-    }
-    false
+    g.len() <= MAX_LINES && a < base && base <= g.len() && p < g.len() - base
 }
 
 // The same for any lines of any table.
@@ -224,16 +141,10 @@ fn reach(t: &[u16], g: &[u16], base: usize, p: usize, a: usize) -> Lines
     requires { Bares t.now base g.now }
     ensures { Reached t.now base p a result.p result.a }
 {
-    if TABLE_LENGTH <= t.len() {
-        if has_marks(g, base, p, a) {
-            return descend(t, g, base, p, a);
-        }
+    if TABLE_LENGTH <= t.len() && has_marks(g, base, p, a) {
+        return descend(t, g, base, p, a);
     }
-    Lines {
-        known: true,
-        p: p,
-        a: a,
-    }
+    Lines { p: p, a: a }
 }
 
 // Whether P line i, bound or used, fits T line b; `line` has the types of the live variables, as an `Env` has them.
@@ -344,28 +255,23 @@ fn list_part(t: &[u16], a: usize, k: usize) -> usize
     ensures { result ≡ list_part t.now a k }
 {
     if k == FIRST {
-        return type_part(t, a, FIRST);
+        type_part(t, a, FIRST)
+    } else {
+        a
     }
-    a
 }
 
 // The field of the part that comes first, and of the one that comes second.
 pub fn sooner(binds: bool) -> usize
     ensures { result ≡ cond binds 2 3 }
 {
-    if binds {
-        return 2;
-    }
-    3
+    if binds { FIRST } else { SECOND }
 }
 
 pub fn later(binds: bool) -> usize
     ensures { result ≡ cond binds 3 2 }
 {
-    if binds {
-        return 3;
-    }
-    2
+    if binds { SECOND } else { FIRST }
 }
 
 // The types of the live variables once P line p, bound or used, fits T line a. A line of units and pairs is told by its mark.
@@ -393,13 +299,10 @@ pub fn all_used(e: Env) -> bool
     ensures { result ≡ (e.fits && settled_all e.line) }
 {
     if e.fits {
-        let line = e.line;
-        let mut i: usize = 0;
-        while i < VARIABLES {
-            if line[i] != 0 {
+        for entry in &e.line {
+            if *entry != 0 {
                 return false;
             }
-            i += 1;
         }
         return true;
     }

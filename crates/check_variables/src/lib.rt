@@ -11,7 +11,8 @@ use limits::VARIABLES;
 use table_parts::pattern_part;
 use table_trees::pattern_cell;
 
-// How each variable of a clause stands: 0 not live, 1 live, 2 out of order.
+// How each variable of a clause stands: 0 not live, 1 live, 2 out of order, as the numbers of the definitions `next_state` and
+// `settled_all`.
 #[derive(Clone, Copy)]
 pub struct Marks {
     pub state: [u8; VARIABLES],
@@ -21,16 +22,11 @@ pub struct Marks {
 fn next_state(binds: bool, s: u8) -> u8
     ensures { result ≡ next_state (deed_view binds) s }
 {
-    if binds {
-        if s == 0 {
-            return 1;
-        }
-        return 2;
+    match (binds, s) {
+        (true, 0) => 1,
+        (false, 1) => 0,
+        _ => 2,
     }
-    if s == 1 {
-        return 0;
-    }
-    2
 }
 
 // The marks after one more deed of variable n, the same where there is no such variable.
@@ -71,17 +67,15 @@ pub fn mark(t: &[u16], base: usize, p: usize, binds: bool, m: Marks) -> Marks
     }
 }
 
-// Whether no variable is live, and each was bound only while not live and used only while live.
+// Whether no variable is live, and each was bound only while not live and used only while live. A `for`, since the proof of
+// `all` has not closed.
 pub fn settled(m: Marks) -> bool
     ensures { result ≡ settled_all m.state }
 {
-    let state = m.state;
-    let mut i: usize = 0;
-    while i < VARIABLES {
-        if state[i] != 0 {
+    for s in &m.state {
+        if *s != 0 {
             return false;
         }
-        i += 1;
     }
     true
 }

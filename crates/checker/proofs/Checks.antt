@@ -1,4 +1,5 @@
 -- What Check answers and leaves in the areas, case by case, against the model's Check.
+use Rattle.std.specs.Prelude.{Option as CodeOption}
 use Prim.Native.Nat.{ℕ, zero, suc, ◌+◌, ◌-◌, ◌*◌, ◌≤◌, ◌<◌, min}
 use native.Mathlib.Nat.{zero-add, sub-zero, suc-sub-suc, le_of_suc-le-suc, not-suc-le-zero}
 use native.Mathlib.Omega.{arith}
@@ -486,7 +487,7 @@ unless_passed true v e = absurd (none≢some (sym e))
 unless_passed false v e = refl
 
 -- nothing is owed of a refused file
-pub refused_flag : {P : Type 0} (x y : F.Refusal) (b : Bool) → b ≡ is_some (refusal_view x) → b ≡ true → y ≡ x → refusal_view y ≡ none → P
+pub refused_flag : {P : Type 0} (x y : CodeOption F.Refusal) (b : Bool) → b ≡ is_some (refusal_view x) → b ≡ true → y ≡ x → refusal_view y ≡ none → P
 refused_flag x y b e h same n =
     let g = flag_some b (refusal_view x) e h in absurd (none≢some (sym n ∙ ap refusal_view same ∙ g.1))
 
@@ -577,7 +578,7 @@ module _ (s t t₁ t' : List ℕ) (c r : C.Checked) (ht : table_length ≤ lengt
 
 -- ---- before anything is read
 
-early_refused : (s : List ℕ) (table work : ℕ) (x : F.Refusal) (f : Refusal) → refusal_view x ≡ some f → number f ≤ 2
+early_refused : (s : List ℕ) (table work : ℕ) (x : CodeOption F.Refusal) (f : Refusal) → refusal_view x ≡ some f → number f ≤ 2
     → ((t w : List ℕ) → length t ≡ table → length w ≡ work → (r : A.Answer) → refusal_view r.refusal ≡ some f → r.place ≡ 0 → CheckSays s t w t w r)
     → Early s table work x
 early_refused s table work x f e h says = record {
@@ -586,7 +587,7 @@ early_refused s table work x f e h says = record {
   refuses = λ g k t w et ew r er ep. says t w et ew r (ap refusal_view er ∙ e) ep;
 }
 
-module _ (s : List ℕ) (table work : ℕ) (x : F.Refusal) where
+module _ (s : List ℕ) (table work : ℕ) (x : CodeOption F.Refusal) where
   pub early_table : refusal_view x ≡ some short_area → table < table_length → Early s table work x
   early_table e h = early_refused s table work x short_area e (lit≤ tt) (λ t w et ew r n p. short_table s t w r (subst (λ m. m < table_length) (sym et) h) n p)
 

@@ -1,5 +1,6 @@
 -- The services that go on from Check, whatever they ask of an accepted file: what each answers and leaves, in its three cases. Every such service
 -- cites these, and says only what it answers itself.
+use Rattle.std.specs.Prelude.{Option as CodeOption}
 use Prim.Native.Nat.{ℕ, ◌-◌, ◌≤◌, ◌<◌, min}
 use native.Mathlib.Nat.{sub-zero}
 use mathlib.Core.Path.{◌≡◌, refl, sym, ap, ap₂, ◌∙◌, subst}
@@ -27,7 +28,7 @@ use Rattle.checker.proofs.Checks.{cleared_filled}
 use Rattle.checker.proofs.Whole.{whole}
 
 -- a refusal, a line and two areas that are those of a service, with P of what it is asked for
-pub record ServedAs {G : Type 0} (x : Served G) (P : Outcome G → Type 0) (f : F.Refusal) (place : ℕ) (t' w' : List ℕ) : Type 0 where
+pub record ServedAs {G : Type 0} (x : Served G) (P : Outcome G → Type 0) (f : CodeOption F.Refusal) (place : ℕ) (t' w' : List ℕ) : Type 0 where
   pub refusal : refusal_view f ≡ refusal_of x.outcome
   pub number : number_of f ≡ refusal_number x.outcome
   pub line : place ≡ x.line
@@ -58,14 +59,14 @@ cleared_work w w₁ w₂ w' long wide e₁ same rest e' =
 
 module _ {G : Type 0} (asked : List Row → Outcome G) (P : Outcome G → Type 0) (s t w : List ℕ) {b : Bool} where
   -- another lent area is short
-  pub short_area_lem : b ≡ true → {f : F.Refusal} {place : ℕ} → refusal_view f ≡ some short_area → place ≡ 0 → P (fails short_area)
+  pub short_area_lem : b ≡ true → {f : CodeOption F.Refusal} {place : ℕ} → refusal_view f ≡ some short_area → place ≡ 0 → P (fails short_area)
       → ServedAs (serve b (verdict s) asked t w) P f place t w
   short_area_lem e {f} {place} n p q =
       subst (λ c. ServedAs (serve c (verdict s) asked t w) P f place t w) (sym e)
       (record { refusal = n; number = ap numbered n; line = p; table = refl; work = refl; answers = q })
 
   module _ (e : b ≡ short t w) {t' : List ℕ} where
-    by_check : {f : F.Refusal} {place : ℕ} {w' : List ℕ} → ServedAs (serve (short t w) (verdict s) asked t w) P f place t' w'
+    by_check : {f : CodeOption F.Refusal} {place : ℕ} {w' : List ℕ} → ServedAs (serve (short t w) (verdict s) asked t w) P f place t' w'
         → ServedAs (serve b (verdict s) asked t w) P f place t' w'
     by_check {f} {place} {w'} = subst (λ c. ServedAs (serve c (verdict s) asked t w) P f place t' w') (sym e)
 
@@ -86,7 +87,7 @@ module _ {G : Type 0} (asked : List Row → Outcome G) (P : Outcome G → Type 0
 
     -- an accepted file: the service's own answer, and a work area that is left as Check leaves it
     pub check_accepted : {w₁ w' : List ℕ} (c : C.Checked) {d : Bool} → CheckSays s t w t' w₁ c.answer → (refusal_view c.answer.refusal ≡ none → Accepted s t' c)
-        → d ≡ is_some (refusal_view c.answer.refusal) → d ≡ false → {f : F.Refusal} {place : ℕ} → place ≡ 0
+        → d ≡ is_some (refusal_view c.answer.refusal) → d ≡ false → {f : CodeOption F.Refusal} {place : ℕ} → place ≡ 0
         → ((a : Accepted s t' c) → (refusal_view f ≡ refusal_of (asked a.file)) × P (asked a.file))
         → (work_length ≤ length w → w₁ ≡ filled work_length [] w → w' ≡ filled work_length [] w) → ServedAs (serve b (verdict s) asked t w) P f place t' w'
     check_accepted {w₁} {w'} c {d} says acc x y {f} {place} p own left =

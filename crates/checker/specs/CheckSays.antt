@@ -1,5 +1,5 @@
 -- Check's contract: refusal, number, line, table and work area are what the model's Check gives.
-use Rattle.std.specs.Prelude.{ℕ, ◌≤◌, ◌≡◌, List, length}
+use Rattle.std.specs.Prelude.{Option as CodeOption, ℕ, ◌≤◌, ◌≡◌, List, length}
 use Rattle.std.proofs.Math.Option.{none, some}
 use Rattle.limits.specs.Limits.{max_bytes, max_lines, table_length, work_length}
 use Rattle.calculus.specs.Refusals.{Refusal, number}
@@ -95,7 +95,7 @@ pub record Filed (s t t' : List ℕ) (c : C.Checked) : Type 0 where
 
 -- what stands before any reading: with no refusal the areas are long enough and the file is short enough, and a refusal is 1 or 2, is Check's
 -- answer and leaves both areas as they are
-pub record Early (s : List ℕ) (table work : ℕ) (x : F.Refusal) : Type 0 where
+pub record Early (s : List ℕ) (table work : ℕ) (x : CodeOption F.Refusal) : Type 0 where
   pub passes : refusal_view x ≡ none → (table_length ≤ table) × (work_length ≤ work) × (length s ≤ max_bytes) × (length (lines s) ≤ max_lines)
   pub low : (f : Refusal) → refusal_view x ≡ some f → number f ≤ 2
   pub refuses : (f : Refusal) → refusal_view x ≡ some f → (t w : List ℕ) → length t ≡ table → length w ≡ work → (r : A.Answer) → r.refusal ≡ x

@@ -13,7 +13,7 @@ ghost use Rattle.table_walks.specs.Walk.{FileIn};
 ghost use Rattle.check_isos.specs.Answers.{as_fault};
 ghost use Rattle.checker.specs.CheckSays.{CheckSays, Outcome, Loaded, Entered, Settled, Accepted, Filed, Early, counts_of, no_counts, counts_read, counts_by};
 
-use area_parts::{clear_bytes, clear_words};
+use area_parts::clear;
 use check_idle::idle_fault;
 use check_isos::isos_fault;
 use format::{Answer, Refusal, is_refused};
@@ -32,7 +32,7 @@ pub struct Checked {
 }
 
 // A refusal, and no lines.
-fn refused(place: usize, f: Refusal) -> Checked
+fn refused(place: usize, f: Option<Refusal>) -> Checked
     ensures { (result.answer.place ≡ place) × (result.answer.refusal ≡ f) × (counts_of result ≡ no_counts) }
 {
     Checked {
@@ -54,8 +54,7 @@ fn lines_fault(t: &[u16], types: usize, patterns: usize, lines: usize) -> Answer
         × (refusal_view result.refusal ≡ none → result.place ≡ 0) }
 {
     let a = idle_fault(t, types, lines);
-    let f = a.refusal;
-    if is_refused(f) {
+    if is_refused(a.refusal) {
         return a;
     }
     isos_fault(t, types, patterns, lines)
@@ -92,7 +91,7 @@ pub fn entered(file: &[u8], table: &mut [u16]) -> Checked
     requires { (table_length ≤ length table.old) × (length (lines file.now) ≤ max_lines) }
     ensures { Entered file.now table.old table.new result }
 {
-    clear_words(table, TABLE_LENGTH);
+    clear(table, TABLE_LENGTH, 0);
     judged(file, table)
 }
 
@@ -100,11 +99,10 @@ pub fn entered(file: &[u8], table: &mut [u16]) -> Checked
 pub fn settled(table: &mut [u16], c: Checked) -> Checked
     ensures { Settled table.old table.new c result }
 {
-    let a = c.answer;
-    let f = a.refusal;
+    let f = c.answer.refusal;
     if is_refused(f) {
-        clear_words(table, TABLE_LENGTH);
-        return refused(a.place, f);
+        clear(table, TABLE_LENGTH, 0);
+        return refused(c.answer.place, f);
     }
     c
 }
@@ -119,22 +117,22 @@ fn filed(file: &[u8], table: &mut [u16]) -> Checked
 }
 
 // Refusal 1 or 2 of a file and two areas of these lengths, or nothing.
-pub fn early(file: &[u8], table: usize, work: usize) -> Refusal
+pub fn early(file: &[u8], table: usize, work: usize) -> Option<Refusal>
     ensures { Early file.now table work result }
 {
     if table < TABLE_LENGTH {
-        return Refusal::ShortArea;
+        return Some(Refusal::ShortArea);
     }
     if work < WORK_LENGTH {
-        return Refusal::ShortArea;
+        return Some(Refusal::ShortArea);
     }
     if MAX_BYTES < file.len() {
-        return Refusal::TooLong;
+        return Some(Refusal::TooLong);
     }
     if MAX_LINES < count_lines(file) {
-        return Refusal::TooLong;
+        return Some(Refusal::TooLong);
     }
-    Refusal::Nothing
+    None
 }
 
 // Check, for the services that go on from an accepted file: its rows are then in the table.
@@ -148,7 +146,7 @@ pub fn check_file(file: &[u8], table: &mut [u16], work: &mut [u8]) -> Checked
     if is_refused(f) {
         return refused(0, f);
     }
-    clear_bytes(work, WORK_LENGTH);
+    clear(work, WORK_LENGTH, 0);
     filed(file, table)
 }
 

@@ -22,8 +22,6 @@ use Rattle.checker.specs.CheckSays.{CheckSays, Accepted}
 use Rattle.checker.specs.declared.Checked as C
 use Rattle.query_lines.specs.Stream.{begun, stopped}
 use Rattle.query_lines.specs.declared.Query as Q
-use Rattle.query_lines.specs.declared.Asked as A
-use Rattle.query_lines.specs.declared.Asked.TheVariants as asked
 use Rattle.runner.specs.RunSays.{RanAs}
 use Rattle.runner.specs.declared.run.Ran as R
 use Rattle.desk.specs.DeskSays.{answer_room, Printed, JudgedAs, ran_line}

@@ -103,13 +103,7 @@ pub fn opened() -> Desk
 fn goes_on(taken: usize, bytes: usize, at: usize, n: usize) -> bool
     ensures { result ≡ (ltb taken bytes && leb (at + answer_room) n) }
 {
-    if n < ANSWER_ROOM {
-        return false;
-    }
-    if taken < bytes {
-        return at <= n - ANSWER_ROOM;
-    }
-    false
+    taken < bytes && n >= ANSWER_ROOM && at <= n - ANSWER_ROOM
 }
 
 // One byte more of a file or of a line, as far as it is kept.
@@ -127,10 +121,7 @@ fn hold(area: &mut [u8], held: usize, b: u8, most: usize) -> usize
 fn begins(fresh: bool, b: u8) -> bool
     ensures { result ≡ (fresh && eqb b letter_q) }
 {
-    if fresh {
-        return b == LETTER_Q;
-    }
-    false
+    fresh && b == LETTER_Q
 }
 
 // Whether a checked file is refused.
@@ -347,6 +338,7 @@ pub fn feed(
     let mut written: usize = 0;
     let bytes = chunk.len();
     let room = out.len();
+    // No `for`: it also ends where the area lacks room, and gives how many bytes it took.
     while goes_on(taken, bytes, written, room) {
         let b = chunk[taken];
         let n = feed_byte(desk, b, file, line, table, work, index, out, written);

@@ -11,9 +11,9 @@ ghost use Rattle.area_cells.specs.Areas.{Writes};
 ghost use Rattle.runner.specs.RunSays.{OnChecked, OnAccepted};
 ghost use Rattle.exports.specs.ExportSays.{ListedInto, ExportSays};
 
-use area_cells::put_byte;
-use area_parts::clear_bytes;
-use area_words::{wide, word_at};
+use area_cells::{item_at, put_byte};
+use area_parts::clear;
+use area_words::wide;
 use checker::{Checked, check_file};
 use codes::{ISO_FROM, LINE_FEED};
 use format::{Answer, Refusal, is_refused};
@@ -28,7 +28,7 @@ use runner::run::prepare;
 // A refusal or none, and the number of bytes in the output area.
 #[derive(Clone, Copy)]
 pub struct Listed {
-    pub refusal: Refusal,
+    pub refusal: Option<Refusal>,
     pub length: usize,
 }
 
@@ -39,7 +39,7 @@ pub struct Exported {
     pub length: usize,
 }
 
-fn not_listed(f: Refusal) -> Listed
+fn not_listed(f: Option<Refusal>) -> Listed
     ensures { (result.refusal ≡ f) × (result.length ≡ 0) }
 {
     Listed {
@@ -53,7 +53,7 @@ fn too_many() -> Listed
     ensures { (refusal_view result.refusal ≡ some too_many) × (result.length ≡ 0) }
 {
     Listed {
-        refusal: Refusal::TooMany,
+        refusal: Some(Refusal::TooMany),
         length: 0,
     }
 }
@@ -73,10 +73,8 @@ fn put_pairs(out: &mut [u8], tos: &[u16], n: usize) -> usize
         → Writes out.old out.new 0 result (pair_lines 0 (take n tos.now)) }
 {
     let mut at: usize = 0;
-    let mut k: usize = 0;
-    while k < n {
-        at = put_pair(out, at, k, wide(word_at(tos, k)));
-        k += 1;
+    for k in 0..n {
+        at = put_pair(out, at, k, wide(item_at(tos, k, 0)));
     }
     at
 }
@@ -99,7 +97,7 @@ fn export_checked(
         (λ rs. ListedInto rs i budget output.old output.new result) }
 {
     if isos <= i {
-        return not_listed(Refusal::NoIso);
+        return not_listed(Some(Refusal::NoIso));
     }
     if !is_free(t, index, isos, i) {
         return too_many();
@@ -111,11 +109,11 @@ fn export_checked(
     }
     let mut tos = [0u16; MAX_PAIRS];
     if !find_tos(t, counts, base, index, isos, i, n, budget, work, &mut tos) {
-        return not_listed(Refusal::Spent);
+        return not_listed(Some(Refusal::Spent));
     }
     let length = put_pairs(output, &tos, n);
     Listed {
-        refusal: Refusal::Nothing,
+        refusal: None,
         length: length,
     }
 }
@@ -168,7 +166,7 @@ pub fn export(
         return Exported {
             answer: Answer {
                 place: 0,
-                refusal: Refusal::ShortArea,
+                refusal: Some(Refusal::ShortArea),
             },
             length: 0,
         };
@@ -183,7 +181,7 @@ pub fn export(
         };
     }
     let l = export_accepted(table, c, i, budget, work, WORK_LENGTH, output);
-    clear_bytes(work, WORK_LENGTH);
+    clear(work, WORK_LENGTH, 0);
     let g = l.refusal;
     Exported {
         answer: Answer {

@@ -8,13 +8,14 @@ use mathlib.Core.Option.{Option, none, some}
 use mathlib.Core.List.{List, [], ◌∷◌, Memᴰ}
 use lib.Dec.{leb}
 use lib.ListN.{length, get_or, drop}
+use Rattle.std.specs.Prelude.{None, Some}
 use Rattle.calculus.specs.Trees.{Ty, Pat}
 use Rattle.law_witnesses.specs.Seeking.{how_many, ways, or_zero, also, keep, alone}
 use Rattle.calculus.proofs.Basic.{leb_le, leb_false, le_leb, not_leb}
 use Rattle.table_trees.specs.Unfolding.{cell_of, type_of, pattern_of}
 use Rattle.table_walks.specs.InTable.{patterns_at}
 use Rattle.fault_tallies.specs.Tallies.{Holds}
-use Rattle.fault_stacks.specs.Stacks.{types_from, row_from, Countable, types_along, row_along, RowHolds, RowWalked}
+use Rattle.fault_stacks.specs.Stacks.{row_from, Countable, types_along, row_along, RowHolds, RowWalked}
 use Rattle.fault_tallies.proofs.Counting.{held_as, below}
 use Rattle.fault_gaps.specs.Gaps.{minus_of, Takes, Fitting, TakesRow, matched_by, TakesAll}
 use Rattle.table_walks.proofs.Named.{rows_line, rows_end}
@@ -57,30 +58,25 @@ minus_in m x y h = sym (ap (λ b. cond b (x - y) (m - (y - x))) (le_leb h))
 pub minus_out : (m x y : ℕ) → x < y → m - (y - x) ≡ minus_of m x y
 minus_out m x y h = sym (ap (λ b. cond b (x - y) (m - (y - x))) (not_leb h))
 
-pub minus_none : (m x y : ℕ) → x < y → m < y - x → 0 ≡ minus_of m x y
-minus_none m x y h k = let e : 0 ≡ m - (y - x) = omega arith in e ∙ minus_out m x y h
-
 pub held_less : {m : ℕ} {k o l : List ℕ} {W X : ℕ → ℕ} → Takes m k o l → ((r : ℕ) → X r ≤ W r) → Holds m k W → Holds m o X → Holds m l (λ r. W r - X r)
 held_less {m} {W = W} {X = X} e b h g =
     record { wide = h.wide; at = λ r q. e.at r q ∙ ap₂ (minus_of m) (h.at r q) (g.at r q) ∙ minus_mod m (W r) (X r) h.wide (b r) }
 
 -- ---- one row
 
-module _ (t : List ℕ) (base : ℕ) (w ps ts : List ℕ) (p i r : ℕ) (d : RowWalked t base w ps ts p i r) where
+module _ (t : List ℕ) (base : ℕ) (w ps ts : List ℕ) (p i : ℕ) where
   less_zero : (n : ℕ) → n ≡ n - 0
   less_zero n = omega arith
 
   -- a row that is dead takes nothing
-  pub dead_row : (m : ℕ) (k : List ℕ) → 128 < r → TakesRow m k k (types_along w (type_of t i ∷ [])) (row_along w (pattern_of t base p ∷ []))
-  dead_row m k h =
-      subst (TakesRow m k k (types_along w (type_of t i ∷ []))) (sym (d.1 h)) (record { at = λ W f z b g. held_as (λ n. W n - 0) (λ n. less_zero (W n)) g })
+  pub dead_row : RowWalked t base w ps ts p i None → (m : ℕ) (k : List ℕ) → TakesRow m k k (types_along w (type_of t i ∷ [])) (row_along w (pattern_of t base p ∷ []))
+  dead_row d m k = subst (TakesRow m k k (types_along w (type_of t i ∷ []))) (sym d) (record { at = λ W f z b g. held_as (λ n. W n - 0) (λ n. less_zero (W n)) g })
 
-  pub live_row : {m : ℕ} {k o l : List ℕ} → r ≤ 128 → RowHolds m t base ps ts o r
+  pub live_row : {r : ℕ} → RowWalked t base w ps ts p i (Some r) → {m : ℕ} {k o l : List ℕ} → RowHolds m t base ps ts o r
       → Takes m k o l → TakesRow m k l (types_along w (type_of t i ∷ [])) (row_along w (pattern_of t base p ∷ []))
-  live_row {m} {k} {o} {l} h c e =
-      let x = d.0 h in
-      subst (TakesRow m k l (types_along w (type_of t i ∷ []))) (sym x.0)
-      (subst (λ z. TakesRow m k l z (some (row_from t base ps r))) x.1
+  live_row {r} d {m} {k} {o} {l} c e =
+      subst (TakesRow m k l (types_along w (type_of t i ∷ []))) (sym d.1)
+      (subst (λ z. TakesRow m k l z (some (row_from t base ps r))) d.2
       (record { at = λ W f z b g. held_less e b g (c g.wide (f (row_from t base ps r) refl) z) }))
 
 -- ---- all rows, from the last

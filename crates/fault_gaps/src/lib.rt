@@ -22,45 +22,38 @@ fn minus(m: u64, x: u64, y: u64) -> u64
     ensures { result ≡ minus_of m x y }
 {
     if y <= x {
-        return x - y;
+        x - y
+    } else {
+        m.saturating_sub(y - x)
     }
-    let d = y - x;
-    if d <= m {
-        return m - d;
-    }
-    0
 }
 
 // Counts less others.
-pub fn take_away(m: u64, k: &mut [u64], o: &[u64])
-    requires { (length k.old ≡ lengths) × (length o.now ≡ lengths) }
+fn take_away(m: u64, k: &mut [u64; LENGTHS], o: &[u64; LENGTHS])
     ensures { Takes m k.old o.now k.new }
 {
-    let mut i: usize = 0;
-    while i < LENGTHS {
-        k[i] = minus(m, k[i], o[i]);
-        i += 1;
+    for (i, x) in k.iter_mut().enumerate() {
+        *x = minus(m, *x, o[i]);
     }
 }
 
 // Counts less those that P line p matches, after some letters of a value of T line i.
-pub fn take_row(m: u64, t: &[u16], base: usize, p: usize, i: usize, w: &[u8], k: &mut [u64])
-    requires { (length k.old ≡ lengths) × (length w.now ≤ max_nodes) }
+fn take_row(m: u64, t: &[u16], base: usize, p: usize, i: usize, w: &[u8], k: &mut [u64; LENGTHS])
+    requires { length w.now ≤ max_nodes }
     ensures { RowTaken m t.now base p i w.now k.old k.new }
 {
     let mut ps = [0usize; LENGTHS];
     let mut ts = [0usize; LENGTHS];
-    let top = walk_row(t, base, p, i, w, &mut ps, &mut ts);
-    if LENGTHS < top {
+    let Some(top) = walk_row(t, base, p, i, w, &mut ps, &mut ts) else {
         return;
-    }
+    };
     let mut o = [0u64; LENGTHS];
     count_row(m, t, base, &ps, &ts, top, &mut o);
     take_away(m, k, &o);
 }
 
 // The ways to go on after some letters of a value of T line i that no pattern in field f of the rows matches.
-pub fn count_gaps(
+fn count_gaps(
     m: u64,
     t: &[u16],
     base: usize,
@@ -68,17 +61,15 @@ pub fn count_gaps(
     rows: &[u16],
     i: usize,
     w: &[u8],
-    k: &mut [u64],
+    k: &mut [u64; LENGTHS],
 )
-    requires { (length k.old ≡ lengths) × (length w.now ≤ max_nodes) }
+    requires { length w.now ≤ max_nodes }
     ensures { GapsCounted m t.now base f rows.now i w.now k.new }
 {
     let mut ts = [0usize; LENGTHS];
     let top = walk_types(t, i, w, &mut ts);
     count_types(m, t, &ts, top, k);
-    let mut x = rows.len();
-    while 0 < x {
-        x -= 1;
+    for x in (0..rows.len()).rev() {
         let p = cell(t, wide(rows[x]), f);
         take_row(m, t, base, p, i, w, k);
     }
@@ -168,8 +159,7 @@ pub fn write_gap(t: &[u16], base: usize, f: usize, rows: &[u16], i: usize, n: us
     let mut ts = [0usize; LENGTHS];
     ts[MAX_NODES] = i;
     let mut top: usize = MAX_NODES;
-    let mut m: usize = 0;
-    while m < n {
+    for m in 0..n {
         if MAX_NODES < top {
             return;
         }
@@ -179,20 +169,15 @@ pub fn write_gap(t: &[u16], base: usize, f: usize, rows: &[u16], i: usize, n: us
         let c = letter(t, base, f, rows, i, j, n - m - 1, &out[0..next]);
         out[m] = c;
         top = step_types(t, &mut ts, top, c);
-        m = next;
     }
 }
 
-// The place of the first count that is not 0; 128 where all are.
-pub fn first_count(k: &[u64]) -> usize
-    requires { length k.now ≡ lengths }
+// The place of the first count that is not 0; 128 where all are, so that the lesser of two places is that of both.
+fn first_count(k: &[u64; LENGTHS]) -> usize
     ensures { FirstCount k.now result }
 {
-    let mut n: usize = 0;
-    while n < LENGTHS {
-        if k[n] == 0 {
-            n += 1;
-        } else {
+    for (n, x) in k.iter().enumerate() {
+        if *x != 0 {
             return n;
         }
     }

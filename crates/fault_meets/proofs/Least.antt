@@ -44,16 +44,10 @@ pub length_leaf : (t : List ℕ) (i : ℕ) {k : ℕ} → k ≡ cell_of t i 1 →
 length_leaf t i {k} e s p =
     ⊎_elim (λ z. sym (ap (λ b. min 128 (size b)) (line_list t i e refl z))) (λ l. sym (ap (λ b. min 128 (size b)) (line_other t i e s p l))) (eq_or_ne k 3)
 
-pub length_left : {a x y : Ty} {m n r : ℕ} → a ≡ tsum x y → m ≡ min 128 (size x) → n ≡ min 128 (size y) → m ≤ n → r ≡ min 128 (1 + m + 0) → r ≡ min 128 (size a)
-length_left {a} {x} {y} e p q h c = let s = size_sum x y in capped (size x) (size y) p q h c ∙ ap (min 128) (sym s) ∙ sym (ap (λ z. min 128 (size z)) e)
+pub length_sum : {a x y : Ty} {m n k r : ℕ} → a ≡ tsum x y → m ≡ min 128 (size x) → n ≡ min 128 (size y) → k ≡ min m n → r ≡ min 128 (1 + k + 0) → r ≡ min 128 (size a)
+length_sum {a} {x} {y} e p q h c = let s = size_sum x y in capped (size x) (size y) p q h c ∙ ap (min 128) (sym s) ∙ sym (ap (λ z. min 128 (size z)) e)
   where
-    capped : {m n r : ℕ} (u v : ℕ) → m ≡ min 128 u → n ≡ min 128 v → m ≤ n → r ≡ min 128 (1 + m + 0) → r ≡ min 128 (1 + min u v)
-    capped u v p q h c = omega arith
-
-pub length_right : {a x y : Ty} {m n r : ℕ} → a ≡ tsum x y → m ≡ min 128 (size x) → n ≡ min 128 (size y) → n < m → r ≡ min 128 (1 + n + 0) → r ≡ min 128 (size a)
-length_right {a} {x} {y} e p q h c = let s = size_sum x y in capped (size x) (size y) p q h c ∙ ap (min 128) (sym s) ∙ sym (ap (λ z. min 128 (size z)) e)
-  where
-    capped : {m n r : ℕ} (u v : ℕ) → m ≡ min 128 u → n ≡ min 128 v → n < m → r ≡ min 128 (1 + n + 0) → r ≡ min 128 (1 + min u v)
+    capped : {m n k r : ℕ} (u v : ℕ) → m ≡ min 128 u → n ≡ min 128 v → k ≡ min m n → r ≡ min 128 (1 + k + 0) → r ≡ min 128 (1 + min u v)
     capped u v p q h c = omega arith
 
 pub length_pair : {a x y : Ty} {m n r : ℕ} → a ≡ tprod x y → m ≡ min 128 (size x) → n ≡ min 128 (size y) → r ≡ min 128 (1 + m + n) → r ≡ min 128 (size a)

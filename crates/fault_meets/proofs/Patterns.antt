@@ -2,55 +2,48 @@
 use Prim.Native.Nat.{ℕ, ◌+◌, ◌≤◌}
 use native.Mathlib.Omega.{arith}
 use mathlib.Core.Path.{◌≡◌, refl, sym, ap, ◌∙◌, subst}
-use mathlib.Core.Bool.{cond}
-use mathlib.Core.Logic.{◌⊎◌, inl, inr, ⊎_elim}
+use mathlib.Core.Logic.{◌⊎◌, inl, inr}
 use mathlib.Core.List.{List, [], ◌∷◌}
-use lib.Dec.{eqb}
 use Rattle.limits.specs.Limits.{max_nodes}
 use Rattle.calculus.specs.Trees.{Ty, Leaf, unit_leaf, empty_leaf, Tag, left, right, Node, pair_node, element_node, Pat, pvar, pleaf, pinj, pnode, type_nodes}
 use Rattle.calculus.specs.Letters.{leaf_letter, letter_of, node_letter, letters}
 use Rattle.calculus.specs.Shapes.{Shape}
-use Rattle.calculus.proofs.Basic.{not_eqb}
 use Rattle.law_witnesses.specs.Seeking.{least_in}
 use Rattle.area_cells.specs.Areas.{Prints}
 use Rattle.area_cells.proofs.Writing.{prints_both}
+use Rattle.run_values.specs.Texts.{letter_for}
+use Rattle.run_patterns.proofs.Lines.{letter_other}
 use Rattle.table_trees.specs.Unfolding.{cell_of, smaller_of, pattern_of}
 use Rattle.table_trees.proofs.Cases.{Joins, pairs, elements}
 use Rattle.table_trees.proofs.Lines.{is_left, is_right, is_pair, is_empty, is_element, is_unit}
 use Rattle.fault_tallies.specs.Tallies.{part_of}
 use Rattle.fault_tallies.proofs.Patterns.{eq_or_ne}
-use Rattle.fault_meets.specs.Spelled.{letter_at, SpellsLeast, SpellsIn}
+use Rattle.fault_meets.specs.Spelled.{SpellsLeast, SpellsIn}
 
 -- ---- the letter of a kind
 
-pub letter_left : {k : ℕ} → k ≡ 2 → 76 ≡ letter_at k
-letter_left e = sym (ap letter_at e)
+pub letter_left : {k : ℕ} → k ≡ 2 → 76 ≡ letter_for k
+letter_left e = sym (ap letter_for e)
 
-pub letter_right : {k : ℕ} → k ≡ 3 → 82 ≡ letter_at k
-letter_right e = sym (ap letter_at e)
+pub letter_right : {k : ℕ} → k ≡ 3 → 82 ≡ letter_for k
+letter_right e = sym (ap letter_for e)
 
-pub letter_pair : {k : ℕ} → k ≡ 4 → 80 ≡ letter_at k
-letter_pair e = sym (ap letter_at e)
+pub letter_pair : {k : ℕ} → k ≡ 4 → 80 ≡ letter_for k
+letter_pair e = sym (ap letter_for e)
 
-pub letter_empty : {k : ℕ} → k ≡ 5 → 78 ≡ letter_at k
-letter_empty e = sym (ap letter_at e)
+pub letter_empty : {k : ℕ} → k ≡ 5 → 78 ≡ letter_for k
+letter_empty e = sym (ap letter_for e)
 
-pub letter_element : {k : ℕ} → k ≡ 6 → 75 ≡ letter_at k
-letter_element e = sym (ap letter_at e)
+pub letter_element : {k : ℕ} → k ≡ 6 → 75 ≡ letter_for k
+letter_element e = sym (ap letter_for e)
 
-pub letter_unit : {k : ℕ} → (k ≡ 2 → ⊥) → (k ≡ 3 → ⊥) → (k ≡ 4 → ⊥) → (k ≡ 5 → ⊥) → (k ≡ 6 → ⊥) → 85 ≡ letter_at k
-letter_unit {k} l r p n e =
-    sym
-    (ap (λ b. cond b 76 (cond (eqb k 3) 82 (cond (eqb k 4) 80 (cond (eqb k 5) 78 (cond (eqb k 6) 75 85))))) (not_eqb l)
-    ∙ ap (λ b. cond b 82 (cond (eqb k 4) 80 (cond (eqb k 5) 78 (cond (eqb k 6) 75 85)))) (not_eqb r)
-    ∙ ap (λ b. cond b 80 (cond (eqb k 5) 78 (cond (eqb k 6) 75 85))) (not_eqb p)
-    ∙ ap (λ b. cond b 78 (cond (eqb k 6) 75 85)) (not_eqb n)
-    ∙ ap (λ b. cond b 75 85) (not_eqb e))
+pub letter_unit : {k : ℕ} → (k ≡ 2 → ⊥) → (k ≡ 3 → ⊥) → (k ≡ 4 → ⊥) → (k ≡ 5 → ⊥) → (k ≡ 6 → ⊥) → 85 ≡ letter_for k
+letter_unit {k} l r p n e = sym (letter_other k p l r n e)
 
 -- ---- a P line that is no variable, with its letter
 
 -- k is the kind of the line, b its letter
-module _ (t : List ℕ) (base p : ℕ) {k b : ℕ} (e : k ≡ cell_of t (base + p) 1) (f : b ≡ letter_at k) where
+module _ (t : List ℕ) (base p : ℕ) {k b : ℕ} (e : k ≡ cell_of t (base + p) 1) (f : b ≡ letter_for k) where
   pub node_line : {q r : ℕ} → Joins k → q ≡ smaller_of (cell_of t (base + p) 2) p → r ≡ smaller_of (cell_of t (base + p) 3) p
       → (n : Node) × (pattern_of t base p ≡ pnode n (pattern_of t base q) (pattern_of t base r)) × (b ≡ node_letter n)
   node_line {q} {r} j g h = go (joined j)

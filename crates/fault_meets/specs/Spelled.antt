@@ -1,20 +1,12 @@
 -- What writing the least value of a type, or of a pattern, leaves: its letters, as far as the area goes.
-use Rattle.std.specs.Prelude.{ℕ, ◌≤◌, ◌≡◌, cond, List, eqb}
+use Rattle.std.specs.Prelude.{ℕ, ◌≤◌, ◌≡◌, List}
 use Rattle.std.proofs.Math.Option.{some}
 use Rattle.limits.specs.Limits.{max_nodes}
-use Rattle.calculus.specs.Trees.{Ty, unit_leaf, empty_leaf, left, right, pair_node, element_node, Pat, type_nodes}
-use Rattle.calculus.specs.Letters.{leaf_letter, letter_of, node_letter, letters}
+use Rattle.calculus.specs.Trees.{Ty, Pat, type_nodes}
+use Rattle.calculus.specs.Letters.{letters}
 use Rattle.calculus.specs.Shapes.{Shape}
 use Rattle.law_witnesses.specs.Seeking.{least, least_in, meet}
 use Rattle.area_cells.specs.Areas.{Prints}
-
--- the letter of a P line by its kind
-abbrev pub letter_at : ℕ → ℕ
-letter_at k =
-    cond (eqb k 2) (letter_of left)
-    (cond (eqb k 3) (letter_of right)
-    (cond (eqb k 4) (node_letter pair_node)
-    (cond (eqb k 5) (leaf_letter empty_leaf) (cond (eqb k 6) (node_letter element_node) (leaf_letter unit_leaf)))))
 
 pub record SpellsLeast (a : Ty) (l l' : List ℕ) (at end : ℕ) : Type 0 where
   pub by : type_nodes a ≤ max_nodes → Prints l l' at end (letters (least a))

@@ -6,14 +6,15 @@ ghost use Rattle.limits.specs.Limits.{lengths};
 ghost use Rattle.calculus.specs.Letters.{letters};
 ghost use Rattle.law_witnesses.specs.Seeking.{least};
 ghost use Rattle.table_trees.specs.Unfolding.{type_of, pattern_of};
-ghost use Rattle.fault_meets.specs.Spelled.{letter_at, SpellsLeast, SpellsIn, SpellsBoth};
+ghost use Rattle.fault_meets.specs.Spelled.{SpellsLeast, SpellsIn, SpellsBoth};
 
 use area_cells::put_byte;
 use codes::{
-    ELEMENT, EMPTY, FIRST, KIND, LEFT, LETTER_ELEMENT, LETTER_EMPTY, LETTER_LEFT, LETTER_PAIR,
-    LETTER_RIGHT, LETTER_UNIT, LIST, PAIR, PRODUCT, RIGHT, SECOND, SUM, VARIABLE,
+    ELEMENT, FIRST, KIND, LEFT, LETTER_EMPTY, LETTER_LEFT, LETTER_PAIR, LETTER_RIGHT, LETTER_UNIT,
+    LIST, PAIR, PRODUCT, RIGHT, SECOND, SUM, VARIABLE,
 };
-use fault_tallies::{first_part, has_two, second_part};
+use fault_tallies::{first_part, second_part};
+use run_patterns::letter;
 use table_parts::{pattern_part, type_part};
 use table_sizes::above;
 use table_trees::{cell, pattern_cell};
@@ -22,68 +23,44 @@ use table_trees::{cell, pattern_cell};
 pub fn least_length(t: &[u16], i: usize) -> usize
     ensures { result ≡ min lengths (length (letters (least (type_of t.now i)))) }
 {
-    let kind = cell(t, i, KIND);
-    if kind == SUM {
-        let m = least_length(t, type_part(t, i, FIRST));
-        let n = least_length(t, type_part(t, i, SECOND));
-        if m <= n {
-            return above(m, 0);
+    match cell(t, i, KIND) {
+        SUM => {
+            let m = least_length(t, type_part(t, i, FIRST));
+            let n = least_length(t, type_part(t, i, SECOND));
+            above(m.min(n), 0)
         }
-        return above(n, 0);
+        PRODUCT => {
+            let m = least_length(t, type_part(t, i, FIRST));
+            above(m, least_length(t, type_part(t, i, SECOND)))
+        }
+        _ => 1,
     }
-    if kind == PRODUCT {
-        let m = least_length(t, type_part(t, i, FIRST));
-        return above(m, least_length(t, type_part(t, i, SECOND)));
-    }
-    1
 }
 
 // Writes the least value of T line i from a place on, and gives the place behind it.
 pub fn write_least(t: &[u16], i: usize, out: &mut [u8], at: usize) -> usize
     ensures { SpellsLeast (type_of t.now i) out.old out.new at result }
 {
-    let kind = cell(t, i, KIND);
-    if kind == SUM {
-        let a = type_part(t, i, FIRST);
-        let b = type_part(t, i, SECOND);
-        if least_length(t, a) <= least_length(t, b) {
-            let next = put_byte(out, at, LETTER_LEFT);
-            return write_least(t, a, out, next);
+    match cell(t, i, KIND) {
+        SUM => {
+            let a = type_part(t, i, FIRST);
+            let b = type_part(t, i, SECOND);
+            if least_length(t, a) <= least_length(t, b) {
+                let next = put_byte(out, at, LETTER_LEFT);
+                write_least(t, a, out, next)
+            } else {
+                let next = put_byte(out, at, LETTER_RIGHT);
+                write_least(t, b, out, next)
+            }
         }
-        let next = put_byte(out, at, LETTER_RIGHT);
-        return write_least(t, b, out, next);
+        PRODUCT => {
+            let next = put_byte(out, at, LETTER_PAIR);
+            let middle = write_least(t, type_part(t, i, FIRST), out, next);
+            write_least(t, type_part(t, i, SECOND), out, middle)
+        }
+        LIST => put_byte(out, at, LETTER_EMPTY),
+        _ => put_byte(out, at, LETTER_UNIT),
     }
-    if kind == PRODUCT {
-        let next = put_byte(out, at, LETTER_PAIR);
-        let middle = write_least(t, type_part(t, i, FIRST), out, next);
-        return write_least(t, type_part(t, i, SECOND), out, middle);
-    }
-    if kind == LIST {
-        return put_byte(out, at, LETTER_EMPTY);
-    }
-    put_byte(out, at, LETTER_UNIT)
-}
-
-// The letter of a P line of this kind.
-fn letter_of(kind: usize) -> u8
-    ensures { result ≡ letter_at kind }
-{
-    if kind == LEFT {
-        return LETTER_LEFT;
-    }
-    if kind == RIGHT {
-        return LETTER_RIGHT;
-    }
-    if kind == PAIR {
-        return LETTER_PAIR;
-    }
-    if kind == EMPTY {
-        return LETTER_EMPTY;
-    }
-    if kind == ELEMENT {
-        return LETTER_ELEMENT;
-    }
-    LETTER_UNIT
 }
 
 // The same for the least value of T line i that P line p matches.
@@ -101,20 +78,18 @@ pub fn write_least_in(
     if kind == VARIABLE {
         return write_least(t, i, out, at);
     }
-    let next = put_byte(out, at, letter_of(kind));
+    let next = put_byte(out, at, letter(kind));
     let a = pattern_part(t, base, p, FIRST);
-    if has_two(kind) {
-        let b = pattern_part(t, base, p, SECOND);
-        let middle = write_least_in(t, base, a, first_part(t, i), out, next);
-        return write_least_in(t, base, b, second_part(t, i), out, middle);
+    match kind {
+        PAIR | ELEMENT => {
+            let b = pattern_part(t, base, p, SECOND);
+            let middle = write_least_in(t, base, a, first_part(t, i), out, next);
+            write_least_in(t, base, b, second_part(t, i), out, middle)
+        }
+        LEFT => write_least_in(t, base, a, first_part(t, i), out, next),
+        RIGHT => write_least_in(t, base, a, second_part(t, i), out, next),
+        _ => next,
     }
-    if kind == LEFT {
-        return write_least_in(t, base, a, first_part(t, i), out, next);
-    }
-    if kind == RIGHT {
-        return write_least_in(t, base, a, second_part(t, i), out, next);
-    }
-    next
 }
 
 // The same for the least value of T line i that P lines p and q both match, where they do not clash.
@@ -138,20 +113,18 @@ pub fn write_common(
     if kq == VARIABLE {
         return write_least_in(t, base, p, i, out, at);
     }
-    let next = put_byte(out, at, letter_of(kp));
+    let next = put_byte(out, at, letter(kp));
     let a = pattern_part(t, base, p, FIRST);
     let c = pattern_part(t, base, q, FIRST);
-    if has_two(kp) {
-        let b = pattern_part(t, base, p, SECOND);
-        let d = pattern_part(t, base, q, SECOND);
-        let middle = write_common(t, base, a, c, first_part(t, i), out, next);
-        return write_common(t, base, b, d, second_part(t, i), out, middle);
+    match kp {
+        PAIR | ELEMENT => {
+            let b = pattern_part(t, base, p, SECOND);
+            let d = pattern_part(t, base, q, SECOND);
+            let middle = write_common(t, base, a, c, first_part(t, i), out, next);
+            write_common(t, base, b, d, second_part(t, i), out, middle)
+        }
+        LEFT => write_common(t, base, a, c, first_part(t, i), out, next),
+        RIGHT => write_common(t, base, a, c, second_part(t, i), out, next),
+        _ => next,
     }
-    if kp == LEFT {
-        return write_common(t, base, a, c, first_part(t, i), out, next);
-    }
-    if kp == RIGHT {
-        return write_common(t, base, a, c, second_part(t, i), out, next);
-    }
-    next
 }

@@ -24,15 +24,13 @@ pub fn is_sooner(x: &[u8], y: &[u8]) -> bool
     if y.len() < x.len() {
         return false;
     }
-    let mut i: usize = 0;
-    while i < x.len() {
+    for i in 0..x.len() {
         if x[i] < y[i] {
             return true;
         }
         if y[i] < x[i] {
             return false;
         }
-        i += 1;
     }
     false
 }
@@ -42,10 +40,8 @@ fn copy_front(from: &[u8], n: usize, out: &mut [u8])
     requires { (n ≤ length from.now) × (n ≤ length out.old) }
     ensures { FrontCopied from.now n out.old out.new }
 {
-    let mut i: usize = 0;
-    while i < n {
+    for i in 0..n {
         out[i] = from[i];
-        i += 1;
     }
 }
 
@@ -99,9 +95,7 @@ pub fn add_row(
         × RowAdded t.now base p f rows.now i out.old out.new best result }
 {
     let mut b = best;
-    let mut y = rows.len();
-    while 0 < y {
-        y -= 1;
+    for y in (0..rows.len()).rev() {
         let q = cell(t, wide(rows[y]), f);
         b = with_pair(t, base, p, q, i, b, out);
     }
@@ -122,12 +116,9 @@ pub fn overlap_value(
     ensures { (result ≤ result_length) × PairsKept t.now base f rows.now i out.new result }
 {
     let mut best: usize = 0;
-    let mut x = rows.len();
-    while 0 < x {
-        let next = x;
-        x -= 1;
+    for x in (0..rows.len()).rev() {
         let p = cell(t, wide(rows[x]), f);
-        best = add_row(t, base, p, f, &rows[next..], i, best, out);
+        best = add_row(t, base, p, f, &rows[x + 1..], i, best, out);
     }
     best
 }

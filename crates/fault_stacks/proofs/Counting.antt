@@ -1,40 +1,28 @@
 -- The counts of what is still to come, line by line from the last.
-use Prim.Native.Nat.{ℕ, zero, suc, ◌+◌, ◌-◌, ◌%◌, ◌<◌, ◌≤◌}
-use native.Mathlib.Nat.{eq-or-lt_of_le, mod-eq_of_lt}
+use Prim.Native.Nat.{ℕ, zero, suc, ◌-◌, ◌%◌, ◌<◌, ◌≤◌}
+use native.Mathlib.Nat.{mod-eq_of_lt}
 use native.Mathlib.Omega.{arith}
 use mathlib.Core.Path.{◌≡◌, refl, sym, ap, ap₂, ◌∙◌, subst}
-use mathlib.Core.Logic.{◌⊎◌, inl, inr}
 use mathlib.Core.List.{List, [], ◌∷◌, map}
-use lib.ListN.{length, get_or, set, drop, length-set, drop_of_length-le}
-use lib.Seq.{get_or-set_same, get_or-set_other, drop-cons}
+use lib.ListN.{length, get_or, set, replicate, drop, drop_of_length-le}
+use lib.Seq.{get_or-set_other, drop-cons}
 use Rattle.calculus.specs.Trees.{Ty, Pat, type_nodes}
 use Rattle.calculus.specs.Shapes.{Shape}
 use Rattle.law_witnesses.specs.Seeking.{how_many, ways}
 use Rattle.table_trees.specs.Unfolding.{type_of, pattern_of}
-use Rattle.fault_tallies.proofs.Counting.{held_as, zero_mod}
+use Rattle.fault_tallies.proofs.Counting.{held_as, zero_mod, zeros}
 use Rattle.fault_tallies.specs.Tallies.{CountsType, CountsIn}
 use Rattle.fault_tallies.proofs.Ways.{more_all, more_in_lem}
 use Rattle.fault_stacks.specs.Stacks.{types_from, row_from, Shapes, also, Countable, one_more, NothingHeld, TypesHold, RowHolds}
 use Rattle.limits.specs.Limits.{max_nodes, lengths}
 
-pub record Zeroed (k : List ℕ) (i : ℕ) : Type 0 where
-  pub within : i ≤ 128
-  pub long : length k ≡ 128
-  pub zeros : (j : ℕ) → j < i → get_or k j 0 ≡ 0
-
-pub zeroed : (k : List ℕ) (i : ℕ) → Zeroed k i → i < 128 → Zeroed (set k i 0) (i + 1)
-zeroed k i z l = record { within = omega arith; long = length-set k i 0 ∙ z.long; zeros = λ j h. at j (eq-or-lt_of_le h) }
+-- zeros, and 1 stored before
+pub empty_counts : NothingHeld (set (replicate 128 0) 0 1)
+empty_counts m w = record { wide = w; at = go }
   where
-    at : (j : ℕ) → (suc j ≡ i + 1) ⊎ (suc j < i + 1) → get_or (set k i 0) j 0 ≡ 0
-    at j (inl q) = let r : j ≡ i = omega arith in ap (λ n. get_or (set k i 0) n 0) r ∙ get_or-set_same k i 0 0 (omega (arith, z.long))
-    at j (inr q) = get_or-set_other k i j 0 0 (λ e. absurd (omega arith)) ∙ z.zeros j (omega arith)
-
-pub empty_counts : (k : List ℕ) (i : ℕ) → Zeroed k i → 128 ≤ i → NothingHeld (set k 0 1)
-empty_counts k i z h m w = record { wide = w; at = go }
-  where
-    go : (r : ℕ) → r < lengths → get_or (set k 0 1) r 0 ≡ ways r [] [] % m
-    go zero l = get_or-set_same k 0 1 0 (omega (arith, z.long)) ∙ sym (mod-eq_of_lt w)
-    go (suc r) l = get_or-set_other k 0 (suc r) 1 0 (λ e. absurd (omega arith)) ∙ z.zeros (suc r) (omega arith) ∙ zero_mod m w
+    go : (r : ℕ) → r < lengths → get_or (set (replicate 128 0) 0 1) r 0 ≡ ways r [] [] % m
+    go zero l = sym (mod-eq_of_lt w)
+    go (suc r) l = get_or-set_other (replicate 128 0) 0 (suc r) 1 0 (λ e. absurd (omega arith)) ∙ zeros 128 (suc r) ∙ zero_mod m w
 
 -- ---- two functions that agree
 

@@ -1,10 +1,11 @@
 -- Several letters: what is left of the way gives what the whole gives.
-use Prim.Native.Nat.{ℕ, ◌+◌, ◌-◌, ◌<◌, ◌≤◌}
+use Prim.Native.Nat.{ℕ, ◌+◌, ◌<◌, ◌≤◌}
 use native.Mathlib.Omega.{arith}
 use mathlib.Core.Path.{◌≡◌, refl, sym, ap, ◌∙◌}
 use mathlib.Core.Option.{none, some}
 use mathlib.Core.List.{List, [], ◌∷◌, map}
 use lib.ListN.{length, get_or, set, drop, length-set, drop_of_length-le}
+use Rattle.std.specs.Prelude.{None, Some}
 use Rattle.calculus.specs.Tools.{◌>>=◌}
 use Rattle.law_witnesses.specs.Showing.{Move, leaf, tag, node}
 use Rattle.law_witnesses.specs.Seeking.{after}
@@ -96,8 +97,8 @@ pub record On (t : List ℕ) (base : ℕ) (w ps ts : List ℕ) (p i n top : ℕ)
   pub types : TypesOn t w ts i n top
   pub row : RowOn t base w ps p n top
 
-pub walked_dead : (t : List ℕ) (base : ℕ) (w ps ts : List ℕ) (p i : ℕ) → row_along w (pattern_of t base p ∷ []) ≡ none → RowWalked t base w ps ts p i 129
-walked_dead t base w ps ts p i e = (λ h. absurd (omega arith), λ h. e)
+pub walked_dead : (t : List ℕ) (base : ℕ) (w ps ts : List ℕ) (p i : ℕ) → row_along w (pattern_of t base p ∷ []) ≡ none → RowWalked t base w ps ts p i None
+walked_dead t base w ps ts p i e = e
 
-pub walked_all : {t : List ℕ} {base : ℕ} {w ps ts : List ℕ} {p i n top : ℕ} → On t base w ps ts p i n top → length w ≤ n → RowWalked t base w ps ts p i top
-walked_all o h = (λ b. (row_all o.row h, types_all o.types h), λ b. absurd (omega (arith, o.types.upper)))
+pub walked_all : {t : List ℕ} {base : ℕ} {w ps ts : List ℕ} {p i n top : ℕ} → On t base w ps ts p i n top → length w ≤ n → RowWalked t base w ps ts p i (Some top)
+walked_all o h = (o.types.upper, row_all o.row h, types_all o.types h)

@@ -1,6 +1,7 @@
 -- What is still to come of a value after some letters: T lines, and P lines beside them, from place `top` of an array on, the next one first.
-use Rattle.std.specs.Prelude.{ℕ, ◌+◌, ◌-◌, ◌≤◌, ◌<◌, ◌≡◌, Bool, true, false, cond, List, [], ◌∷◌, map, ltb, eqb, drop}
+use Rattle.std.specs.Prelude.{ℕ, ◌+◌, ◌-◌, ◌≤◌, ◌<◌, ◌≡◌, Bool, true, false, cond, List, [], ◌∷◌, map, ltb, eqb, drop, None, Some}
 use Rattle.std.proofs.Math.Option.{Option, none, some}
+use Rattle.std.specs.declared.option.Option as O
 use Rattle.limits.specs.Limits.{max_nodes, lengths}
 use Rattle.calculus.specs.Tools.{◌>>=◌}
 use Rattle.calculus.specs.Trees.{Ty, unit_leaf, empty_leaf, left, right, pair_node, element_node, Pat, type_nodes}
@@ -97,8 +98,7 @@ RowStepped t base c ps ps' top r =
 abbrev pub TypesWalked : List ℕ → List ℕ → List ℕ → ℕ → ℕ → Type 0
 TypesWalked t w ts i r = types_from t ts r ≡ types_along w (type_of t i ∷ [])
 
--- beside them the P lines after the letters w of a value that P line p matches; r is past all places where none begins so
-abbrev pub RowWalked : List ℕ → ℕ → List ℕ → List ℕ → List ℕ → ℕ → ℕ → ℕ → Type 0
-RowWalked t base w ps ts p i r =
-    (r ≤ lengths → (row_along w (pattern_of t base p ∷ []) ≡ some (row_from t base ps r)) × TypesWalked t w ts i r)
-    × (lengths < r → row_along w (pattern_of t base p ∷ []) ≡ none)
+-- beside them the P lines after the letters w of a value that P line p matches, or none where none begins so
+abbrev pub RowWalked : List ℕ → ℕ → List ℕ → List ℕ → List ℕ → ℕ → ℕ → O.Option ℕ → Type 0
+RowWalked t base w ps ts p i (Some r) = (r ≤ lengths) × (row_along w (pattern_of t base p ∷ []) ≡ some (row_from t base ps r)) × TypesWalked t w ts i r
+RowWalked t base w ps ts p i None = row_along w (pattern_of t base p ∷ []) ≡ none

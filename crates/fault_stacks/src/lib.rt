@@ -17,27 +17,20 @@ use table_parts::pattern_part;
 use table_trees::pattern_cell;
 
 // Nothing is to come.
-pub fn no_more(k: &mut [u64])
-    requires { length k.old ≡ lengths }
+fn no_more(k: &mut [u64; LENGTHS])
     ensures { NothingHeld k.new }
 {
-    let mut i: usize = 0;
-    while i < LENGTHS {
-        k[i] = 0;
-        i += 1;
-    }
+    *k = [0; LENGTHS];
     k[0] = 1;
 }
 
 // The ways to go on, by letters and modulo m: all.
-pub fn count_types(m: u64, t: &[u16], ts: &[usize], top: usize, k: &mut [u64])
-    requires { (length ts.now ≡ lengths) × (length k.old ≡ lengths) × (top ≤ lengths) }
+pub fn count_types(m: u64, t: &[u16], ts: &[usize; LENGTHS], top: usize, k: &mut [u64; LENGTHS])
+    requires { top ≤ lengths }
     ensures { TypesHold m t.now ts.now k.new top }
 {
     no_more(k);
-    let mut c: usize = LENGTHS;
-    while top < c {
-        c -= 1;
+    for c in (top..LENGTHS).rev() {
         count_type(m, t, ts[c], k);
     }
 }
@@ -47,18 +40,16 @@ pub fn count_row(
     m: u64,
     t: &[u16],
     base: usize,
-    ps: &[usize],
-    ts: &[usize],
+    ps: &[usize; LENGTHS],
+    ts: &[usize; LENGTHS],
     top: usize,
-    k: &mut [u64],
+    k: &mut [u64; LENGTHS],
 )
-    requires { (length ps.now ≡ lengths) × (length ts.now ≡ lengths) × (length k.old ≡ lengths) × (top ≤ lengths) }
+    requires { top ≤ lengths }
     ensures { RowHolds m t.now base ps.now ts.now k.new top }
 {
     no_more(k);
-    let mut c: usize = LENGTHS;
-    while top < c {
-        c -= 1;
+    for c in (top..LENGTHS).rev() {
         count_pattern(m, t, base, ps[c], ts[c], k);
     }
 }
@@ -86,8 +77,8 @@ fn kind_on(c: u8) -> usize
 }
 
 // The T lines after one letter more; the place of the next one.
-pub fn step_types(t: &[u16], ts: &mut [usize], top: usize, c: u8) -> usize
-    requires { (length ts.old ≡ lengths) × (0 < top) × (top < lengths) }
+pub fn step_types(t: &[u16], ts: &mut [usize; LENGTHS], top: usize, c: u8) -> usize
+    requires { (0 < top) × (top < lengths) }
     ensures { TypesStepped t.now c ts.old ts.new top result }
 {
     let own = kind_on(c);
@@ -121,8 +112,8 @@ fn kind_of(t: &[u16], base: usize, p: usize) -> usize
 }
 
 // The P lines after one letter more, if the row begins with it; the next one then stands where the next T line does.
-pub fn step_row(t: &[u16], base: usize, ps: &mut [usize], top: usize, c: u8) -> bool
-    requires { (length ps.old ≡ lengths) × (0 < top) × (top < lengths) }
+fn step_row(t: &[u16], base: usize, ps: &mut [usize; LENGTHS], top: usize, c: u8) -> bool
+    requires { (0 < top) × (top < lengths) }
     ensures { RowStepped t.now base c ps.old ps.new top result }
 {
     let own = kind_on(c);
@@ -142,65 +133,52 @@ pub fn step_row(t: &[u16], base: usize, ps: &mut [usize], top: usize, c: u8) -> 
         ps[top - 1] = pattern_part(t, base, p, FIRST);
         return true;
     }
-    if own == LEFT {
-        ps[top] = pattern_part(t, base, p, FIRST);
-        return true;
-    }
-    if own == RIGHT {
+    if own == LEFT || own == RIGHT {
         ps[top] = pattern_part(t, base, p, FIRST);
     }
     true
 }
 
 // The T lines still to come after some letters of a value of T line i, from the place that is given on.
-pub fn walk_types(t: &[u16], i: usize, w: &[u8], ts: &mut [usize]) -> usize
-    requires { (length ts.old ≡ lengths) × (length w.now ≤ max_nodes) }
+pub fn walk_types(t: &[u16], i: usize, w: &[u8], ts: &mut [usize; LENGTHS]) -> usize
+    requires { length w.now ≤ max_nodes }
     ensures { (result ≤ lengths) × TypesWalked t.now w.now ts.new i result }
 {
     ts[MAX_NODES] = i;
     let mut top: usize = MAX_NODES;
-    let mut n: usize = 0;
-    while n < w.len() {
+    for c in w {
         if MAX_NODES < top {
             return LENGTHS;
         }
-        top = step_types(t, ts, top, w[n]);
-        n += 1;
+        top = step_types(t, ts, top, *c);
     }
     top
 }
 
-// Past all places: no value that a P line matches begins so.
-const NONE: usize = LENGTHS + 1;
-
-// The P lines still to come after some letters of a value that P line p matches, beside the T lines; more than 128 where none begins so.
+// The P lines still to come after some letters of a value that P line p matches, beside the T lines; none where none begins so.
 pub fn walk_row(
     t: &[u16],
     base: usize,
     p: usize,
     i: usize,
     w: &[u8],
-    ps: &mut [usize],
-    ts: &mut [usize],
-) -> usize
-    requires { (length ps.old ≡ lengths) × (length ts.old ≡ lengths) × (length w.now ≤ max_nodes) }
+    ps: &mut [usize; LENGTHS],
+    ts: &mut [usize; LENGTHS],
+) -> Option<usize>
+    requires { length w.now ≤ max_nodes }
     ensures { RowWalked t.now base w.now ps.new ts.new p i result }
 {
     ps[MAX_NODES] = p;
     ts[MAX_NODES] = i;
     let mut top: usize = MAX_NODES;
-    let mut n: usize = 0;
-    while n < w.len() {
+    for c in w {
         if MAX_NODES < top {
-            return NONE;
+            return None;
         }
-        let c = w[n];
-        if step_row(t, base, ps, top, c) {
-            top = step_types(t, ts, top, c);
-            n += 1;
-        } else {
-            return NONE;
+        if !step_row(t, base, ps, top, *c) {
+            return None;
         }
+        top = step_types(t, ts, top, *c);
     }
-    top
+    Some(top)
 }

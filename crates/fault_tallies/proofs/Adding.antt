@@ -11,9 +11,9 @@ use Rattle.limits.specs.Limits.{max_nodes}
 use Rattle.calculus.specs.Trees.{Ty, type_nodes}
 use Rattle.table_trees.specs.Unfolding.{cell_of, smaller_of, type_of}
 use Rattle.table_trees.proofs.Unfolding.{rank}
-use Rattle.fault_tallies.specs.Tallies.{Holds, Shifts, Adds, Copies, Halved, shifted, more, CountsType, AddsType}
+use Rattle.fault_tallies.specs.Tallies.{Holds, Shifts, Adds, Halved, shifted, more, CountsType, AddsType}
 use Rattle.fault_tallies.proofs.Linear.{Same, shift_same, more_same, more_shift, more_swap}
-use Rattle.fault_tallies.proofs.Counting.{held_shift, held_add, held_copy, held_as}
+use Rattle.fault_tallies.proofs.Counting.{held_shift, held_add, held_as}
 use Rattle.fault_tallies.proofs.Lines.{halves_fall, halves_small}
 use Rattle.table_trees.proofs.Lines.{no_unit, line_sum, line_product, line_other}
 
@@ -63,14 +63,14 @@ pub record Going (m : ℕ) (t : List ℕ) (i : ℕ) (w sum₀ k sum : List ℕ) 
   pub small : type_nodes (type_of t i) ≤ max_nodes → type_nodes (type_of t j) ≤ max_nodes
   pub at : type_nodes (type_of t i) ≤ max_nodes → (W S : ℕ → ℕ) → Holds m w W → Holds m sum₀ S → Rest m k sum (type_of t j) (λ n. S n + more (type_of t i) W n)
 
-pub going_start : (m : ℕ) (t : List ℕ) (i : ℕ) {w k sum : List ℕ} → length k ≡ 128 → length sum ≡ 128 → Copies w k → Going m t i w sum k sum i
-going_start m t i e f c =
+pub going_start : (m : ℕ) (t : List ℕ) (i : ℕ) {w sum : List ℕ} → length w ≡ 128 → length sum ≡ 128 → Going m t i w sum w sum i
+going_start m t i e f =
     record {
       long = e;
       wide = f;
       below = omega arith;
       small = λ z. z;
-      at = λ z W S h g. record { ways = W; added = S; in_k = held_copy c h; in_sum = g; all = λ n. refl };
+      at = λ z W S h g. record { ways = W; added = S; in_k = h; in_sum = g; all = λ n. refl };
     }
 
 -- a list is counted at once

@@ -9,7 +9,7 @@ use mathlib.Core.List.{List}
 use lib.Dec.{ltb}
 use lib.ListN.{get_or, replicate}
 use borrow.Author.Tests.{ltb-true, ltb-false, lt-ltb, le-ltb}
-use Rattle.fault_tallies.specs.Tallies.{plus_of, Holds, Shifts, Adds, Copies, shifted}
+use Rattle.fault_tallies.specs.Tallies.{plus_of, Holds, Shifts, Adds, shifted}
 use Rattle.fault_tallies.proofs.Linear.{Same}
 use Rattle.limits.specs.Limits.{lengths}
 
@@ -36,9 +36,6 @@ plus_in m x y h = sym (ap (λ b. cond b (x + y) (x - (m - y))) (lt-ltb x (m - y)
 pub plus_out : (m x y : ℕ) → m - y ≤ x → x - (m - y) ≡ plus_of m x y
 plus_out m x y h = sym (ap (λ b. cond b (x + y) (x - (m - y))) (le-ltb x (m - y) h))
 
-pub plus_full : (m x y : ℕ) → m ≤ y → x ≡ plus_of m x y
-plus_full m x y h = let e : x ≡ x - (m - y) = omega arith in e ∙ plus_out m x y (omega arith)
-
 pub plus_mod : (m a b : ℕ) → 1 < m → plus_of m (a % m) (b % m) ≡ (a + b) % m
 plus_mod m a b h = plus_small m (a % m) (b % m) (below m a h) (below m b h) ∙ sym (add-mod a b m)
 
@@ -59,9 +56,6 @@ held_shift {m} {l = l} {W = W} e h = by_place m l W h.wide e.first (λ j b. e.re
 pub held_add : {m : ℕ} {k o l : List ℕ} {W X : ℕ → ℕ} → Adds m k o l → Holds m k W → Holds m o X → Holds m l (λ r. W r + X r)
 held_add {m} {W = W} {X = X} e h g =
     record { wide = h.wide; at = λ r b. e.at r b ∙ ap₂ (plus_of m) (h.at r b) (g.at r b) ∙ plus_mod m (W r) (X r) h.wide }
-
-pub held_copy : {m : ℕ} {k o : List ℕ} {W : ℕ → ℕ} → Copies k o → Holds m k W → Holds m o W
-held_copy e h = record { wide = h.wide; at = λ r b. e.same r b ∙ h.at r b }
 
 -- the same counts under another description
 pub held_as : {m : ℕ} {k : List ℕ} {W : ℕ → ℕ} (X : ℕ → ℕ) → Same W X → Holds m k W → Holds m k X

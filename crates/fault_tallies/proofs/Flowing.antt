@@ -5,14 +5,14 @@ use native.Mathlib.Numerals.{add-one}
 use native.Mathlib.Omega.{arith}
 use mathlib.Core.Path.{◌≡◌, refl, sym, ap, ap₂, ◌∙◌, subst}
 use mathlib.Core.Logic.{◌⊎◌, inl, inr, ⊎_elim}
-use mathlib.Core.Bool.{Bool, true, false, cond}
+use mathlib.Core.Bool.{cond}
 use mathlib.Core.List.{List}
-use lib.Dec.{ltb, eqb}
+use lib.Dec.{ltb}
 use lib.ListN.{length, get_or, set, replicate, length-set, length-replicate}
 use lib.Seq.{get_or-set_same, get_or-set_other}
-use Rattle.calculus.specs.Trees.{Ty, tunit, tlist, tsum, tprod, type_nodes}
-use Rattle.calculus.proofs.Basic.{lt_ltb, not_ltb, eq_eqb, not_eqb, le_or_lt}
-use Rattle.fault_tallies.specs.Tallies.{plus_of, Holds, shifted, more, Laid, Lays, Steps, flow, Flows, CountsType}
+use Rattle.calculus.specs.Trees.{Ty, type_nodes}
+use Rattle.calculus.proofs.Basic.{lt_ltb, not_ltb, not_eqb, le_or_lt}
+use Rattle.fault_tallies.specs.Tallies.{plus_of, Holds, more, Laid, Lays, Steps, flow, Flows, CountsType}
 use Rattle.fault_tallies.proofs.Linear.{Same, more_same, list_unique}
 use Rattle.fault_tallies.proofs.Counting.{plus_mod, zero_mod, zeros, held_as}
 use Rattle.fault_tallies.proofs.Patterns.{eq_or_ne}

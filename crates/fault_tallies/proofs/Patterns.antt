@@ -1,5 +1,5 @@
 -- The counts of a P line, by its kind and the lines that it names.
-use Prim.Native.Nat.{ℕ, ◌+◌, ◌≤◌}
+use Prim.Native.Nat.{ℕ, ◌+◌, ◌≤◌, ◌<◌}
 use native.Mathlib.Nat.{le_trans}
 use native.Mathlib.Omega.{arith}
 use mathlib.Core.Path.{◌≡◌, refl, sym, ap, ◌∙◌, subst}
@@ -30,20 +30,36 @@ two_not n m = record { joins = λ t. absurd (true≢false (sym t)); no_pair = λ
 -- ---- the parts of a T line
 
 module _ (t : List ℕ) (i : ℕ) {k : ℕ} (e : k ≡ cell_of t i 1) where
-  pub sum_left : {l : ℕ} → k ≡ 1 → l ≡ smaller_of (cell_of t i 2) i → type_of t l ≡ part_of left (type_of t i)
+  sum_left : {l : ℕ} → k ≡ 1 → l ≡ smaller_of (cell_of t i 2) i → type_of t l ≡ part_of left (type_of t i)
   sum_left z f = sym (ap (part_of left) (line_sum t i e f refl z))
 
-  pub sum_right : {l : ℕ} → k ≡ 1 → l ≡ smaller_of (cell_of t i 3) i → type_of t l ≡ part_of right (type_of t i)
+  sum_right : {l : ℕ} → k ≡ 1 → l ≡ smaller_of (cell_of t i 3) i → type_of t l ≡ part_of right (type_of t i)
   sum_right z f = sym (ap (part_of right) (line_sum t i e refl f z))
 
-  pub product_left : {l : ℕ} → k ≡ 2 → l ≡ smaller_of (cell_of t i 2) i → type_of t l ≡ part_of left (type_of t i)
+  product_left : {l : ℕ} → k ≡ 2 → l ≡ smaller_of (cell_of t i 2) i → type_of t l ≡ part_of left (type_of t i)
   product_left z f = sym (ap (part_of left) (line_product t i e f refl z))
 
-  pub product_right : {l : ℕ} → k ≡ 2 → l ≡ smaller_of (cell_of t i 3) i → type_of t l ≡ part_of right (type_of t i)
+  product_right : {l : ℕ} → k ≡ 2 → l ≡ smaller_of (cell_of t i 3) i → type_of t l ≡ part_of right (type_of t i)
   product_right z f = sym (ap (part_of right) (line_product t i e refl f z))
 
-  pub list_left : {l : ℕ} → k ≡ 3 → l ≡ smaller_of (cell_of t i 2) i → type_of t l ≡ part_of left (type_of t i)
+  list_left : {l : ℕ} → k ≡ 3 → l ≡ smaller_of (cell_of t i 2) i → type_of t l ≡ part_of left (type_of t i)
   list_left z f = sym (ap (part_of left) (line_list t i e f z))
+
+  -- a line with parts, by its kind's number
+  pub first_of : {l : ℕ} → 0 < k → k < 4 → l ≡ smaller_of (cell_of t i 2) i → type_of t l ≡ part_of left (type_of t i)
+  first_of {l} p q f = go (eq_or_ne k 1) (eq_or_ne k 2)
+    where
+      go : (k ≡ 1) ⊎ (k ≡ 1 → ⊥) → (k ≡ 2) ⊎ (k ≡ 2 → ⊥) → type_of t l ≡ part_of left (type_of t i)
+      go (inl z) s = sum_left z f
+      go (inr n) (inl z) = product_left z f
+      go (inr n) (inr m) = let z : k ≡ 3 = omega arith in list_left z f
+
+  pub second_of : {l : ℕ} → 0 < k → k < 3 → l ≡ smaller_of (cell_of t i 3) i → type_of t l ≡ part_of right (type_of t i)
+  second_of {l} p q f = go (eq_or_ne k 1)
+    where
+      go : (k ≡ 1) ⊎ (k ≡ 1 → ⊥) → type_of t l ≡ part_of right (type_of t i)
+      go (inl z) = sum_right z f
+      go (inr n) = let z : k ≡ 2 = omega arith in product_right z f
 
   -- a unit is its own part
   pub no_part : (s : Tag) → (k ≡ 1 → ⊥) → (k ≡ 2 → ⊥) → (k ≡ 3 → ⊥) → type_of t i ≡ part_of s (type_of t i)

@@ -1,13 +1,14 @@
 // Counts of closed values by their letters, modulo a number.
 #![tactic(auto)]
 
-ghost use Rattle.std.specs.Prelude.{◌≡◌, ◌≤◌, length, get_or};
+ghost use Rattle.std.specs.Prelude.{◌≡◌, ◌≤◌};
 ghost use Rattle.limits.specs.Fields.{first_field, second_field};
-ghost use Rattle.limits.specs.Limits.{max_nodes, lengths};
+ghost use Rattle.limits.specs.Limits.{max_nodes};
 ghost use Rattle.calculus.specs.Trees.{left, right};
 ghost use Rattle.table_trees.specs.Unfolding.{cell_of, smaller_of, type_of, pattern_of};
-ghost use Rattle.fault_tallies.specs.Tallies.{plus_of, Shifts, Adds, Copies, Halved, part_of, HasTwo, Lays, Steps, Flows, CountsType, AddsType, CountsIn};
+ghost use Rattle.fault_tallies.specs.Tallies.{plus_of, Shifts, Adds, Halved, part_of, HasTwo, Lays, Steps, Flows, CountsType, AddsType, CountsIn};
 
+use area_cells::item_at;
 use codes::{ELEMENT, FIRST, KIND, LEFT, LIST, PAIR, PRODUCT, RIGHT, SECOND, SIZE, SUM, VARIABLE};
 use limits::{LENGTHS, MAX_NODES};
 use table_parts::{pattern_part, type_part};
@@ -25,50 +26,24 @@ const ROUNDS: usize = LENGTHS / 2;
 pub fn plus(m: u64, x: u64, y: u64) -> u64
     ensures { result ≡ plus_of m x y }
 {
-    if m <= y {
-        return x;
-    }
-    let room = m - y;
-    if x < room {
-        return x + y;
-    }
-    x - room
+    let room = m.saturating_sub(y);
+    if x < room { x + y } else { x - room }
 }
 
 // One letter more before all.
-pub fn shift(k: &mut [u64])
-    requires { length k.old ≡ lengths }
+fn shift(k: &mut [u64; LENGTHS])
     ensures { Shifts k.old k.new }
 {
-    let mut i: usize = MAX_NODES;
-    while 0 < i {
-        k[i] = k[i - 1];
-        i -= 1;
-    }
+    k.copy_within(..MAX_NODES, 1);
     k[0] = 0;
 }
 
 // Counts with others added.
-pub fn add(m: u64, k: &mut [u64], o: &[u64])
-    requires { (length k.old ≡ lengths) × (length o.now ≡ lengths) }
+fn add(m: u64, k: &mut [u64; LENGTHS], o: &[u64; LENGTHS])
     ensures { Adds m k.old o.now k.new }
 {
-    let mut i: usize = 0;
-    while i < LENGTHS {
-        k[i] = plus(m, k[i], o[i]);
-        i += 1;
-    }
-}
-
-// The same counts once more.
-pub fn copy(k: &[u64], o: &mut [u64])
-    requires { (length k.now ≡ lengths) × (length o.old ≡ lengths) }
-    ensures { Copies k.now o.new }
-{
-    let mut i: usize = 0;
-    while i < LENGTHS {
-        o[i] = k[i];
-        i += 1;
+    for (i, x) in k.iter_mut().enumerate() {
+        *x = plus(m, *x, o[i]);
     }
 }
 
@@ -92,8 +67,14 @@ fn halves(t: &[u16], i: usize) -> Parts
 
 // Lays the nodes of T line i from a place on, with the places where a value can go on after each: at most 127 nodes, all else goes on at `end`.
 // The place behind them.
-fn lay(t: &[u16], i: usize, at: usize, end: usize, one: &mut [usize], two: &mut [usize]) -> usize
-    requires { (length one.old ≡ lengths) × (length two.old ≡ lengths) }
+fn lay(
+    t: &[u16],
+    i: usize,
+    at: usize,
+    end: usize,
+    one: &mut [usize; LENGTHS],
+    two: &mut [usize; LENGTHS],
+) -> usize
     ensures { Lays (type_of t.now i) at end one.old two.old one.new two.new result }
 {
     if MAX_NODES <= at {
@@ -126,39 +107,39 @@ fn lay(t: &[u16], i: usize, at: usize, end: usize, one: &mut [usize], two: &mut 
     next
 }
 
-// The count at a place, 0 past the end.
-fn value_at(v: &[u64], x: usize) -> u64
-    ensures { result ≡ get_or v.now x 0 }
-{
-    if x < v.len() {
-        return v[x];
-    }
-    0
-}
-
 // One letter more: at each of n places the sum of the two that follow.
-fn step(m: u64, one: &[usize], two: &[usize], n: usize, v: &[u64], u: &mut [u64])
-    requires { (length one.now ≡ lengths) × (length two.now ≡ lengths) × (length u.old ≡ lengths) × (n ≤ max_nodes) }
+fn step(
+    m: u64,
+    one: &[usize; LENGTHS],
+    two: &[usize; LENGTHS],
+    n: usize,
+    v: &[u64],
+    u: &mut [u64; LENGTHS],
+)
+    requires { n ≤ max_nodes }
     ensures { Steps m one.now two.now n v.now u.old u.new }
 {
-    let mut x: usize = 0;
-    while x < n {
-        let a = value_at(v, one[x]);
-        let b = value_at(v, two[x]);
+    for x in 0..n {
+        let a = item_at(v, one[x], 0);
+        let b = item_at(v, two[x], 0);
         u[x] = plus(m, a, b);
-        x += 1;
     }
 }
 
 // k holds the ways to go on behind a type of n nodes; those from place 0 on. Two letters a round, from v to u and back.
-fn flow_counts(m: u64, one: &[usize], two: &[usize], n: usize, k: &mut [u64])
-    requires { (length one.now ≡ lengths) × (length two.now ≡ lengths) × (length k.old ≡ lengths) × (n ≤ max_nodes) }
+fn flow_counts(
+    m: u64,
+    one: &[usize; LENGTHS],
+    two: &[usize; LENGTHS],
+    n: usize,
+    k: &mut [u64; LENGTHS],
+)
+    requires { n ≤ max_nodes }
     ensures { Flows m one.now two.now n k.old k.new }
 {
     let mut v = [0u64; LENGTHS];
     let mut u = [0u64; LENGTHS];
-    let mut h: usize = 0;
-    while h < ROUNDS {
+    for h in 0..ROUNDS {
         let r = 2 * h;
         v[MAX_NODES] = k[r];
         k[r] = v[0];
@@ -167,13 +148,11 @@ fn flow_counts(m: u64, one: &[usize], two: &[usize], n: usize, k: &mut [u64])
         u[MAX_NODES] = k[s];
         k[s] = u[0];
         step(m, one, two, n, &u, &mut v);
-        h += 1;
     }
 }
 
 // k holds the ways to go on; a closed value of T line i before them, place by place, as lists need it.
-fn count_list(m: u64, t: &[u16], i: usize, k: &mut [u64])
-    requires { length k.old ≡ lengths }
+fn count_list(m: u64, t: &[u16], i: usize, k: &mut [u64; LENGTHS])
     ensures { CountsType m (type_of t.now i) k.old k.new }
 {
     let mut one = [0usize; LENGTHS];
@@ -186,24 +165,21 @@ fn count_list(m: u64, t: &[u16], i: usize, k: &mut [u64])
 
 // k holds the ways to go on; a closed value of T line i before them.
 #[cycle(add_type_count_type)]
-pub fn count_type(m: u64, t: &[u16], i: usize, k: &mut [u64])
-    requires { length k.old ≡ lengths }
+pub fn count_type(m: u64, t: &[u16], i: usize, k: &mut [u64; LENGTHS])
     ensures { CountsType m (type_of t.now i) k.old k.new }
 {
     let mut o = [0u64; LENGTHS];
     add_type(m, t, i, k, &mut o);
-    copy(&o, k);
+    *k = o;
 }
 
 // w holds the ways to go on; those with a closed value of T line i before them are added. Of each node the part with fewer nodes is counted by
 // a call and the other one in the loop, so that calls nest no deeper than a type's nodes can be halved.
 #[cycle(add_type_count_type)]
-fn add_type(m: u64, t: &[u16], i: usize, w: &[u64], sum: &mut [u64])
-    requires { (length w.now ≡ lengths) × (length sum.old ≡ lengths) }
+fn add_type(m: u64, t: &[u16], i: usize, w: &[u64; LENGTHS], sum: &mut [u64; LENGTHS])
     ensures { AddsType m (type_of t.now i) w.now sum.old sum.new }
 {
-    let mut k = [0u64; LENGTHS];
-    copy(w, &mut k);
+    let mut k = *w;
     let mut j = i;
     loop {
         let kind = cell(t, j, KIND);
@@ -215,13 +191,11 @@ fn add_type(m: u64, t: &[u16], i: usize, w: &[u64], sum: &mut [u64])
         shift(&mut k);
         if kind == SUM {
             let h = halves(t, j);
-            let few = h.few;
-            add_type(m, t, few, &k, sum);
+            add_type(m, t, h.few, &k, sum);
             j = h.many;
         } else if kind == PRODUCT {
             let h = halves(t, j);
-            let few = h.few;
-            count_type(m, t, few, &mut k);
+            count_type(m, t, h.few, &mut k);
             j = h.many;
         } else {
             add(m, sum, &k);
@@ -234,49 +208,31 @@ fn add_type(m: u64, t: &[u16], i: usize, w: &[u64], sum: &mut [u64])
 pub fn first_part(t: &[u16], i: usize) -> usize
     ensures { type_of t.now result ≡ part_of left (type_of t.now i) }
 {
-    let kind = cell(t, i, KIND);
-    if kind == SUM {
-        return type_part(t, i, FIRST);
+    match cell(t, i, KIND) {
+        SUM | PRODUCT | LIST => type_part(t, i, FIRST),
+        _ => i,
     }
-    if kind == PRODUCT {
-        return type_part(t, i, FIRST);
-    }
-    if kind == LIST {
-        return type_part(t, i, FIRST);
-    }
-    i
 }
 
 // The same of the second part, of a list the list itself.
 pub fn second_part(t: &[u16], i: usize) -> usize
     ensures { type_of t.now result ≡ part_of right (type_of t.now i) }
 {
-    let kind = cell(t, i, KIND);
-    if kind == SUM {
-        return type_part(t, i, SECOND);
+    match cell(t, i, KIND) {
+        SUM | PRODUCT => type_part(t, i, SECOND),
+        _ => i,
     }
-    if kind == PRODUCT {
-        return type_part(t, i, SECOND);
-    }
-    i
 }
 
 // Whether a P line of this kind has two parts: a pair, or an element before a list.
 pub fn has_two(kind: usize) -> bool
     ensures { HasTwo kind result }
 {
-    if kind == PAIR {
-        return true;
-    }
-    if kind == ELEMENT {
-        return true;
-    }
-    false
+    matches!(kind, PAIR | ELEMENT)
 }
 
 // k holds the ways to go on; a closed value of T line i that P line p matches before them.
-pub fn count_pattern(m: u64, t: &[u16], base: usize, p: usize, i: usize, k: &mut [u64])
-    requires { length k.old ≡ lengths }
+pub fn count_pattern(m: u64, t: &[u16], base: usize, p: usize, i: usize, k: &mut [u64; LENGTHS])
     ensures { CountsIn m (pattern_of t.now base p) (type_of t.now i) k.old k.new }
 {
     let kind = pattern_cell(t, base, p, KIND);

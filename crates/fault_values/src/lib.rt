@@ -25,10 +25,7 @@ fn with_clause(c: Clauses, n: usize) -> Clauses
     ensures { ClauseCollected n c result }
 {
     let first = c.first;
-    if first == 0 {
-        return c;
-    }
-    if MAX_CLAUSES < first {
+    if first == 0 || MAX_CLAUSES < first {
         return c;
     }
     let slot = first - 1;
@@ -42,31 +39,25 @@ fn with_clause(c: Clauses, n: usize) -> Clauses
 fn with_row(t: &[u16], c: Clauses, n: usize) -> Clauses
     ensures { RowCollected t.now n c result }
 {
-    let letter = cell(t, n, ROW_LETTER);
-    if letter == CLAUSE_LINE {
-        return with_clause(c, n);
-    }
-    if letter == ISO_LINE {
-        let rows = c.rows;
-        return Clauses {
-            rows: rows,
+    match cell(t, n, ROW_LETTER) {
+        CLAUSE_LINE => with_clause(c, n),
+        ISO_LINE => Clauses {
             first: MAX_CLAUSES,
-        };
+            ..c
+        },
+        _ => c,
     }
-    c
 }
 
 // The rows of the C lines from row `from` on that belong to an iso above.
 fn clauses_from(t: &[u16], from: usize, lines: usize) -> Clauses
     ensures { RowsCollected t.now from lines result }
 {
-    let mut n = lines;
     let mut c = Clauses {
         rows: [0u16; MAX_CLAUSES],
         first: MAX_CLAUSES,
     };
-    while from < n {
-        n -= 1;
+    for n in (from..lines).rev() {
         c = with_row(t, c, n);
     }
     c
@@ -79,16 +70,12 @@ fn show_side(t: &[u16], base: usize, number: u8, head: usize, rows: &[u16], out:
 {
     let from = cell(t, head, ISO_FROM);
     let to = cell(t, head, ISO_TO);
-    if number == 11 {
-        return show_overlap(t, base, CLAUSE_LEFT, rows, from, out);
+    match number {
+        11 => show_overlap(t, base, CLAUSE_LEFT, rows, from, out),
+        12 => show_overlap(t, base, CLAUSE_RIGHT, rows, to, out),
+        13 => gap_value(t, base, CLAUSE_LEFT, rows, from, out),
+        _ => gap_value(t, base, CLAUSE_RIGHT, rows, to, out),
     }
-    if number == 12 {
-        return show_overlap(t, base, CLAUSE_RIGHT, rows, to, out);
-    }
-    if number == 13 {
-        return gap_value(t, base, CLAUSE_LEFT, rows, from, out);
-    }
-    gap_value(t, base, CLAUSE_RIGHT, rows, to, out)
 }
 
 // Writes the letters of the value that shows a refusal with this number at this line, and gives how many
@@ -104,20 +91,19 @@ pub fn show_fault(
     requires { (table_length ≤ length t.now) × (result_length ≤ length out.old) }
     ensures { FaultShown t.now base lines number place out.old out.new result }
 {
-    if number < 11 {
-        return 0;
-    }
-    if 14 < number {
+    if number < 11 || 14 < number {
         return 0;
     }
     let c = clauses_from(t, place, lines);
-    let rows = c.rows;
-    let first = c.first;
-    if place == 0 {
+    if place == 0 || MAX_CLAUSES < c.first {
         return 0;
     }
-    if MAX_CLAUSES < first {
-        return 0;
-    }
-    show_side(t, base, number, place - 1, &rows[first..MAX_CLAUSES], out)
+    show_side(
+        t,
+        base,
+        number,
+        place - 1,
+        &c.rows[c.first..MAX_CLAUSES],
+        out,
+    )
 }

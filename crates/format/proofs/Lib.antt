@@ -1,5 +1,5 @@
 -- The laws of the file: numerals, lines, rows, printing, turning.
-pub mod Refusing
+pub mod Told
 pub mod Numerals
 pub mod Naming
 pub mod Passing

@@ -1,5 +1,5 @@
 -- What the cases of the shared types of src/ mean: the line's kind, the row, the refusal, and document 01's number for each refusal.
-use Rattle.std.specs.Prelude.{ℕ}
+use Rattle.std.specs.Prelude.{ℕ, Option as CodeOption, None, Some}
 use Rattle.std.proofs.Math.Option.{Option, none, some}
 use Rattle.format.specs.declared.Kind as CodeKind
 use Rattle.format.specs.declared.Kind.TheVariants as kinds
@@ -29,36 +29,40 @@ abbrev pub side_view : CodeSide.Side → Tag
 side_view sides.Left = left
 side_view sides.Right = right
 
--- the refusal that a case stands for; `Nothing` is none
-abbrev pub refusal_view : CodeRefusal.Refusal → Option Refusal
-refusal_view refusals.Nothing = none
-refusal_view refusals.ShortArea = some short_area
-refusal_view refusals.TooLong = some too_long
-refusal_view refusals.BadLine = some bad_line
-refusal_view (refusals.Misplaced k) = some (misplaced (kind_view k))
-refusal_view (refusals.BadField k) = some (bad_field (kind_view k))
-refusal_view (refusals.BadName k) = some (bad_name (kind_view k))
-refusal_view (refusals.Ceiling k) = some (ceiling (kind_view k))
-refusal_view (refusals.Variable k) = some (variable (kind_view k))
-refusal_view (refusals.LetShape k) = some (let_shape (kind_view k))
-refusal_view (refusals.BadType k) = some (bad_type (kind_view k))
-refusal_view (refusals.Overlap k s) = some (overlap (kind_view k) (side_view s))
-refusal_view (refusals.Gap k s) = some (gap (kind_view k) (side_view s))
-refusal_view refusals.NoIso = some no_iso
-refusal_view refusals.NoValue = some no_value
-refusal_view refusals.Spent = some spent
-refusal_view refusals.TooMany = some too_many
-refusal_view refusals.TooHigh = some too_high
-refusal_view refusals.BadList = some bad_list
-refusal_view (refusals.Idle k) = some (idle (kind_view k))
-refusal_view refusals.BadScript = some bad_script
-refusal_view (refusals.Recursion k) = some (recursion (kind_view k))
-refusal_view refusals.TooLarge = some too_large
+-- the refusal that a case stands for
+abbrev pub fault_view : CodeRefusal.Refusal → Refusal
+fault_view refusals.ShortArea = short_area
+fault_view refusals.TooLong = too_long
+fault_view refusals.BadLine = bad_line
+fault_view (refusals.Misplaced k) = misplaced (kind_view k)
+fault_view (refusals.BadField k) = bad_field (kind_view k)
+fault_view (refusals.BadName k) = bad_name (kind_view k)
+fault_view (refusals.Ceiling k) = ceiling (kind_view k)
+fault_view (refusals.Variable k) = variable (kind_view k)
+fault_view (refusals.LetShape k) = let_shape (kind_view k)
+fault_view (refusals.BadType k) = bad_type (kind_view k)
+fault_view (refusals.Overlap k s) = overlap (kind_view k) (side_view s)
+fault_view (refusals.Gap k s) = gap (kind_view k) (side_view s)
+fault_view refusals.NoIso = no_iso
+fault_view refusals.NoValue = no_value
+fault_view refusals.Spent = spent
+fault_view refusals.TooMany = too_many
+fault_view refusals.TooHigh = too_high
+fault_view refusals.BadList = bad_list
+fault_view (refusals.Idle k) = idle (kind_view k)
+fault_view refusals.BadScript = bad_script
+fault_view (refusals.Recursion k) = recursion (kind_view k)
+fault_view refusals.TooLarge = too_large
+
+-- and that of an answer, none where nothing is refused
+abbrev pub refusal_view : CodeOption CodeRefusal.Refusal → Option Refusal
+refusal_view None = none
+refusal_view (Some f) = some (fault_view f)
 
 -- document 01's number, 0 where nothing is refused
 abbrev pub numbered : Option Refusal → ℕ
 numbered none = 0
 numbered (some f) = number f
 
-abbrev pub number_of : CodeRefusal.Refusal → ℕ
+abbrev pub number_of : CodeOption CodeRefusal.Refusal → ℕ
 number_of r = numbered (refusal_view r)

@@ -1,5 +1,5 @@
 -- Rows by example, by computation.
-use Rattle.std.specs.Prelude.{ℕ, ◌≡◌, refl, true, false, List, [], ◌∷◌, map, replicate}
+use Rattle.std.specs.Prelude.{ℕ, None, Some, ◌≡◌, refl, true, false, List, [], ◌∷◌, map, replicate}
 use Rattle.std.proofs.Math.Option.{Option, none, some}
 use Rattle.calculus.specs.Trees.{Ty, tunit, tlist, tsum, tprod, left, right, Pat, pleaf, unit_leaf, empty_leaf, pvar, pinj, pnode, pair_node, element_node}
 use Rattle.calculus.specs.Refusals.{Kind, type_line, pattern_line, iso_line, clause_line, let_line, short_area, too_long, bad_line, misplaced, bad_field, bad_name}
@@ -31,11 +31,13 @@ row_view_lem : row_view (record { kind = kinds.Clause; x = 1; y = 2; z = 3 }) �
 row_view_lem = refl
 
 refusal_views : map refusal_view
-    (refusals.Nothing ∷ refusals.ShortArea ∷ refusals.TooLong ∷ refusals.BadLine ∷ refusals.Misplaced kinds.Type ∷ refusals.BadField kinds.Pattern ∷ refusals.BadName kinds.Iso
-    ∷ refusals.Ceiling kinds.Clause ∷ refusals.Variable kinds.Clause ∷ refusals.LetShape kinds.Clause ∷ refusals.BadType kinds.Clause ∷ refusals.Overlap kinds.Iso sides.Left
-    ∷ refusals.Overlap kinds.Iso sides.Right ∷ refusals.Gap kinds.Iso sides.Left ∷ refusals.Gap kinds.Iso sides.Right ∷ refusals.NoIso ∷ refusals.NoValue ∷ refusals.Spent
-    ∷ refusals.TooMany ∷ refusals.TooHigh ∷ refusals.BadList ∷ refusals.Idle kinds.Pattern ∷ refusals.BadScript ∷ refusals.Recursion kinds.Clause
-    ∷ refusals.TooLarge ∷ [])
+    (None ∷ Some refusals.ShortArea ∷ Some refusals.TooLong ∷ Some refusals.BadLine ∷ Some (refusals.Misplaced kinds.Type) ∷ Some (refusals.BadField kinds.Pattern) ∷ Some (refusals.BadName kinds.Iso)
+    ∷ Some (refusals.Ceiling kinds.Clause) ∷ Some (refusals.Variable kinds.Clause) ∷ Some (refusals.LetShape kinds.Clause) ∷ Some (refusals.BadType kinds.Clause)
+    ∷ Some (refusals.Overlap kinds.Iso sides.Left)
+    ∷ Some (refusals.Overlap kinds.Iso sides.Right) ∷ Some (refusals.Gap kinds.Iso sides.Left) ∷ Some (refusals.Gap kinds.Iso sides.Right) ∷ Some refusals.NoIso ∷ Some refusals.NoValue
+    ∷ Some refusals.Spent
+    ∷ Some refusals.TooMany ∷ Some refusals.TooHigh ∷ Some refusals.BadList ∷ Some (refusals.Idle kinds.Pattern) ∷ Some refusals.BadScript ∷ Some (refusals.Recursion kinds.Clause)
+    ∷ Some refusals.TooLarge ∷ [])
     ≡ none ∷ some short_area ∷ some too_long ∷ some bad_line ∷ some (misplaced type_line) ∷ some (bad_field pattern_line) ∷ some (bad_name iso_line) ∷ some (ceiling clause_line)
     ∷ some (variable clause_line) ∷ some (let_shape clause_line) ∷ some (bad_type clause_line) ∷ some (overlap iso_line left) ∷ some (overlap iso_line right) ∷ some (gap iso_line left)
     ∷ some (gap iso_line right) ∷ some no_iso ∷ some no_value ∷ some spent ∷ some too_many ∷ some too_high ∷ some bad_list ∷ some (idle pattern_line) ∷ some bad_script

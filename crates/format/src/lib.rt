@@ -3,9 +3,9 @@
 #![tactic(auto)]
 
 ghost use Rattle.std.specs.Prelude.{◌≡◌};
-ghost use Rattle.calculus.specs.Refusals.{number, overlap, gap};
+ghost use Rattle.calculus.specs.Refusals.{number};
 ghost use Rattle.calculus.specs.Tools.{is_some};
-ghost use Rattle.format.specs.Code.{kind_view, side_view, refusal_view, number_of};
+ghost use Rattle.format.specs.Code.{fault_view, refusal_view, number_of};
 
 // The five line forms.
 #[derive(Clone, Copy)]
@@ -33,11 +33,10 @@ pub enum Side {
     Right,
 }
 
-// Why a call is refused; `Nothing` where it is not. A case holds the faulty line's kind; `BadLine` is
-// that of no kind, and the others that hold none name no line.
+// Why a call is refused. A case holds the faulty line's kind; `BadLine` is that of no kind, and the others
+// that hold none name no line.
 #[derive(Clone, Copy)]
 pub enum Refusal {
-    Nothing,
     ShortArea,
     TooLong,
     BadLine,
@@ -66,64 +65,56 @@ pub enum Refusal {
 #[derive(Clone, Copy)]
 pub struct Answer {
     pub place: usize,
-    pub refusal: Refusal,
+    pub refusal: Option<Refusal>,
 }
 
-// Whether a refusal is one.
-pub fn is_refused(f: Refusal) -> bool
+// Whether an answer is a refusal.
+pub fn is_refused(f: Option<Refusal>) -> bool
     ensures { result ≡ is_some (refusal_view f) }
 {
-    match f {
-        Refusal::Nothing => false,
-        _ => true,
+    f.is_some()
+}
+
+impl Refusal {
+    // Document 01's number.
+    pub fn number(self) -> u8
+        ensures { result ≡ number (fault_view self) }
+    {
+        match self {
+            Refusal::ShortArea => 1,
+            Refusal::TooLong => 2,
+            Refusal::BadLine => 3,
+            Refusal::Misplaced(_) => 4,
+            Refusal::BadField(_) => 5,
+            Refusal::BadName(_) => 6,
+            Refusal::Ceiling(_) => 7,
+            Refusal::Variable(_) => 8,
+            Refusal::LetShape(_) => 9,
+            Refusal::BadType(_) => 10,
+            Refusal::Overlap(_, Side::Left) => 11,
+            Refusal::Overlap(_, Side::Right) => 12,
+            Refusal::Gap(_, Side::Left) => 13,
+            Refusal::Gap(_, Side::Right) => 14,
+            Refusal::NoIso => 15,
+            Refusal::NoValue => 16,
+            Refusal::Spent => 17,
+            Refusal::TooMany => 18,
+            Refusal::TooHigh => 19,
+            Refusal::BadList => 20,
+            Refusal::Idle(_) => 21,
+            Refusal::BadScript => 22,
+            Refusal::Recursion(_) => 23,
+            Refusal::TooLarge => 24,
+        }
     }
 }
 
-fn overlap_number(k: Kind, s: Side) -> u8
-    ensures { result ≡ number (overlap (kind_view k) (side_view s)) }
-{
-    match s {
-        Side::Left => 11,
-        Side::Right => 12,
-    }
-}
-
-fn gap_number(k: Kind, s: Side) -> u8
-    ensures { result ≡ number (gap (kind_view k) (side_view s)) }
-{
-    match s {
-        Side::Left => 13,
-        Side::Right => 14,
-    }
-}
-
-// Document 01's number of a refusal, 0 for none.
-pub fn number_of(r: Refusal) -> u8
+// Document 01's number of an answer, 0 where nothing is refused.
+pub fn number_of(r: Option<Refusal>) -> u8
     ensures { result ≡ number_of r }
 {
     match r {
-        Refusal::Nothing => 0,
-        Refusal::ShortArea => 1,
-        Refusal::TooLong => 2,
-        Refusal::BadLine => 3,
-        Refusal::Misplaced(_) => 4,
-        Refusal::BadField(_) => 5,
-        Refusal::BadName(_) => 6,
-        Refusal::Ceiling(_) => 7,
-        Refusal::Variable(_) => 8,
-        Refusal::LetShape(_) => 9,
-        Refusal::BadType(_) => 10,
-        Refusal::Overlap(k, s) => overlap_number(k, s),
-        Refusal::Gap(k, s) => gap_number(k, s),
-        Refusal::NoIso => 15,
-        Refusal::NoValue => 16,
-        Refusal::Spent => 17,
-        Refusal::TooMany => 18,
-        Refusal::TooHigh => 19,
-        Refusal::BadList => 20,
-        Refusal::Idle(_) => 21,
-        Refusal::BadScript => 22,
-        Refusal::Recursion(_) => 23,
-        Refusal::TooLarge => 24,
+        Some(f) => f.number(),
+        None => 0,
     }
 }

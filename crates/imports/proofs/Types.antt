@@ -1,4 +1,5 @@
 -- The two T lines of an import: what 15 and 18 say of them.
+use Rattle.std.specs.Prelude.{Option as CodeOption}
 use Prim.Native.Nat.{ℕ, ◌≤◌, ◌<◌}
 use native.Mathlib.Omega.{arith}
 use mathlib.Core.Path.{◌≡◌, refl, sym, ap, ap₂, ◌∙◌, subst}
@@ -130,7 +131,7 @@ module _ {t : List ℕ} {types patterns lns : ℕ} {rs : List Row} (f : FileIn t
         fewer = ltb_false max_pairs (count (type_of t j)) hs;
       }
 
-  module _ (x : F.Refusal) {b : Bool} (e : refusal_view x ≡ types_fault types i j (type_of t i) (type_of t j)) (h : b ≡ is_some (refusal_view x)) (o : List ℕ) where
+  module _ (x : CodeOption F.Refusal) {b : Bool} (e : refusal_view x ≡ types_fault types i j (type_of t i) (type_of t j)) (h : b ≡ is_some (refusal_view x)) (o : List ℕ) where
     -- 15 and 18
     pub types_refused : b ≡ true → (r : D.Filed) → r.refusal ≡ x → r.length ≡ 0 → FiledAs (import_rows rs i j list) o o r
     types_refused y r n k =

@@ -22,7 +22,7 @@ pub struct Imported {
     pub length: usize,
 }
 
-fn not_filed(f: Refusal) -> Filed
+fn not_filed(f: Option<Refusal>) -> Filed
     ensures { (result.refusal ≡ f) × (result.length ≡ 0) }
 {
     Filed {
@@ -32,23 +32,23 @@ fn not_filed(f: Refusal) -> Filed
 }
 
 // Refusal 15 or 18 of T lines i and j of a table that holds so many, or nothing.
-fn types_fault(t: &[u16], counts: &[usize], types: usize, i: usize, j: usize) -> Refusal
+fn types_fault(t: &[u16], counts: &[usize], types: usize, i: usize, j: usize) -> Option<Refusal>
     requires { Counted t.now counts.now }
     ensures { refusal_view result ≡ types_fault types i j (type_of t.now i) (type_of t.now j) }
 {
     if types <= i {
-        return Refusal::NoIso;
+        return Some(Refusal::NoIso);
     }
     if types <= j {
-        return Refusal::NoIso;
+        return Some(Refusal::NoIso);
     }
     if MAX_PAIRS < count_values(t, counts, i) {
-        return Refusal::TooMany;
+        return Some(Refusal::TooMany);
     }
     if MAX_PAIRS < count_values(t, counts, j) {
-        return Refusal::TooMany;
+        return Some(Refusal::TooMany);
     }
-    Refusal::Nothing
+    None
 }
 
 // Writes the file of a list whose types are T lines i and j, each of at most 4,096 values.
@@ -66,13 +66,13 @@ fn import_list(
 {
     let n = count_lines(list);
     if MAX_CLAUSES < n {
-        return not_filed(Refusal::Ceiling(Kind::Clause));
+        return not_filed(Some(Refusal::Ceiling(Kind::Clause)));
     }
     let mut tos = [0u16; MAX_CLAUSES];
     let from = count_values(t, counts, i);
     let to = count_values(t, counts, j);
     if !read_list(list, n, from, to, &mut tos) {
-        return not_filed(Refusal::BadList);
+        return not_filed(Some(Refusal::BadList));
     }
     write_file(t, counts, i, j, &tos, n, out)
 }
@@ -116,7 +116,7 @@ pub fn import(
         return Imported {
             answer: Answer {
                 place: 0,
-                refusal: Refusal::ShortArea,
+                refusal: Some(Refusal::ShortArea),
             },
             length: 0,
         };

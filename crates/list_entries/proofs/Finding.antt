@@ -1,40 +1,16 @@
 -- Rows searched from the first: what the loop knows.
 use Prim.Native.Nat.{ℕ, suc, ◌+◌, ◌-◌, ◌*◌, ◌%◌, ◌≤◌, ◌<◌}
 use native.Mathlib.Omega.{arith}
-use mathlib.Core.Path.{◌≡◌, refl, sym, ap, ap₂, ◌∙◌}
+use mathlib.Core.Path.{◌≡◌, refl, sym, ap, ◌∙◌}
 use mathlib.Core.Bool.{Bool, true, false, cond, ◌&&◌}
 use mathlib.Core.List.{List, ◌∷◌}
-use lib.Dec.{eqb}
 use lib.ListN.{set}
 use Rattle.limits.specs.Limits.{row_width}
 use Rattle.calculus.specs.Refusals.{Kind}
 use Rattle.format.specs.Lines.{Row, letter}
 use Rattle.law_pairlists.specs.PairLists.{same_row, find}
-use Rattle.calculus.proofs.Basic.{eq_eqb, not_eqb, true_and}
-use Rattle.table_trees.specs.Unfolding.{cell_of}
+use Rattle.calculus.proofs.Basic.{eq_eqb}
 use Rattle.list_entries.specs.Entries.{row_of, entry_at, entries_at, same_entry, store_entry}
-
--- ---- one row
-
-pub same_first : (s : List ℕ) (row x y z : ℕ) {n : ℕ} → n ≡ cell_of s row 1 → (n ≡ x → ⊥) → false ≡ same_entry s row x y z
-unfolding same_entry
-same_first s row x y z e h = sym (ap (λ b. b && (eqb y (cell_of s row 2) && eqb z (cell_of s row 3))) (not_eqb (λ p. h (e ∙ sym p))))
-
-pub same_second : (s : List ℕ) (row x y z : ℕ) {m n : ℕ} → m ≡ cell_of s row 1 → m ≡ x → n ≡ cell_of s row 2 → (n ≡ y → ⊥) → false ≡ same_entry s row x y z
-unfolding same_entry
-same_second s row x y z d p e h =
-    sym (ap₂ (λ a b. a && (b && eqb z (cell_of s row 3))) (eq_eqb (sym p ∙ d)) (not_eqb (λ q. h (e ∙ sym q))))
-
-pub same_third : (s : List ℕ) (row x y z : ℕ) {l m n : ℕ} → l ≡ cell_of s row 1 → l ≡ x → m ≡ cell_of s row 2 → m ≡ y → n ≡ cell_of s row 3 → (n ≡ z → ⊥)
-    → false ≡ same_entry s row x y z
-unfolding same_entry
-same_third s row x y z c o d p e h =
-    sym (ap₂ (λ a b. a && b) (eq_eqb (sym o ∙ c)) (ap₂ ◌&&◌ (eq_eqb (sym p ∙ d)) (not_eqb (λ q. h (e ∙ sym q)))))
-
-pub same_all : (s : List ℕ) (row x y z : ℕ) {l m n : ℕ} → l ≡ cell_of s row 1 → l ≡ x → m ≡ cell_of s row 2 → m ≡ y → n ≡ cell_of s row 3 → n ≡ z
-    → true ≡ same_entry s row x y z
-unfolding same_entry
-same_all s row x y z c o d p e q = sym (true_and (eq_eqb (sym o ∙ c)) (true_and (eq_eqb (sym p ∙ d)) (eq_eqb (sym q ∙ e))))
 
 -- ---- the rows
 

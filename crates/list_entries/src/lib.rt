@@ -8,7 +8,8 @@ ghost use Rattle.format.specs.Lines.{Row as RowOf};
 ghost use Rattle.law_pairlists.specs.PairLists.{find};
 ghost use Rattle.list_entries.specs.Entries.{row_of, entries_at, same_entry, store_entry, Entering};
 
-use area_words::{narrow, store_word};
+use area_cells::store;
+use area_words::narrow;
 use codes::{FIRST, KIND, SECOND};
 use limits::{MAX_PATTERNS, ROW_WIDTH};
 use table_trees::cell;
@@ -24,31 +25,21 @@ pub struct Entry {
 }
 
 // Whether a row holds these three numbers.
+#[tactic(auto, unfolding(crate::specs::Entries::same_entry))]
 fn same_entry(s: &[u16], row: usize, x: usize, y: usize, z: usize) -> bool
     ensures { result ≡ same_entry s.now row x y z }
 {
-    if cell(s, row, KIND) != x {
-        return false;
-    }
-    if cell(s, row, FIRST) != y {
-        return false;
-    }
-    if cell(s, row, SECOND) != z {
-        return false;
-    }
-    true
+    x == cell(s, row, KIND) && y == cell(s, row, FIRST) && z == cell(s, row, SECOND)
 }
 
 // The number of the first of the rows up to row `to` that holds these three numbers, or how many rows there are.
 fn find_entry(s: &[u16], to: usize, x: usize, y: usize, z: usize) -> usize
     ensures { (k : Kind) → result ≡ find (row_of k x y z) (entries_at k s.now 0 to) }
 {
-    let mut i: usize = 0;
-    while i < to {
+    for i in 0..to {
         if same_entry(s, i, x, y, z) {
             return i;
         }
-        i += 1;
     }
     to
 }
@@ -58,9 +49,9 @@ pub fn store_entry(s: &mut [u16], row: usize, x: usize, y: usize, z: usize)
     requires { row < max_lines }
     ensures { s.new ≡ store_entry s.old row x y z }
 {
-    store_word(s, row * ROW_WIDTH + KIND, narrow(x));
-    store_word(s, row * ROW_WIDTH + FIRST, narrow(y));
-    store_word(s, row * ROW_WIDTH + SECOND, narrow(z));
+    store(s, row * ROW_WIDTH + KIND, narrow(x));
+    store(s, row * ROW_WIDTH + FIRST, narrow(y));
+    store(s, row * ROW_WIDTH + SECOND, narrow(z));
 }
 
 // Enters a row among those up to row `to`, unless it is there; no more than 1,025.
@@ -68,10 +59,7 @@ pub fn enter_entry(s: &mut [u16], to: usize, x: usize, y: usize, z: usize) -> En
     ensures { (k : Kind) (rs : List RowOf) → Entering k s.old s.new to x y z result.number result.end rs }
 {
     let n = find_entry(s, to, x, y, z);
-    if n < to {
-        return Entry { number: n, end: to };
-    }
-    if MAX_ENTRIES <= to {
+    if n < to || MAX_ENTRIES <= to {
         return Entry { number: n, end: to };
     }
     store_entry(s, to, x, y, z);

@@ -30,7 +30,7 @@ const CLAUSE_WORDS: usize = MAX_CLAUSES * ROW_WIDTH;
 // A refusal or none, and the number of bytes in the output area.
 #[derive(Clone, Copy)]
 pub struct Filed {
-    pub refusal: Refusal,
+    pub refusal: Option<Refusal>,
     pub length: usize,
 }
 
@@ -54,11 +54,9 @@ fn put_entry(s: &[u16], kind: Kind, row: usize, out: &mut [u8], at: usize) -> us
 fn put_entries(s: &[u16], kind: Kind, n: usize, out: &mut [u8], at: usize) -> usize
     ensures { Writes out.old out.new at result (print_rows (entries_at (kind_view kind) s.now 0 n)) }
 {
-    let mut i: usize = 0;
     let mut end = at;
-    while i < n {
+    for i in 0..n {
         end = put_entry(s, kind, i, out, end);
-        i += 1;
     }
     end
 }
@@ -97,7 +95,7 @@ fn over() -> Filed
     ensures { (refusal_view result.refusal ≡ some (ceiling pattern_line)) × (result.length ≡ 0) }
 {
     Filed {
-        refusal: Refusal::Ceiling(Kind::Pattern),
+        refusal: Some(Refusal::Ceiling(Kind::Pattern)),
         length: 0,
     }
 }
@@ -148,7 +146,7 @@ fn write_rows(
     let end = write_pairs(t, counts, i, j, tos, n, &mut ps, &mut cs);
     if MAX_PATTERNS < end {
         return Filed {
-            refusal: Refusal::Ceiling(Kind::Pattern),
+            refusal: Some(Refusal::Ceiling(Kind::Pattern)),
             length: 0,
         };
     }
@@ -161,7 +159,7 @@ fn write_rows(
     };
     let length = put_file(&ts, &ps, &cs, m, out);
     Filed {
-        refusal: Refusal::Nothing,
+        refusal: None,
         length: length,
     }
 }

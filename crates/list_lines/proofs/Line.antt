@@ -11,10 +11,8 @@ use Rattle.format.specs.Lines.{text, numeral, skip, ended}
 use Rattle.calculus.proofs.Basic.{eq_eqb, not_eqb, bind_assoc}
 use Rattle.law_pairlists.specs.PairLists.{to_in, to_of}
 use Rattle.read_fields.specs.declared.Cursor as C
-use Rattle.read_fields.specs.declared.Skipped as S
-use Rattle.read_fields.specs.declared.Skipped.TheVariants as skips
-use Rattle.read_fields.specs.declared.Number as N
-use Rattle.read_fields.specs.declared.Number.TheVariants as numbers
+use Rattle.std.specs.Prelude as P
+use Rattle.std.specs.Prelude.{Some, None}
 use Rattle.read_fields.specs.Views.{as_skipped, as_number, as_field, as_end}
 use Rattle.read_fields.proofs.Bytes.{is_end, not_end}
 use Rattle.read_fields.proofs.Fields.{value}
@@ -44,14 +42,14 @@ module _ (k : ℕ) (bs : List ℕ) where
       pub no_to : as_field budget_bound cs ≡ none → none ≡ to_in k bs
       no_to e = sym (by_to ∙ ap finish e)
 
-      module _ (s : List ℕ) {read : N.Number} {t : ℕ} {d : C.Cursor} (p : read ≡ numbers.Value t d) (q : as_number s read ≡ as_field budget_bound cs) where
+      module _ (s : List ℕ) {read : P.Option (ℕ × C.Cursor)} {t : ℕ} {d : C.Cursor} (p : read ≡ Some (t, d)) (q : as_number s read ≡ as_field budget_bound cs) where
         by_end : to_in k bs ≡ (ended (drop d.at s) >>= λ _. some t)
         by_end = by_to ∙ ap finish (value s p q)
 
-        pub to_there : {r : S.Skipped} {c : C.Cursor} → r ≡ skips.Past c → as_skipped s r ≡ as_end (drop d.at s) → some t ≡ to_in k bs
+        pub to_there : {r : P.Option C.Cursor} {c : C.Cursor} → r ≡ Some c → as_skipped s r ≡ as_end (drop d.at s) → some t ≡ to_in k bs
         to_there e f = sym (by_end ∙ ap (λ o. o >>= λ _. some t) (is_end s (drop d.at s) e f))
 
-        pub no_end : {r : S.Skipped} → r ≡ skips.Other → as_skipped s r ≡ as_end (drop d.at s) → none ≡ to_in k bs
+        pub no_end : {r : P.Option C.Cursor} → r ≡ None → as_skipped s r ≡ as_end (drop d.at s) → none ≡ to_in k bs
         no_end e f = sym (by_end ∙ ap (λ o. o >>= λ _. some t) (not_end s (drop d.at s) e f))
 
 -- the ending

@@ -22,8 +22,8 @@ use Rattle.law_ranking.specs.Numbering.{count}
 use Rattle.read_fields.specs.Views.{LineEnd}
 use Rattle.law_pairlists.specs.PairLists.{to_of, tos_of, none_twice, pairs_up, list_of}
 use Rattle.law_pairlists.proofs.List.{none_twice_lem, twice_none, tos_length}
-use Rattle.list_lines.specs.declared.To as T
-use Rattle.list_lines.specs.declared.To.TheVariants as tos
+use Rattle.std.specs.Prelude as P
+use Rattle.std.specs.Prelude.{Some, None}
 use Rattle.list_lines.specs.Views.{as_to, stands, taking}
 
 -- ---- a number among others
@@ -154,10 +154,10 @@ module _ {list : List ℕ} {most : ℕ} {w₀ w : List ℕ} {at k end : ℕ} (x 
   by_line h m = x.rest h m ∙ ap (λ ls. behind (take k w) (tos_of k ls)) (e.splits here)
 
   -- a line of another form
-  pub line_bad : {r : T.To} → as_to r ≡ to_of k line → r ≡ tos.Bad → length (lines list) ≤ length w₀ → most ≤ 65536 → taking most (lines list) ≡ none
+  pub line_bad : {r : P.Option ℕ} → as_to r ≡ to_of k line → r ≡ None → length (lines list) ≤ length w₀ → most ≤ 65536 → taking most (lines list) ≡ none
   line_bad p q h m = ap (keep most) (by_line h m ∙ ap (λ o. behind (take k w) (o >>= λ t. tos_of (suc k) (lines (drop end list)) >>= λ ts. some (t ∷ ts))) (sym p ∙ ap as_to q))
 
-  module _ {r : T.To} {t : ℕ} (p : as_to r ≡ to_of k line) (q : r ≡ tos.Of t) where
+  module _ {r : P.Option ℕ} {t : ℕ} (p : as_to r ≡ to_of k line) (q : r ≡ Some t) where
     by_to : length (lines list) ≤ length w₀ → most ≤ 65536 → tos_of 0 (lines list) ≡ behind (take k w) (tos_of (suc k) (lines (drop end list)) >>= λ ts. some (t ∷ ts))
     by_to h m = by_line h m ∙ ap (λ o. behind (take k w) (o >>= λ u. tos_of (suc k) (lines (drop end list)) >>= λ ts. some (u ∷ ts))) (sym p ∙ ap as_to q)
 

@@ -1,14 +1,14 @@
 -- What the readings of a list mean.
 use Rattle.std.specs.Prelude.{ℕ, Bool, not, ◌&&◌, List, eqb, ltb}
+use Rattle.std.specs.Prelude as P
+use Rattle.std.specs.Prelude.{Some, None}
 use Rattle.std.proofs.Math.Option.{Option, none, some}
 use Rattle.calculus.specs.Tools.{◌>>=◌, guard, all}
 use Rattle.law_pairlists.specs.PairLists.{tos_of, none_twice}
-use Rattle.list_lines.specs.declared.To as T
-use Rattle.list_lines.specs.declared.To.TheVariants as tos
 
-abbrev pub as_to : T.To → Option ℕ
-as_to (tos.Of n) = some n
-as_to tos.Bad = none
+abbrev pub as_to : P.Option ℕ → Option ℕ
+as_to (Some n) = some n
+as_to None = none
 
 -- whether a number stands among others
 abbrev pub stands : ℕ → List ℕ → Bool

@@ -10,58 +10,42 @@ ghost use Rattle.law_ranking.specs.Numbering.{count};
 ghost use Rattle.law_pairlists.specs.PairLists.{to_in, to_of, list_of};
 ghost use Rattle.list_lines.specs.Views.{as_to, stands, taking};
 
+use area_cells::{item_at, store};
 use area_parts::front;
-use area_words::{narrow, store_word, wide, word_at};
+use area_words::{narrow, wide};
 use limits::MAX_BUDGET;
-use read_fields::{Cursor, Number, Skipped};
-
-// The to of a line, or nothing where its form or its from is another.
-#[derive(Clone, Copy)]
-pub enum To {
-    Of(usize),
-    Bad,
-}
+use read_fields::Cursor;
 
 // The to of a text whose from is k.
-fn to_in(s: &[u8], k: usize) -> To
+fn to_in(s: &[u8], k: usize) -> Option<usize>
     ensures { as_to result ≡ to_in k s.now }
 {
     let start = Cursor { at: 0 };
-    let Number::Value(from, c) = start.number(s, MAX_BUDGET) else {
-        return To::Bad;
-    };
+    let (from, c) = start.number(s, MAX_BUDGET)?;
     if from != k {
-        return To::Bad;
+        return None;
     }
-    let Number::Value(to, d) = c.field(s, MAX_BUDGET) else {
-        return To::Bad;
-    };
-    match d.end(s) {
-        Skipped::Past(_) => To::Of(to),
-        Skipped::Other => To::Bad,
-    }
+    let (to, d) = c.field(s, MAX_BUDGET)?;
+    d.end(s)?;
+    Some(to)
 }
 
 // The to of a line whose from is k.
-fn to_of(line: &[u8], k: usize) -> To
+fn to_of(line: &[u8], k: usize) -> Option<usize>
     ensures { as_to result ≡ to_of k line.now }
 {
-    match Cursor::before_ending(line) {
-        Skipped::Past(c) => to_in(front(line, c.at), k),
-        Skipped::Other => To::Bad,
-    }
+    let c = Cursor::before_ending(line)?;
+    to_in(front(line, c.at), k)
 }
 
 // Whether a number stands among the first n words.
 fn is_among(words: &[u16], n: usize, x: usize) -> bool
     ensures { n ≤ length words.now → result ≡ stands x (take n words.now) }
 {
-    let mut i: usize = 0;
-    while i < n {
-        if wide(word_at(words, i)) == x {
+    for i in 0..n {
+        if wide(item_at(words, i, 0)) == x {
             return true;
         }
-        i += 1;
     }
     false
 }
@@ -76,7 +60,7 @@ fn read_tos(list: &[u8], most: usize, tos: &mut [u16]) -> bool
     let mut k: usize = 0;
     while at < list.len() {
         let end = Cursor { at: at }.line_end(list).at;
-        let To::Of(to) = to_of(&list[at..end], k) else {
+        let Some(to) = to_of(&list[at..end], k) else {
             return false;
         };
         if most <= to {
@@ -85,7 +69,7 @@ fn read_tos(list: &[u8], most: usize, tos: &mut [u16]) -> bool
         if is_among(tos, k, to) {
             return false;
         }
-        store_word(tos, k, narrow(to));
+        store(tos, k, narrow(to));
         k += 1;
         at = end;
     }

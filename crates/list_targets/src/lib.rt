@@ -9,8 +9,9 @@ ghost use Rattle.run_index.specs.Index.{place_at};
 ghost use Rattle.number_values.specs.Numbers.{Counted};
 ghost use Rattle.list_targets.specs.Targets.{Stores, OnPair, SettingRan, AllFound};
 
+use area_cells::store;
 use area_parts::front;
-use area_words::{narrow, store_word};
+use area_words::narrow;
 use codes::{ISO_FROM, ISO_TO};
 use format::is_refused;
 use limits::RESULT_LENGTH;
@@ -94,7 +95,7 @@ fn find_to(
         return false;
     }
     let x = rank_at(t, counts, iso_cell(t, index, i, ISO_TO), &result, 0);
-    store_word(tos, k, narrow(x.number));
+    store(tos, k, narrow(x.number));
     true
 }
 
@@ -115,12 +116,10 @@ pub fn find_tos(
     ensures { AllFound t.now base index.now isos i n budget work.old
         tos.old tos.new result }
 {
-    let mut k: usize = 0;
-    while k < n {
+    for k in 0..n {
         if !find_to(t, counts, base, index, isos, i, k, budget, work, tos) {
             return false;
         }
-        k += 1;
     }
     true
 }

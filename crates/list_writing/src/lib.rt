@@ -8,7 +8,8 @@ ghost use Rattle.table_trees.specs.Unfolding.{type_of};
 ghost use Rattle.number_values.specs.Numbers.{Counted};
 ghost use Rattle.list_writing.specs.Writing.{TypeDone, ValueDone, ClauseDone, PairsDone};
 
-use area_words::{wide, word_at};
+use area_cells::item_at;
+use area_words::wide;
 use codes::{FIRST, KIND, LEFT, LIST, PAIR, PRODUCT, RIGHT, SECOND, SUM, TYPE_UNIT, UNIT};
 use list_entries::{Entry, enter_entry, store_entry};
 use number_values::count_values;
@@ -141,11 +142,9 @@ pub fn write_pairs(
     ensures { PairsDone (type_of t.now i) (type_of t.now j) tos.now n
         s.old s.new q.old q.new result }
 {
-    let mut k: usize = 0;
     let mut end: usize = 0;
-    while k < n {
-        end = write_clause(t, counts, i, j, k, wide(word_at(tos, k)), s, end, q);
-        k += 1;
+    for k in 0..n {
+        end = write_clause(t, counts, i, j, k, wide(item_at(tos, k, 0)), s, end, q);
     }
     end
 }

@@ -13,7 +13,6 @@ use Rattle.calculus.specs.Letters.{letters}
 use Rattle.law_ranking.specs.Numbering.{count, unrank}
 use Rattle.area_cells.specs.Areas.{Writes}
 use Rattle.area_cells.proofs.Writing.{place_in, writes_one, writes_both, writes_as}
-use Rattle.calculus.proofs.Letters.{letters_some}
 use Rattle.number_values.specs.Numbers.{Counts, Unranks}
 use Rattle.law_ranking.proofs.Numbering.{count_positive, count_left, count_right, count_first, count_second}
 use Rattle.number_values.proofs.Counting.{counted}
@@ -27,10 +26,6 @@ spells a n k f c h = record { kept = k; area = λ room. (f c h room).0; place = 
 
 unranks : (a : Ty) (n : ℕ) {l l' : List ℕ} {at end : ℕ} → Spells a n l l' at end → Unranks a n l l' at end
 unranks a n f c h room = ((f c h).area room, (f c h).place room)
-
--- no room
-pub unranks_none : (a : Ty) (n : ℕ) (l : List ℕ) (at : ℕ) → length l ≤ at → Unranks a n l l at at
-unranks_none a n l at h c k room = absurd (omega (arith, letters_some (unrank a n)))
 
 -- the values of a list are not numbered
 pub unranks_list : (a : Ty) (n : ℕ) (l l₂ : List ℕ) (at r : ℕ) → Unranks (tlist a) n l l₂ at r

@@ -7,7 +7,7 @@ ghost use Rattle.limits.specs.Limits.{max_values, max_types};
 ghost use Rattle.table_trees.specs.Unfolding.{type_of};
 ghost use Rattle.number_values.specs.Numbers.{SumCapped, ProductCapped, Counts, Counted, Ranks, Unranks};
 
-use area_cells::byte_at;
+use area_cells::item_at;
 use codes::{
     FIRST, KIND, LETTER_LEFT, LETTER_PAIR, LETTER_RIGHT, LETTER_UNIT, LIST, PRODUCT, SECOND, SUM,
 };
@@ -34,37 +34,14 @@ pub const COUNTS: usize = MAX_TYPES;
 pub fn known(n: usize) -> usize
     ensures { result ≤ max_types }
 {
-    if n < COUNTS {
-        return n;
-    }
-    COUNTS
-}
-
-// A number, or 4,294,967,296 for all above.
-fn capped(n: usize) -> usize
-    ensures { result ≡ min n (suc max_values) }
-{
-    if n < MANY {
-        return n;
-    }
-    MANY
-}
-
-// A number, or 4,294,967,295 for all above.
-fn low(n: usize) -> usize
-    ensures { result ≡ min n max_values }
-{
-    if n < MAX_VALUES {
-        return n;
-    }
-    MAX_VALUES
+    n.min(COUNTS)
 }
 
 // a times b plus c, where each is below 2^32.
 fn times_plus(a: usize, b: usize, c: usize) -> usize
     ensures { result ≡ min a max_values * min b max_values + min c max_values }
 {
-    low(a) * low(b) + low(c)
+    a.min(MAX_VALUES) * b.min(MAX_VALUES) + c.min(MAX_VALUES)
 }
 
 // How many values there are of one type or the other, capped like these.
@@ -72,7 +49,7 @@ fn both(a: usize, b: usize) -> usize
     requires { (a ≤ suc max_values) × (b ≤ suc max_values) }
     ensures { SumCapped a b result }
 {
-    capped(a + b)
+    (a + b).min(MANY)
 }
 
 // How many pairs there are of as many values, capped like these.
@@ -83,7 +60,7 @@ fn pairs(a: usize, b: usize) -> usize
     if MAX_VALUES < a {
         return MANY;
     }
-    capped(a * b)
+    (a * b).min(MANY)
 }
 
 // How many closed values T line i has; 4,294,967,296 stands for all above, and for those of a list. The counts of
@@ -92,8 +69,8 @@ pub fn count_values(t: &[u16], counts: &[usize], i: usize) -> usize
     requires { Counted t.now counts.now }
     ensures { Counts (type_of t.now i) result }
 {
-    if i < counts.len() {
-        return counts[i];
+    if let Some(&n) = counts.get(i) {
+        return n;
     }
     let kind = cell(t, i, KIND);
     if kind == SUM {
@@ -116,22 +93,16 @@ pub fn count_values(t: &[u16], counts: &[usize], i: usize) -> usize
 pub fn find_counts(t: &[u16], counts: &mut [usize])
     ensures { (length counts.new ≡ length counts.old) × Counted t.now counts.new }
 {
-    let mut i: usize = 0;
-    while i < counts.len() {
-        let n = count_values(t, &counts[0..i], i);
-        counts[i] = n;
-        i += 1;
+    for i in 0..counts.len() {
+        counts[i] = count_values(t, &counts[..i], i);
     }
 }
 
-// The place behind a letter.
+// The place behind a letter; no `min`, since the place and one may not fit.
 fn behind(s: &[u8], at: usize) -> usize
     ensures { at < length s.now → result ≡ at + 1 }
 {
-    if at < s.len() {
-        return at + 1;
-    }
-    at
+    if at < s.len() { at + 1 } else { at }
 }
 
 // The number of the closed value of T line i that begins at a place, and where it ends. The type has at
@@ -144,7 +115,7 @@ pub fn rank_at(t: &[u16], counts: &[usize], i: usize, s: &[u8], at: usize) -> Ra
     let next = behind(s, at);
     if kind == SUM {
         let left = smaller(cell(t, i, FIRST), i);
-        if byte_at(s, at) == LETTER_LEFT {
+        if item_at(s, at, 0) == LETTER_LEFT {
             return rank_at(t, counts, left, s, next);
         }
         let right = smaller(cell(t, i, SECOND), i);

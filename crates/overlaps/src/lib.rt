@@ -41,19 +41,16 @@ pub fn overlap_checked(t: &[u16], types: usize, patterns: usize, i: usize, j: us
 {
     let absent = Answer {
         place: 0,
-        refusal: Refusal::NoIso,
+        refusal: Some(Refusal::NoIso),
     };
-    if patterns <= i {
-        return not_compared(absent);
-    }
-    if patterns <= j {
+    if patterns <= i || patterns <= j {
         return not_compared(absent);
     }
     let c = compare(t, types, i, j);
     Overlapped {
         answer: Answer {
             place: 0,
-            refusal: Refusal::Nothing,
+            refusal: None,
         },
         clash: c.clash,
         pairs: narrow_number(c.pairs),

@@ -1,4 +1,5 @@
 -- The play with its marks, case by case, against the definition.
+use Rattle.std.specs.Prelude.{Option as CodeOption}
 use Prim.Native.Nat.{ℕ, ◌-◌, ◌≤◌, ◌<◌}
 use native.Mathlib.Nat.{sub-zero}
 use native.Mathlib.Omega.{arith}
@@ -150,7 +151,7 @@ module _ (s t w is ns script : List ℕ) (budget : ℕ) where
             let h = whole s t w t' w₁ c g says acc flag z in
             ap (take run_room) (h.work_is ∙ ap (λ m. replicate m 0 ++ drop work_length w) (sub-zero work_length)) ∙ take_zeros run_room work_length (drop work_length w) (omega arith)
 
-        pub marked_played : {w' is' ns' : List ℕ} {v : F.Refusal} → PlayedInto t' c script budget w₁ is ns w' is' ns' v → (r : Y.Visits) → r.answer.place ≡ 0 → r.answer.refusal ≡ v
+        pub marked_played : {w' is' ns' : List ℕ} {v : CodeOption F.Refusal} → PlayedInto t' c script budget w₁ is ns w' is' ns' v → (r : Y.Visits) → r.answer.place ≡ 0 → r.answer.refusal ≡ v
             → r.count ≡ cond (is_some (refusal_view v)) 0 n → r.played ≡ not (is_some (refusal_view v)) → VisitsSay s t w is ns script budget t' w' is' ns' r
         marked_played {w'} {is'} {ns'} {v} play r p m k l =
             let area = enough t w is ns (sym e ∙ y) in

@@ -17,7 +17,8 @@ use read_split::count_lines;
 use unit_plays::play_accepted;
 use unit_tally::{Tally, count_visits};
 
-// An answer, how many visits are marked in the work area, and whether the script was played.
+// An answer, how many visits are marked in the work area, and whether the script was played: a count and a flag,
+// as `SaidOf` says of each and `count_visits` takes each.
 #[derive(Clone, Copy)]
 pub struct Visits {
     pub answer: Answer,
@@ -26,7 +27,7 @@ pub struct Visits {
 }
 
 // A refusal: nothing is played.
-fn refused(place: usize, f: Refusal) -> Visits
+fn refused(place: usize, f: Option<Refusal>) -> Visits
     ensures { (result.answer.place ≡ place) × (result.answer.refusal ≡ f) × (result.count ≡ 0) × (result.played ≡ false) }
 {
     Visits {
@@ -40,7 +41,7 @@ fn refused(place: usize, f: Refusal) -> Visits
 }
 
 // What is answered of an accepted file: a refusal, or n visits that were played.
-fn settled(g: Refusal, n: usize) -> Visits
+fn settled(g: Option<Refusal>, n: usize) -> Visits
     ensures { (result.answer.place ≡ 0) × (result.answer.refusal ≡ g) × (result.count ≡ cond (is_some (refusal_view g)) 0 n)
         × (result.played ≡ not (is_some (refusal_view g))) }
 {
@@ -62,23 +63,14 @@ fn is_short(table: &[u16], work: &[u8], lines: &[u32], settings: &[u32]) -> bool
     ensures { result ≡ (short table.now work.now
         || unequal (record { types = lines.now; settings = settings.now })) }
 {
-    if table.len() < TABLE_LENGTH {
-        return true;
-    }
-    if work.len() < WORK_LENGTH {
-        return true;
-    }
-    lines.len() != settings.len()
+    table.len() < TABLE_LENGTH || work.len() < WORK_LENGTH || lines.len() != settings.len()
 }
 
 // Whether there are too many units, or too many lines in a script.
 fn is_long(units: usize, lines: usize) -> bool
     ensures { result ≡ (ltb max_units units || ltb max_lines lines) }
 {
-    if MAX_UNITS < units {
-        return true;
-    }
-    MAX_LINES < lines
+    MAX_UNITS < units || MAX_LINES < lines
 }
 
 // Checks a file, tests the units and the script, and plays; the marks of the visits are left in the work area.
@@ -95,11 +87,11 @@ fn play_marked(
         script.now budget table.new work.new lines.new settings.new result }
 {
     if is_short(table, work, lines, settings) {
-        return refused(0, Refusal::ShortArea);
+        return refused(0, Some(Refusal::ShortArea));
     }
     let n = count_lines(script);
     if is_long(lines.len(), n) {
-        return refused(0, Refusal::TooLong);
+        return refused(0, Some(Refusal::TooLong));
     }
     let c = check_file(file, table, work);
     let a = c.answer;

@@ -12,8 +12,8 @@ use Rattle.model.specs.Desk.{query_of, answer_to}
 use Rattle.format.specs.Code.{refusal_view}
 use Rattle.query_lines.specs.Views.{as_query}
 use Rattle.query_lines.specs.declared.Query as Q
-use Rattle.query_lines.specs.declared.Asked as A
-use Rattle.query_lines.specs.declared.Asked.TheVariants as asked
+use Rattle.std.specs.Prelude as P
+use Rattle.std.specs.Prelude.{Some, None}
 use Rattle.runner.specs.RunSays.{answer_for, RanAs}
 use Rattle.runner.specs.declared.run.Ran as R
 use Rattle.runner.proofs.Running.{ran_refused}
@@ -28,13 +28,13 @@ pub ran_on : (rs : List Row) (q : Q.Query) (l : List ℕ) {v o o' : List ℕ} {r
 ran_on rs q l {o = o} {o' = o'} {r = r} e a = subst (λ v. RanAs (answer_for rs q.iso q.back q.budget v) o o' r) e a
 
 -- a query is answered by its run
-pub line_query : (rs : List Row) (l : List ℕ) {a : A.Asked} (q : Q.Query) {o o' : List ℕ} {r : R.Ran} → a ≡ asked.Of q → as_query l a ≡ query_of l
+pub line_query : (rs : List Row) (l : List ℕ) {a : P.Option Q.Query} (q : Q.Query) {o o' : List ℕ} {r : R.Ran} → a ≡ Some q → as_query l a ≡ query_of l
     → RanAs (answer_for rs q.iso q.back q.budget (slice q.from q.to l)) o o' r
     → RanAs (answer_of_run (answer_to (accepted rs) (query_of l))) o o' r
 line_query rs l q {o} {o'} {r} e k ran =
     subst (λ x. RanAs (answer_of_run (answer_to (accepted rs) x)) o o' r) (sym (ap (as_query l) e) ∙ k) ran
 
 -- what is no query is refused 3
-pub line_bad : (rs : List Row) (l : List ℕ) {a : A.Asked} (o : List ℕ) (r : R.Ran) → a ≡ asked.Bad → as_query l a ≡ query_of l
+pub line_bad : (rs : List Row) (l : List ℕ) {a : P.Option Q.Query} (o : List ℕ) (r : R.Ran) → a ≡ None → as_query l a ≡ query_of l
     → refusal_view r.refusal ≡ some bad_line → r.count ≡ 0 → r.length ≡ 0 → RanAs (answer_of_run (answer_to (accepted rs) (query_of l))) o o r
 line_bad rs l o r e k n = ran_refused (answer_of_run (answer_to (accepted rs) (query_of l))) o r bad_line (ap (λ x. answer_of_run (answer_to (accepted rs) x)) (sym k ∙ ap (as_query l) e)) n

@@ -8,7 +8,7 @@ ghost use Rattle.runner.specs.RunSays.{OnChecked, answer_for, RanWithin};
 
 use area_parts::{front, tail};
 use format::Refusal;
-use query_lines::{Asked, Query, query_of};
+use query_lines::{Query, query_of};
 use runner::run::{Ran, run_checked};
 
 // Runs a query whose letters stand in its line.
@@ -49,9 +49,9 @@ pub fn answer_line(
         work.old work.new res.old res.new result) }
 {
     match query_of(line) {
-        Asked::Of(q) => run_query(t, base, index, isos, q, line, work, res),
-        Asked::Bad => Ran {
-            refusal: Refusal::BadLine,
+        Some(q) => run_query(t, base, index, isos, q, line, work, res),
+        None => Ran {
+            refusal: Some(Refusal::BadLine),
             count: 0,
             length: 0,
         },

@@ -19,8 +19,9 @@ use Rattle.read_fields.specs.Views.{as_field}
 use Rattle.read_fields.proofs.Fields.{onto, fields_some, fields_none}
 use Rattle.query_lines.proofs.Streaming.{query_cap}
 use Rattle.query_lines.specs.Views.{as_query, Within, with_letters, behind_letter}
-use Rattle.query_lines.specs.declared.Asked as A
-use Rattle.query_lines.specs.declared.Asked.TheVariants as asked
+use Rattle.std.specs.Prelude as P
+use Rattle.std.specs.Prelude.{Some, None}
+use Rattle.query_lines.specs.declared.Query as Q
 
 -- ---- the letters
 
@@ -90,9 +91,9 @@ module _ (s : List ℕ) where
 -- ---- the ending
 
 -- a query in the text of a line, by its places, is the query in the line
-line_query : (s : List ℕ) (at : ℕ) (r : A.Asked) → Within (take at s) r → as_query s r ≡ as_query (take at s) r
-line_query s at asked.Bad h = refl
-line_query s at (asked.Of q) h =
+line_query : (s : List ℕ) (at : ℕ) (r : P.Option Q.Query) → Within (take at s) r → as_query s r ≡ as_query (take at s) r
+line_query s at None h = refl
+line_query s at (Some q) h =
     let most : length (take at s) ≤ at = subst (λ n. n ≤ at) (sym (length-take at s)) (omega arith) in
     ap
     (λ ls. some (record { iso = q.iso; back = q.back; budget = q.budget; letters = drop q.from ls }))
@@ -109,7 +110,7 @@ module _ (s : List ℕ) where
     no_ending e = rw (le-leb (length s) 200 h) (sym (ap (λ o. o >>= query_in) e))
 
     pub text_query :
-        (at : ℕ) (r : A.Asked) {t : List ℕ}
+        (at : ℕ) (r : P.Option Q.Query) {t : List ℕ}
         → text s ≡ some (take at s)
         → t ≡ take at s
         → as_query t r ≡ query_in t

@@ -1,5 +1,7 @@
 -- What a query's reading means: the fields, and the letters by their places in the line.
 use Rattle.std.specs.Prelude.{ℕ, ◌≤◌, List, [], ◌∷◌, eqb, length, get_or}
+use Rattle.std.specs.Prelude as P
+use Rattle.std.specs.Prelude.{Some, None}
 use Rattle.std.proofs.Math.Option.{Option, none, some}
 use Rattle.std.proofs.Math.Seq.{slice}
 use Rattle.limits.specs.Limits.{field_bound, budget_bound, comma}
@@ -7,22 +9,20 @@ use Rattle.calculus.specs.Tools.{◌>>=◌}
 use Rattle.format.specs.Lines.{skip, fields}
 use Rattle.model.specs.Desk.{Query}
 use Rattle.query_lines.specs.declared.Query as Q
-use Rattle.query_lines.specs.declared.Asked as A
-use Rattle.query_lines.specs.declared.Asked.TheVariants as asked
 
 -- the query that a struct stands for, of this line
 abbrev pub query_view : List ℕ → Q.Query → Query
 query_view s q = record { iso = q.iso; back = q.back; budget = q.budget; letters = slice q.from q.to s }
 
 -- the query in a line, or nothing
-abbrev pub as_query : List ℕ → A.Asked → Option Query
-as_query s (asked.Of q) = some (query_view s q)
-as_query s asked.Bad = none
+abbrev pub as_query : List ℕ → P.Option Q.Query → Option Query
+as_query s (Some q) = some (query_view s q)
+as_query s None = none
 
 -- the letters end within some bytes
-abbrev pub Within : List ℕ → A.Asked → Type 0
-Within s (asked.Of q) = q.to ≤ length s
-Within s asked.Bad = Unit {0}
+abbrev pub Within : List ℕ → P.Option Q.Query → Type 0
+Within s (Some q) = q.to ≤ length s
+Within s None = Unit {0}
 
 -- the query of three numbers and of the bytes behind its fourth comma
 abbrev pub with_letters : ℕ → ℕ → ℕ → List ℕ → Option Query

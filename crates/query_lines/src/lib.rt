@@ -8,12 +8,12 @@ ghost use Rattle.model.specs.Desk.{query_in, query_of, query_line, file_line};
 ghost use Rattle.area_cells.specs.Areas.{Prints};
 ghost use Rattle.query_lines.specs.Views.{as_query, Within, with_letters, behind_letter};
 
-use area_cells::{byte_at, narrow_number, put_byte, wide_byte, wide_number};
+use area_cells::{narrow_number, put_byte, wide_byte, wide_number};
 use area_parts::front;
 use codes::{COMMA, LETTER_Q, LINE_FEED};
 use limits::{MAX_BUDGET, MAX_FIELD, QUERY_LENGTH};
 use print_text::{put_field, put_number};
-use read_fields::{Cursor, Number, Skipped};
+use read_fields::Cursor;
 
 // A query; its letters stand in its line from place `from` up to place `to`.
 #[derive(Clone, Copy)]
@@ -25,21 +25,14 @@ pub struct Query {
     pub to: usize,
 }
 
-// What a line asks: a query, or nothing that is one.
-#[derive(Clone, Copy)]
-pub enum Asked {
-    Of(Query),
-    Bad,
-}
-
 // The query of these numbers in a text, where its letters begin at a cursor.
-fn with_letters(iso: usize, direction: usize, budget: usize, c: Cursor, s: &[u8]) -> Asked
+fn with_letters(iso: usize, direction: usize, budget: usize, c: Cursor, s: &[u8]) -> Option<Query>
     ensures { (budget < budget_bound
         → as_query s.now result ≡ with_letters iso direction budget (drop c.at s.now))
         × Within s.now result }
 {
-    Asked::Of(Query {
-        iso: iso,
+    Some(Query {
+        iso,
         back: direction == 1,
         budget: narrow_number(budget),
         from: c.at,
@@ -48,57 +41,42 @@ fn with_letters(iso: usize, direction: usize, budget: usize, c: Cursor, s: &[u8]
 }
 
 // The three numbers of a query, from behind its letter on, and the comma behind them.
-fn after_letter(c: Cursor, s: &[u8]) -> Asked
+fn after_letter(c: Cursor, s: &[u8]) -> Option<Query>
     ensures { (as_query s.now result ≡ behind_letter (drop c.at s.now)) × Within s.now result }
 {
-    let Number::Value(iso, d) = c.field(s, MAX_FIELD) else {
-        return Asked::Bad;
-    };
-    let Number::Value(direction, e) = d.field(s, 1) else {
-        return Asked::Bad;
-    };
-    let Number::Value(budget, f) = e.field(s, MAX_BUDGET) else {
-        return Asked::Bad;
-    };
-    match f.skip(s, COMMA) {
-        Skipped::Past(g) => with_letters(iso, direction, budget, g, s),
-        Skipped::Other => Asked::Bad,
-    }
+    let (iso, d) = c.field(s, MAX_FIELD)?;
+    let (direction, e) = d.field(s, 1)?;
+    let (budget, f) = e.field(s, MAX_BUDGET)?;
+    let g = f.skip(s, COMMA)?;
+    with_letters(iso, direction, budget, g, s)
 }
 
 // The query in a text.
-fn query_in(s: &[u8]) -> Asked
+fn query_in(s: &[u8]) -> Option<Query>
     ensures { (as_query s.now result ≡ query_in s.now) × Within s.now result }
 {
     let start = Cursor { at: 0 };
-    match start.skip(s, LETTER_Q) {
-        Skipped::Past(c) => after_letter(c, s),
-        Skipped::Other => Asked::Bad,
-    }
+    after_letter(start.skip(s, LETTER_Q)?, s)
 }
 
 // The query in a line.
-pub fn query_of(s: &[u8]) -> Asked
+pub fn query_of(s: &[u8]) -> Option<Query>
     ensures { as_query s.now result ≡ query_of s.now }
 {
     if QUERY_LENGTH < s.len() {
-        return Asked::Bad;
+        return None;
     }
-    match Cursor::before_ending(s) {
-        Skipped::Past(c) => query_in(front(s, c.at)),
-        Skipped::Other => Asked::Bad,
-    }
+    let c = Cursor::before_ending(s)?;
+    query_in(front(s, c.at))
 }
 
 // Appends bytes to an output area.
 fn put_bytes(out: &mut [u8], at: usize, s: &[u8]) -> usize
     ensures { Prints out.old out.new at result s.now }
 {
-    let mut i: usize = 0;
     let mut end = at;
-    while i < s.len() {
-        end = put_byte(out, end, byte_at(s, i));
-        i += 1;
+    for b in s {
+        end = put_byte(out, end, *b);
     }
     end
 }

@@ -7,7 +7,7 @@ ghost use Rattle.calculus.specs.Refusals.{type_line, pattern_line};
 ghost use Rattle.format.specs.Code.{kind_view};
 ghost use Rattle.read_ceilings.specs.Reckoned.{TypeReckoned, PatternReckoned, TagsReckoned, CeilingsTold, SizeTold, TagsKept};
 
-use area_cells::{byte_at, narrow_byte, put_byte, wide_byte};
+use area_cells::{item_at, narrow_byte, put_byte, wide_byte};
 use codes::{ELEMENT, EMPTY, LEFT, LIST, PAIR, PRODUCT, RIGHT, SIZE, SUM};
 use format::{Kind, Row};
 use limits::{MAX_CLAUSES, MAX_ISOS, MAX_LETS, MAX_NODES, MAX_PATTERNS, MAX_TAGS, MAX_TYPES};
@@ -40,7 +40,7 @@ fn pattern_nodes(t: &[u16], base: usize, kind: usize, a: usize, b: usize) -> usi
 fn tags_of(g: &[u8], j: usize) -> usize
     ensures { (result ≡ get_or g.now j 0) × (result < 256) }
 {
-    wide_byte(byte_at(g, j))
+    wide_byte(item_at(g, j, 0))
 }
 
 // The tags of a P line that stands next.
@@ -60,23 +60,16 @@ fn next_tags(g: &[u8], kind: usize, a: usize, b: usize) -> usize
 fn type_within(c: Seen, t: &[u16], g: &[u8], r: Row) -> bool
     ensures { CeilingsTold type_line t.now g.now c r result }
 {
-    if c.types < MAX_TYPES {
-        return type_nodes(t, r.x, r.y, r.z) <= MAX_NODES;
-    }
-    false
+    c.types < MAX_TYPES && type_nodes(t, r.x, r.y, r.z) <= MAX_NODES
 }
 
 // A P line whose names stand: how many there are, its nodes, its tags.
 fn pattern_within(c: Seen, t: &[u16], g: &[u8], r: Row) -> bool
     ensures { CeilingsTold pattern_line t.now g.now c r result }
 {
-    if c.patterns < MAX_PATTERNS {
-        if pattern_nodes(t, c.types, r.x, r.y, r.z) <= MAX_NODES {
-            return next_tags(g, r.x, r.y, r.z) <= MAX_TAGS;
-        }
-        return false;
-    }
-    false
+    c.patterns < MAX_PATTERNS
+        && pattern_nodes(t, c.types, r.x, r.y, r.z) <= MAX_NODES
+        && next_tags(g, r.x, r.y, r.z) <= MAX_TAGS
 }
 
 // Whether a row whose names stand keeps the ceilings.
@@ -101,9 +94,7 @@ pub fn row_size(c: Seen, t: &[u16], r: Row) -> usize
     match k {
         Kind::Type => type_nodes(t, r.x, r.y, r.z),
         Kind::Pattern => pattern_nodes(t, c.types, r.x, r.y, r.z),
-        Kind::Iso => 0,
-        Kind::Clause => 0,
-        Kind::Let => 0,
+        Kind::Iso | Kind::Clause | Kind::Let => 0,
     }
 }
 
@@ -111,15 +102,8 @@ pub fn row_size(c: Seen, t: &[u16], r: Row) -> usize
 pub fn keep_tags(c: Seen, g: &mut [u8], r: Row)
     ensures { TagsKept (kind_view r.kind) g.old g.new c r }
 {
-    let k = r.kind;
-    match k {
-        Kind::Pattern => {
-            let n = next_tags(g, r.x, r.y, r.z);
-            put_byte(g, c.patterns, narrow_byte(n));
-        }
-        Kind::Type => {}
-        Kind::Iso => {}
-        Kind::Clause => {}
-        Kind::Let => {}
+    if let Kind::Pattern = r.kind {
+        let n = next_tags(g, r.x, r.y, r.z);
+        put_byte(g, c.patterns, narrow_byte(n));
     }
 }

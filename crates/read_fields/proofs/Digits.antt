@@ -87,30 +87,30 @@ module _ (bound n : ℕ) (s : List ℕ) (at : ℕ) (inside : at < length s) wher
   too_large : is_digit (get_or s at 0) ≡ true → bound ≤ n * 10 + (get_or s at 0 - 48) → digits bound n (drop at s) ≡ none
   too_large d h = rw (from_byte s at inside, d, le-ltb (n * 10 + (get_or s at 0 - 48)) bound h)
 
--- ---- what the loop knows: d is the digit ahead, and the digits from here on with n before them are those from the start
+-- ---- what the loop knows: the digits from here on with n before them are those from the start
 
-pub record Carried (most : ℕ) (s : List ℕ) (from at n d : ℕ) : Type 0 where
+pub record Carried (most : ℕ) (s : List ℕ) (from at n : ℕ) : Type 0 where
   pub small : n ≤ most
-  pub ahead : d ≡ digit_of (get_or s at 0)
   pub holds : digits (most + 1) n (drop at s) ≡ digits (most + 1) 0 (drop from s)
 
-pub carried_start : (most : ℕ) (s : List ℕ) (from : ℕ) {d : ℕ} → d ≡ digit_of (get_or s from 0) → Carried most s from from 0 d
-carried_start most s from e = record { small = omega arith; ahead = e; holds = refl }
+pub carried_start : (most : ℕ) (s : List ℕ) (from : ℕ) → Carried most s from from 0
+carried_start most s from = record { small = omega arith; holds = refl }
 
-module _ {most : ℕ} {s : List ℕ} {from at n d : ℕ} (i : Carried most s from at n d) where
-  ended_by : 10 ≤ d → (leb (length s) at ≡ true) ⊎ (leb (length s) at ≡ false) → some (n, drop at s) ≡ digits (most + 1) n (drop at s)
-  ended_by h (inl t) = rw (drop_of_length-le s (leb-true (length s) at t))
-  ended_by h (inr t) = sym (stops (most + 1) n s at (leb-false (length s) at t) (no_digit (get_or s at 0) i.ahead h))
+module _ {most : ℕ} {s : List ℕ} {from at n : ℕ} (i : Carried most s from at n) where
+  module _ (e : digit_of (get_or s at 0) ≡ 10) where
+    ended_by : (leb (length s) at ≡ true) ⊎ (leb (length s) at ≡ false) → some (n, drop at s) ≡ digits (most + 1) n (drop at s)
+    ended_by (inl t) = rw (drop_of_length-le s (leb-true (length s) at t))
+    ended_by (inr t) = sym (stops (most + 1) n s at (leb-false (length s) at t) (no_digit (get_or s at 0) refl (omega (arith, e))))
 
-  pub carried_end : 10 ≤ d → some (n, drop at s) ≡ digits (most + 1) 0 (drop from s)
-  carried_end h = ended_by h (bool_cases (leb (length s) at)) ∙ i.holds
+    pub carried_end : some (n, drop at s) ≡ digits (most + 1) 0 (drop from s)
+    carried_end = ended_by (bool_cases (leb (length s) at)) ∙ i.holds
 
-  module _ (h : d < 10) where
+  module _ {d : ℕ} (ahead : d ≡ digit_of (get_or s at 0)) (h : d < 10) where
     pub inside : at < length s
-    inside = digit_within s at i.ahead h
+    inside = digit_within s at ahead h
 
     this : Digit (get_or s at 0) d
-    this = known_digit (get_or s at 0) i.ahead h
+    this = known_digit (get_or s at 0) ahead h
 
     is_digit_lem : is_digit (get_or s at 0) ≡ true
     is_digit_lem = digit (get_or s at 0) this.low this.high
@@ -123,12 +123,11 @@ module _ {most : ℕ} {s : List ℕ} {from at n d : ℕ} (i : Carried most s fro
         let past : most + 1 ≤ n * 10 + (get_or s at 0 - 48) = omega (arith, same) in
         sym (too_large (most + 1) n s at inside is_digit_lem past) ∙ i.holds
 
-    pub carried_step : n * 10 + d ≤ most → {e : ℕ} → e ≡ digit_of (get_or s (at + 1) 0) → Carried most s from (at + 1) (n * 10 + d) e
-    carried_step fit ahead =
+    pub carried_step : n * 10 + d ≤ most → Carried most s from (at + 1) (n * 10 + d)
+    carried_step fit =
         let below : n * 10 + (get_or s at 0 - 48) < most + 1 = omega (arith, same) in
         record {
           small = fit;
-          ahead = ahead;
           holds = ap (λ x. digits (most + 1) x (drop (at + 1) s)) same ∙ sym (goes_on (most + 1) n s at inside is_digit_lem below) ∙ i.holds;
         }
 
@@ -141,11 +140,11 @@ module _ (most : ℕ) (s : List ℕ) (from : ℕ) {d : ℕ} (e : d ≡ digit_of 
   first_inside = digit_within s from e h
 
   pub first_over : most < d → none ≡ digits (most + 1) 0 (drop from s)
-  first_over l = carried_over (carried_start most s from e) h (let z = none_before in omega arith)
+  first_over l = carried_over (carried_start most s from) e h (let z = none_before in omega arith)
 
-  pub carried_first : d ≤ most → {f : ℕ} → f ≡ digit_of (get_or s (from + 1) 0) → Carried most s from (from + 1) d f
-  carried_first l {f} g =
-      subst (λ x. Carried most s from (from + 1) x f) none_before (carried_step (carried_start most s from e) h (let z = none_before in omega arith) g)
+  pub carried_first : d ≤ most → Carried most s from (from + 1) d
+  carried_first l =
+      subst (λ x. Carried most s from (from + 1) x) none_before (carried_step (carried_start most s from) e h (let z = none_before in omega arith))
 
 -- ---- a number at a place
 

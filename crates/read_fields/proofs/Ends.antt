@@ -1,15 +1,18 @@
 -- Where the first line from a place on ends: byte by byte up to its line feed.
-use Prim.Native.Nat.{ℕ, suc, ◌+◌, ◌-◌, ◌<◌, ◌≤◌}
+use Prim.Native.Nat.{ℕ, suc, ◌+◌, ◌-◌, ◌<◌, ◌≤◌, max}
+use mathlib.Core.Logic.{◌⊎◌, inl, inr}
+use mathlib.Core.Bool.{true, false}
+use lib.Dec.{leb}
 use native.Mathlib.Nat.{sub_self}
 use native.Mathlib.Omega.{arith}
 use mathlib.Core.Path.{◌≡◌, refl, sym, ap, ◌∙◌, subst}
 use mathlib.Core.List.{List, [], ◌∷◌, ◌++◌}
 use lib.ListN.{length, get_or, take, drop, length-drop, drop_of_length-le}
 use lib.Seq.{take-suc, get_or-drop, take_all}
-use borrow.Author.Tests.{eq-eqb, ne_eqb}
+use borrow.Author.Tests.{eq-eqb, ne_eqb, leb-true, leb-false}
 use Rattle.limits.specs.Limits.{line_feed}
 use Rattle.format.specs.Lines.{lines, onto_first}
-use Rattle.calculus.proofs.Basic.{from_byte}
+use Rattle.calculus.proofs.Basic.{from_byte, bool_cases}
 use Rattle.read_fields.specs.Views.{LineEnd}
 
 -- ---- one byte and the lines behind it
@@ -110,3 +113,17 @@ ahead_end {s} {from} {at} a h =
           ∙ ap (λ bs. part s from at ∷ lines bs) (sym (drop_of_length-le s h));
       stays = a.stays;
     }
+
+pub ahead_all : {s : List ℕ} {from at n : ℕ} → Ahead s from at → length s ≤ at → (from ≤ length s → at ≤ length s) → n ≡ max from (length s) → LineEnd s from n
+ahead_all {s} {from} {at} {n} a h e m = go (bool_cases (leb from (length s)))
+  where
+    go : (leb from (length s) ≡ true) ⊎ (leb from (length s) ≡ false) → LineEnd s from n
+    go (inl t) =
+        let l = leb-true from (length s) t in
+        let below : at ≤ length s = e l in
+        let same : at ≡ n = omega (arith, m) in
+        subst (λ k. LineEnd s from k) same (ahead_end a h)
+    go (inr t) =
+        let l = leb-false from (length s) t in
+        let same : at ≡ n = a.stays (omega arith) ∙ omega (arith, m) in
+        subst (λ k. LineEnd s from k) same (ahead_end a h)

@@ -8,26 +8,24 @@ use Rattle.limits.specs.Limits.{comma}
 use Rattle.calculus.specs.Tools.{◌>>=◌}
 use Rattle.format.specs.Lines.{skip, numeral, fields}
 use Rattle.calculus.proofs.Basic.{bind_assoc}
+use Rattle.std.specs.Prelude as P
+use Rattle.std.specs.Prelude.{Some, None}
 use Rattle.read_fields.specs.declared.Cursor as C
-use Rattle.read_fields.specs.declared.Skipped as S
-use Rattle.read_fields.specs.declared.Skipped.TheVariants as skips
-use Rattle.read_fields.specs.declared.Number as N
-use Rattle.read_fields.specs.declared.Number.TheVariants as numbers
 use Rattle.read_fields.specs.Views.{as_skipped, as_number, as_field}
 use Rattle.read_fields.proofs.Bytes.{past, other}
 
-module _ (bound : ℕ) (s bs : List ℕ) (r : S.Skipped) (e : as_skipped s r ≡ skip comma bs) where
-  pub field_past : (c : C.Cursor) → r ≡ skips.Past c → {o : Option (ℕ × List ℕ)} → o ≡ numeral bound (drop c.at s) → o ≡ as_field bound bs
+module _ (bound : ℕ) (s bs : List ℕ) (r : P.Option C.Cursor) (e : as_skipped s r ≡ skip comma bs) where
+  pub field_past : (c : C.Cursor) → r ≡ Some c → {o : Option (ℕ × List ℕ)} → o ≡ numeral bound (drop c.at s) → o ≡ as_field bound bs
   field_past c p q = q ∙ ap (λ t. t >>= λ cs. numeral bound cs) (past s r c p e)
 
-  pub field_other : r ≡ skips.Other → none ≡ as_field bound bs
+  pub field_other : r ≡ None → none ≡ as_field bound bs
   field_other p = ap (λ t. t >>= λ cs. numeral bound cs) (other s r p e)
 
-module _ (s : List ℕ) {o : Option (ℕ × List ℕ)} {r : N.Number} where
-  pub value : {n : ℕ} {c : C.Cursor} → r ≡ numbers.Value n c → as_number s r ≡ o → o ≡ some (n, drop c.at s)
+module _ (s : List ℕ) {o : Option (ℕ × List ℕ)} {r : P.Option (ℕ × C.Cursor)} where
+  pub value : {n : ℕ} {c : C.Cursor} → r ≡ Some (n, c) → as_number s r ≡ o → o ≡ some (n, drop c.at s)
   value p e = sym e ∙ ap (as_number s) p
 
-  pub wrong : r ≡ numbers.Wrong → as_number s r ≡ o → o ≡ none
+  pub wrong : r ≡ None → as_number s r ≡ o → o ≡ none
   wrong p e = sym e ∙ ap (as_number s) p
 
 -- ---- the fields one by one

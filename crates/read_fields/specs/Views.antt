@@ -1,27 +1,26 @@
 -- What the answers of the cursor's methods mean, as the definitions of the model have it: a number and the bytes behind it, or nothing;
 -- and where a line ends.
 use Rattle.std.specs.Prelude.{ℕ, ◌-◌, ◌≤◌, ◌<◌, ◌≡◌, cond, List, [], ◌∷◌, eqb, length, take, drop}
+use Rattle.std.specs.Prelude as P
+use Rattle.std.specs.Prelude.{Some, None}
 use Rattle.std.proofs.Math.Option.{Option, none, some}
 use Rattle.limits.specs.Limits.{line_feed, carriage_return, comma, digit_zero}
 use Rattle.calculus.specs.Tools.{◌>>=◌, guard}
 use Rattle.format.specs.Lines.{lines, is_digit, skip, numeral, ended}
-use Rattle.read_fields.specs.declared.Skipped as S
-use Rattle.read_fields.specs.declared.Skipped.TheVariants as skips
-use Rattle.read_fields.specs.declared.Number as N
-use Rattle.read_fields.specs.declared.Number.TheVariants as numbers
+use Rattle.read_fields.specs.declared.Cursor as C
 
-abbrev pub as_skipped : List ℕ → S.Skipped → Option (List ℕ)
-as_skipped s (skips.Past c) = some (drop c.at s)
-as_skipped s skips.Other = none
+abbrev pub as_skipped : List ℕ → P.Option C.Cursor → Option (List ℕ)
+as_skipped s (Some c) = some (drop c.at s)
+as_skipped s None = none
 
 -- a cursor at the end of a line's text
-abbrev pub as_text : List ℕ → S.Skipped → Option (List ℕ)
-as_text s (skips.Past c) = some (take c.at s)
-as_text s skips.Other = none
+abbrev pub as_text : List ℕ → P.Option C.Cursor → Option (List ℕ)
+as_text s (Some c) = some (take c.at s)
+as_text s None = none
 
-abbrev pub as_number : List ℕ → N.Number → Option (ℕ × List ℕ)
-as_number s (numbers.Value n c) = some (n, drop c.at s)
-as_number s numbers.Wrong = none
+abbrev pub as_number : List ℕ → P.Option (ℕ × C.Cursor) → Option (ℕ × List ℕ)
+as_number s (Some (n, c)) = some (n, drop c.at s)
+as_number s None = none
 
 -- the digit that a byte is, 10 where it is none
 abbrev pub digit_of : ℕ → ℕ

@@ -11,12 +11,6 @@ use format::Kind;
 // The five line forms, T, P, I, C, L: the letter's code, then the number of fields after it.
 pub const FORMS: [u8; 10] = [84, 3, 80, 3, 73, 2, 67, 2, 76, 3];
 
-#[derive(Clone, Copy)]
-pub enum Letter {
-    Of(Kind),
-    Unknown,
-}
-
 // The letters of the table, and the numbers of fields.
 const T: u8 = FORMS[0];
 
@@ -65,15 +59,15 @@ pub fn fields_of(k: Kind) -> u8
 }
 
 // The kind whose letter has this code.
-pub fn kind_of(b: u8) -> Letter
+pub fn kind_of(b: u8) -> Option<Kind>
     ensures { as_letter result ≡ kind_of b }
 {
     match b {
-        T => Letter::Of(Kind::Type),
-        P => Letter::Of(Kind::Pattern),
-        I => Letter::Of(Kind::Iso),
-        C => Letter::Of(Kind::Clause),
-        L => Letter::Of(Kind::Let),
-        _ => Letter::Unknown,
+        T => Some(Kind::Type),
+        P => Some(Kind::Pattern),
+        I => Some(Kind::Iso),
+        C => Some(Kind::Clause),
+        L => Some(Kind::Let),
+        _ => None,
     }
 }

@@ -32,20 +32,14 @@ fn in_order(stage: usize, k: Kind) -> bool
 fn idle(a: usize, b: usize) -> bool
     ensures { result ≡ (eqb a 0 && eqb b 0) }
 {
-    if a == 0 {
-        return b == 0;
-    }
-    false
+    a == 0 && b == 0
 }
 
 // Whether the fields of a variable are a number below 32 and an idle one.
 fn variable_fields(a: usize, b: usize) -> bool
     ensures { result ≡ (ltb a variables && eqb b 0) }
 {
-    if a < VARIABLES {
-        return b == 0;
-    }
-    false
+    a < VARIABLES && b == 0
 }
 
 fn type_fields(kind: usize, a: usize, b: usize) -> bool
@@ -53,8 +47,7 @@ fn type_fields(kind: usize, a: usize, b: usize) -> bool
 {
     match kind {
         TYPE_UNIT => idle(a, b),
-        SUM => true,
-        PRODUCT => true,
+        SUM | PRODUCT => true,
         LIST => b == 0,
         _ => false,
     }
@@ -64,13 +57,10 @@ fn pattern_fields(kind: usize, a: usize, b: usize) -> bool
     ensures { result ≡ pattern_fields kind a b }
 {
     match kind {
-        UNIT => idle(a, b),
+        UNIT | EMPTY => idle(a, b),
         VARIABLE => variable_fields(a, b),
-        LEFT => b == 0,
-        RIGHT => b == 0,
-        PAIR => true,
-        EMPTY => idle(a, b),
-        ELEMENT => true,
+        LEFT | RIGHT => b == 0,
+        PAIR | ELEMENT => true,
         _ => false,
     }
 }
@@ -83,9 +73,7 @@ fn fields_fit(r: Row) -> bool
     match k {
         Kind::Type => type_fields(r.x, r.y, r.z),
         Kind::Pattern => pattern_fields(r.x, r.y, r.z),
-        Kind::Iso => true,
-        Kind::Clause => true,
-        Kind::Let => true,
+        Kind::Iso | Kind::Clause | Kind::Let => true,
     }
 }
 
@@ -93,10 +81,7 @@ fn fields_fit(r: Row) -> bool
 fn both_below(a: usize, b: usize, n: usize) -> bool
     ensures { result ≡ (ltb a n && ltb b n) }
 {
-    if a < n {
-        return b < n;
-    }
-    false
+    a < n && b < n
 }
 
 fn type_names(n: usize, kind: usize, a: usize, b: usize) -> bool
@@ -123,10 +108,7 @@ fn pattern_names(n: usize, kind: usize, a: usize, b: usize) -> bool
 fn let_names(patterns: usize, isos: usize, p: usize, i: usize, q: usize) -> bool
     ensures { result ≡ (ltb p patterns && ltb q patterns && ltb i isos) }
 {
-    if both_below(p, q, patterns) {
-        return i < isos;
-    }
-    false
+    both_below(p, q, patterns) && i < isos
 }
 
 // Whether each named line stands earlier in the file.
@@ -144,21 +126,21 @@ fn names_stand(c: Seen, r: Row) -> bool
 }
 
 // The lowest of 4 to 7, or nothing.
-pub fn judge(c: Seen, t: &[u16], g: &[u8], r: Row) -> Refusal
+pub fn judge(c: Seen, t: &[u16], g: &[u8], r: Row) -> Option<Refusal>
     ensures { (s : SeenOf) → Weighed t.now g.now c s → refusal_view result ≡ judge_of s (row_view r) }
 {
     let k = r.kind;
-    if in_order(c.stage, k) {
-        if fields_fit(r) {
-            if names_stand(c, r) {
-                if within_ceilings(c, t, g, r) {
-                    return Refusal::Nothing;
-                }
-                return Refusal::Ceiling(k);
-            }
-            return Refusal::BadName(k);
-        }
-        return Refusal::BadField(k);
+    if !in_order(c.stage, k) {
+        return Some(Refusal::Misplaced(k));
     }
-    Refusal::Misplaced(k)
+    if !fields_fit(r) {
+        return Some(Refusal::BadField(k));
+    }
+    if !names_stand(c, r) {
+        return Some(Refusal::BadName(k));
+    }
+    if !within_ceilings(c, t, g, r) {
+        return Some(Refusal::Ceiling(k));
+    }
+    None
 }

@@ -1,4 +1,5 @@
 -- A whole file, line by line: the rows so far in front of what the rest reads as, the table that holds them, and what they tell.
+use Rattle.std.specs.Prelude.{Option as CodeOption, None, Some}
 use Prim.Native.Nat.{ℕ, suc, ◌+◌, ◌*◌, ◌<◌, ◌≤◌}
 use native.Mathlib.Numerals.{add-one}
 use native.Mathlib.Omega.{arith}
@@ -15,7 +16,6 @@ use Rattle.format.specs.Table.{numbers, row_size, table_of}
 use Rattle.format.specs.Judge.{Seen, start, judge, after, after_all, Reading, rows, faulty, with_row, read_from}
 use Rattle.format.specs.declared.Row as R
 use Rattle.format.specs.declared.Refusal as F
-use Rattle.format.specs.declared.Refusal.TheVariants as refusals
 use Rattle.format.specs.Code.{kind_view, row_view, refusal_view}
 use Rattle.format.proofs.Passing.{Passes, done, judge_fit, passes_append}
 use Rattle.format.specs.Judge.{next as one_more}
@@ -26,8 +26,7 @@ use Rattle.read_fields.specs.declared.Cursor as P
 use Rattle.table_trees.proofs.Unfolding.{cell_within}
 use Rattle.read_ceilings.specs.Reckoned.{SizeTold, TagsKept}
 use Rattle.read_seen.specs.declared.Seen as C
-use Rattle.read_lines.specs.declared.read.Judged as J
-use Rattle.read_lines.specs.declared.read.Judged.TheVariants as judged
+use Rattle.std.specs.Prelude.{Result, Ok, Err}
 use Rattle.read_seen.specs.Told.{start_seen, seen_after, SmallCounts, TagsAt, Told, Weighed}
 use Rattle.read_lines.specs.Reads.{passes, refused, as_judged, judged_row, judged_form, judged_line, ahead, passing, refusal_in, line_in, rows_over, Behind, JudgedAt, LineSays, ReadSays}
 use Rattle.read_lines.proofs.Keeping.{counts_small, told_start, told_kept}
@@ -164,7 +163,7 @@ module _ {s t₀ t g : List ℕ} {at n : ℕ} {c : C.Seen} (d : SoFar s t₀ t g
       }
 
   -- where the rows so far are all that pass
-  ends_here : passing (after_all start d.file) (lines (drop at s)) ≡ [] → (x : F.Refusal) (p : ℕ) → refusal_view x ≡ refusal_in (read_from start 1 (lines s))
+  ends_here : passing (after_all start d.file) (lines (drop at s)) ≡ [] → (x : CodeOption F.Refusal) (p : ℕ) → refusal_view x ≡ refusal_in (read_from start 1 (lines s))
       → p ≡ line_in (read_from start 1 (lines s)) → ReadSays s t₀ t (record { refusal = x; place = p; seen = c; lines = n })
   ends_here e x p ex ep =
       let all : passing start (lines s) ≡ d.file = d.front ∙ ap (λ rs. d.file ++ rs) e ∙ append-nil d.file in
@@ -177,15 +176,15 @@ module _ {s t₀ t g : List ℕ} {at n : ℕ} {c : C.Seen} (d : SoFar s t₀ t g
       }
 
   -- at the end of the file
-  pub so_far_end : length s ≤ at → ReadSays s t₀ t (record { refusal = refusals.Nothing; place = 0; seen = c; lines = n })
+  pub so_far_end : length s ≤ at → ReadSays s t₀ t (record { refusal = None; place = 0; seen = c; lines = n })
   so_far_end h =
       let none_left = drop_of_length-le s h in
       let r : read_from start 1 (lines s) ≡ rows d.file =
       d.reads ∙ ap (λ bs. in_front d.file (read_from (after_all start d.file) (suc n) (lines bs))) none_left ∙ front_rows d.file in
-      ends_here (ap (λ bs. passing (after_all start d.file) (lines bs)) none_left) refusals.Nothing 0 (ap refusal_in (sym r)) (ap line_in (sym r))
+      ends_here (ap (λ bs. passing (after_all start d.file) (lines bs)) none_left) None 0 (ap refusal_in (sym r)) (ap line_in (sym r))
 
   -- a line more, with the verdict j
-  module _ (inside : at < length s) (j : J.Judged) (says : LineSays t g c s at j) where
+  module _ (inside : at < length s) (j : Result (R.Row × P.Cursor) F.Refusal) (says : LineSays t g c s at j) where
     now_told : Seen
     now_told = after_all start d.file
 
@@ -201,7 +200,7 @@ module _ {s t₀ t g : List ℕ} {at n : ℕ} {c : C.Seen} (d : SoFar s t₀ t g
     unfolding now_told
     next_reads = d.reads ∙ ap (λ ls. in_front d.file (read_from (after_all start d.file) (suc n) ls)) here.splits
 
-    module _ (r : R.Row) (next : P.Cursor) (good : j ≡ judged.Good r next) where
+    module _ (r : R.Row) (next : P.Cursor) (good : j ≡ Ok (r, next)) where
       others_are : here.others ≡ lines (drop next.at s)
       others_are = subst (λ k. Behind s k here.others) good here.behind
 
@@ -284,12 +283,12 @@ module _ {s t₀ t g : List ℕ} {at n : ℕ} {c : C.Seen} (d : SoFar s t₀ t g
           }
 
     -- the line is refused
-    pub so_far_refused : (f : F.Refusal) → j ≡ judged.Bad f → ReadSays s t₀ t (record { refusal = f; place = n + 1; seen = c; lines = n })
+    pub so_far_refused : (f : F.Refusal) → j ≡ Err f → ReadSays s t₀ t (record { refusal = Some f; place = n + 1; seen = c; lines = n })
     unfolding now_told
     so_far_refused f bad =
         let m : Seen = after_all start d.file in
         let v = sym (ap as_judged bad) ∙ here.says in
-        let (k, p, q) = read_bad m (suc n) (refusal_view f) here.line here.others v in
+        let (k, p, q) = read_bad m (suc n) (refusal_view (Some f)) here.line here.others v in
         let r : read_from start 1 (lines s) ≡ faulty k (suc n) = next_reads ∙ ap (in_front d.file) q ∙ front_faulty d.file k (suc n) in
-        ends_here (ap (passing m) here.splits ∙ passing_bad m (refusal_view f) here.line here.others v) f (n + 1)
+        ends_here (ap (passing m) here.splits ∙ passing_bad m (refusal_view (Some f)) here.line here.others v) (Some f) (n + 1)
         (p ∙ ap refusal_in (sym r)) (add-one n ∙ ap line_in (sym r))

@@ -1,16 +1,18 @@
 -- What reading a line and reading a file give, as the model's `read_from` has it.
 use Rattle.std.specs.Prelude.{ℕ, ◌*◌, ◌<◌, ◌≡◌, List, [], ◌∷◌, ◌++◌, length, drop}
+use Rattle.std.specs.Prelude.{Result, Ok, Err}
 use Rattle.std.proofs.Math.Option.{Option, none, some}
 use Rattle.limits.specs.Limits.{row_width}
 use Rattle.calculus.specs.Refusals.{Refusal, bad_line}
 use Rattle.format.specs.Lines.{Row, row_of, lines}
 use Rattle.format.specs.Table.{table_of}
 use Rattle.format.specs.Judge.{Seen, start, judge, after, after_all, Reading, rows, faulty, read_from}
-use Rattle.format.specs.Code.{row_view, refusal_view}
+use Rattle.format.specs.Code.{row_view, fault_view, refusal_view}
+use Rattle.format.specs.declared.Row as T
+use Rattle.format.specs.declared.Refusal as F
 use Rattle.read_seen.specs.declared.Seen as C
 use Rattle.read_seen.specs.Told.{Told, Weighed}
-use Rattle.read_lines.specs.declared.read.Judged as J
-use Rattle.read_lines.specs.declared.read.Judged.TheVariants as judged
+use Rattle.read_fields.specs.declared.Cursor as P
 use Rattle.read_lines.specs.declared.read.Read as R
 
 -- a row that passes, or the refusal of its line
@@ -18,9 +20,9 @@ pub data Verdict : Type 0 where
   passes : Row → Verdict
   refused : Option Refusal → Verdict
 
-abbrev pub as_judged : J.Judged → Verdict
-as_judged (judged.Good r c) = passes (row_view r)
-as_judged (judged.Bad f) = refused (refusal_view f)
+abbrev pub as_judged : Result (T.Row × P.Cursor) F.Refusal → Verdict
+as_judged (Ok (r, c)) = passes (row_view r)
+as_judged (Err f) = refused (some (fault_view f))
 
 abbrev pub judged_row : Row → Option Refusal → Verdict
 judged_row r none = passes r
@@ -35,19 +37,19 @@ abbrev pub judged_line : Seen → List ℕ → Verdict
 judged_line s l = judged_form s (row_of l)
 
 -- the lines behind one that passes are those from the place that is given
-abbrev pub Behind : List ℕ → J.Judged → List (List ℕ) → Type 0
-Behind s (judged.Good r c) ls = ls ≡ lines (drop c.at s)
-Behind s (judged.Bad f) ls = Unit {0}
+abbrev pub Behind : List ℕ → Result (T.Row × P.Cursor) F.Refusal → List (List ℕ) → Type 0
+Behind s (Ok (r, c)) ls = ls ≡ lines (drop c.at s)
+Behind s (Err f) ls = Unit {0}
 
 -- the line that begins at a place, below the rows that m tells of
-pub record JudgedAt (s : List ℕ) (at : ℕ) (m : Seen) (j : J.Judged) : Type 0 where
+pub record JudgedAt (s : List ℕ) (at : ℕ) (m : Seen) (j : Result (T.Row × P.Cursor) F.Refusal) : Type 0 where
   pub line : List ℕ
   pub others : List (List ℕ)
   pub splits : lines (drop at s) ≡ line ∷ others
   pub says : as_judged j ≡ judged_line m line
   pub behind : Behind s j others
 
-abbrev pub LineSays : List ℕ → List ℕ → C.Seen → List ℕ → ℕ → J.Judged → Type 0
+abbrev pub LineSays : List ℕ → List ℕ → C.Seen → List ℕ → ℕ → Result (T.Row × P.Cursor) F.Refusal → Type 0
 LineSays t g c s at j = (m : Seen) → Weighed t g c m → at < length s → JudgedAt s at m j
 
 -- the rows of the lines before the first that is refused; of all lines where none is

@@ -10,45 +10,36 @@ ghost use Rattle.read_lines.specs.Reads.{LineSays, ReadSays};
 
 use area_words::{narrow, word_of};
 use codes::SIZE;
-use format::{Refusal, Row, is_refused};
+use format::{Refusal, Row};
 use limits::{MAX_PATTERNS, ROW_WIDTH};
 use read_ceilings::{keep_tags, row_size};
 use read_fields::Cursor;
 use read_forms::letter_of;
 use read_judge::judge;
-use read_rows::{Line, row_at};
+use read_rows::row_at;
 use read_seen::{Seen, nothing_seen, seen_after};
-
-// A row that passes and where the next line begins, or the line's refusal.
-#[derive(Clone, Copy)]
-pub enum Judged {
-    Good(Row, Cursor),
-    Bad(Refusal),
-}
 
 // The file's rows are in the table, or its first refusal and the line; what the rows tell, and how many
 // there are.
 #[derive(Clone, Copy)]
 pub struct Read {
-    pub refusal: Refusal,
+    pub refusal: Option<Refusal>,
     pub place: usize,
     pub seen: Seen,
     pub lines: usize,
 }
 
-// The lowest of 3 to 7 of the line that begins at a place, below the rows that `c` tells of.
-fn judge_line(s: &[u8], at: usize, c: Seen, t: &[u16], g: &[u8]) -> Judged
+// The row of the line that begins at a place, below the rows that `c` tells of, and where the next line begins; or the
+// lowest of 3 to 7 of the line.
+fn judge_line(s: &[u8], at: usize, c: Seen, t: &[u16], g: &[u8]) -> Result<(Row, Cursor), Refusal>
     ensures { LineSays t.now g.now c s.now at result }
 {
-    match row_at(s, at) {
-        Line::Form(r, next) => {
-            let f = judge(c, t, g, r);
-            if is_refused(f) {
-                return Judged::Bad(f);
-            }
-            Judged::Good(r, next)
-        }
-        Line::Bad => Judged::Bad(Refusal::BadLine),
+    let Some((r, next)) = row_at(s, at) else {
+        return Err(Refusal::BadLine);
+    };
+    match judge(c, t, g, r) {
+        Some(f) => Err(f),
+        None => Ok((r, next)),
     }
 }
 
@@ -77,7 +68,7 @@ fn read_rows(s: &[u8], t: &mut [u16], g: &mut [u8]) -> Read
     let mut seen = nothing_seen();
     while at < s.len() {
         match judge_line(s, at, seen, t, g) {
-            Judged::Good(r, next) => {
+            Ok((r, next)) => {
                 let k = r.kind;
                 let size = row_size(seen, t, r);
                 put_row(t, n, r, size);
@@ -86,9 +77,9 @@ fn read_rows(s: &[u8], t: &mut [u16], g: &mut [u8]) -> Read
                 n += 1;
                 at = next.at;
             }
-            Judged::Bad(f) => {
+            Err(f) => {
                 return Read {
-                    refusal: f,
+                    refusal: Some(f),
                     place: n + 1,
                     seen: seen,
                     lines: n,
@@ -97,7 +88,7 @@ fn read_rows(s: &[u8], t: &mut [u16], g: &mut [u8]) -> Read
         }
     }
     Read {
-        refusal: Refusal::Nothing,
+        refusal: None,
         place: 0,
         seen: seen,
         lines: n,

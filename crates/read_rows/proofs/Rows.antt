@@ -12,8 +12,8 @@ use Rattle.format.specs.Lines.{Row, field_count, kind_of, fields, field_bounds, 
 use Rattle.format.specs.declared.Kind as K
 use Rattle.format.specs.Code.{kind_view}
 use Rattle.calculus.proofs.Basic.{from_byte}
-use Rattle.read_forms.specs.declared.Letter as L
-use Rattle.read_forms.specs.declared.Letter.TheVariants as letters
+use Rattle.std.specs.Prelude as P
+use Rattle.std.specs.Prelude.{Some, None}
 use Rattle.read_forms.specs.Views.{as_letter}
 use Rattle.read_fields.specs.Views.{as_field, past_ending}
 use Rattle.read_fields.proofs.Fields.{onto, fields_some, fields_none}
@@ -97,13 +97,13 @@ module _ (k : Kind) (bs : List ℕ) where
 
 -- ---- the letter
 
-module _ (s : List ℕ) (at : ℕ) (h : at < length s) {r : L.Letter} (e : as_letter r ≡ kind_of (get_or s at 0)) where
-  pub row_known : (k : K.Kind) → r ≡ letters.Of k → behind_letter (kind_view k) (drop (at + 1) s) ≡ row_from (drop at s)
+module _ (s : List ℕ) (at : ℕ) (h : at < length s) {r : P.Option K.Kind} (e : as_letter r ≡ kind_of (get_or s at 0)) where
+  pub row_known : (k : K.Kind) → r ≡ Some k → behind_letter (kind_view k) (drop (at + 1) s) ≡ row_from (drop at s)
   row_known k p =
       ap (λ o. o >>= λ j. behind_letter j (drop (at + 1) s)) (sym (ap as_letter p) ∙ e)
       ∙ ap row_from (sym (from_byte s at h))
 
-  pub row_unknown : r ≡ letters.Unknown → none ≡ row_from (drop at s)
+  pub row_unknown : r ≡ None → none ≡ row_from (drop at s)
   row_unknown p =
       ap (λ o. o >>= λ j. behind_letter j (drop (at + 1) s)) (sym (ap as_letter p) ∙ e)
       ∙ ap row_from (sym (from_byte s at h))

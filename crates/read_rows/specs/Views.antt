@@ -1,18 +1,20 @@
 -- What the answer about a line means, and the parts of it behind the letter. Rows are read where they stand among the bytes of a file: the row, and the bytes
 -- behind its line.
 use Rattle.std.specs.Prelude.{ℕ, List, [], ◌∷◌, drop}
+use Rattle.std.specs.Prelude as P
+use Rattle.std.specs.Prelude.{Some, None}
 use Rattle.std.proofs.Math.Option.{Option, none, some}
 use Rattle.calculus.specs.Tools.{◌>>=◌}
 use Rattle.calculus.specs.Refusals.{Kind}
 use Rattle.format.specs.Lines.{Row, kind_of, fields, field_bounds, to_row}
 use Rattle.format.specs.Code.{row_view}
+use Rattle.format.specs.declared.Row as R
+use Rattle.read_fields.specs.declared.Cursor as C
 use Rattle.read_fields.specs.Views.{past_ending}
-use Rattle.read_rows.specs.declared.Line as R
-use Rattle.read_rows.specs.declared.Line.TheVariants as rows
 
-abbrev pub as_line : List ℕ → R.Line → Option (Row × List ℕ)
-as_line s (rows.Form r c) = some (row_view r, drop c.at s)
-as_line s rows.Bad = none
+abbrev pub as_line : List ℕ → P.Option (R.Row × C.Cursor) → Option (Row × List ℕ)
+as_line s (Some (r, c)) = some (row_view r, drop c.at s)
+as_line s None = none
 
 -- the row of a kind and three fields, where the line's ending stands here
 abbrev pub closed : Kind → ℕ → ℕ → ℕ → List ℕ → Option (Row × List ℕ)

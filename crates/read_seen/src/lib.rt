@@ -41,42 +41,30 @@ pub fn seen_after(c: Seen, k: Kind) -> Seen
         Kind::Type => Seen {
             stage: 0,
             types: c.types + 1,
-            patterns: c.patterns,
-            isos: c.isos,
-            clauses: c.clauses,
-            lets: c.lets,
+            ..c
         },
         Kind::Pattern => Seen {
             stage: 1,
-            types: c.types,
             patterns: c.patterns + 1,
-            isos: c.isos,
-            clauses: c.clauses,
-            lets: c.lets,
+            ..c
         },
         Kind::Iso => Seen {
             stage: 2,
-            types: c.types,
-            patterns: c.patterns,
             isos: c.isos + 1,
             clauses: 0,
             lets: 0,
+            ..c
         },
         Kind::Clause => Seen {
             stage: 3,
-            types: c.types,
-            patterns: c.patterns,
-            isos: c.isos,
             clauses: c.clauses + 1,
             lets: 0,
+            ..c
         },
         Kind::Let => Seen {
             stage: 4,
-            types: c.types,
-            patterns: c.patterns,
-            isos: c.isos,
-            clauses: c.clauses,
             lets: c.lets + 1,
+            ..c
         },
     }
 }

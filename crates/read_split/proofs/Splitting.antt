@@ -1,5 +1,5 @@
 -- How many lines some bytes have: as many as line feeds, and one more where bytes follow the last of them.
-use Prim.Native.Nat.{ℕ, zero, suc, ◌+◌, ◌-◌, ◌<◌, ◌≤◌}
+use Prim.Native.Nat.{ℕ, zero, suc, ◌+◌, ◌-◌, ◌<◌, ◌≤◌, min}
 use native.Mathlib.Numerals.{add-one}
 use native.Mathlib.Omega.{arith}
 use mathlib.Core.Path.{◌≡◌, refl, sym, ap, ◌∙◌}
@@ -7,8 +7,8 @@ use mathlib.Core.Bool.{true, false, cond}
 use mathlib.Core.Logic.{◌⊎◌, inl, inr}
 use mathlib.Core.List.{List, [], ◌∷◌, ◌++◌}
 use lib.Dec.{eqb}
-use lib.ListN.{length, get_or, take, drop, drop_of_length-le, take-append-drop, length-take}
-use lib.Seq.{drop-cons, drop-drop}
+use lib.ListN.{length, get_or, drop, drop_of_length-le, length-append}
+use lib.Seq.{drop-cons}
 use Rattle.limits.specs.Limits.{line_feed}
 use Rattle.format.specs.Lines.{lines, onto_first}
 use Rattle.calculus.proofs.Basic.{bool_cases, eq_eqb, not_eqb}
@@ -55,16 +55,36 @@ feeds_few : (xs : List ℕ) → feeds_in xs ≤ length xs
 feeds_few [] = omega arith
 feeds_few (x ∷ xs) = let h = feeds_few xs in let l = feed_few x in omega arith
 
-pub counted_block : {s : List ℕ} {i n m end : ℕ} → Counted s i n → i < end → end ≤ length s → m ≡ feeds_in (take (end - i) (drop i s)) → Counted s end (n + m)
-counted_block {s} {i} {n} {m} {end} c h l e =
-    let k : ℕ = end - i in
-    let parts : feeds_in (drop i s) ≡ feeds_in (take k (drop i s)) + feeds_in (drop k (drop i s)) =
-    ap feeds_in (sym (take-append-drop k (drop i s))) ∙ feeds_append (take k (drop i s)) (drop k (drop i s)) in
-    let place : i + k ≡ end = omega arith in
-    let behind : feeds_in (drop k (drop i s)) ≡ feeds_in (drop end s) = ap feeds_in (drop-drop k i s ∙ ap (λ x. drop x s) place) in
-    let few = feeds_few (take k (drop i s)) in
-    let long = length-take k (drop i s) in
-    record { all = omega (arith, c.all); few = omega (arith, c.few) }
+-- what the loop over blocks knows: n line feeds stand before the bytes that are left, which come in blocks of `size`
+pub record CountedTo (s rest : List ℕ) (size n : ℕ) : Type 0 where
+  pub block : size ≡ 192
+  pub all : n + feeds_in rest ≡ feeds_in s
+  pub few : n + length rest ≤ length s
+
+pub counted_all : (s : List ℕ) {rest : List ℕ} {size : ℕ} → rest ≡ s → size ≡ 192 → CountedTo s rest size 0
+counted_all s e h =
+    let f = ap feeds_in e in
+    let l = ap length e in
+    record { block = h; all = omega arith; few = omega arith }
+
+module _ {s rest : List ℕ} {size n : ℕ} (c : CountedTo s rest size n) where
+  -- a block more
+  module _ (block rest' : List ℕ) {m m' : ℕ} (split : rest ≡ block ++ rest') (w : m' ≡ m) (e : m ≡ feeds_in block) where
+    pub counted_few : n + m' ≤ length s
+    counted_few =
+        let l = ap length split ∙ length-append block rest' in
+        let f = feeds_few block in
+        omega (arith, c.few)
+
+    pub counted_block : {size' : ℕ} → size' ≡ size → CountedTo s rest' size' (n + m')
+    counted_block h =
+        let l = ap length split ∙ length-append block rest' in
+        let p = ap feeds_in split ∙ feeds_append block rest' in
+        let f = feeds_few block in
+        record { block = h ∙ c.block; all = omega (arith, c.all); few = omega (arith, c.few) }
+
+  pub counted_whole : length rest ≡ 0 → n ≡ feeds_in s
+  counted_whole h = let f = feeds_few rest in omega (arith, c.all)
 
 pub counted_end : {s : List ℕ} {i n : ℕ} → Counted s i n → length s ≤ i → n ≡ feeds_in s
 counted_end {s} {i} {n} c h =
@@ -135,7 +155,3 @@ module _ (s : List ℕ) (some_there : length s ≡ 0 → ⊥) {n : ℕ} (feeds :
 
   pub counted_open : (get_or s (length s - 1) 0 ≡ line_feed → ⊥) → (n + 1 ≡ length (lines s)) × (n + 1 ≤ length s)
   counted_open h = let (p, q) = lines_open s (length s - 1) before_last h in let b = before_last in (omega arith, omega arith)
-
--- a block is no longer than it is cut
-pub block_long : (s : List ℕ) (i end : ℕ) → end - i ≤ 192 → length (take (end - i) (drop i s)) ≤ 192
-block_long s i end h = let l = length-take (end - i) (drop i s) in omega arith

@@ -15,10 +15,7 @@ const BLOCK: usize = 192;
 fn feed(b: u8) -> u8
     ensures { result ≡ feed_of b }
 {
-    if b == LINE_FEED {
-        return 1;
-    }
-    0
+    u8::from(b == LINE_FEED)
 }
 
 // How many line feeds a block has.
@@ -27,23 +24,10 @@ fn block_feeds(s: &[u8]) -> u8
     ensures { result ≡ feeds_in s.now }
 {
     let mut n: u8 = 0;
-    let mut i: usize = 0;
-    while i < s.len() {
-        n += feed(s[i]);
-        i += 1;
+    for b in s {
+        n += feed(*b);
     }
     n
-}
-
-// Where the block from a place on ends.
-fn block_end(i: usize, len: usize) -> usize
-    requires { i < len }
-    ensures { (i < result) × (result ≤ len) × (result - i ≤ 192) }
-{
-    if BLOCK < len - i {
-        return i + BLOCK;
-    }
-    len
 }
 
 // How many line feeds there are, block by block.
@@ -51,11 +35,8 @@ fn count_feeds(s: &[u8]) -> usize
     ensures { result ≡ feeds_in s.now }
 {
     let mut n: usize = 0;
-    let mut i: usize = 0;
-    while i < s.len() {
-        let end = block_end(i, s.len());
-        n += wide_byte(block_feeds(&s[i..end]));
-        i = end;
+    for block in s.chunks(BLOCK) {
+        n += wide_byte(block_feeds(block));
     }
     n
 }
@@ -65,12 +46,8 @@ pub fn count_lines(s: &[u8]) -> usize
     ensures { result ≡ length (lines s.now) }
 {
     let feeds = count_feeds(s);
-    let n = s.len();
-    if n == 0 {
-        return 0;
+    match s {
+        [] | [.., LINE_FEED] => feeds,
+        _ => feeds + 1,
     }
-    if s[n - 1] == LINE_FEED {
-        return feeds;
-    }
-    feeds + 1
 }

@@ -136,7 +136,7 @@ fn answer_end(
 }
 
 // Answers the input up to where the rest of it can change nothing. A proved loop has to end, so it counts
-// its turns down from a number that no run uses up.
+// its turns up to a number that no run reaches.
 fn answer_all(
     rt: &HostRuntime,
     file: &mut [u8],
@@ -149,8 +149,7 @@ fn answer_all(
     requires { Lent file.old line.old table.old work.old index.old out.old }
 {
     let mut desk = opened();
-    let mut turns = u64::MAX;
-    while turns > 0 {
+    for _turn in 0..u64::MAX {
         let p = answer_some(rt, desk, file, line, table, work, index, out);
         match p {
             Progress::More(d) => desk = d,
@@ -160,7 +159,6 @@ fn answer_all(
             }
             Progress::Failed => return,
         }
-        turns -= 1;
     }
     endless(rt);
 }

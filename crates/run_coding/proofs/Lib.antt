@@ -2,5 +2,3 @@
 pub mod Flattening
 -- The numbers for the P lines, line by line.
 pub mod Listing
--- What the number for a P line tells.
-pub mod Reading

@@ -1,22 +1,21 @@
 -- The numbers for the P lines, line by line.
-use Prim.Native.Nat.{ℕ, zero, suc, ◌+◌, ◌%◌, ◌-◌, ◌≤◌, ◌<◌}
+use Prim.Native.Nat.{ℕ, suc, ◌+◌, ◌%◌, ◌-◌, ◌≤◌, ◌<◌}
 use native.Mathlib.Omega.{arith}
 use mathlib.Core.Path.{◌≡◌, refl, sym, ap, ap₂, ◌∙◌, subst}
-use mathlib.Core.Bool.{Bool, true, false, cond}
+use mathlib.Core.Bool.{cond}
 use mathlib.Core.Logic.{◌⊎◌, inl, inr}
 use mathlib.Core.List.{List, [], ◌∷◌, ◌++◌, append_assoc}
 use lib.Dec.{ltb}
-use lib.ListN.{length, get_or, set, take, drop, length-append, length-set, length-drop, take-append-drop, get_or-eq_default}
-use lib.Seq.{sets, sets-eq, length-sets, length-take-le, take-take, take_at, drop_at, take-add, drop-append-le, take-set-lt, drop-set-lt, get_or-set_same, get_or-set_other, get_or-take, set_out}
+use lib.ListN.{length, get_or, set, take, drop, length-append, length-drop, take-append-drop}
+use lib.Seq.{sets, sets-eq, length-sets, length-take-le, take_at, drop_at, take-add, drop-append-le, take-set-lt, drop-set-lt, get_or-set_same, get_or-set_other, get_or-take}
 use borrow.Author.Tests.{lt-ltb, le-ltb}
+use Rattle.std.specs.Prelude.{Some, None}
 use Rattle.calculus.specs.Trees.{Pat, pvar}
 use Rattle.calculus.proofs.Basic.{le_or_lt}
-use Rattle.area_cells.proofs.Writing.{sets_append}
 use Rattle.table_trees.specs.Unfolding.{cell_of, pattern_of}
 use Rattle.table_trees.proofs.Unfolding.{pattern_var}
 use Rattle.run_flat.specs.Flat.{flat, stop, Stands}
-use Rattle.run_coding.specs.Coded.{entry_of, Entry, uncoded, variable, coded, Coded, NumberPut, Flattened, Listed, nothing, one, many, LineCoded}
-use Rattle.run_coding.proofs.Flattening.{put_none}
+use Rattle.run_coding.specs.Coded.{entry_of, Entry, uncoded, variable, coded, Coded, Stopped, Listed, nothing, one, many, LineCoded}
 
 -- ---- a flat pattern among more numbers
 
@@ -72,18 +71,12 @@ line_var t base j {k} {x} {v} {i} {at} {code} {code'} ek z ex ev ei e less long 
     go (inr h) g = one x h (sym g ∙ ev ∙ ap (λ b. cond b (suc x) 0) (lt-ltb x 32 h)) (pattern_var t base j (sym ek ∙ z) ∙ ap pvar (sym ex))
 
 -- no room: nothing before the place has changed
-pub line_none : (p : Pat) (j : ℕ) {i at end next : ℕ} {code c₁ c₂ code' : List ℕ} → Flattened p code c₁ at end → NumberPut c₁ c₂ end 128 next → (end ≡ 0 → c₂ ≡ c₁)
-    → i ≡ j + 1 → code' ≡ set c₂ i 0 → j < 1024 → 1025 ≤ length c₂ → LineCoded p j code code' at at
-line_none p j {i} {at} {end} {next} {code} {c₁} {c₂} {code'} f w still ei e less long =
+pub line_none : (p : Pat) (j : ℕ) {i at : ℕ} {code : List ℕ} (c₂ : List ℕ) {code' : List ℕ} → Stopped p code c₂ at None → i ≡ j + 1 → code' ≡ set c₂ i 0 → j < 1024 → 1025 ≤ length c₂
+    → LineCoded p j code code' at at
+line_none p j {i} {at} {code} c₂ {code'} f ei e less long =
     let up : i ≡ suc j = omega (arith, ei) in
     let e' : code' ≡ set c₂ (suc j) 0 = e ∙ ap (λ n. set c₂ n 0) up in
-    record { onward = omega arith; area = c₂; value = 0; before = go end refl; stored = e'; entry = nothing (sym (here c₂ (omega arith) e')) }
-  where
-    go : (n : ℕ) → n ≡ end → take at c₂ ≡ take at code
-    go zero z = ap (take at) (still (sym z)) ∙ f.before
-    go (suc n) z =
-        let pl = f.place (omega (arith, z)) in
-        sym (take-take at end c₂ (omega (arith, pl))) ∙ ap (take at) w.before ∙ take-take at end c₁ (omega (arith, pl)) ∙ f.before
+    record { onward = omega arith; area = c₂; value = 0; before = f; stored = e'; entry = nothing (sym (here c₂ (omega arith) e')) }
 
 -- the stored numbers, up to behind them
 taken : (l : List ℕ) (a : ℕ) (bs : List ℕ) → a + length bs ≤ length l → take (a + length bs) (sets l a bs) ≡ take a l ++ bs
@@ -92,38 +85,33 @@ taken l a bs h =
     let both = length-append (take a l) bs in
     ap (take (a + length bs)) (sets-eq bs l a h) ∙ take_at (take a l ++ bs) (drop (a + length bs) l) (a + length bs) (omega (arith, t, both))
 
-pub line_flat : (p : Pat) (j : ℕ) {i v at end next : ℕ} {code c₁ c₂ code' : List ℕ} → Flattened p code c₁ at end → NumberPut c₁ c₂ end 128 next → 0 < end → 0 < next
-    → i ≡ j + 1 → v ≡ at % 65536 → code' ≡ set c₂ i v → j < 1024 → 1025 ≤ at → length c₁ ≡ length code → LineCoded p j code code' at next
-line_flat p j {i} {v} {at} {end} {next} {code} {c₁} {c₂} {code'} f w z y ei ev e less low kept =
+pub line_flat : (p : Pat) (j : ℕ) {i v at next : ℕ} {code c₂ code' : List ℕ} → Stopped p code c₂ at (Some next) → i ≡ j + 1 → v ≡ at % 65536 → code' ≡ set c₂ i v → j < 1024 → 1025 ≤ at
+    → LineCoded p j code code' at next
+line_flat p j {i} {v} {at} {next} {code} {c₂} {code'} f ei ev e less low =
     let up : i ≡ suc j = omega (arith, ei) in
     let e' : code' ≡ set c₂ (suc j) v = e ∙ ap (λ n. set c₂ n v) up in
-    let pl = f.place z in
-    let pn = w.place y in
-    let near = f.near z in
-    let fits = w.fits y in
-    let is : v ≡ at = omega (arith, ev, near, pl) in
+    let there = f.0.place in
+    let near = f.0.near in
+    let fits = f.0.fits in
+    let is : v ≡ at = omega (arith, ev, near, there) in
     let bs : List ℕ = flat p ++ (128 ∷ []) in
     let long = length-append (flat p) (128 ∷ []) in
-    let there : next ≡ at + length bs = omega (arith, pn, pl, long) in
-    let whole : c₂ ≡ sets code at bs =
-    w.area y ∙ ap₂ (λ c n. set c n 128) (f.area z) pl ∙ sym (sets_append (flat p) (128 ∷ []) code at) in
-    let front : take next c₂ ≡ take at code ++ bs =
-    ap₂ take there whole ∙ taken code at bs (omega (arith, fits, there, kept)) in
-    let room = length-take-le at code (omega (arith, fits, there, kept)) in
-    let same_length = ap length (w.area y) ∙ length-set c₁ end 128 in
+    let front : take next c₂ ≡ take at code ++ bs = ap₂ take there f.0.area ∙ taken code at bs (omega (arith, fits, there)) in
+    let room = length-take-le at code (omega (arith, fits, there)) in
+    let same_length = ap length f.0.area ∙ length-sets code at bs in
     record {
-      onward = omega (arith, pn, pl);
+      onward = omega (arith, there);
       area = c₂;
       value = v;
-      before = sym (take-take at end c₂ (omega (arith, pl))) ∙ ap (take at) w.before ∙ take-take at end c₁ (omega (arith, pl)) ∙ f.before;
+      before = f.0.before;
       stored = e';
-      entry = subst (Listed code' next p) (here c₂ (omega (arith, same_length, fits, pn, pl)) e')
+      entry = subst (Listed code' next p) (here c₂ (omega (arith, same_length, fits, there, long)) e')
           (many (omega (arith, is))
           record {
             rest = [];
-            spells = ap₂ (λ n l. drop n (take next l)) is e' ∙ ap (drop at) (take-set-lt next c₂ (suc j) v (omega (arith, pn, pl)))
+            spells = ap₂ (λ n l. drop n (take next l)) is e' ∙ ap (drop at) (take-set-lt next c₂ (suc j) v (omega (arith, there, long)))
                 ∙ drop-set-lt at (take next c₂) (suc j) v (omega arith) ∙ ap (drop at) front ∙ drop_at (take at code) bs at room;
-            few = f.few z;
+            few = f.1;
           });
     }
 
@@ -134,9 +122,6 @@ pub record Listing (t : List ℕ) (base : ℕ) (code : List ℕ) (at j n : ℕ) 
   pub low : 1025 ≤ at
   pub below : j ≤ n
   pub each : (k : ℕ) → j ≤ k → k < n → Listed code at (pattern_of t base k) (get_or code (suc k) 0)
-
-pub listing_start : (t : List ℕ) (base : ℕ) (code : List ℕ) (n : ℕ) → Listing t base code 1025 n n
-listing_start t base code n = record { low = omega arith; below = omega arith; each = λ k h g. absurd (omega arith) }
 
 pub listing_next : {t : List ℕ} {base : ℕ} {code code' : List ℕ} {at next : ℕ} (j : ℕ) {i n : ℕ} → Listing t base code at i n → 0 < i → j ≡ i - 1
     → LineCoded (pattern_of t base j) j code code' at next → n ≤ 1024 → Listing t base code' next j n
@@ -156,17 +141,6 @@ listing_next {t} {base} {code} {code'} {at} {next} j {i} {n} l some' before c fe
         sym (get_or-take at code (suc k) 0 here') ∙ ap (λ x. get_or x (suc k) 0) (sym c.before) ∙ get_or-take at c.area (suc k) 0 here'
         ∙ sym (ap (λ x. get_or x (suc k) 0) c.stored ∙ get_or-set_other c.area (suc j) (suc k) c.value 0 (λ e. absurd (omega (arith, e, before, some', g)))) in
         listed_keeps c.area (suc j) c.value c.onward c.before c.stored (omega (arith, few, r, h)) l.low same (l.each k g r)
-
--- number 0 is 0: nothing is coded
-pub none_coded : (t : List ℕ) (base : ℕ) (code : List ℕ) {code' : List ℕ} {v : ℕ} → v ≡ 0 → code' ≡ set code 0 v → Coded t base code'
-none_coded t base code {code'} {v} z e = record { entries = λ j. uncoded (ap (λ n. cond (ltb j n) (get_or code' (suc j) 0) 0) (none code e) ∙ go j) }
-  where
-    none : (l : List ℕ) → code' ≡ set l 0 v → get_or code' 0 0 ≡ 0
-    none [] f = ap (λ l. get_or l 0 0) f
-    none (x ∷ xs) f = ap (λ l. get_or l 0 0) f ∙ z
-
-    go : (j : ℕ) → cond (ltb j 0) (get_or code' (suc j) 0) 0 ≡ 0
-    go j = ap (λ b. cond b (get_or code' (suc j) 0) 0) (le-ltb j 0 (omega arith))
 
 -- number 0 is the number of lines
 pub all_coded : (t : List ℕ) (base patterns : ℕ) {code code' : List ℕ} {at v n : ℕ} → Listing t base code at n patterns → n ≤ 0 → patterns ≤ 1024 → v ≡ patterns % 65536 → 1025 ≤ length code

@@ -1,13 +1,13 @@
 -- Flat patterns for the P lines of a table. Number 0 says for how many lines, number 1 + j what stands for line j: nothing, a variable, or the
 -- place of its flat pattern, behind all of these numbers.
-use Rattle.std.specs.Prelude.{ℕ, suc, ◌+◌, ◌%◌, ◌≤◌, ◌<◌, ◌≡◌, Bool, cond, List, ltb, length, get_or, set, take}
+use Rattle.std.specs.Prelude.{ℕ, suc, ◌+◌, ◌≤◌, ◌<◌, ◌≡◌, Bool, cond, List, [], ◌∷◌, ◌++◌, Option, Some, None, ltb, length, get_or, set, take}
 use Rattle.std.proofs.lemmas.List.Edits.{sets}
 use Rattle.limits.specs.Limits.{max_patterns, variables, word_bound}
 use Rattle.calculus.specs.Trees.{Pat, pvar, Val}
 use Rattle.calculus.specs.Letters.{letters}
 use Rattle.table_trees.specs.Unfolding.{pattern_of}
 use Rattle.run_values.specs.Texts.{At, alike, ranges}
-use Rattle.run_flat.specs.Flat.{flat, Few, Stands}
+use Rattle.run_flat.specs.Flat.{flat, Few, stop, Stands}
 
 -- the number for line j
 abbrev pub entry_of : List ℕ → ℕ → ℕ
@@ -28,22 +28,28 @@ pub record Coded (t : List ℕ) (base : ℕ) (code : List ℕ) : Type 0 where
 abbrev pub listed : ℕ
 listed = suc max_patterns
 
--- one number stored at a place; 0 where there is no room
-pub record NumberPut (code code' : List ℕ) (at v r : ℕ) : Type 0 where
+-- numbers stored one after the other from a place on, r being the place behind them
+pub record Stored (bs code code' : List ℕ) (at r : ℕ) : Type 0 where
   pub before : take at code' ≡ take at code
-  pub area : 0 < r → code' ≡ set code at v
-  pub place : 0 < r → r ≡ at + 1
-  pub fits : 0 < r → r ≤ length code
-  pub near : 0 < r → r < word_bound
+  pub area : code' ≡ sets code at bs
+  pub place : r ≡ at + length bs
+  pub fits : r ≤ length code
+  pub near : r < word_bound
 
--- a pattern's numbers, or 0 where there is no room
-pub record Flattened (p : Pat) (code code' : List ℕ) (at r : ℕ) : Type 0 where
-  pub before : take at code' ≡ take at code
-  pub area : 0 < r → code' ≡ sets code at (flat p)
-  pub place : 0 < r → r ≡ at + length (flat p)
-  pub fits : 0 < r → r ≤ length code
-  pub near : 0 < r → r < word_bound
-  pub few : 0 < r → Few p
+-- one number stored at a place, where there is room
+abbrev pub NumberPut : List ℕ → List ℕ → ℕ → ℕ → Option ℕ → Type 0
+NumberPut code code' at v None = take at code' ≡ take at code
+NumberPut code code' at v (Some r) = Stored (v ∷ []) code code' at r
+
+-- a pattern's numbers, where there is room
+abbrev pub Flattened : Pat → List ℕ → List ℕ → ℕ → Option ℕ → Type 0
+Flattened p code code' at None = take at code' ≡ take at code
+Flattened p code code' at (Some r) = Stored (flat p) code code' at r × Few p
+
+-- and the number behind its last one
+abbrev pub Stopped : Pat → List ℕ → List ℕ → ℕ → Option ℕ → Type 0
+Stopped p code code' at None = take at code' ≡ take at code
+Stopped p code code' at (Some r) = Stored (flat p ++ (stop ∷ [])) code code' at r × Few p
 
 -- what a line's number stands for, by the numbers before a place
 pub data Listed (code : List ℕ) (at : ℕ) (p : Pat) (d : ℕ) : Type 0 where

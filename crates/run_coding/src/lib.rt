@@ -4,21 +4,21 @@
 #![tactic(auto)]
 
 ghost use Rattle.std.specs.Prelude.{◌≡◌, cond, ℕ, suc, ◌+◌, ◌≤◌, ◌<◌, ltb, length, take, List};
-ghost use Rattle.run_flat.specs.Flat.{stop};
 ghost use Rattle.limits.specs.Limits.{variables, max_patterns, word_bound};
 ghost use Rattle.calculus.specs.Trees.{pvar};
 ghost use Rattle.area_cells.specs.Areas.{Writes};
 ghost use Rattle.table_trees.specs.Unfolding.{cell_of, smaller_of, pattern_of};
 ghost use Rattle.run_values.specs.Texts.{letter_for, Below, built};
-ghost use Rattle.run_coding.specs.Coded.{entry_of, listed, Coded, NumberPut, Flattened, LineCoded, MatchSays};
+ghost use Rattle.run_coding.specs.Coded.{entry_of, listed, Coded, NumberPut, Flattened, Stopped, LineCoded, MatchSays};
 
-use area_words::{narrow, store_word, wide, word_at, word_of};
+use area_cells::{item_at, store};
+use area_words::{narrow, wide, word_of};
 use codes::{ELEMENT, FIRST, KIND, LEFT, PAIR, RIGHT, SECOND, VARIABLE};
 use limits::{INDEX_LENGTH, MAX_PATTERNS, VARIABLES, WORD_BOUND};
 use run_flat::{STOP, build_flat, match_flat};
-use run_patterns::{build_at, build_var, match_at, put_range};
-use run_values::Upto;
-use table_trees::{pattern_cell, smaller};
+use run_patterns::{build_at, build_var, letter, match_at, put_range};
+use table_parts::pattern_part;
+use table_trees::pattern_cell;
 
 // The place behind the lines' numbers.
 pub const LISTED: usize = MAX_PATTERNS + 1;
@@ -33,77 +33,51 @@ pub const SHORT_AREA_LENGTH: usize = INDEX_LENGTH + LISTED + 1200;
 // A number of 16 bits names no place above this.
 const LAST_PLACE: usize = WORD_BOUND - 1;
 
-// The letter of a P line's kind; a number that is no kind has a unit's.
-fn letter(kind: usize) -> u16
-    ensures { result ≡ letter_for kind }
-{
-    word_of(run_patterns::letter(kind))
-}
-
-// The P line that number k of P line j names.
-fn part(t: &[u16], base: usize, j: usize, k: usize) -> usize
-    ensures { result ≡ smaller_of (cell_of t.now (base + j) k) j }
-{
-    smaller(pattern_cell(t, base, j, k), j)
-}
-
-// Stores a number and gives the place behind it, 0 where there is no room.
-fn put_number(code: &mut [u16], at: usize, v: u16) -> usize
+// Stores a number, where there is room; gives the place behind it.
+fn put_number(code: &mut [u16], at: usize, v: u16) -> Option<usize>
     ensures { NumberPut code.old code.new at v result }
 {
-    if code.len() <= at {
-        return 0;
+    if code.len() <= at || LAST_PLACE <= at {
+        return None;
     }
-    if LAST_PLACE <= at {
-        return 0;
-    }
-    store_word(code, at, v);
-    at + 1
+    code[at] = v;
+    Some(at + 1)
 }
 
 // Writes variable n.
-fn put_variable(code: &mut [u16], at: usize, n: usize) -> usize
+fn put_variable(code: &mut [u16], at: usize, n: usize) -> Option<usize>
     ensures { Flattened (pvar n) code.old code.new at result }
 {
     if VARIABLES <= n {
-        return 0;
+        return None;
     }
     put_number(code, at, narrow(n))
 }
 
-// Writes P line j in prefix order; gives where it ends, 0 where there is no room.
-fn flatten(t: &[u16], base: usize, j: usize, code: &mut [u16], at: usize) -> usize
+// Writes P line j in prefix order, where there is room; gives where it ends.
+fn flatten(t: &[u16], base: usize, j: usize, code: &mut [u16], at: usize) -> Option<usize>
     ensures { Flattened (pattern_of t.now base j) code.old code.new at result }
 {
     let kind = pattern_cell(t, base, j, KIND);
     if kind == VARIABLE {
         return put_variable(code, at, pattern_cell(t, base, j, FIRST));
     }
-    let next = put_number(code, at, letter(kind));
-    if next == 0 {
-        return 0;
-    }
+    let next = put_number(code, at, word_of(letter(kind)))?;
     match kind {
         PAIR | ELEMENT => {
-            let middle = flatten(t, base, part(t, base, j, FIRST), code, next);
-            if middle == 0 {
-                return 0;
-            }
-            flatten(t, base, part(t, base, j, SECOND), code, middle)
+            let middle = flatten(t, base, pattern_part(t, base, j, FIRST), code, next)?;
+            flatten(t, base, pattern_part(t, base, j, SECOND), code, middle)
         }
-        LEFT | RIGHT => flatten(t, base, part(t, base, j, FIRST), code, next),
-        _ => next,
+        LEFT | RIGHT => flatten(t, base, pattern_part(t, base, j, FIRST), code, next),
+        _ => Some(next),
     }
 }
 
-// Stores the number behind a pattern's last one, where there is one; gives the place behind it, 0 where
-// there is no room.
-fn put_stop(code: &mut [u16], end: usize) -> usize
-    ensures { NumberPut code.old code.new end stop result × (0 < result → 0 < end) × (end ≡ 0 → code.new ≡ code.old) }
+// The same with the number behind a pattern's last one.
+fn flatten_stopped(t: &[u16], base: usize, j: usize, code: &mut [u16], at: usize) -> Option<usize>
+    ensures { Stopped (pattern_of t.now base j) code.old code.new at result }
 {
-    if end == 0 {
-        return 0;
-    }
+    let end = flatten(t, base, j, code, at)?;
     put_number(code, end, STOP)
 }
 
@@ -124,16 +98,14 @@ fn code_line(t: &[u16], base: usize, j: usize, code: &mut [u16], at: usize) -> u
 {
     if pattern_cell(t, base, j, KIND) == VARIABLE {
         let n = pattern_cell(t, base, j, FIRST);
-        store_word(code, j + 1, variable_number(n));
+        store(code, j + 1, variable_number(n));
         return at;
     }
-    let end = flatten(t, base, j, code, at);
-    let next = put_stop(code, end);
-    if next == 0 {
-        store_word(code, j + 1, 0);
+    let Some(next) = flatten_stopped(t, base, j, code, at) else {
+        store(code, j + 1, 0);
         return at;
-    }
-    store_word(code, j + 1, narrow(at));
+    };
+    store(code, j + 1, narrow(at));
     next
 }
 
@@ -142,28 +114,23 @@ fn code_line(t: &[u16], base: usize, j: usize, code: &mut [u16], at: usize) -> u
 pub fn code_patterns(t: &[u16], base: usize, patterns: usize, code: &mut [u16])
     ensures { Coded t.now base code.new }
 {
-    store_word(code, 0, 0);
-    if code.len() < LISTED {
-        return;
-    }
-    if MAX_PATTERNS < patterns {
+    store(code, 0, 0);
+    if code.len() < LISTED || MAX_PATTERNS < patterns {
         return;
     }
     let mut at: usize = LISTED;
-    let mut j = patterns;
-    while 0 < j {
-        j -= 1;
+    for j in (0..patterns).rev() {
         at = code_line(t, base, j, code, at);
     }
-    store_word(code, 0, narrow(patterns));
+    store(code, 0, narrow(patterns));
 }
 
-// The number for P line j.
+// The number for P line j, as the area has it: 0 where none is stored.
 pub fn entry(code: &[u16], j: usize) -> usize
     ensures { (result ≡ entry_of code.now j) × (result < word_bound) }
 {
-    if j < wide(word_at(code, 0)) {
-        return wide(word_at(code, j + 1));
+    if j < wide(item_at(code, 0, 0)) {
+        return wide(item_at(code, j + 1, 0));
     }
     0
 }
@@ -199,14 +166,11 @@ fn match_other(
     if VARIABLES < d {
         return match_flat(code, d, s, at, end, vars);
     }
-    match match_at(t, base, j, s, at, end, vars) {
-        Upto::Place(_) => true,
-        Upto::Nothing => false,
-    }
+    match_at(t, base, j, s, at, Some(end), vars).is_some()
 }
 
-// The same, with a variable told before; one function for each place that calls it, so that each is
-// put in line there.
+// The same, with a variable told before. `match_again` is its twin for speed: a function that one place
+// alone calls is put in line there, and one that two call is not.
 pub fn match_line(
     t: &[u16],
     base: usize,
@@ -272,7 +236,7 @@ fn build_other(
     build_at(t, base, j, vars, work, at)
 }
 
-// The same, with a variable told before; one function for each place that calls it.
+// The same, with a variable told before, and again once for each place that calls it, to be put in line.
 pub fn build_line(
     t: &[u16],
     base: usize,

@@ -1,16 +1,15 @@
 -- A flat pattern against the letters of a value: the patterns and values that are still to be compared, number by number.
-use Prim.Native.Nat.{ℕ, zero, suc, ◌+◌, ◌≤◌, ◌<◌}
+use Prim.Native.Nat.{ℕ, suc, ◌+◌, ◌≤◌, ◌<◌}
 use native.Mathlib.Nat.{add-zero}
 use native.Mathlib.Numerals.{add-one}
 use native.Mathlib.Omega.{arith}
-use mathlib.Core.Path.{◌≡◌, refl, sym, ap, ap₂, ◌∙◌, subst}
+use mathlib.Core.Path.{◌≡◌, refl, sym, ap, ap₂, ◌∙◌}
 use mathlib.Core.Bool.{Bool, true, false, cond, ◌&&◌}
 use mathlib.Core.List.{List, [], ◌∷◌, ◌++◌, append_assoc}
 use lib.ListN.{length, get_or, drop, length-append, length-drop}
 use lib.Seq.{get_or-drop, drop-drop, drop-append_seam}
-use Rattle.limits.specs.Limits.{variables}
 use Rattle.calculus.specs.Trees.{Leaf, unit_leaf, empty_leaf, Tag, Node, left, right, pair_node, element_node, Pat, pleaf, pvar, pinj, pnode, Val, vleaf, vinj, vnode}
-use Rattle.calculus.specs.Letters.{letters, letter_of}
+use Rattle.calculus.specs.Letters.{letters}
 use Rattle.calculus.proofs.Basic.{same_leaf_refl, same_tag_refl, same_node_refl}
 use Rattle.run_values.specs.Texts.{At, alike, put_range, ranges}
 use Rattle.run_patterns.proofs.Spelling.{first_of, at_first, with_leaf, with_tag, with_node}

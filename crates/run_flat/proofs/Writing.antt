@@ -1,19 +1,17 @@
 -- The letters of a flat pattern, written number by number: what is written, and the patterns that are still to be written.
 use Prim.Native.Nat.{ℕ, suc, ◌+◌, ◌%◌, ◌≤◌, ◌<◌}
-use native.Mathlib.Nat.{add-zero}
 use native.Mathlib.Omega.{arith}
-use mathlib.Core.Path.{◌≡◌, refl, sym, ap, ap₂, ◌∙◌, subst}
+use mathlib.Core.Path.{◌≡◌, sym, ap, ap₂, ◌∙◌}
 use mathlib.Core.Bool.{cond}
 use mathlib.Core.List.{List, [], ◌∷◌, ◌++◌, append_assoc, append-nil}
 use lib.Dec.{ltb}
 use lib.ListN.{length, get_or, set, take, drop, length-append}
 use lib.Seq.{sets}
-use Rattle.limits.specs.Limits.{variables}
 use Rattle.calculus.specs.Trees.{Leaf, unit_leaf, empty_leaf, Tag, left, right, Node, pair_node, element_node, Pat, pleaf, pvar, pinj, pnode}
 use Rattle.calculus.specs.Letters.{leaf_letter, letter_of, node_letter}
 use Rattle.area_cells.specs.Areas.{Writes}
 use Rattle.area_cells.proofs.Writing.{writes_none, writes_one, writes_both, writes_as}
-use Rattle.run_values.specs.Texts.{Below, range_of, built}
+use Rattle.run_values.specs.Texts.{range_of, built}
 use Rattle.run_values.proofs.Agreeing.{take_sets}
 use Rattle.run_flat.specs.Flat.{flat, Few, stop, Stands}
 use Rattle.run_flat.proofs.Following.{number_here, behind_number, number_within}

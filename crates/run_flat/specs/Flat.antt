@@ -1,5 +1,5 @@
 -- A pattern as numbers in prefix order: the letters of its nodes, and the number of a variable, which is below every letter.
-use Rattle.std.specs.Prelude.{ℕ, ◌+◌, ◌<◌, ◌≡◌, List, [], ◌∷◌, ◌++◌, length, drop}
+use Rattle.std.specs.Prelude.{ℕ, ◌<◌, ◌≡◌, List, [], ◌∷◌, ◌++◌, drop}
 use Rattle.limits.specs.Limits.{variables}
 use Rattle.calculus.specs.Trees.{Pat, pleaf, pvar, pinj, pnode}
 use Rattle.calculus.specs.Letters.{leaf_letter, letter_of, node_letter}

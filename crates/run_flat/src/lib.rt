@@ -12,8 +12,8 @@ ghost use Rattle.area_cells.specs.Areas.{Writes};
 ghost use Rattle.run_values.specs.Texts.{At, alike, put_range, ranges, range_of, built, Below};
 ghost use Rattle.run_flat.specs.Flat.{stop, Stands};
 
-use area_cells::put_byte;
-use area_words::{byte_of, wide, word_at, word_of};
+use area_cells::{item_at, put_byte};
+use area_words::{byte_of, wide, word_of};
 use limits::VARIABLES;
 use run_patterns::{build_var, put_range, value_end};
 
@@ -28,7 +28,7 @@ fn flat_end(code: &[u16], k: usize, s: &[u8], at: usize, end: usize) -> usize
     ensures { (v : Val) → At s.now at v → (get_or code.now k 0 ≡ stop → end ≡ at + length (letters v))
         → result ≡ at + length (letters v) }
 {
-    if word_at(code, k) == STOP {
+    if item_at(code, k, 0) == STOP {
         return end;
     }
     value_end(s, at)
@@ -48,13 +48,12 @@ pub fn match_flat(
         → end ≡ from + length (letters v)
         → (result ≡ alike q v) × (vars.new ≡ ranges q v from vars.old) }
 {
-    let mut k = p;
     let mut at = from;
-    while k < code.len() {
+    // By index: the number behind a variable is looked at too, and p may lie past the end.
+    for k in p..code.len() {
         let o = code[k];
-        k += 1;
         if o < LETTERS_FROM {
-            let to = flat_end(code, k, s, at, end);
+            let to = flat_end(code, k + 1, s, at, end);
             put_range(vars, wide(o), at, to);
             at = to;
             continue;
@@ -62,10 +61,7 @@ pub fn match_flat(
         if o == STOP {
             return true;
         }
-        if s.len() <= at {
-            return false;
-        }
-        if word_of(s[at]) != o {
+        if s.len() <= at || word_of(s[at]) != o {
             return false;
         }
         at += 1;
@@ -81,11 +77,9 @@ pub fn build_flat(code: &[u16], p: usize, vars: &[u16], work: &mut [u8], from: u
         → (work.new ≡ sets work.old from (built q (take top work.old) vars.now))
         × (result ≡ from + length (built q (take top work.old) vars.now)) }
 {
-    let mut k = p;
     let mut at = from;
-    while k < code.len() {
+    for k in p..code.len() {
         let o = code[k];
-        k += 1;
         if o < LETTERS_FROM {
             at = build_var(wide(o), vars, work, at);
             continue;

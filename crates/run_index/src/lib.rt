@@ -8,7 +8,8 @@ ghost use Rattle.run_index.specs.Indexed.{KindIndexed, RowIndexed, IsosIndexed, 
 ghost use Rattle.run_index.specs.Index.{index_length};
 ghost use Rattle.calculus.specs.Refusals.{iso_line, clause_line};
 
-use area_words::{narrow, store_word};
+use area_cells::store;
+use area_words::narrow;
 use codes::{CLAUSE_LINE, ISO_LINE, ROW_LETTER};
 use limits::INDEX_END;
 use table_trees::cell;
@@ -25,17 +26,12 @@ fn with_clause(index: &mut [u16], l: Left, n: usize) -> Left
     ensures kind_indexed { KindIndexed clause_line n index.old l index.new result }
     ensures tail_kept { TailKept index.old l index.new result }
 {
-    let first = l.first;
-    let isos = l.isos;
-    if first == 0 {
+    if l.first == 0 {
         return l;
     }
-    let slot = first - 1;
-    store_word(index, slot, narrow(n));
-    Left {
-        first: slot,
-        isos: isos,
-    }
+    let slot = l.first - 1;
+    store(index, slot, narrow(n));
+    Left { first: slot, ..l }
 }
 
 // The index with the I row n.
@@ -43,18 +39,13 @@ fn with_iso(index: &mut [u16], l: Left, n: usize) -> Left
     ensures kind_indexed { KindIndexed iso_line n index.old l index.new result }
     ensures tail_kept { TailKept index.old l index.new result }
 {
-    let first = l.first;
-    let isos = l.isos;
-    if first == 0 {
+    if l.first == 0 || l.isos == 0 {
         return l;
     }
-    if isos == 0 {
-        return l;
-    }
-    let slot = first - 1;
-    let own = isos - 1;
-    store_word(index, slot, narrow(n));
-    store_word(index, own, narrow(slot));
+    let slot = l.first - 1;
+    let own = l.isos - 1;
+    store(index, slot, narrow(n));
+    store(index, own, narrow(slot));
     Left {
         first: slot,
         isos: own,
@@ -66,14 +57,11 @@ fn with_row(t: &[u16], index: &mut [u16], l: Left, n: usize) -> Left
     ensures row_indexed { RowIndexed t.now n index.old l index.new result }
     ensures tail_kept { TailKept index.old l index.new result }
 {
-    let letter = cell(t, n, ROW_LETTER);
-    if letter == CLAUSE_LINE {
-        return with_clause(index, l, n);
+    match cell(t, n, ROW_LETTER) {
+        CLAUSE_LINE => with_clause(index, l, n),
+        ISO_LINE => with_iso(index, l, n),
+        _ => l,
     }
-    if letter == ISO_LINE {
-        return with_iso(index, l, n);
-    }
-    l
 }
 
 // Indexes the isos of a table of `lines` rows, of which the first `above` are T and P lines.
@@ -81,15 +69,13 @@ pub fn index_isos(t: &[u16], above: usize, lines: usize, isos: usize, index: &mu
     ensures isos_indexed { IsosIndexed t.now above lines isos index.old index.new }
     ensures index_unchanged { isos < index_length → drop index_length index.new ≡ drop index_length index.old }
 {
-    store_word(index, INDEX_END, narrow(lines));
-    store_word(index, isos, INDEX_END as u16);
-    let mut n = lines;
+    store(index, INDEX_END, narrow(lines));
+    store(index, isos, INDEX_END as u16);
     let mut l = Left {
         first: INDEX_END,
-        isos: isos,
+        isos,
     };
-    while above < n {
-        n -= 1;
+    for n in (above..lines).rev() {
         l = with_row(t, index, l, n);
     }
 }

@@ -2,12 +2,13 @@
 use Prim.Native.Nat.{ℕ, zero, suc, ◌+◌, ◌-◌, ◌≤◌, ◌<◌}
 use native.Mathlib.Omega.{arith}
 use mathlib.Core.Path.{◌≡◌, refl, sym, ap, ap₂, ◌∙◌, subst}
-use mathlib.Core.Bool.{Bool, true, false, ◌&&◌}
+use mathlib.Core.Bool.{Bool, true, false, not, ◌&&◌}
 use mathlib.Core.List.{List, [], ◌∷◌, ◌++◌}
 use lib.Dec.{eqb}
 use lib.ListN.{length, length-append, get_or, set, replicate}
+use mir.Val.{bool_byte as from_bool}
 use Rattle.calculus.specs.Tools.{all}
-use Rattle.calculus.specs.Trees.{Ty, Let, Clause, Iso}
+use Rattle.calculus.specs.Trees.{Ty, Let, Clause}
 use Rattle.calculus.specs.Lists.{list_free, free_iso, free_from, free_isos, is_free}
 use Rattle.calculus.proofs.Basic.{eq_eqb, not_eqb}
 use Rattle.format.specs.Lines.{Row}
@@ -16,7 +17,7 @@ use Rattle.format.proofs.Passing.{Passes}
 use Rattle.model.proofs.Sizes.{few_isos}
 use Rattle.format.specs.Judge.{start, type_node}
 use Rattle.table_trees.specs.Unfolding.{cell_of, smaller_of, type_of}
-use Rattle.table_trees.proofs.Cases.{Parted, sums, products, parted, Whole, node_whole}
+use Rattle.table_trees.proofs.Cases.{Parted, sums, products, Whole, whole_below, whole_past, node_whole}
 use Rattle.table_trees.proofs.Lines.{line_node, line_list}
 use Rattle.table_walks.specs.InTable.{let_at, lets_in}
 use Rattle.run_index.specs.Index.{place_at, clause_at, clauses_at, iso_between, iso_at, isos_at}
@@ -24,9 +25,13 @@ use Rattle.run_lists.specs.Marks.{Holds, LetsTold, ClausesTold, IsoTold, AllMark
 
 -- ---- a type
 
--- neither a unit nor a list nor a number that is no kind
-pub two_parts : (k : ℕ) → 1 ≤ k → k ≤ 3 → (k ≡ 3 → ⊥) → Parted k
-two_parts k h l n = parted k h (omega arith)
+-- a unit, or a number that is no kind
+pub whole_other : (k : ℕ) → (k ≡ 1 → ⊥) → (k ≡ 2 → ⊥) → (k ≡ 3 → ⊥) → Whole k
+whole_other zero a b c = whole_below 0 (omega arith)
+whole_other (suc zero) a b c = absurd (a refl)
+whole_other (suc (suc zero)) a b c = absurd (b refl)
+whole_other (suc (suc (suc zero))) a b c = absurd (c refl)
+whole_other (suc (suc (suc (suc k)))) a b c = whole_past (suc (suc (suc (suc k)))) (omega arith)
 
 module _ (t : List ℕ) (i : ℕ) {k : ℕ} (e : k ≡ cell_of t i 1) where
   pub free_not : k ≡ 3 → false ≡ list_free (type_of t i)
@@ -146,40 +151,6 @@ module _ {t marks index : List ℕ} {m end n : ℕ} (a : ClausesFrom t marks ind
   clauses_end h base known k =
       all_end (clause_free known) (clauses_at t base index) (clause_at t base index) (λ u count. refl) (λ u. refl) m end (a.is base known k) h
 
--- ---- an iso
-
-module _ (t marks index : List ℕ) (m end : ℕ) {row i : ℕ} (er : row ≡ place_at index m) (ei : i ≡ cell_of t row 1) {b : Bool} (eb : b ≡ list_free (type_of t i)) where
-  from_free : list_free (type_of t (cell_of t (place_at index m) 1)) ≡ b
-  from_free = ap (λ r. list_free (type_of t (cell_of t r 1))) (sym er) ∙ ap (λ j. list_free (type_of t j)) (sym ei) ∙ sym eb
-
-  pub from_lists : b ≡ false → IsoTold t marks index m end 1
-  from_lists z base known k =
-      sym (ap (λ x. (x && list_free (type_of t (cell_of t (place_at index m) 2))) && all (clause_free known) (clauses_at t base index (suc m) (end - suc m))) (from_free ∙ z))
-
-  module _ (free : b ≡ true) {j : ℕ} (ej : j ≡ cell_of t row 2) {c : Bool} (ec : c ≡ list_free (type_of t j)) where
-    to_free : list_free (type_of t (cell_of t (place_at index m) 2)) ≡ c
-    to_free = ap (λ r. list_free (type_of t (cell_of t r 2))) (sym er) ∙ ap (λ q. list_free (type_of t q)) (sym ej) ∙ sym ec
-
-    by_types : (x : Bool) → c ≡ x → (base : ℕ) (known : List Bool)
-        → free_iso known (iso_between t base index m end) ≡ ((true && x) && all (clause_free known) (clauses_at t base index (suc m) (end - suc m)))
-    by_types x z base known =
-        ap₂ (λ u v. (u && v) && all (clause_free known) (clauses_at t base index (suc m) (end - suc m))) (from_free ∙ free) (to_free ∙ z)
-
-    pub to_lists : c ≡ false → IsoTold t marks index m end 1
-    to_lists z base known k = sym (by_types false z base known)
-
-    module _ (free₂ : c ≡ true) {d : Bool} (told : ClausesTold t marks index (m + 1) end d) where
-      by_clauses : (x : Bool) → d ≡ x → (base : ℕ) (known : List Bool) → Holds marks known → free_iso known (iso_between t base index m end) ≡ x
-      by_clauses x z base known k =
-          let one : suc m ≡ m + 1 = omega arith in
-          by_types true free₂ base known ∙ ap (λ u. all (clause_free known) (clauses_at t base index u (end - u))) one ∙ sym (told base known k) ∙ z
-
-      pub calls_lists : d ≡ false → IsoTold t marks index m end 1
-      calls_lists z base known k = sym (by_clauses false z base known k)
-
-      pub calls_none : d ≡ true → IsoTold t marks index m end 0
-      calls_none z base known k = sym (by_clauses true z base known k)
-
 -- ---- isos in order
 
 holds_snoc : (marks : List ℕ) (known : List Bool) (n : ℕ) (x : Bool) → length known < length marks → eqb n 0 ≡ x → Holds marks known
@@ -213,10 +184,15 @@ marking_start t index isos marks =
     none_yet : isos - 0 ≡ isos
     none_yet = omega arith
 
+-- an iso's mark is 0 where it has nothing to do with lists
+zero_free : (b : Bool) → eqb (from_bool (not b)) 0 ≡ b
+zero_free true = refl
+zero_free false = refl
+
 pub marking_step : {t index : List ℕ} {isos : ℕ} {marks₀ marks : List ℕ} {i : ℕ} → Marking t index isos marks₀ marks i → i < isos
-    → (m end n : ℕ) (marks' : List ℕ) → m ≡ place_at index i → end ≡ place_at index (i + 1) → IsoTold t marks index m end n
-    → length marks' ≡ length marks → marks' ≡ set marks i n → Marking t index isos marks₀ marks' (i + 1)
-marking_step {t} {index} {isos} {marks₀} {marks} {i} r h m end n marks' em ee en el ek =
+    → (m end : ℕ) (free : Bool) (n : ℕ) (marks' : List ℕ) → m ≡ place_at index i → end ≡ place_at index (i + 1) → IsoTold t marks index m end free
+    → n ≡ from_bool (not free) → length marks' ≡ length marks → marks' ≡ set marks i n → Marking t index isos marks₀ marks' (i + 1)
+marking_step {t} {index} {isos} {marks₀} {marks} {i} r h m end free n marks' em ee told is el ek =
     record {
       kept = el ∙ r.kept;
       below = omega arith;
@@ -225,7 +201,7 @@ marking_step {t} {index} {isos} {marks₀} {marks} {i} r h m end n marks' em ee 
           let x : Bool = free_iso f.known (iso_at t base index i) in
           let one : i + 1 ≡ suc i = omega arith in
           let v : eqb n 0 ≡ x =
-          en base f.known f.held ∙ ap₂ (λ u q. free_iso f.known (iso_between t base index u q)) em (ee ∙ ap (place_at index) one) in
+          ap (λ z. eqb z 0) is ∙ zero_free free ∙ told base f.known f.held ∙ ap₂ (λ u q. free_iso f.known (iso_between t base index u q)) em (ee ∙ ap (place_at index) one) in
           let c = f.count in
           let l = r.kept in
           let more : isos - i ≡ suc (isos - suc i) = omega arith in

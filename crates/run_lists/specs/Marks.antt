@@ -1,5 +1,5 @@
 -- The marks of isos that have to do with lists, as an area holds them: each other iso has 0.
-use Rattle.std.specs.Prelude.{ℕ, suc, ◌-◌, ◌≤◌, ◌≡◌, Bool, true, List, [], eqb, length, get_or}
+use Rattle.std.specs.Prelude.{ℕ, ◌-◌, ◌≤◌, ◌≡◌, Bool, true, List, [], eqb, length, get_or}
 use Rattle.limits.specs.Limits.{max_isos}
 use Rattle.calculus.specs.Tools.{all}
 use Rattle.calculus.specs.Lists.{free_iso, free_from}
@@ -17,8 +17,8 @@ abbrev pub ClausesTold : List ℕ → List ℕ → List ℕ → ℕ → ℕ → 
 ClausesTold t marks index m end r =
     (base : ℕ) (known : List Bool) → Holds marks known → r ≡ all (λ c. all (λ l. get_or known l.iso true) c.lets) (clauses_at t base index m (end - m))
 
-abbrev pub IsoTold : List ℕ → List ℕ → List ℕ → ℕ → ℕ → ℕ → Type 0
-IsoTold t marks index m end r = (base : ℕ) (known : List Bool) → Holds marks known → eqb r 0 ≡ free_iso known (iso_between t base index m end)
+abbrev pub IsoTold : List ℕ → List ℕ → List ℕ → ℕ → ℕ → Bool → Type 0
+IsoTold t marks index m end r = (base : ℕ) (known : List Bool) → Holds marks known → r ≡ free_iso known (iso_between t base index m end)
 
 -- the marks of all isos, in an area of zeros
 abbrev pub AllMarked : List ℕ → List ℕ → ℕ → List ℕ → List ℕ → Type 0

@@ -8,8 +8,8 @@ ghost use Rattle.calculus.specs.Lists.{list_free};
 ghost use Rattle.table_trees.specs.Unfolding.{type_of};
 ghost use Rattle.run_lists.specs.Marks.{LetsTold, ClausesTold, IsoTold, AllMarked, FreeTold};
 
-use area_cells::{byte_at, put_byte};
-use codes::{FIRST, ISO_FROM, ISO_TO, KIND, LET_ISO, LIST, SECOND, SUM};
+use area_cells::{item_at, store};
+use codes::{FIRST, ISO_FROM, ISO_TO, KIND, LET_ISO, LIST, PRODUCT, SECOND, SUM};
 use limits::MAX_ISOS;
 use run_direction::place;
 use table_trees::{cell, smaller};
@@ -18,32 +18,24 @@ use table_trees::{cell, smaller};
 pub fn is_finite(t: &[u16], i: usize) -> bool
     ensures { result ≡ list_free (type_of t.now i) }
 {
-    let kind = cell(t, i, KIND);
-    if kind == LIST {
-        return false;
+    match cell(t, i, KIND) {
+        LIST => false,
+        SUM | PRODUCT => {
+            is_finite(t, smaller(cell(t, i, FIRST), i))
+                && is_finite(t, smaller(cell(t, i, SECOND), i))
+        }
+        _ => true,
     }
-    if kind < SUM {
-        return true;
-    }
-    if LIST < kind {
-        return true;
-    }
-    if is_finite(t, smaller(cell(t, i, FIRST), i)) {
-        return is_finite(t, smaller(cell(t, i, SECOND), i));
-    }
-    false
 }
 
 // Whether no L row from a row up to another names an iso that has a mark.
 fn lets_free(t: &[u16], marks: &[u8], row: usize, end: usize) -> bool
     ensures { LetsTold t.now marks.now row end result }
 {
-    let mut n = row;
-    while n < end {
-        if byte_at(marks, cell(t, n, LET_ISO)) != 0 {
+    for n in row..end {
+        if item_at(marks, cell(t, n, LET_ISO), 0) != 0 {
             return false;
         }
-        n += 1;
     }
     true
 }
@@ -53,48 +45,33 @@ fn clauses_free(t: &[u16], marks: &[u8], index: &[u16], m: usize, end: usize) ->
     requires { end ≤ word_bound }
     ensures { ClausesTold t.now marks.now index.now m end result }
 {
-    let mut n = m;
-    while n < end {
-        let row = place(index, n);
-        let next = place(index, n + 1);
-        if !lets_free(t, marks, row + 1, next) {
+    for n in m..end {
+        if !lets_free(t, marks, place(index, n) + 1, place(index, n + 1)) {
             return false;
         }
-        n += 1;
     }
     true
 }
 
-// The mark of the iso whose I row stands at place m of the index, with the C rows up to another; those of
-// the isos before it are known.
-fn iso_mark(t: &[u16], marks: &[u8], index: &[u16], m: usize, end: usize) -> u8
+// Whether the iso whose I row stands at place m of the index, with the C rows up to another, has nothing to
+// do with lists; the marks of the isos before it are known.
+fn iso_free(t: &[u16], marks: &[u8], index: &[u16], m: usize, end: usize) -> bool
     requires { (m < word_bound) × (end ≤ word_bound) }
     ensures { IsoTold t.now marks.now index.now m end result }
 {
     let row = place(index, m);
-    if !is_finite(t, cell(t, row, ISO_FROM)) {
-        return 1;
-    }
-    if !is_finite(t, cell(t, row, ISO_TO)) {
-        return 1;
-    }
-    if !clauses_free(t, marks, index, m + 1, end) {
-        return 1;
-    }
-    0
+    is_finite(t, cell(t, row, ISO_FROM))
+        && is_finite(t, cell(t, row, ISO_TO))
+        && clauses_free(t, marks, index, m + 1, end)
 }
 
 // Marks the isos in order, in an area of zeros.
 pub fn mark_lists(t: &[u16], index: &[u16], isos: usize, marks: &mut [u8])
     ensures { AllMarked t.now index.now isos marks.old marks.new }
 {
-    let mut i: usize = 0;
-    while i < isos {
-        let m = place(index, i);
-        let end = place(index, i + 1);
-        let mark = iso_mark(t, marks, index, m, end);
-        put_byte(marks, i, mark);
-        i += 1;
+    for i in 0..isos {
+        let free = iso_free(t, marks, index, place(index, i), place(index, i + 1));
+        store(marks, i, u8::from(!free));
     }
 }
 
@@ -104,5 +81,5 @@ pub fn is_free(t: &[u16], index: &[u16], isos: usize, i: usize) -> bool
 {
     let mut marks = [0u8; MAX_ISOS];
     mark_lists(t, index, isos, &mut marks);
-    byte_at(&marks, i) == 0
+    item_at(&marks, i, 0) == 0
 }

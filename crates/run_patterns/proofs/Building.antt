@@ -1,12 +1,12 @@
 -- The letters of a pattern with its variables' letters put in, written behind all of those.
-use Prim.Native.Nat.{ℕ, suc, ◌+◌, ◌≤◌, ◌<◌}
+use Prim.Native.Nat.{ℕ, suc, ◌+◌, ◌≤◌}
 use native.Mathlib.Omega.{arith}
-use mathlib.Core.Path.{◌≡◌, sym, ap, ap₂, ◌∙◌, subst}
+use mathlib.Core.Path.{◌≡◌, sym, ap, ◌∙◌, subst}
 use mathlib.Core.Bool.{cond}
 use mathlib.Core.List.{List, ◌∷◌, ◌++◌}
 use lib.Dec.{ltb}
-use lib.ListN.{length, get_or, set, take, drop, length-append}
-use lib.Seq.{slice, take-take, take-set-le}
+use lib.ListN.{length, set, take, length-append}
+use lib.Seq.{take-set-le}
 use Rattle.calculus.specs.Trees.{Leaf, Tag, Node, Pat, pleaf, pvar, pinj, pnode}
 use Rattle.calculus.specs.Letters.{leaf_letter, letter_of, node_letter}
 use Rattle.area_cells.specs.Areas.{Writes}
@@ -32,15 +32,6 @@ module _ {vars l : List ℕ} {at : ℕ} where
   -- unit and empty
   builds_leaf : (u : Leaf) {l' : List ℕ} {r : ℕ} → Puts l l' at r (leaf_letter u) → Builds vars l l' at r (pleaf u)
   builds_leaf u w top b h = writes_one w.0 w.1
-
-  -- a variable: its range lies below the place
-  pub range_copied : (n : ℕ) {u v from to r : ℕ} {l' : List ℕ} → u ≡ get_or vars n 0 → from ≡ u → v ≡ get_or vars (32 + n) 0 → to ≡ v → (to ≤ at → Writes l l' at r (slice from to l))
-      → (top : ℕ) → Below vars top → top ≤ at → Writes l l' at r (range_of (take top l) vars n)
-  range_copied n {from = from} {to = to} e p f q w top b h =
-      let below : to ≤ top = subst (λ k. k ≤ top) (sym (q ∙ f)) (b.ends n) in
-      writes_as
-      (ap (drop from) (sym (take-take to top l below)) ∙ ap₂ (λ x y. slice x y (take top l)) (p ∙ e) (q ∙ f))
-      (w (omega arith))
 
   -- the first letter, then the rest
   builds_inj : (t : Tag) (p : Pat) {l₁ l₂ : List ℕ} {m r : ℕ} → Puts l l₁ at m (letter_of t) → Builds vars l₁ l₂ m r p → Builds vars l l₂ at r (pinj t p)

@@ -1,14 +1,14 @@
 -- A pattern against the letters of a value that begin at a place: what matching answers and which ranges it leaves, by the pattern's
 -- node and the first letter.
-use Prim.Native.Nat.{ℕ, suc, ◌+◌, ◌%◌, ◌≤◌, ◌<◌}
+use Prim.Native.Nat.{ℕ, suc, ◌+◌, ◌<◌}
 use native.Mathlib.Numerals.{add-one}
 use native.Mathlib.Omega.{arith}
 use mathlib.Core.Path.{◌≡◌, refl, sym, ap, ap₂, ◌∙◌, subst}
 use mathlib.Core.Bool.{Bool, true, false, cond, ◌&&◌}
 use mathlib.Core.List.{List}
 use lib.Dec.{eqb, ltb}
-use lib.ListN.{length, get_or, set, length-append}
-use borrow.Author.Tests.{lt-ltb, le-ltb, eq-eqb, ne_eqb}
+use lib.ListN.{length, get_or, length-append}
+use borrow.Author.Tests.{lt-ltb, eq-eqb, ne_eqb}
 use mathlib.Core.Logic.{◌⊎◌, inl, inr}
 use Rattle.calculus.specs.Trees.{Leaf, unit_leaf, empty_leaf, Tag, left, right, Node, pair_node, element_node, Pat, pleaf, pvar, pinj, pnode, Val, vleaf, vinj, vnode}
 use Rattle.calculus.specs.Trees.{same_leaf, same_tag, same_node}
@@ -18,77 +18,56 @@ use Rattle.table_trees.specs.Unfolding.{cell_of, smaller_of, pattern_of}
 use Rattle.table_trees.proofs.Unfolding.{pattern_var}
 use Rattle.table_trees.proofs.Cases as cases
 use Rattle.table_trees.proofs.Cases.{Injects, Joins}
-use Rattle.run_values.specs.declared.Upto as U
-use Rattle.run_values.specs.declared.Upto.TheVariants as upto
-use Rattle.run_values.specs.Texts.{At, Ends, letter_for, alike, matched, put_range, ranges}
+use Rattle.std.specs.Prelude.{Option as Maybe, Some, None}
+use Rattle.run_values.specs.Texts.{At, Ends, letter_for, alike, matched, ranges}
 use Rattle.run_patterns.proofs.Spelling.{first_of, with_leaf, with_tag, with_node, at_within, at_first, at_inj, at_left, at_right}
 use Rattle.run_patterns.proofs.Lines.{kinds_of, leaf_line, inj_line, node_line}
-
--- ---- the range of a variable
-
--- a variable that has a range
-pub range_put : (vars : List ℕ) (n from to : ℕ) {u v : ℕ} {vars₁ vars₂ : List ℕ} → n < 32 → u ≡ from % 65536 → vars₁ ≡ set vars n u → v ≡ to % 65536
-    → vars₂ ≡ set vars₁ (32 + n) v → vars₂ ≡ put_range vars n from to
-range_put vars n from to h e f p q =
-    q
-    ∙ ap₂ (λ l x. set l (32 + n) x) (f ∙ ap (set vars n) e) p
-    ∙ sym (ap (λ c. cond c (set (set vars n (from % 65536)) (32 + n) (to % 65536)) vars) (lt-ltb n 32 h))
-
--- a variable that has none
-pub range_past : (vars : List ℕ) (n from to : ℕ) → 32 ≤ n → vars ≡ put_range vars n from to
-range_past vars n from to h = sym (ap (λ c. cond c (set (set vars n (from % 65536)) (32 + n) (to % 65536)) vars) (le-ltb n 32 h))
 
 -- ---- where a value ends, if that is told
 
 -- it is not told
-pub ends_none : (at : ℕ) (v : Val) → Ends 0 at v
-ends_none at v h = absurd (omega arith)
+pub ends_none : (at : ℕ) (v : Val) → Ends None at v
+ends_none at v = tt
 
 -- the end of a left or a right is that of the value below it
-ends_inj : {end : ℕ} (at : ℕ) (t : Tag) (v : Val) → Ends end at (vinj t v) → Ends end (at + 1) v
-ends_inj at t v d h = let e = d h in omega arith
+ends_inj : (end : Maybe ℕ) (at : ℕ) (t : Tag) (v : Val) → Ends end at (vinj t v) → Ends end (at + 1) v
+ends_inj None at t v d = tt
+ends_inj (Some e) at t v d = omega arith
 
 -- the end of a pair is that of its second value, the end of a list that of the list behind the element
-ends_second : {end m : ℕ} (at : ℕ) (k : Node) (v w : Val) → Ends end at (vnode k v w) → m ≡ at + 1 + length (letters v) → Ends end m w
-ends_second at k v w d q h = let e = d h in omega (arith, length-append (letters v) (letters w))
-
--- a value's end, found where it is not told
-pub end_found : {s : List ℕ} {at end stop : ℕ} → ((v : Val) → At s at v → stop ≡ at + length (letters v)) → (v : Val) → At s at v → Ends end at v → stop ≡ at + length (letters v)
-end_found h v a d = h v a
-
--- a value's end where it is told
-pub end_told : {s : List ℕ} {at end : ℕ} → (end ≡ 0 → ⊥) → (v : Val) → At s at v → Ends end at v → end ≡ at + length (letters v)
-end_told n v a d = d (omega arith)
+ends_second : (end : Maybe ℕ) {m : ℕ} (at : ℕ) (k : Node) (v w : Val) → Ends end at (vnode k v w) → m ≡ at + 1 + length (letters v) → Ends end m w
+ends_second None at k v w d q = tt
+ends_second (Some e) at k v w d q = omega (arith, length-append (letters v) (letters w))
 
 -- ---- by the pattern's node
 
 -- what matching p with the value at a place answers, and the ranges that it leaves
-record Matches (s : List ℕ) (at end : ℕ) (p : Pat) (vars vars' : List ℕ) (r : U.Upto) : Type 0 where
+record Matches (s : List ℕ) (at : ℕ) (end : Maybe ℕ) (p : Pat) (vars vars' : List ℕ) (r : Maybe ℕ) : Type 0 where
   answers : (v : Val) → At s at v → Ends end at v → r ≡ matched (alike p v) (at + length (letters v))
   leaves : (v : Val) → At s at v → Ends end at v → vars' ≡ ranges p v at vars
 
 -- the same as the contract has it
-abbrev pub Told : List ℕ → ℕ → ℕ → Pat → List ℕ → List ℕ → U.Upto → Type 0
+abbrev pub Told : List ℕ → ℕ → Maybe ℕ → Pat → List ℕ → List ℕ → Maybe ℕ → Type 0
 Told s at end p vars vars' r =
     ((v : Val) → At s at v → Ends end at v → r ≡ matched (alike p v) (at + length (letters v))) × ((v : Val) → At s at v → Ends end at v → vars' ≡ ranges p v at vars)
 
 -- both for each value that stands there
-matches_of : {s : List ℕ} {at end : ℕ} {p : Pat} {vars vars' : List ℕ} {r : U.Upto}
+matches_of : {s : List ℕ} {at : ℕ} {end : Maybe ℕ} {p : Pat} {vars vars' : List ℕ} {r : Maybe ℕ}
     → ((v : Val) → At s at v → Ends end at v → (r ≡ matched (alike p v) (at + length (letters v))) × (vars' ≡ ranges p v at vars)) → Matches s at end p vars vars' r
 matches_of h = record { answers = λ v a d. (h v a d).0; leaves = λ v a d. (h v a d).1 }
 
 -- a place is answered: the shapes are alike
-pub place_alike : (b : Bool) (m n : ℕ) → upto.Place m ≡ matched b n → (b ≡ true) × (m ≡ n)
+pub place_alike : (b : Bool) (m n : ℕ) → Some m ≡ matched b n → (b ≡ true) × (m ≡ n)
 place_alike true m n e = (refl, cc)
 place_alike false m n e = let z : ◌≡◌ {A = ℕ} 0 1 = cc in absurd (omega arith)
 
 -- no place: the shapes differ
-pub nothing_alike : (b : Bool) (n : ℕ) → upto.Nothing ≡ matched b n → b ≡ false
+pub nothing_alike : (b : Bool) (n : ℕ) → None ≡ matched b n → b ≡ false
 nothing_alike true n e = let z : ◌≡◌ {A = ℕ} 0 1 = cc in absurd (omega arith)
 nothing_alike false n e = refl
 
 -- what is answered and left for a value
-abbrev Says : List ℕ → ℕ → ℕ → Pat → List ℕ → List ℕ → U.Upto → Val → Type 0
+abbrev Says : List ℕ → ℕ → Maybe ℕ → Pat → List ℕ → List ℕ → Maybe ℕ → Val → Type 0
 Says s at end p vars vars' r v = At s at v → Ends end at v → (r ≡ matched (alike p v) (at + length (letters v))) × (vars' ≡ ranges p v at vars)
 
 -- a node that has a letter, which no variable is
@@ -141,30 +120,25 @@ unlike (pnode m p q) z (vnode k v w) d at vars =
       ap (λ b. cond b (cond (alike p v) (ranges q w (suc at + length (letters v)) first) first) vars) e,
     )
 
-module _ {s : List ℕ} {at end : ℕ} {vars : List ℕ} where
-  -- a variable
-  matches_var : (n : ℕ) {stop : ℕ} {vars' : List ℕ} → ((v : Val) → At s at v → Ends end at v → stop ≡ at + length (letters v)) → vars' ≡ put_range vars n at stop
-      → Matches s at end (pvar n) vars vars' (upto.Place stop)
-  matches_var n e p = record { answers = λ v a f. ap upto.Place (e v a f); leaves = λ v a f. p ∙ ap (put_range vars n at) (e v a f) }
-
+module _ {s : List ℕ} {at : ℕ} {end : Maybe ℕ} {vars : List ℕ} where
   -- another letter
-  misses : {p : Pat} → Noded p → (at < length s → get_or s at 0 ≡ letter_in p → ⊥) → Matches s at end p vars vars upto.Nothing
+  misses : {p : Pat} → Noded p → (at < length s → get_or s at 0 ≡ letter_in p → ⊥) → Matches s at end p vars vars None
   misses {p} z n =
       matches_of
       (λ v a d. let u = unlike p z v (λ e. n (at_within a) (at_first a ∙ e)) at vars in (sym (ap (λ b. matched b (at + length (letters v))) u.0), sym u.1))
 
   -- unit and empty
-  matches_leaf : (l : Leaf) → get_or s at 0 ≡ leaf_letter l → Matches s at end (pleaf l) vars vars (upto.Place (at + 1))
+  matches_leaf : (l : Leaf) → get_or s at 0 ≡ leaf_letter l → Matches s at end (pleaf l) vars vars (Some (at + 1))
   matches_leaf l e =
       record {
         answers = λ v a d.
-            with_leaf (λ u. upto.Place (at + 1) ≡ matched (alike (pleaf l) u) (at + length (letters u))) l
+            with_leaf (λ u. Some (at + 1) ≡ matched (alike (pleaf l) u) (at + length (letters u))) l
             (sym (ap (λ b. matched b (at + 1)) (same_leaf_refl l))) v (sym (at_first a) ∙ e);
         leaves = λ v a d. refl;
       }
 
   -- left and right
-  matches_inj : (t : Tag) {p : Pat} {vars' : List ℕ} {r : U.Upto} → get_or s at 0 ≡ letter_of t → Matches s (at + 1) end p vars vars' r → Matches s at end (pinj t p) vars vars' r
+  matches_inj : (t : Tag) {p : Pat} {vars' : List ℕ} {r : Maybe ℕ} → get_or s at 0 ≡ letter_of t → Matches s (at + 1) end p vars vars' r → Matches s at end (pinj t p) vars vars' r
   matches_inj t {p} {vars'} {r} e m =
       matches_of (λ v a d. with_tag (Says s at end (pinj t p) vars vars' r) t
       below v (sym (at_first a) ∙ e) a d)
@@ -172,15 +146,15 @@ module _ {s : List ℕ} {at end : ℕ} {vars : List ℕ} where
       below : (v : Val) → At s at (vinj t v) → Ends end at (vinj t v) → (r ≡ matched (same_tag t t && alike p v) (at + length (letters (vinj t v))))
           × (vars' ≡ cond (same_tag t t) (ranges p v (suc at) vars) vars)
       below v a d = (
-        m.answers v (at_inj a) (ends_inj at t v d) ∙ ap₂ matched (sym (ap (λ b. b && alike p v) (same_tag_refl t))) (omega arith),
-        m.leaves v (at_inj a) (ends_inj at t v d)
+        m.answers v (at_inj a) (ends_inj end at t v d) ∙ ap₂ matched (sym (ap (λ b. b && alike p v) (same_tag_refl t))) (omega arith),
+        m.leaves v (at_inj a) (ends_inj end at t v d)
             ∙ ap (λ k. ranges p v k vars) (add-one at)
             ∙ sym (ap (λ b. cond b (ranges p v (suc at) vars) vars) (same_tag_refl t)),
       )
 
-module _ {s : List ℕ} {at end : ℕ} {vars : List ℕ} (k : Node) {p q : Pat} where
+module _ {s : List ℕ} {at : ℕ} {end : Maybe ℕ} {vars : List ℕ} (k : Node) {p q : Pat} where
   -- a pair or an element whose first part matches
-  matches_node : {m : ℕ} {vars₁ vars₂ : List ℕ} {r : U.Upto} → get_or s at 0 ≡ node_letter k → Matches s (at + 1) 0 p vars vars₁ (upto.Place m)
+  matches_node : {m : ℕ} {vars₁ vars₂ : List ℕ} {r : Maybe ℕ} → get_or s at 0 ≡ node_letter k → Matches s (at + 1) None p vars vars₁ (Some m)
       → Matches s m end q vars₁ vars₂ r → Matches s at end (pnode k p q) vars vars₂ r
   matches_node {m} {vars₁} {vars₂} {r} e f g = matches_of (λ v a d. with_node (Says s at end (pnode k p q) vars vars₂ r) k below v (sym (at_first a) ∙ e) a d)
     where
@@ -195,19 +169,19 @@ module _ {s : List ℕ} {at end : ℕ} {vars : List ℕ} (k : Node) {p q : Pat} 
       below v w a d =
           let u = seam v w a in
           let first = ranges p v (suc at) vars in (
-            g.answers w (second v w a) (ends_second at k v w d u.1)
+            g.answers w (second v w a) (ends_second end at k v w d u.1)
                 ∙ ap₂ matched (sym (ap₂ (λ x b. x && (b && alike q w)) (same_node_refl k) u.0)) (omega (arith, u.1, length-append (letters v) (letters w))),
-            g.leaves w (second v w a) (ends_second at k v w d u.1)
+            g.leaves w (second v w a) (ends_second end at k v w d u.1)
                 ∙ ap₂ (ranges q w) (u.1 ∙ ap (λ k. k + length (letters v)) (add-one at))
                 (f.leaves v (at_left {w = w} a) (ends_none (at + 1) v) ∙ ap (λ k. ranges p v k vars) (add-one at))
                 ∙ sym (ap₂ (λ x b. cond x (cond b (ranges q w (suc at + length (letters v)) first) first) vars) (same_node_refl k) u.0),
           )
 
   -- a pair or an element whose first part does not
-  misses_first : {vars₁ : List ℕ} → get_or s at 0 ≡ node_letter k → Matches s (at + 1) 0 p vars vars₁ upto.Nothing → Matches s at end (pnode k p q) vars vars₁ upto.Nothing
-  misses_first {vars₁} e f = matches_of (λ v a d. with_node (Says s at end (pnode k p q) vars vars₁ upto.Nothing) k below v (sym (at_first a) ∙ e) a d)
+  misses_first : {vars₁ : List ℕ} → get_or s at 0 ≡ node_letter k → Matches s (at + 1) None p vars vars₁ None → Matches s at end (pnode k p q) vars vars₁ None
+  misses_first {vars₁} e f = matches_of (λ v a d. with_node (Says s at end (pnode k p q) vars vars₁ None) k below v (sym (at_first a) ∙ e) a d)
     where
-      below : (v w : Val) → Says s at end (pnode k p q) vars vars₁ upto.Nothing (vnode k v w)
+      below : (v w : Val) → Says s at end (pnode k p q) vars vars₁ None (vnode k v w)
       below v w a d =
           let u = nothing_alike (alike p v) (at + 1 + length (letters v)) (f.answers v (at_left {w = w} a) (ends_none (at + 1) v)) in
           let first = ranges p v (suc at) vars in (
@@ -217,71 +191,62 @@ module _ {s : List ℕ} {at end : ℕ} {vars : List ℕ} (k : Node) {p q : Pat} 
                 ∙ sym (ap₂ (λ x b. cond x (cond b (ranges q w (suc at + length (letters v)) first) first) vars) (same_node_refl k) u),
           )
 
--- a variable, as the contract has it
-pub var_told : {s : List ℕ} {at end : ℕ} (vars : List ℕ) (n : ℕ) {stop : ℕ} {vars' : List ℕ} → ((v : Val) → At s at v → Ends end at v → stop ≡ at + length (letters v))
-    → vars' ≡ put_range vars n at stop → Told s at end (pvar n) vars vars' (upto.Place stop)
-var_told {s} {at} {end} vars n {stop} {vars'} e p = let m : Matches s at end (pvar n) vars vars' (upto.Place stop) = matches_var n e p in (m.answers, m.leaves)
-
 -- ---- the letter of a node
 
 -- the letter at a place, as it is looked for
-abbrev Found : List ℕ → ℕ → ℕ → U.Upto
+abbrev Found : List ℕ → ℕ → ℕ → Maybe ℕ
 Found s at b = matched (ltb at (length s) && eqb (get_or s at 0) b) (at + 1)
 
 -- it is there
-pub letter_here : (s : List ℕ) (at b : ℕ) → at < length s → get_or s at 0 ≡ b → upto.Place (at + 1) ≡ Found s at b
+pub letter_here : (s : List ℕ) (at b : ℕ) → at < length s → get_or s at 0 ≡ b → Some (at + 1) ≡ Found s at b
 letter_here s at b h e = sym (ap₂ (λ x y. matched (x && y) (at + 1)) (lt-ltb at (length s) h) (eq-eqb (get_or s at 0) b e))
 
 -- another is there
-pub letter_differs : (s : List ℕ) (at b : ℕ) → at < length s → (get_or s at 0 ≡ b → ⊥) → upto.Nothing ≡ Found s at b
+pub letter_differs : (s : List ℕ) (at b : ℕ) → at < length s → (get_or s at 0 ≡ b → ⊥) → None ≡ Found s at b
 letter_differs s at b h n = sym (ap₂ (λ x y. matched (x && y) (at + 1)) (lt-ltb at (length s) h) (ne_eqb (get_or s at 0) b n))
 
--- none is there
-pub letter_none : (s : List ℕ) (at b : ℕ) → length s ≤ at → upto.Nothing ≡ Found s at b
-letter_none s at b h = sym (ap (λ x. matched (x && eqb (get_or s at 0) b) (at + 1)) (le-ltb at (length s) h))
-
 -- what the search for it tells
-found : (s : List ℕ) (at b : ℕ) {next : ℕ} → upto.Place next ≡ Found s at b → (get_or s at 0 ≡ b) × (next ≡ at + 1)
+found : (s : List ℕ) (at b : ℕ) {next : ℕ} → Some next ≡ Found s at b → (get_or s at 0 ≡ b) × (next ≡ at + 1)
 found s at b {next} e =
     let p = place_alike (ltb at (length s) && eqb (get_or s at 0) b) next (at + 1) e in (eqb_eq (get_or s at 0) b (and_true (ltb at (length s)) (eqb (get_or s at 0) b) p.0).1, p.1)
 
-missed : (s : List ℕ) (at b : ℕ) → upto.Nothing ≡ Found s at b → at < length s → get_or s at 0 ≡ b → ⊥
+missed : (s : List ℕ) (at b : ℕ) → None ≡ Found s at b → at < length s → get_or s at 0 ≡ b → ⊥
 missed s at b e h q =
     let z : ◌≡◌ {A = ℕ} 0 1 = let p = letter_here s at b h q in cc in omega arith
 
 -- ---- P lines: k is the kind, b its letter, o what the search for it tells, a and c the lines that line j names
 
-module _ (t : List ℕ) (base j : ℕ) (s : List ℕ) (at end : ℕ) (vars : List ℕ) where
+module _ (t : List ℕ) (base j : ℕ) (s : List ℕ) (at : ℕ) (end : Maybe ℕ) (vars : List ℕ) where
   -- what holds of the tree that line j unfolds to
-  as_line : (p : Pat) {vars' : List ℕ} {r : U.Upto} → pattern_of t base j ≡ p → Matches s at end p vars vars' r → Told s at end (pattern_of t base j) vars vars' r
+  as_line : (p : Pat) {vars' : List ℕ} {r : Maybe ℕ} → pattern_of t base j ≡ p → Matches s at end p vars vars' r → Told s at end (pattern_of t base j) vars vars' r
   as_line p {vars'} {r} e m = subst (λ x. Told s at end x vars vars' r) (sym e) (m.answers, m.leaves)
 
   -- the contract as a record, at the place behind a letter
-  record_of : {n m e : ℕ} {p : Pat} {us vars' : List ℕ} {r : U.Upto} → n ≡ m → Told s n e p us vars' r → Matches s m e p us vars' r
+  record_of : {n m : ℕ} {e : Maybe ℕ} {p : Pat} {us vars' : List ℕ} {r : Maybe ℕ} → n ≡ m → Told s n e p us vars' r → Matches s m e p us vars' r
   record_of {n} {m} {e} {p} {us} {vars'} {r} q h = subst (λ x. Matches s x e p us vars' r) q record { answers = h.0; leaves = h.1 }
 
   module _ {k : ℕ} (e : k ≡ cell_of t (base + j) 1) where
     -- a variable
-    pub match_variable : {x : ℕ} {vars' : List ℕ} {r : U.Upto} → k ≡ 1 → x ≡ cell_of t (base + j) 2 → Told s at end (pvar x) vars vars' r
+    pub match_variable : {x : ℕ} {vars' : List ℕ} {r : Maybe ℕ} → k ≡ 1 → x ≡ cell_of t (base + j) 2 → Told s at end (pvar x) vars vars' r
         → Told s at end (pattern_of t base j) vars vars' r
     match_variable {x} {vars'} {r} z f h = subst (λ p. Told s at end p vars vars' r) (sym (pattern_var t base j (sym e ∙ z) ∙ sym (ap pvar f))) h
 
-    module _ {b : ℕ} {o : U.Upto} (l : b ≡ letter_for k) (u : o ≡ Found s at b) where
+    module _ {b : ℕ} {o : Maybe ℕ} (l : b ≡ letter_for k) (u : o ≡ Found s at b) where
       -- another letter
-      pub match_miss : (k ≡ 1 → ⊥) → o ≡ upto.Nothing → Told s at end (pattern_of t base j) vars vars upto.Nothing
+      pub match_miss : (k ≡ 1 → ⊥) → o ≡ None → Told s at end (pattern_of t base j) vars vars None
       match_miss n q = go (kinds_of k)
         where
-          missing : (p : Pat) → Noded p → letter_for k ≡ letter_in p → pattern_of t base j ≡ p → Told s at end (pattern_of t base j) vars vars upto.Nothing
+          missing : (p : Pat) → Noded p → letter_for k ≡ letter_in p → pattern_of t base j ≡ p → Told s at end (pattern_of t base j) vars vars None
           missing p z m h = as_line p h (misses z (subst (λ x. at < length s → get_or s at 0 ≡ x → ⊥) (l ∙ m) (missed s at b (sym q ∙ u))))
 
-          go : cases.Leaf k ⊎ (Injects k ⊎ Joins k) → Told s at end (pattern_of t base j) vars vars upto.Nothing
+          go : cases.Leaf k ⊎ (Injects k ⊎ Joins k) → Told s at end (pattern_of t base j) vars vars None
           go (inl f) = let (x, m, h) = leaf_line t base j e n f in missing (pleaf x) tt m h
           go (inr (inl f)) = let (x, m, h) = inj_line t base j e refl f in missing (pinj x (pattern_of t base (smaller_of (cell_of t (base + j) 2) j))) tt m h
           go (inr (inr f)) =
               let (x, m, h) = node_line t base j e refl refl f in
               missing (pnode x (pattern_of t base (smaller_of (cell_of t (base + j) 2) j)) (pattern_of t base (smaller_of (cell_of t (base + j) 3) j))) tt m h
 
-      module _ {next : ℕ} (q : o ≡ upto.Place next) where
+      module _ {next : ℕ} (q : o ≡ Some next) where
         -- the letter is there
         here : {y : ℕ} → letter_for k ≡ y → get_or s at 0 ≡ y
         here m = (found s at b (sym q ∙ u)).0 ∙ l ∙ m
@@ -291,28 +256,28 @@ module _ (t : List ℕ) (base j : ℕ) (s : List ℕ) (at end : ℕ) (vars : Lis
         then = (found s at b (sym q ∙ u)).1
 
         -- a unit, an empty list, or a number that is no kind
-        pub match_leaf : (k ≡ 1 → ⊥) → cases.Leaf k → Told s at end (pattern_of t base j) vars vars (upto.Place next)
+        pub match_leaf : (k ≡ 1 → ⊥) → cases.Leaf k → Told s at end (pattern_of t base j) vars vars (Some next)
         match_leaf n f =
             let (x, m, h) = leaf_line t base j e n f in
-            as_line _ h (subst (λ n. Matches s at end (pleaf x) vars vars (upto.Place n)) (sym then) (matches_leaf x (here m)))
+            as_line _ h (subst (λ n. Matches s at end (pleaf x) vars vars (Some n)) (sym then) (matches_leaf x (here m)))
 
         module _ {a : ℕ} (n : a ≡ smaller_of (cell_of t (base + j) 2) j) where
           -- left and right
-          pub match_tag : {vars' : List ℕ} {r : U.Upto} → Injects k → Told s next end (pattern_of t base a) vars vars' r → Told s at end (pattern_of t base j) vars vars' r
+          pub match_tag : {vars' : List ℕ} {r : Maybe ℕ} → Injects k → Told s next end (pattern_of t base a) vars vars' r → Told s at end (pattern_of t base j) vars vars' r
           match_tag f g = let (x, m, h) = inj_line t base j e n f in as_line _ h (matches_inj x (here m) (record_of then g))
 
           module _ (i : Joins k) where
             -- a pair or an element whose first part matches
-            pub match_node : {c m : ℕ} {vars₁ vars₂ : List ℕ} {w r : U.Upto} → w ≡ upto.Place m → Told s next 0 (pattern_of t base a) vars vars₁ w
+            pub match_node : {c m : ℕ} {vars₁ vars₂ : List ℕ} {w r : Maybe ℕ} → w ≡ Some m → Told s next None (pattern_of t base a) vars vars₁ w
                 → c ≡ smaller_of (cell_of t (base + j) 3) j → Told s m end (pattern_of t base c) vars₁ vars₂ r → Told s at end (pattern_of t base j) vars vars₂ r
             match_node {vars₁ = vars₁} p f o v =
                 let (x, y, h) = node_line t base j e n o i in
                 as_line _ h
-                (matches_node x (here y) (subst (Matches s (at + 1) 0 (pattern_of t base a) vars vars₁) p (record_of then f)) (record_of refl v))
+                (matches_node x (here y) (subst (Matches s (at + 1) None (pattern_of t base a) vars vars₁) p (record_of then f)) (record_of refl v))
 
             -- a pair or an element whose first part does not
-            pub miss_first : {vars₁ : List ℕ} {w : U.Upto} → w ≡ upto.Nothing → Told s next 0 (pattern_of t base a) vars vars₁ w
-                → Told s at end (pattern_of t base j) vars vars₁ upto.Nothing
+            pub miss_first : {vars₁ : List ℕ} {w : Maybe ℕ} → w ≡ None → Told s next None (pattern_of t base a) vars vars₁ w
+                → Told s at end (pattern_of t base j) vars vars₁ None
             miss_first {vars₁} p f =
                 let (x, y, h) = node_line t base j e n refl i in
-                as_line _ h (misses_first x (here y) (subst (Matches s (at + 1) 0 (pattern_of t base a) vars vars₁) p (record_of then f)))
+                as_line _ h (misses_first x (here y) (subst (Matches s (at + 1) None (pattern_of t base a) vars vars₁) p (record_of then f)))

@@ -3,15 +3,13 @@
 use Prim.Native.Nat.{ℕ, ◌+◌, ◌-◌, ◌≤◌, ◌<◌}
 use native.Mathlib.Nat.{add-zero}
 use native.Mathlib.Omega.{arith}
-use mathlib.Core.Path.{◌≡◌, refl, sym, ap, ap₂, ◌∙◌, subst}
+use mathlib.Core.Path.{◌≡◌, refl, sym, ap, ◌∙◌, subst}
 use mathlib.Core.Bool.{Bool, true, false, cond}
-use mathlib.Core.Logic.{◌⊎◌, inl, inr}
 use mathlib.Core.Option.{Option, some}
 use mathlib.Core.List.{List, [], ◌∷◌, ◌++◌, append_assoc, append-nil}
 use lib.Dec.{eqb}
-use lib.ListN.{length, get_or, drop, length-append, length-drop}
+use lib.ListN.{length, get_or, drop, length-drop}
 use lib.Seq.{get_or-drop, drop-drop, drop-append_seam}
-use borrow.Author.Tests.{ne_eqb}
 use Rattle.calculus.specs.Trees.{Leaf, unit_leaf, empty_leaf, Tag, left, right, Node, pair_node, element_node, Val, vleaf, vinj, vnode}
 use Rattle.calculus.specs.Letters.{letters, leaf_letter, letter_of, node_letter}
 use Rattle.calculus.proofs.Basic.{some_inj}
@@ -169,23 +167,6 @@ going_start {at = at} {v = v} a =
 abbrev pub left_after : ℕ → ℕ → ℕ
 left_after b n = cond (eqb b 85) (n - 1) (cond (eqb b 78) (n - 1) (cond (eqb b 80) (n + 1) (cond (eqb b 75) (n + 1) n)))
 
--- a unit and an empty list: one value less
-pub left_leaf : (b n : ℕ) → (b ≡ 78) ⊎ (b ≡ 85) → n - 1 ≡ left_after b n
-left_leaf b n (inl e) = sym (ap (λ c. left_after c n) e)
-left_leaf b n (inr e) = sym (ap (λ c. left_after c n) e)
-
--- a pair and an element: one value more
-pub left_node : (b n : ℕ) → (b ≡ 75) ⊎ (b ≡ 80) → n + 1 ≡ left_after b n
-left_node b n (inl e) = sym (ap (λ c. left_after c n) e)
-left_node b n (inr e) = sym (ap (λ c. left_after c n) e)
-
--- left, right and other bytes: as many
-pub left_other : (b n : ℕ) → ((b ≡ 78) ⊎ (b ≡ 85) → ⊥) → ((b ≡ 75) ⊎ (b ≡ 80) → ⊥) → n ≡ left_after b n
-left_other b n x y =
-    sym
-    (ap₂ (λ u e. cond u (n - 1) (cond e (n - 1) (cond (eqb b 80) (n + 1) (cond (eqb b 75) (n + 1) n)))) (ne_eqb b 85 (λ z. x (inr z))) (ne_eqb b 78 (λ z. x (inl z)))
-    ∙ ap₂ (λ p k. cond p (n + 1) (cond k (n + 1) n)) (ne_eqb b 80 (λ z. y (inr z))) (ne_eqb b 75 (λ z. y (inl z))))
-
 after_leaf : (l : Leaf) (n : ℕ) → n - 1 ≡ left_after (leaf_letter l) n
 after_leaf unit_leaf n = refl
 after_leaf empty_leaf n = refl
@@ -287,5 +268,5 @@ pub search_last : {s : List ℕ} {at i n b r : ℕ} → Searching s at i n → b
 search_last g e q z v a = going_last (after_read g e q v a) z
 
 -- the letters do not end before
-pub search_end : {s : List ℕ} {at i n : ℕ} → Searching s at i n → length s ≤ i → (v : Val) → At s at v → i ≡ at + length (letters v)
+pub search_end : {s : List ℕ} {at i n r : ℕ} → Searching s at i n → length s ≤ i → (v : Val) → At s at v → r ≡ at + length (letters v)
 search_end g h v a = absurd (omega (arith, going_within (g.going v a) g.some'))

@@ -11,15 +11,16 @@ ghost use Rattle.area_cells.specs.Areas.{Writes};
 ghost use Rattle.table_trees.specs.Unfolding.{cell_of, smaller_of, pattern_of};
 ghost use Rattle.run_values.specs.Texts.{At, Ends, letter_for, alike, matched, put_range, ranges, range_of, built, Below};
 
-use area_cells::put_byte;
-use area_words::{narrow, store_word, wide, word_at};
+use area_cells::{item_at, put_byte, store};
+use area_words::{narrow, wide};
 use codes::{
     ELEMENT, EMPTY, FIRST, KIND, LEFT, LETTER_ELEMENT, LETTER_EMPTY, LETTER_LEFT, LETTER_PAIR,
     LETTER_RIGHT, LETTER_UNIT, PAIR, RIGHT, SECOND, VARIABLE,
 };
 use limits::VARIABLES;
-use run_values::{Upto, copy_range};
-use table_trees::{pattern_cell, smaller};
+use run_values::copy_range;
+use table_parts::pattern_part;
+use table_trees::pattern_cell;
 
 // How many values are left to be read, once a letter is read, where `left` were before.
 fn left_after(b: u8, left: usize) -> usize
@@ -38,16 +39,14 @@ fn left_after(b: u8, left: usize) -> usize
 pub fn value_end(s: &[u8], at: usize) -> usize
     ensures { (v : Val) → At s.now at v → result ≡ at + length (letters v) }
 {
-    let mut i = at;
     let mut left: usize = 1;
-    while i < s.len() {
+    for i in at..s.len() {
         left = left_after(s[i], left);
-        i += 1;
         if left == 0 {
-            return i;
+            return i + 1;
         }
     }
-    i
+    at.max(s.len())
 }
 
 // Variable n stands for the letters from a place up to another.
@@ -55,84 +54,65 @@ pub fn put_range(vars: &mut [u16], n: usize, from: usize, to: usize)
     ensures { vars.new ≡ put_range vars.old n from to }
 {
     if n < VARIABLES {
-        store_word(vars, n, narrow(from));
-        store_word(vars, VARIABLES + n, narrow(to));
+        store(vars, n, narrow(from));
+        store(vars, VARIABLES + n, narrow(to));
     }
 }
 
-// Where the value at a place ends: `end` if that is told, that is not 0.
-fn known_end(s: &[u8], at: usize, end: usize) -> usize
+// Where the value at a place ends: `end` if that is told.
+fn known_end(s: &[u8], at: usize, end: Option<usize>) -> usize
     ensures { (v : Val) → At s.now at v → Ends end at v → result ≡ at + length (letters v) }
 {
-    if end == 0 {
-        return value_end(s, at);
-    }
-    end
+    end.unwrap_or_else(|| value_end(s, at))
 }
 
 // Matches variable n with the value that begins at a place.
-fn match_var(s: &[u8], at: usize, end: usize, n: usize, vars: &mut [u16]) -> Upto
+fn match_var(s: &[u8], at: usize, end: Option<usize>, n: usize, vars: &mut [u16]) -> Option<usize>
     ensures value { (v : Val) → At s.now at v → Ends end at v → result ≡ matched (alike (pvar n) v) (at + length (letters v)) }
     ensures vars_after { (v : Val) → At s.now at v → Ends end at v
         → vars.new ≡ ranges (pvar n) v at vars.old }
 {
     let stop = known_end(s, at, end);
     put_range(vars, n, at, stop);
-    Upto::Place(stop)
+    Some(stop)
 }
 
 // The letter of a P line's kind; a number that is no kind has a unit's.
 pub fn letter(kind: usize) -> u8
     ensures { result ≡ letter_for kind }
 {
-    if kind == PAIR {
-        return LETTER_PAIR;
+    match kind {
+        PAIR => LETTER_PAIR,
+        LEFT => LETTER_LEFT,
+        RIGHT => LETTER_RIGHT,
+        EMPTY => LETTER_EMPTY,
+        ELEMENT => LETTER_ELEMENT,
+        _ => LETTER_UNIT,
     }
-    if kind == LEFT {
-        return LETTER_LEFT;
-    }
-    if kind == RIGHT {
-        return LETTER_RIGHT;
-    }
-    if kind == EMPTY {
-        return LETTER_EMPTY;
-    }
-    if kind == ELEMENT {
-        return LETTER_ELEMENT;
-    }
-    LETTER_UNIT
 }
 
 // The place behind a letter, if it stands at a place.
-fn letter_end(s: &[u8], at: usize, b: u8) -> Upto
+fn letter_end(s: &[u8], at: usize, b: u8) -> Option<usize>
     ensures { result ≡ matched (ltb at (length s.now) && eqb (get_or s.now at 0) b) (at + 1) }
 {
-    if at < s.len() {
-        if s[at] == b {
-            return Upto::Place(at + 1);
-        }
+    if at < s.len() && s[at] == b {
+        Some(at + 1)
+    } else {
+        None
     }
-    Upto::Nothing
 }
 
-// The P line that number k of P line j names.
-fn part(t: &[u16], base: usize, j: usize, k: usize) -> usize
-    ensures { result ≡ smaller_of (cell_of t.now (base + j) k) j }
-{
-    smaller(pattern_cell(t, base, j, k), j)
-}
-
-// Matches P line j with the value that begins at a place and ends before `end`, which is 0 where that
-// is not known: where the value ends, and the ranges of the pattern's variables.
+// Matches P line j with the value that begins at a place and ends before `end`, where that is known:
+// where the value ends, and the ranges of the pattern's variables.
 pub fn match_at(
     t: &[u16],
     base: usize,
     j: usize,
     s: &[u8],
     at: usize,
-    end: usize,
+    end: Option<usize>,
     vars: &mut [u16],
-) -> Upto
+) -> Option<usize>
     ensures value { (v : Val) → At s.now at v → Ends end at v
         → result ≡ matched (alike (pattern_of t.now base j) v) (at + length (letters v)) }
     ensures vars_after { (v : Val) → At s.now at v → Ends end at v
@@ -142,16 +122,22 @@ pub fn match_at(
     if kind == VARIABLE {
         return match_var(s, at, end, pattern_cell(t, base, j, FIRST), vars);
     }
-    let Upto::Place(next) = letter_end(s, at, letter(kind)) else {
-        return Upto::Nothing;
-    };
+    let next = letter_end(s, at, letter(kind))?;
     match kind {
-        PAIR | ELEMENT => match match_at(t, base, part(t, base, j, FIRST), s, next, 0, vars) {
-            Upto::Place(m) => match_at(t, base, part(t, base, j, SECOND), s, m, end, vars),
-            Upto::Nothing => Upto::Nothing,
-        },
-        LEFT | RIGHT => match_at(t, base, part(t, base, j, FIRST), s, next, end, vars),
-        _ => Upto::Place(next),
+        PAIR | ELEMENT => {
+            let m = match_at(
+                t,
+                base,
+                pattern_part(t, base, j, FIRST),
+                s,
+                next,
+                None,
+                vars,
+            )?;
+            match_at(t, base, pattern_part(t, base, j, SECOND), s, m, end, vars)
+        }
+        LEFT | RIGHT => match_at(t, base, pattern_part(t, base, j, FIRST), s, next, end, vars),
+        _ => Some(next),
     }
 }
 
@@ -162,8 +148,8 @@ pub fn build_var(n: usize, vars: &[u16], work: &mut [u8], at: usize) -> usize
         → Writes work.old work.new at result
         (range_of (take top work.old) vars.now n) }
 {
-    let from = wide(word_at(vars, n));
-    copy_range(work, from, wide(word_at(vars, VARIABLES + n)), at)
+    let from = wide(item_at(vars, n, 0));
+    copy_range(work, from, wide(item_at(vars, VARIABLES + n, 0)), at)
 }
 
 // Writes P line j with its variables' values put in; gives where it ends.
@@ -179,10 +165,17 @@ pub fn build_at(t: &[u16], base: usize, j: usize, vars: &[u16], work: &mut [u8],
     let next = put_byte(work, at, letter(kind));
     match kind {
         PAIR | ELEMENT => {
-            let middle = build_at(t, base, part(t, base, j, FIRST), vars, work, next);
-            build_at(t, base, part(t, base, j, SECOND), vars, work, middle)
+            let middle = build_at(t, base, pattern_part(t, base, j, FIRST), vars, work, next);
+            build_at(
+                t,
+                base,
+                pattern_part(t, base, j, SECOND),
+                vars,
+                work,
+                middle,
+            )
         }
-        LEFT | RIGHT => build_at(t, base, part(t, base, j, FIRST), vars, work, next),
+        LEFT | RIGHT => build_at(t, base, pattern_part(t, base, j, FIRST), vars, work, next),
         _ => next,
     }
 }

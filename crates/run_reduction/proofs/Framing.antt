@@ -1,12 +1,12 @@
 -- The reduction in the work area, function by function: what each assumes, what it finds, what it leaves.
-use Prim.Native.Nat.{ℕ, zero, suc, ◌+◌, ◌-◌, ◌*◌, ◌≤◌, ◌<◌, min}
+use Prim.Native.Nat.{ℕ, zero, suc, ◌+◌, ◌-◌, ◌*◌, ◌≤◌, ◌<◌, min, max}
 use native.Mathlib.Nat.{zero-add}
 use native.Mathlib.Omega.{arith}
 use mathlib.Core.Path.{◌≡◌, refl, sym, ap, ap₂, ◌∙◌, subst, subst₂}
 use mathlib.Core.Bool.{Bool, true, false, cond, ◌||◌, true≢false}
 use mathlib.Core.Option.{Option, none, some}
 use mathlib.Core.Logic.{◌⊎◌, inl, inr, ⊎_elim}
-use mathlib.Core.List.{List, [], ◌∷◌, ◌++◌, append_assoc}
+use mathlib.Core.List.{List, [], ◌∷◌, ◌++◌}
 use lib.Dec.{eqb, ltb}
 use lib.ListN.{length, get_or, get_elem?, take, drop, replicate, length-append, drop_of_length-le, take-append-drop}
 use lib.Seq.{sets, slice, sets-eq, length-take-le, length-slice, drop_at, take-take, drop-drop, drop-append-le}
@@ -15,7 +15,7 @@ use Rattle.calculus.specs.Trees.{Pat, pvar, Val, Let, Clause, Iso}
 use Rattle.calculus.specs.Slots.{Slots, empty}
 use Rattle.calculus.specs.Letters.{letters}
 use Rattle.calculus.specs.Reduction.{bind, build}
-use Rattle.calculus.proofs.Basic.{none≢some, some_inj, not_both, index_below, le_or_lt, ltb_lt, ltb_false, eqb_eq, eqb_false, not_eqb, or_true}
+use Rattle.calculus.proofs.Basic.{none≢some, some_inj, not_both, index_below, le_or_lt, ltb_lt, ltb_false, eqb_eq, eqb_false, or_true}
 use Rattle.calculus.proofs.Binding.{bind_length, build_length}
 use Rattle.calculus.proofs.Letters.{letters_some}
 use Rattle.area_cells.specs.Areas.{Writes}
@@ -27,81 +27,59 @@ use Rattle.run_values.specs.Agrees.{Agrees}
 use Rattle.run_values.specs.Traces.{Fitting, Over, Calls, LetTrace, LetsTrace, EndTrace, ClauseTrace, Applies, Runs}
 use Rattle.run_values.proofs.Agreeing.{at_within, at_take, at_sets, take_sets, bind_alike, length_ranges, below_ranges, below_more, agrees_empty, agrees_more, agrees_bind, built_build, at_slice}
 use Rattle.run_values.proofs.Tracing.{runs_least}
+use Rattle.std.specs.declared.result.Result as Outcome
+use Rattle.std.specs.Prelude.{Ok, Err}
 use Rattle.run_reduction.specs.declared.Given as G
-use Rattle.run_reduction.specs.declared.Given.TheVariants as given
 use Rattle.run_reduction.specs.declared.Place as P
 use Rattle.run_reduction.specs.declared.Reduced as R
-use Rattle.run_reduction.specs.declared.Reduced.TheVariants as reduced
-use Rattle.run_reduction.specs.Frames.{sided, sided_clause, sided_let, sided_lets, side_at, Laid, EnvAt, Chosen, Spares, too_large, rest_of, remaining, Result, Answers, Applied}
+use Rattle.run_reduction.specs.declared.Stop as S
+use Rattle.run_reduction.specs.declared.Stop.TheVariants as halt
+use Rattle.run_reduction.specs.Frames.{sided, sided_clause, sided_let, sided_lets, side_at, Laid, EnvAt, Chosen, Spares, too_large, Giving, Reducing, given_at}
+use Rattle.run_reduction.specs.Frames.{done_at, rest_of, remaining, Result, Answers, Applied}
 use Rattle.run_reduction.specs.Frames.{Reached, Comes, Stepped, Gives, Gave, Stood, Handed, Argued, ChoiceSays, StepSays, LetsSay, ApplySays, SettleSays, GiveSays, ArgueSays}
 use Rattle.run_reduction.proofs.Laying.{inside, clause_at, lhs_at, rhs_at, lets_at, length_sided, let_at_lem, let_q, let_p, let_iso}
 
 -- ---- answers
 
-pub done_place : {a b c d : ℕ} → reduced.Done a b ≡ reduced.Done c d → a ≡ c
-done_place {a} e = ap place e
+ok_inj : {A B : Type 0} {a b : A} → ◌≡◌ {A = Outcome.Result A B} (Ok a) (Ok b) → a ≡ b
+ok_inj {A} {B} {a} e = ap value e
   where
-    place : R.Reduced → ℕ
-    place (reduced.Done x y) = x
-    place reduced.Spent = a
-    place reduced.Large = a
+    value : Outcome.Result A B → A
+    value (Ok x) = x
+    value (Err x) = a
 
-pub done_left : {a b c d : ℕ} → reduced.Done a b ≡ reduced.Done c d → b ≡ d
+pub done_place : {a b c d : ℕ} → done_at a b ≡ done_at c d → a ≡ c
+done_place e = ap (λ (r : R.Reduced). r.top) (ok_inj e)
+
+pub done_left : {a b c d : ℕ} → done_at a b ≡ done_at c d → b ≡ d
 done_left e = ap remaining e
 
--- which of the three an answer is
-tells : R.Reduced → ℕ
-tells (reduced.Done x y) = 0
-tells reduced.Spent = 1
-tells reduced.Large = 2
+pub range_begin : {a b c d e f : ℕ} → given_at a b c ≡ given_at d e f → a ≡ d
+range_begin e = ap (λ (g : G.Given). g.at) (ok_inj e)
 
-pub done≢spent : {a b : ℕ} → reduced.Done a b ≡ reduced.Spent → ⊥
-unfolding tells
-done≢spent e = let h = ap tells e in omega (arith, h)
+pub range_end : {a b c d e f : ℕ} → given_at a b c ≡ given_at d e f → b ≡ e
+range_end e = ap (λ (g : G.Given). g.end) (ok_inj e)
 
-pub done≢large : {a b : ℕ} → reduced.Done a b ≡ reduced.Large → ⊥
-unfolding tells
-done≢large e = let h = ap tells e in omega (arith, h)
-
-pub spent≢large : reduced.Spent ≡ reduced.Large → ⊥
-unfolding tells
-spent≢large e = let h = ap tells e in omega (arith, h)
-
-pub range_begin : {a b c d e f : ℕ} → given.Range a b c ≡ given.Range d e f → a ≡ d
-range_begin {a} e = ap first e
-  where
-    first : G.Given → ℕ
-    first (given.Range x y z) = x
-    first given.Spent = a
-    first given.Large = a
-
-pub range_end : {a b c d e f : ℕ} → given.Range a b c ≡ given.Range d e f → b ≡ e
-range_end {b = b} e = ap second e
-  where
-    second : G.Given → ℕ
-    second (given.Range x y z) = y
-    second given.Spent = b
-    second given.Large = b
-
-pub range_left : {a b c d e f : ℕ} → given.Range a b c ≡ given.Range d e f → c ≡ f
+pub range_left : {a b c d e f : ℕ} → given_at a b c ≡ given_at d e f → c ≡ f
 range_left e = ap rest_of e
 
-shows : G.Given → ℕ
-shows (given.Range x y z) = 0
-shows given.Spent = 1
-shows given.Large = 2
+-- which of the three an answer is
+tells : {A : Type 0} → Outcome.Result A S.Stop → ℕ
+tells (Ok x) = 0
+tells (Err halt.Spent) = 1
+tells (Err halt.Large) = 2
 
-pub range≢spent : {a b c : ℕ} → given.Range a b c ≡ given.Spent → ⊥
-unfolding shows
-range≢spent e = let h = ap shows e in omega (arith, h)
+pub ok≢spent : {A : Type 0} {a : A} → ◌≡◌ {A = Outcome.Result A S.Stop} (Ok a) (Err halt.Spent) → ⊥
+unfolding tells
+ok≢spent e = let h = ap tells e in omega (arith, h)
 
-pub range≢large : {a b c : ℕ} → given.Range a b c ≡ given.Large → ⊥
-unfolding shows
-range≢large e = let h = ap shows e in omega (arith, h)
+pub ok≢large : {A : Type 0} {a : A} → ◌≡◌ {A = Outcome.Result A S.Stop} (Ok a) (Err halt.Large) → ⊥
+unfolding tells
+ok≢large e = let h = ap tells e in omega (arith, h)
 
-pub no_budget≢large : given.Spent ≡ given.Large → ⊥
-unfolding shows
-no_budget≢large e = let h = ap shows e in omega (arith, h)
+pub spent≢large : {A : Type 0} → ◌≡◌ {A = Outcome.Result A S.Stop} (Err halt.Spent) (Err halt.Large) → ⊥
+unfolding tells
+spent≢large e = let h = ap tells e in omega (arith, h)
 
 -- ---- what is left alone
 
@@ -345,13 +323,13 @@ argue_built p {vars} {w₀} {w₁} {top} {end} {r} a ea ez ef less says writes e
 
 -- a variable's letters where they stand
 pub settle_place : (p : Pat) (n : ℕ) {vars work : List ℕ} {top dest left from to : ℕ} → p ≡ pvar n → from ≡ get_or vars n 0 → to ≡ get_or vars (32 + n) 0 → to ≤ dest
-    → SettleSays p vars work work top dest left (given.Range from to left)
+    → SettleSays p vars work work top dest left (given_at from to left)
 settle_place p n {vars} {work} {top} {dest} {left} {from} {to} is ea ez h e f w b fits env low room =
     let r = ranged p n is env b (omega (arith, room)) in
     let ends = r.ends in (
       record {
         begin = from;
-        gives = ap (λ k. given.Range from k left) (ez ∙ ends ∙ ap (λ k. k + length (letters w)) (sym ea));
+        gives = ap (λ k. given_at from k left) (ez ∙ ends ∙ ap (λ k. k + length (letters w)) (sym ea));
         stands = subst (λ k. At work k w) (sym ea) r.stands;
         near = omega (arith, ends, ea, ez, h);
       },
@@ -360,7 +338,7 @@ settle_place p n {vars} {work} {top} {dest} {left} {from} {to} is ea ez h e f w 
 
 -- copied to `dest`
 pub settle_copied : (p : Pat) (n : ℕ) {vars work work' : List ℕ} {top dest left from to end : ℕ} → p ≡ pvar n → from ≡ get_or vars n 0 → to ≡ get_or vars (32 + n) 0 → dest ≤ from
-    → (dest ≤ from → to ≤ length work → Writes work work' dest end (slice from to work)) → SettleSays p vars work work' top dest left (given.Range dest end left)
+    → (dest ≤ from → to ≤ length work → Writes work work' dest end (slice from to work)) → SettleSays p vars work work' top dest left (given_at dest end left)
 settle_copied p n {vars} {work} {work'} {top} {dest} {left} {from} {to} {end} is ea ez h copy e f w b fits env low room =
     let r = ranged p n is env b (omega (arith, room)) in
     let ends = r.ends in
@@ -374,7 +352,7 @@ settle_copied p n {vars} {work} {work'} {top} {dest} {left} {from} {to} {end} is
     let room' : dest + length (letters w) ≤ length work = omega (arith, far, room) in (
       record {
         begin = dest;
-        gives = ap (λ k. given.Range dest k left) stops;
+        gives = ap (λ k. given_at dest k left) stops;
         stands = subst (λ l. At l dest w) (sym final) (at_sets work (letters w) dest w refl room');
         near = omega (arith, fits);
       },
@@ -384,13 +362,13 @@ settle_copied p n {vars} {work} {work'} {top} {dest} {left} {from} {to} {end} is
 
 -- built at `dest`
 pub settle_built : (p : Pat) {vars work work' : List ℕ} {top dest left last : ℕ} → top ≡ dest
-    → ((n : ℕ) → Below vars n → n ≤ top → Writes work work' top last (built p (take n work) vars)) → SettleSays p vars work work' top dest left (given.Range dest last left)
+    → ((n : ℕ) → Below vars n → n ≤ top → Writes work work' top last (built p (take n work) vars)) → SettleSays p vars work work' top dest left (given_at dest last left)
 settle_built p {vars} {work} {work'} {top} {dest} {left} {last} here writes e f w b fits env low room =
     let rd = ready p env b (omega (arith, fits, room)) writes in
     let ends = rd.ends in (
       record {
         begin = dest;
-        gives = ap (λ k. given.Range dest k left) (ends ∙ ap (λ k. k + length (letters w)) here);
+        gives = ap (λ k. given_at dest k left) (ends ∙ ap (λ k. k + length (letters w)) here);
         stands = subst (λ k. At work' k w) here rd.spelled;
         near = omega (arith, fits);
       },
@@ -399,7 +377,7 @@ settle_built p {vars} {work} {work'} {top} {dest} {left} {last} here writes e f 
 
 -- built at `top`, and copied to `dest`
 pub settle_moved : (p : Pat) {vars work w₁ work' : List ℕ} {top dest left last end : ℕ} → ((n : ℕ) → Below vars n → n ≤ top → Writes work w₁ top last (built p (take n work) vars))
-    → (dest ≤ top → last ≤ length w₁ → Writes w₁ work' dest end (slice top last w₁)) → SettleSays p vars work work' top dest left (given.Range dest end left)
+    → (dest ≤ top → last ≤ length w₁ → Writes w₁ work' dest end (slice top last w₁)) → SettleSays p vars work work' top dest left (given_at dest end left)
 settle_moved p {vars} {work} {w₁} {work'} {top} {dest} {left} {last} {end} writes copy e f w b fits env low room =
     let rd = ready p env b (omega (arith, fits, room)) writes in
     let stop = rd.ends in
@@ -412,7 +390,7 @@ settle_moved p {vars} {work} {w₁} {work'} {top} {dest} {left} {last} {end} wri
     let stops : end ≡ dest + length (letters w) = c.place fits' ∙ ap (λ bs. dest + length bs) bytes in (
       record {
         begin = dest;
-        gives = ap (λ k. given.Range dest k left) stops;
+        gives = ap (λ k. given_at dest k left) stops;
         stands = subst (λ l. At l dest w) (sym final) (at_sets w₁ (letters w) dest w refl room');
         near = omega (arith, fits);
       },
@@ -423,12 +401,12 @@ settle_moved p {vars} {work} {w₁} {work'} {top} {dest} {left} {last} {end} wri
 
 -- measured before
 pub give_large : (p : Pat) {vars work : List ℕ} {top dest left r : ℕ} → max_letters < r
-    → ((s : List ℕ) → Below vars (length s) → r ≡ min (length (built p s vars)) (suc max_letters)) → GiveSays p vars work work top dest left given.Large
+    → ((s : List ℕ) → Below vars (length s) → r ≡ min (length (built p s vars)) (suc max_letters)) → GiveSays p vars work work top dest left (Err halt.Large)
 give_large p {vars} {work} {top} {dest} over says e f w b env low room =
     let n = measured_letters p env b (omega (arith, room)) says in
     record { gives = Gives.large (omega (arith, n, over)) refl; spares = spares_none work dest (top + result_length) }
 
-pub give_settled : (p : Pat) {vars work work' : List ℕ} {top dest left r : ℕ} {g : G.Given} → r ≤ max_letters
+pub give_settled : (p : Pat) {vars work work' : List ℕ} {top dest left r : ℕ} {g : Giving} → r ≤ max_letters
     → ((s : List ℕ) → Below vars (length s) → r ≡ min (length (built p s vars)) (suc max_letters)) → SettleSays p vars work work' top dest left g
     → GiveSays p vars work work' top dest left g
 give_settled p less says settles e f w b env low room =
@@ -445,13 +423,13 @@ runs_deep zero os i v w m r = absurd (none≢some (sym r.0))
 runs_deep (suc d) os i v w m r = omega arith
 
 -- its argument, and the iso applied to it
-record Called (w₀ w₁ w₂ vars : List ℕ) (top depth left : ℕ) (u : Val) (f : Slots Val) (x : Option Val) (m : ℕ) (a : P.Place) (r : G.Given) : Type 0 where
+record Called (w₀ w₁ w₂ vars : List ℕ) (top depth left : ℕ) (u : Val) (f : Slots Val) (x : Option Val) (m : ℕ) (a : P.Place) (r : Giving) : Type 0 where
   pub argued : Argued w₀ w₁ vars top u f a
   pub applied : Applied w₁ w₂ top depth left x m r
   -- q's letters and the frames of the calls
   pub spares : Spares w₀ w₂ top (top + 1 * result_length + depth * frame)
 
-called : (t : List ℕ) (base : ℕ) (index : List ℕ) (back : Bool) (row depth : ℕ) {jq j : ℕ} {w₀ w₁ w₂ vars : List ℕ} {top left : ℕ} {a : P.Place} {r : G.Given}
+called : (t : List ℕ) (base : ℕ) (index : List ℕ) (back : Bool) (row depth : ℕ) {jq j : ℕ} {w₀ w₁ w₂ vars : List ℕ} {top left : ℕ} {a : P.Place} {r : Giving}
     → jq ≡ cell_of t row (cond back 1 3) → ArgueSays (pattern_of t base jq) vars w₀ w₁ top a → length w₁ ≡ length w₀ → j ≡ cell_of t row 2
     → ApplySays t base index back j depth w₁ w₂ a.at a.end top a.free left r
     → (os : List Iso) (l : Let) (e : Slots Val) {f : Slots Val} {u : Val} (x : Option Val) (m : ℕ) → Laid t base index back os → l ≡ sided_let back (let_at t base row)
@@ -470,15 +448,15 @@ called t base index back row depth {jq} {j} {top = top} cellq argues wide cell s
           (spares_more top (top + depth * frame) top (top + 1 * result_length + depth * frame) p.spares (omega arith) (omega arith));
     }
 
-module _ (t : List ℕ) (base : ℕ) (index : List ℕ) (back : Bool) (row depth : ℕ) {jq j : ℕ} {w₀ w₁ w₂ vars : List ℕ} {top left : ℕ} {a : P.Place} {r : G.Given}
+module _ (t : List ℕ) (base : ℕ) (index : List ℕ) (back : Bool) (row depth : ℕ) {jq j : ℕ} {w₀ w₁ w₂ vars : List ℕ} {top left : ℕ} {a : P.Place} {r : Giving}
     (cellq : jq ≡ cell_of t row (cond back 1 3)) (argues : ArgueSays (pattern_of t base jq) vars w₀ w₁ top a) (wide : length w₁ ≡ length w₀) (cell : j ≡ cell_of t row 2)
     (says : ApplySays t base index back j depth w₁ w₂ a.at a.end top a.free left r) where
   -- a result, which p binds
   bound_by : {jp b x y next : ℕ} {vars' : List ℕ} → length w₂ ≡ length w₁ → jp ≡ cell_of t row (cond back 3 1)
       → ((v : Val) → At w₂ b v → x ≡ b + length (letters v) → vars' ≡ ranges (pattern_of t base jp) v b vars) → (top ≤ next) × (x ≤ next) × ((next ≡ top) ⊎ (next ≡ x))
       → (l : Let) {u w : Val} {f g : Slots Val} {z : Option Val} {m rest : ℕ} → 1 ≤ depth → l ≡ sided_let back (let_at t base row)
-      → Called w₀ w₁ w₂ vars top depth left u f z m a r → Result w₂ top rest w r → r ≡ given.Range b x y → bind l.p w f ≡ some g
-      → top + 1 * result_length + depth * frame ≤ length w₀ → length w₀ ≤ work_length → Reached w₂ vars' top 1 rest g (reduced.Done next y)
+      → Called w₀ w₁ w₂ vars top depth left u f z m a r → Result w₂ top rest w r → r ≡ given_at b x y → bind l.p w f ≡ some g
+      → top + 1 * result_length + depth * frame ≤ length w₀ → length w₀ ≤ work_length → Reached w₂ vars' top 1 rest g (done_at next y)
   bound_by {jp} {b} {x} {y} {next} {vars'} kept cellp range far l {u} {w} {f} {g} deep is c res told bound room most =
       let p : Pat = pattern_of t base jp in
       let same : l.p ≡ p = ap (λ z. z.p) is ∙ let_p t base back row ∙ ap (pattern_of t base) (sym cellp) in
@@ -500,7 +478,7 @@ module _ (t : List ℕ) (base : ℕ) (index : List ℕ) (back : Bool) (row depth
         next = next;
         further = low;
         near = omega (arith, top');
-        done = ap (reduced.Done next) (range_left done);
+        done = ap (done_at next) (range_left done);
         env = record {
           agrees = subst (λ z. Agrees (take next w₂) z g) (sym ranged')
               (agrees_bind p w f (take next w₂) vars b rest.wide rest.slots (omega (arith, long, top', room, most, deep)) (at_take w₂ b next w at (omega (arith, place, over)))
@@ -515,40 +493,40 @@ module _ (t : List ℕ) (base : ℕ) (index : List ℕ) (back : Bool) (row depth
       bounded (inl z) k = omega (arith, z)
       bounded (inr z) k = omega (arith, z, k)
 
-  pub step_done : {jp b x y next : ℕ} {vars' : List ℕ} → length w₂ ≡ length w₁ → r ≡ given.Range b x y → jp ≡ cell_of t row (cond back 3 1)
+  pub step_done : {jp b x y next : ℕ} {vars' : List ℕ} → length w₂ ≡ length w₁ → r ≡ given_at b x y → jp ≡ cell_of t row (cond back 3 1)
       → ((v : Val) → At w₂ b v → x ≡ b + length (letters v) → vars' ≡ ranges (pattern_of t base jp) v b vars) → (top ≤ next) × (x ≤ next) × ((next ≡ top) ⊎ (next ≡ x))
-      → StepSays t base index back depth row w₀ w₂ top vars vars' left (reduced.Done next y)
+      → StepSays t base index back depth row w₀ w₂ top vars vars' left (done_at next y)
   step_done {jp} {b} {x} {y} {next} {vars'} kept told cellp range far os l e z m laid is trace env room most = go trace
     where
-      go : {z : Option (Slots Val)} {m : ℕ} → LetTrace (Runs depth os) l e z m → Stepped w₀ w₂ vars' top 1 depth left z m (reduced.Done next y)
+      go : {z : Option (Slots Val)} {m : ℕ} → LetTrace (Runs depth os) l e z m → Stepped w₀ w₂ vars' top 1 depth left z m (done_at next y)
       go (LetTrace.stops {m = m} bu run) =
           let c = called t base index back row depth cellq argues wide cell says os l e none m laid is bu run env room most in
           record { comes = nothing c.applied.answers; spares = c.spares }
         where
-          nothing : Answers w₂ top left none m r → Comes w₂ vars' top 1 left none m (reduced.Done next y)
-          nothing (Answers.spent h k) = absurd (range≢spent (sym told ∙ k))
-          nothing (Answers.large h n k) = absurd (range≢large (sym told ∙ k))
+          nothing : Answers w₂ top left none m r → Comes w₂ vars' top 1 left none m (done_at next y)
+          nothing (Answers.spent h k) = absurd (ok≢spent (sym told ∙ k))
+          nothing (Answers.large h n k) = absurd (ok≢large (sym told ∙ k))
           nothing (Answers.gives w h n k) = absurd (none≢some n)
       go (LetTrace.gives {f = f} {g = g} {u = u} {w = w} {m = m} bu run bound) =
           let c = called t base index back row depth cellq argues wide cell says os l e (some w) m laid is bu run env room most in
           record { comes = something c c.applied.answers; spares = c.spares }
         where
-          something : Called w₀ w₁ w₂ vars top depth left u f (some w) m a r → Answers w₂ top left (some w) m r → Comes w₂ vars' top 1 left (some g) m (reduced.Done next y)
-          something c (Answers.spent h k) = absurd (range≢spent (sym told ∙ k))
+          something : Called w₀ w₁ w₂ vars top depth left u f (some w) m a r → Answers w₂ top left (some w) m r → Comes w₂ vars' top 1 left (some g) m (done_at next y)
+          something c (Answers.spent h k) = absurd (ok≢spent (sym told ∙ k))
           something c (Answers.large h n k) = absurd (none≢some (sym n))
           something c (Answers.gives v h n k) =
               let k' : Result w₂ top (left - m) w r = subst (λ v. Result w₂ top (left - m) v r) (sym (some_inj n)) k in
               Comes.ends g h refl (bound_by kept cellp range far l (runs_deep depth os l.iso u w m run) is c k' told bound room most)
 
-  pub step_spent : {vars' : List ℕ} → r ≡ given.Spent → StepSays t base index back depth row w₀ w₂ top vars vars' left reduced.Spent
+  step_spent : {vars' : List ℕ} → r ≡ Err halt.Spent → StepSays t base index back depth row w₀ w₂ top vars vars' left (Err halt.Spent)
   step_spent {vars'} told os l e z m laid is trace env room most = go trace
     where
-      passed : {z : Option (Slots Val)} (x : Option Val) {m : ℕ} → Answers w₂ top left x m r → Comes w₂ vars' top 1 left z m reduced.Spent
+      passed : {z : Option (Slots Val)} (x : Option Val) {m : ℕ} → Answers w₂ top left x m r → Comes w₂ vars' top 1 left z m (Err halt.Spent)
       passed x (Answers.spent h k) = Comes.spent h refl
-      passed x (Answers.large h n k) = absurd (no_budget≢large (sym told ∙ k))
-      passed x (Answers.gives w h n k) = absurd (range≢spent (sym k.gives ∙ told))
+      passed x (Answers.large h n k) = absurd (spent≢large (sym told ∙ k))
+      passed x (Answers.gives w h n k) = absurd (ok≢spent (sym k.gives ∙ told))
 
-      go : {z : Option (Slots Val)} {m : ℕ} → LetTrace (Runs depth os) l e z m → Stepped w₀ w₂ vars' top 1 depth left z m reduced.Spent
+      go : {z : Option (Slots Val)} {m : ℕ} → LetTrace (Runs depth os) l e z m → Stepped w₀ w₂ vars' top 1 depth left z m (Err halt.Spent)
       go (LetTrace.stops {m = m} bu run) =
           let c = called t base index back row depth cellq argues wide cell says os l e none m laid is bu run env room most in
           record { comes = passed none c.applied.answers; spares = c.spares }
@@ -556,21 +534,26 @@ module _ (t : List ℕ) (base : ℕ) (index : List ℕ) (back : Bool) (row depth
           let c = called t base index back row depth cellq argues wide cell says os l e (some w) m laid is bu run env room most in
           record { comes = passed (some w) c.applied.answers; spares = c.spares }
 
-  pub step_large : {vars' : List ℕ} → r ≡ given.Large → StepSays t base index back depth row w₀ w₂ top vars vars' left reduced.Large
+  step_large : {vars' : List ℕ} → r ≡ Err halt.Large → StepSays t base index back depth row w₀ w₂ top vars vars' left (Err halt.Large)
   step_large {vars'} told os l e z m laid is trace env room most = go trace
     where
-      met : {z : Option (Slots Val)} (x : Option Val) {m : ℕ} → (x ≡ none → z ≡ none) → Answers w₂ top left x m r → Comes w₂ vars' top 1 left z m reduced.Large
-      met x f (Answers.spent h k) = absurd (no_budget≢large (sym k ∙ told))
+      met : {z : Option (Slots Val)} (x : Option Val) {m : ℕ} → (x ≡ none → z ≡ none) → Answers w₂ top left x m r → Comes w₂ vars' top 1 left z m (Err halt.Large)
+      met x f (Answers.spent h k) = absurd (spent≢large (sym k ∙ told))
       met x f (Answers.large h n k) = Comes.large h (f n) refl
-      met x f (Answers.gives w h n k) = absurd (range≢large (sym k.gives ∙ told))
+      met x f (Answers.gives w h n k) = absurd (ok≢large (sym k.gives ∙ told))
 
-      go : {z : Option (Slots Val)} {m : ℕ} → LetTrace (Runs depth os) l e z m → Stepped w₀ w₂ vars' top 1 depth left z m reduced.Large
+      go : {z : Option (Slots Val)} {m : ℕ} → LetTrace (Runs depth os) l e z m → Stepped w₀ w₂ vars' top 1 depth left z m (Err halt.Large)
       go (LetTrace.stops {m = m} bu run) =
           let c = called t base index back row depth cellq argues wide cell says os l e none m laid is bu run env room most in
           record { comes = met none (λ h. refl) c.applied.answers; spares = c.spares }
       go (LetTrace.gives {w = w} {m = m} bu run bound) =
           let c = called t base index back row depth cellq argues wide cell says os l e (some w) m laid is bu run env room most in
           record { comes = met (some w) (λ h. absurd (none≢some (sym h))) c.applied.answers; spares = c.spares }
+
+  -- nothing, by what it met
+  pub step_stops : {vars' : List ℕ} (s : S.Stop) → r ≡ Err s → StepSays t base index back depth row w₀ w₂ top vars vars' left (Err s)
+  step_stops halt.Spent = step_spent
+  step_stops halt.Large = step_large
 
 -- ---- the let steps of a clause
 
@@ -634,7 +617,7 @@ letting_start t base index back depth from n end budget w₀ vars₀ =
     }
 
 -- the let step at k, in a trace
-record OneStep (call : Calls) (ls : List Let) (x : Option (Slots Val)) (m budget end : ℕ) (w₀ : List ℕ) (depth k top left : ℕ) (work work' vars vars' : List ℕ) (r : R.Reduced)
+record OneStep (call : Calls) (ls : List Let) (x : Option (Slots Val)) (m budget end : ℕ) (w₀ : List ℕ) (depth k top left : ℕ) (work work' vars vars' : List ℕ) (r : Reducing)
     : Type 0 where
   pub before : LetsAt call ls x m budget end w₀ depth k top left work vars
   pub l : Let
@@ -642,7 +625,7 @@ record OneStep (call : Calls) (ls : List Let) (x : Option (Slots Val)) (m budget
   pub says : {z : Option (Slots Val)} {j : ℕ} → LetTrace call l before.now z j
       → Comes work' vars' top 1 left z j r × Spares w₀ work' end (end + length ls * result_length + depth * frame)
 
-module _ {t : List ℕ} {base : ℕ} {index : List ℕ} {back : Bool} {depth from n end budget : ℕ} {w₀ vars₀ : List ℕ} {k top left row : ℕ} {work work' vars vars' : List ℕ} {r : R.Reduced}
+module _ {t : List ℕ} {base : ℕ} {index : List ℕ} {back : Bool} {depth from n end budget : ℕ} {w₀ vars₀ : List ℕ} {k top left row : ℕ} {work work' vars vars' : List ℕ} {r : Reducing}
     (inv : Letting t base index back depth from n end budget w₀ vars₀ k top left work vars) (below : k < n) (where' : row ≡ from + cond back (n - suc k) k)
     (says : StepSays t base index back depth row work work' top vars vars' left r) where
   one_step : ForLets t base index back depth from n end w₀ vars₀ (λ os ls x m. OneStep (Runs depth os) ls x m budget end w₀ depth k top left work work' vars vars' r)
@@ -666,7 +649,7 @@ module _ {t : List ℕ} {base : ℕ} {index : List ℕ} {back : Bool} {depth fro
             );
       }
 
-  pub letting_next : {x y : ℕ} → r ≡ reduced.Done x y → length work' ≡ length work → Letting t base index back depth from n end budget w₀ vars₀ (k + 1) x y work' vars'
+  pub letting_next : {x y : ℕ} → r ≡ done_at x y → length work' ≡ length work → Letting t base index back depth from n end budget w₀ vars₀ (k + 1) x y work' vars'
   letting_next {x} {y} told wide =
       record {
         within = omega arith;
@@ -681,7 +664,7 @@ module _ {t : List ℕ} {base : ℕ} {index : List ℕ} {back : Bool} {depth fro
           ahead : {g : Slots Val} {j q : ℕ} → LetsTrace (Runs depth os) (drop (suc k) ls) g z q → j + q ≡ o.before.rest
               → Comes work' vars' top 1 left (some g) j r → Spares w₀ work' end (end + length ls * result_length + depth * frame)
               → LetsAt (Runs depth os) ls z m budget end w₀ depth (k + 1) x y work' vars'
-          ahead follows split (Comes.spent h e) spares = absurd (done≢spent (sym told ∙ e))
+          ahead follows split (Comes.spent h e) spares = absurd (ok≢spent (sym told ∙ e))
           ahead follows split (Comes.large h e f) spares = absurd (none≢some (sym e))
           ahead {g} {j} {q} follows split (Comes.ends g' h e reached) spares =
               let same = some_inj e in
@@ -709,8 +692,8 @@ module _ {t : List ℕ} {base : ℕ} {index : List ℕ} {back : Bool} {depth fro
               }
 
           stuck : {P : Type 0} {j : ℕ} → Comes work' vars' top 1 left none j r → P
-          stuck (Comes.spent h e) = absurd (done≢spent (sym told ∙ e))
-          stuck (Comes.large h e f) = absurd (done≢large (sym told ∙ f))
+          stuck (Comes.spent h e) = absurd (ok≢spent (sym told ∙ e))
+          stuck (Comes.large h e f) = absurd (ok≢large (sym told ∙ f))
           stuck (Comes.ends g h e reached) = absurd (none≢some e)
 
           go : FirstLet (Runs depth os) o.l (drop (suc k) ls) o.before.now z o.before.rest
@@ -718,47 +701,52 @@ module _ {t : List ℕ} {base : ℕ} {index : List ℕ} {back : Bool} {depth fro
           go (FirstLet.goes lt follows split) = let s = o.says lt in ahead follows split s.0 s.1
           go (FirstLet.stops lt e) = stuck (o.says lt).0
 
-  pub lets_spent : r ≡ reduced.Spent
-      → ForLets t base index back depth from n end w₀ vars₀ (λ os ls x m. Stepped w₀ work' vars' end (length ls) depth budget x m reduced.Spent)
+  lets_spent : r ≡ Err halt.Spent
+      → ForLets t base index back depth from n end w₀ vars₀ (λ os ls x m. Stepped w₀ work' vars' end (length ls) depth budget x m (Err halt.Spent))
   lets_spent told os ls e x m laid is trace env room most = go (one_step os ls e x m laid is trace env room most)
     where
       passed : {z : Option (Slots Val)} (p q : ℕ) {j : ℕ} → Comes work' vars' top 1 left z j r → p + q ≡ m → p + left ≡ budget → j ≤ q
-          → Comes work' vars' end (length ls) budget x m reduced.Spent
+          → Comes work' vars' end (length ls) budget x m (Err halt.Spent)
       passed p q (Comes.spent h e) a b c = Comes.spent (omega (arith, h, a, b, c)) refl
       passed p q (Comes.large h e f) a b c = absurd (spent≢large (sym told ∙ f))
-      passed p q (Comes.ends g h e reached) a b c = absurd (done≢spent (sym reached.done ∙ told))
+      passed p q (Comes.ends g h e reached) a b c = absurd (ok≢spent (sym reached.done ∙ told))
 
-      go : OneStep (Runs depth os) ls x m budget end w₀ depth k top left work work' vars vars' r → Stepped w₀ work' vars' end (length ls) depth budget x m reduced.Spent
+      go : OneStep (Runs depth os) ls x m budget end w₀ depth k top left work work' vars vars' r → Stepped w₀ work' vars' end (length ls) depth budget x m (Err halt.Spent)
       go o = first o.first
         where
-          first : FirstLet (Runs depth os) o.l (drop (suc k) ls) o.before.now x o.before.rest → Stepped w₀ work' vars' end (length ls) depth budget x m reduced.Spent
+          first : FirstLet (Runs depth os) o.l (drop (suc k) ls) o.before.now x o.before.rest → Stepped w₀ work' vars' end (length ls) depth budget x m (Err halt.Spent)
           first (FirstLet.goes lt follows split) =
               let s = o.says lt in record { comes = passed o.before.past o.before.rest s.0 o.before.counts o.before.paid (omega (arith, split)); spares = s.1 }
           first (FirstLet.stops lt f) =
               let s = o.says lt in record { comes = passed o.before.past o.before.rest s.0 o.before.counts o.before.paid (omega arith); spares = s.1 }
 
-  pub lets_large : r ≡ reduced.Large
-      → ForLets t base index back depth from n end w₀ vars₀ (λ os ls x m. Stepped w₀ work' vars' end (length ls) depth budget x m reduced.Large)
+  lets_large : r ≡ Err halt.Large
+      → ForLets t base index back depth from n end w₀ vars₀ (λ os ls x m. Stepped w₀ work' vars' end (length ls) depth budget x m (Err halt.Large))
   lets_large told os ls e x m laid is trace env room most = go (one_step os ls e x m laid is trace env room most)
     where
       met : {z : Option (Slots Val)} (p : ℕ) {j : ℕ} → (z ≡ none → (x ≡ none) × (p + j ≡ m)) → Comes work' vars' top 1 left z j r → p + left ≡ budget
-          → Comes work' vars' end (length ls) budget x m reduced.Large
+          → Comes work' vars' end (length ls) budget x m (Err halt.Large)
       met p f (Comes.spent h e) b = absurd (spent≢large (sym e ∙ told))
       met p f (Comes.large h e g) b = let y = f e in let a = y.1 in Comes.large (omega (arith, h, a, b)) y.0 refl
-      met p f (Comes.ends g h e reached) b = absurd (done≢large (sym reached.done ∙ told))
+      met p f (Comes.ends g h e reached) b = absurd (ok≢large (sym reached.done ∙ told))
 
-      go : OneStep (Runs depth os) ls x m budget end w₀ depth k top left work work' vars vars' r → Stepped w₀ work' vars' end (length ls) depth budget x m reduced.Large
+      go : OneStep (Runs depth os) ls x m budget end w₀ depth k top left work work' vars vars' r → Stepped w₀ work' vars' end (length ls) depth budget x m (Err halt.Large)
       go o = first o.first
         where
-          first : FirstLet (Runs depth os) o.l (drop (suc k) ls) o.before.now x o.before.rest → Stepped w₀ work' vars' end (length ls) depth budget x m reduced.Large
+          first : FirstLet (Runs depth os) o.l (drop (suc k) ls) o.before.now x o.before.rest → Stepped w₀ work' vars' end (length ls) depth budget x m (Err halt.Large)
           first (FirstLet.goes lt follows split) =
               let s = o.says lt in record { comes = met o.before.past (λ h. absurd (none≢some (sym h))) s.0 o.before.paid; spares = s.1 }
           first (FirstLet.stops lt f) =
               let s = o.says lt in record { comes = met o.before.past (λ h. (f, o.before.counts)) s.0 o.before.paid; spares = s.1 }
 
+  pub lets_stop : (s : S.Stop) → r ≡ Err s
+      → ForLets t base index back depth from n end w₀ vars₀ (λ os ls x m. Stepped w₀ work' vars' end (length ls) depth budget x m (Err s))
+  lets_stop halt.Spent = lets_spent
+  lets_stop halt.Large = lets_large
+
 pub lets_end : {t : List ℕ} {base : ℕ} {index : List ℕ} {back : Bool} {depth from n end budget : ℕ} {w₀ vars₀ : List ℕ} {k top left : ℕ} {work vars : List ℕ}
     → Letting t base index back depth from n end budget w₀ vars₀ k top left work vars → n ≤ k
-    → ForLets t base index back depth from n end w₀ vars₀ (λ os ls x m. Stepped w₀ work vars end (length ls) depth budget x m (reduced.Done top left))
+    → ForLets t base index back depth from n end w₀ vars₀ (λ os ls x m. Stepped w₀ work vars end (length ls) depth budget x m (done_at top left))
 lets_end {t} {base} {index} {back} {depth} {from} {n} {end} {budget} {w₀} {vars₀} {k} {top} {left} {work} {vars} inv past os ls e x m laid is trace env room most =
     let b = inv.holds os ls e x m laid is trace env room most in
     let many : length ls ≡ n = ap length is ∙ length_sided back t base from n in
@@ -773,7 +761,7 @@ lets_end {t} {base} {index} {back} {depth} {from} {n} {end} {budget} {w₀} {var
     let left' : left ≡ budget - m = omega (arith, counts, paid, zero') in
     record {
       comes = Comes.ends b.now (omega (arith, counts, paid, zero')) z.0
-          (record { next = top; further = b.further; near = omega (arith, near, many, within); done = ap (reduced.Done top) left'; env = b.env });
+          (record { next = top; further = b.further; near = omega (arith, near, many, within); done = ap (done_at top) left'; env = b.env });
       spares = b.spares;
     }
 
@@ -792,13 +780,6 @@ not_large depth at end e =
     above : (n : ℕ) → (n ≡ 0 → ⊥) → n ≡ suc (n - 1)
     above zero h = absurd (h refl)
     above (suc n) h = omega arith
-
-pub large_deep : (depth at end : ℕ) → depth ≡ 0 → true ≡ too_large depth at end
-large_deep depth at end e = sym (ap (λ n. eqb n 0 || ltb max_letters (end - at)) e)
-
-pub large_argument : (depth at end : ℕ) {n : ℕ} → (depth ≡ 0 → ⊥) → n ≡ end - at → ltb max_letters n ≡ too_large depth at end
-large_argument depth at end some' e =
-    ap (ltb max_letters) e ∙ sym (ap (λ b. b || ltb max_letters (end - at)) (not_eqb some'))
 
 is_large : (depth at end : ℕ) → too_large depth at end ≡ true → (depth ≡ 0) ⊎ (max_letters < end - at)
 is_large depth at end e =
@@ -938,22 +919,22 @@ fits_handed {at = at} {end = end} {v = v} h small = go (le_or_lt (length (letter
 
 -- no budget
 pub applied_none : (t : List ℕ) (base : ℕ) (index : List ℕ) (back : Bool) (i depth at end dest free left : ℕ) {work : List ℕ} → left ≡ 0
-    → ApplySays t base index back i depth work work at end dest free left given.Spent
+    → ApplySays t base index back i depth work work at end dest free left (Err halt.Spent)
 applied_none t base index back i depth at end dest free left {work} z os v x m laid run handed room most =
     let least = runs_least depth os i v x m run in
     record { answers = Answers.spent (omega (arith, z, least)) refl; spares = spares_none work dest (dest + depth * frame) }
 
 -- too deep, or too large an argument
 pub applied_large : (t : List ℕ) (base : ℕ) (index : List ℕ) (back : Bool) (i depth at end dest free left : ℕ) {work : List ℕ} → (left ≡ 0 → ⊥)
-    → too_large depth at end ≡ true → ApplySays t base index back i depth work work at end dest free left given.Large
+    → too_large depth at end ≡ true → ApplySays t base index back i depth work work at end dest free left (Err halt.Large)
 applied_large t base index back i depth at end dest free left {work} some' large os v x m laid run handed room most =
     record { answers = go depth (is_large depth at end large) run; spares = spares_none work dest (dest + depth * frame) }
   where
-    measured : (d : ℕ) {x : Option Val} {m : ℕ} → Applies (Runs d os) os i v x m → max_letters < end - at → Answers work dest left x m given.Large
+    measured : (d : ℕ) {x : Option Val} {m : ℕ} → Applies (Runs d os) os i v x m → max_letters < end - at → Answers work dest left x m (Err halt.Large)
     measured d (Applies.large o) far = Answers.large (one_or_more left some') refl refl
     measured d (Applies.runs fits o e c) far = let ends = (handed.fits fits).ends in absurd (omega (arith, ends, fits, far))
 
-    go : (n : ℕ) → (n ≡ 0) ⊎ (max_letters < end - at) → Runs n os i v x m → Answers work dest left x m given.Large
+    go : (n : ℕ) → (n ≡ 0) ⊎ (max_letters < end - at) → Runs n os i v x m → Answers work dest left x m (Err halt.Large)
     go zero h r = Answers.large (let one = r.1 in let least = one_or_more left some' in omega (arith, one, least)) r.0 refl
     go (suc d) (inl z) r = absurd (omega (arith, z))
     go (suc d) (inr far) r = measured d r far
@@ -965,7 +946,7 @@ within_frames dest free n {depth} {d} up few low near k =
     spares_more free (free + n * result_length + d * frame) dest (dest + depth * frame) k low (omega (arith, few, near, up))
 
 -- an application whose let steps were run: the clause, and what they came to
-record Ran (t : List ℕ) (base : ℕ) (back : Bool) (os : List Iso) (d row below dest free rest : ℕ) (w₀ w₁ : List ℕ) (end : ℕ) (vars vars' : List ℕ) (x : Option Val) (m : ℕ) (r : R.Reduced)
+record Ran (t : List ℕ) (base : ℕ) (back : Bool) (os : List Iso) (d row below dest free rest : ℕ) (w₀ w₁ : List ℕ) (end : ℕ) (vars vars' : List ℕ) (x : Option Val) (m : ℕ) (r : Reducing)
     : Type 0 where
   pub picked : Picked t base back os d row below w₀ end vars x m
   pub steps : Stepped w₀ w₁ vars' free (length picked.lets) d rest picked.last picked.count r
@@ -995,10 +976,10 @@ module _ (t : List ℕ) (base : ℕ) (index : List ℕ) (back : Bool) (i depth r
           (omega (arith, low, near, room, most, up)) o e c in
           (p.0, p.1, s)
 
-  pub unmatched : stop ≤ r → ApplySays t base index back i depth w₀ w₀ at end dest free left given.Spent
+  pub unmatched : stop ≤ r → ApplySays t base index back i depth w₀ w₀ at end dest free left (Err halt.Spent)
   unmatched past os v x m laid run handed room most = let c = choice os v x m laid run handed room most in let c₀ = c.0 in absurd (omega (arith, c₀))
 
-  module _ {w₁ vars' : List ℕ} {z : R.Reduced} (some' : left ≡ 0 → ⊥) (lets : LetsSay t base index back (depth - 1) (row + 1) below w₀ w₁ free vars vars' (left - 1) z) where
+  module _ {w₁ vars' : List ℕ} {z : Reducing} (some' : left ≡ 0 → ⊥) (lets : LetsSay t base index back (depth - 1) (row + 1) below w₀ w₁ free vars vars' (left - 1) z) where
     -- its let steps
     ran : (os : List Iso) (v : Val) (x : Option Val) (m : ℕ) → Laid t base index back os → Runs depth os i v x m → Handed w₀ at end dest free v
         → dest + depth * frame ≤ length w₀ → length w₀ ≤ work_length → Ran t base back os (depth - 1) row below dest free (left - 1) w₀ w₁ end vars vars' x m z
@@ -1022,30 +1003,34 @@ module _ (t : List ℕ) (base : ℕ) (index : List ℕ) (back : Bool) (i depth r
     alone q =
         within_frames dest free (length q.picked.lets) (not_large depth at end measured).0 q.picked.few q.over q.near q.steps.spares
 
-    pub apply_spent : z ≡ reduced.Spent → ApplySays t base index back i depth w₀ w₁ at end dest free left given.Spent
+    apply_spent : z ≡ Err halt.Spent → ApplySays t base index back i depth w₀ w₁ at end dest free left (Err halt.Spent)
     apply_spent told os v x m laid run handed room most =
         let q = ran os v x m laid run handed room most in record { answers = go q.picked q.steps.comes; spares = alone q }
       where
         go : (p : Picked t base back os (depth - 1) row below w₀ end vars x m) → Comes w₁ vars' free (length p.lets) (left - 1) p.last p.count z
-            → Answers w₁ dest left x m given.Spent
+            → Answers w₁ dest left x m (Err halt.Spent)
         go p (Comes.spent h e) = let counts = p.counts in Answers.spent (omega (arith, h, counts)) refl
         go p (Comes.large h n e) = absurd (spent≢large (sym told ∙ e))
-        go p (Comes.ends g h n e) = absurd (done≢spent (sym e.done ∙ told))
+        go p (Comes.ends g h n e) = absurd (ok≢spent (sym e.done ∙ told))
 
-    pub apply_large : z ≡ reduced.Large → ApplySays t base index back i depth w₀ w₁ at end dest free left given.Large
+    apply_large : z ≡ Err halt.Large → ApplySays t base index back i depth w₀ w₁ at end dest free left (Err halt.Large)
     apply_large told os v x m laid run handed room most =
         let q = ran os v x m laid run handed room most in record { answers = go q.picked q.steps.comes; spares = alone q }
       where
         go : (p : Picked t base back os (depth - 1) row below w₀ end vars x m) → Comes w₁ vars' free (length p.lets) (left - 1) p.last p.count z
-            → Answers w₁ dest left x m given.Large
+            → Answers w₁ dest left x m (Err halt.Large)
         go p (Comes.spent h e) = absurd (spent≢large (sym e ∙ told))
         go p (Comes.large h n e) =
             let counts = p.counts in
             let least = one_or_more left some' in
             Answers.large (omega (arith, h, counts, least)) (ends_none p.ends n) refl
-        go p (Comes.ends g h n e) = absurd (done≢large (sym e.done ∙ told))
+        go p (Comes.ends g h n e) = absurd (ok≢large (sym e.done ∙ told))
 
-    pub apply_done : {top y jr : ℕ} {w₂ : List ℕ} {g : G.Given} → z ≡ reduced.Done top y → length w₁ ≡ length w₀
+    pub apply_stops : (s : S.Stop) → z ≡ Err s → ApplySays t base index back i depth w₀ w₁ at end dest free left (Err s)
+    apply_stops halt.Spent = apply_spent
+    apply_stops halt.Large = apply_large
+
+    pub apply_done : {top y jr : ℕ} {w₂ : List ℕ} {g : Giving} → z ≡ done_at top y → length w₁ ≡ length w₀
         → jr ≡ cell_of t row (cond back 1 2) → GiveSays (pattern_of t base jr) vars' w₁ w₂ top dest y g → ApplySays t base index back i depth w₀ w₂ at end dest free left g
     apply_done {top} {y} {jr} {w₂} {g} told wide er gives' os v x m laid run handed room most =
         let q = ran os v x m laid run handed room most in go q q.picked q.steps.comes
@@ -1058,8 +1043,8 @@ module _ (t : List ℕ) (base : ℕ) (index : List ℕ) (back : Bool) (i depth r
 
         go : Ran t base back os (depth - 1) row below dest free (left - 1) w₀ w₁ end vars vars' x m z → (p : Picked t base back os (depth - 1) row below w₀ end vars x m)
             → Comes w₁ vars' free (length p.lets) (left - 1) p.last p.count z → Applied w₀ w₂ dest depth left x m g
-        go q p (Comes.spent h e) = absurd (done≢spent (sym told ∙ e))
-        go q p (Comes.large h n e) = absurd (done≢large (sym told ∙ e))
+        go q p (Comes.spent h e) = absurd (ok≢spent (sym told ∙ e))
+        go q p (Comes.large h n e) = absurd (ok≢large (sym told ∙ e))
         go q p (Comes.ends s h n e) =
             let place = done_place (sym told ∙ e.done) in
             let paid = done_left (sym told ∙ e.done) in
@@ -1093,18 +1078,23 @@ module _ (t : List ℕ) (base : ℕ) (index : List ℕ) (back : Bool) (i depth r
 pub step_falls : (n k : ℕ) {t : ℕ} → 3 * n + 2 ≡ t → k ≤ n → 3 * k + 1 < t
 step_falls n k {t} e h = omega arith
 
-pub rest_falls : (g : G.Given) {z : R.Reduced} {top y left : ℕ} → rest_of g ≤ y → remaining z ≤ left - 1 → z ≡ reduced.Done top y → rest_of g ≤ left
+pub rest_falls : (g : Giving) {z : Reducing} {top y left : ℕ} → rest_of g ≤ y → remaining z ≤ left - 1 → z ≡ done_at top y → rest_of g ≤ left
 rest_falls g a b e = let n = ap remaining e in omega (arith, a, b, n)
 
-pub range_falls : {r : G.Given} {b x y left : ℕ} → rest_of r ≤ left → r ≡ given.Range b x y → y ≤ left
+pub range_falls : {r : Giving} {b x y left : ℕ} → rest_of r ≤ left → r ≡ given_at b x y → y ≤ left
 range_falls a e = let n = ap rest_of e in omega (arith, a, n)
 
-pub steps_fall : {z : R.Reduced} {top y left budget : ℕ} → remaining z ≤ left → z ≡ reduced.Done top y → left ≤ budget → y ≤ budget
+pub steps_fall : {z : Reducing} {top y left budget : ℕ} → remaining z ≤ left → z ≡ done_at top y → left ≤ budget → y ≤ budget
 steps_fall a e b = let n = ap remaining e in omega (arith, a, b, n)
 
 -- the rows of a clause's L lines
 pub rows_in : {row : ℕ} → row < word_bound → row + 1 ≤ word_bound
 rows_in h = omega arith
 
-pub span_small : (n from to : ℕ) → n ≡ to - from → to < word_bound → n < word_bound
-span_small n from to e h = omega (arith, e)
+-- the further one of two places
+pub further : {a b c : ℕ} → c ≡ max a b → (a ≤ c) × (b ≤ c) × ((c ≡ a) ⊎ (c ≡ b))
+further {a} {b} {c} e = go (le_or_lt a b)
+  where
+    go : (a ≤ b) ⊎ (b < a) → (a ≤ c) × (b ≤ c) × ((c ≡ a) ⊎ (c ≡ b))
+    go (inl h) = (omega (arith, e), omega (arith, e), inr (omega (arith, e)))
+    go (inr h) = (omega (arith, e), omega (arith, e), inl (omega (arith, e)))

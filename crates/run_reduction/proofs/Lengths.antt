@@ -3,8 +3,8 @@
 use Prim.Native.Nat.{ℕ, zero, suc, ◌+◌, ◌-◌, ◌≤◌, ◌<◌, min}
 use native.Mathlib.Nat.{zero-add}
 use native.Mathlib.Omega.{arith}
-use mathlib.Core.Path.{◌≡◌, refl, sym, ap, ap₂, ◌∙◌, subst}
-use mathlib.Core.Bool.{Bool, true, false, ◌||◌, false≢true}
+use mathlib.Core.Path.{◌≡◌, refl, sym, ap, ◌∙◌, subst}
+use mathlib.Core.Bool.{Bool, true, false}
 use mathlib.Core.List.{List, [], ◌∷◌, ◌++◌, append_assoc, append-nil}
 use lib.Dec.{eqb}
 use lib.ListN.{length, get_or, drop, length-append}
@@ -13,11 +13,11 @@ use Rattle.limits.specs.Limits.{variables, max_letters}
 use Rattle.calculus.specs.Trees.{Leaf, unit_leaf, empty_leaf, Tag, left, right, Node, pair_node, element_node, Pat, pleaf, pvar, pinj, pnode}
 use Rattle.calculus.specs.Letters.{leaf_letter, letter_of, node_letter}
 use Rattle.table_trees.specs.Unfolding.{cell_of, smaller_of, pattern_of}
-use Rattle.calculus.proofs.Basic.{eqb_eq, eqb_false, not_eqb}
-use Rattle.table_trees.proofs.Cases.{Joins, pairs, elements, joins_pair, joins_element}
+use Rattle.calculus.proofs.Basic.{eqb_eq, eqb_false}
+use Rattle.table_trees.proofs.Cases.{Joins, pairs, elements}
 use Rattle.table_trees.proofs.Lines.{is_var, is_left, is_right, is_pair, is_empty, is_element, is_unit}
 use Rattle.run_values.specs.Texts.{Below, range_of, built}
-use Rattle.run_flat.specs.Flat.{flat, Few, stop, Stands}
+use Rattle.run_flat.specs.Flat.{flat, stop, Stands}
 use Rattle.run_flat.proofs.Following.{number_here, behind_number, number_within}
 use Rattle.run_flat.proofs.Writing.{flats, Fews, builts}
 
@@ -137,25 +137,6 @@ module _ {code s vars : List ℕ} {all k n : ℕ} (m : Measured code s vars all 
       go (Ahead.letter low high d z) =
           let w = m.whole in let t = m.told in record { ahead = d; done = m.done + 1; whole = omega (arith, w, z); told = omega (arith, en, t) }
 
--- ---- kinds that name two parts
-
-pub is_pair_kind : {k : ℕ} → k ≡ 4 → true ≡ (eqb k 4 || eqb k 6)
-is_pair_kind e = sym (ap (λ k. eqb k 4 || eqb k 6) e)
-
-pub no_pair_kind : {k : ℕ} → (k ≡ 4 → ⊥) → eqb k 6 ≡ (eqb k 4 || eqb k 6)
-no_pair_kind {k} n = sym (ap (λ b. b || eqb k 6) (not_eqb n))
-
-pub two_kinds : {k : ℕ} {b : Bool} → b ≡ (eqb k 4 || eqb k 6) → b ≡ true → Joins k
-two_kinds {k} e h = go (eqb k 4) (eqb k 6) refl refl (sym e ∙ h)
-  where
-    go : (x y : Bool) → eqb k 4 ≡ x → eqb k 6 ≡ y → (x || y) ≡ true → Joins k
-    go true y p q z = joins_pair (eqb_eq k 4 p)
-    go false true p q z = joins_element (eqb_eq k 6 q)
-    go false false p q z = absurd (false≢true z)
-
-pub not_two : {k : ℕ} {b : Bool} → b ≡ (eqb k 4 || eqb k 6) → b ≡ false → (k ≡ 4 → ⊥) × (k ≡ 6 → ⊥)
-not_two {k} e h = ((λ z. false≢true (sym h ∙ e ∙ ap (λ k. eqb k 4 || eqb k 6) z)), λ z. false≢true (sym h ∙ e ∙ ap (λ k. eqb k 4 || eqb k 6) z))
-
 -- ---- P lines: k is the kind of line j, q and r are the lines that it names
 
 module _ (t : List ℕ) (base j : ℕ) {vars : List ℕ} {k : ℕ} (e : k ≡ cell_of t (base + j) 1) where
@@ -201,7 +182,3 @@ module _ (t : List ℕ) (base j : ℕ) {vars : List ℕ} {k : ℕ} (e : k ≡ ce
       go : (x : Bool) → eqb k 5 ≡ x → Long 1 vars (pattern_of t base j)
       go true h = long_as (is_empty t base j e (eqb_eq k 5 h)) (λ s w. refl)
       go false h = long_as (is_unit t base j e v l r b (eqb_false h) m) (λ s w. refl)
-
--- a number of letters is capped
-pub capped_most : (n : ℕ) {r : ℕ} → r ≡ min n (suc max_letters) → r ≤ suc max_letters
-capped_most n {r} e = omega (arith, e)

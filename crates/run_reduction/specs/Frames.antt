@@ -1,5 +1,7 @@
 -- The reduction in the work area: what its functions assume of table, index and area, and what they leave there.
-use Rattle.std.specs.Prelude.{ℕ, suc, ◌+◌, ◌-◌, ◌*◌, ◌≤◌, ◌<◌, ◌≡◌, Bool, true, false, cond, ◌||◌, List, map, reverse, eqb, ltb, length, take, drop}
+use Rattle.std.specs.Prelude.{ℕ, ◌+◌, ◌-◌, ◌*◌, ◌≤◌, ◌<◌, ◌≡◌, Bool, true, false, cond, ◌||◌, List, map, reverse, eqb, ltb, length, take, drop}
+use Rattle.std.specs.declared.result.Result as Outcome
+use Rattle.std.specs.Prelude.{Ok, Err}
 use Rattle.std.proofs.Math.Option.{Option, none, some}
 use Rattle.std.proofs.Math.ListN.{get_elem?}
 use Rattle.limits.specs.Fields.{clause_left, clause_right}
@@ -15,10 +17,10 @@ use Rattle.run_values.specs.Texts.{At, alike, Below, ranges}
 use Rattle.run_values.specs.Agrees.{Agrees}
 use Rattle.run_values.specs.Traces.{Fitting, Over, LetTrace, LetsTrace, Runs}
 use Rattle.run_reduction.specs.declared.Given as G
-use Rattle.run_reduction.specs.declared.Given.TheVariants as given
 use Rattle.run_reduction.specs.declared.Place as P
 use Rattle.run_reduction.specs.declared.Reduced as R
-use Rattle.run_reduction.specs.declared.Reduced.TheVariants as reduced
+use Rattle.run_reduction.specs.declared.Stop as S
+use Rattle.run_reduction.specs.declared.Stop.TheVariants as halt
 
 -- an iso, a clause, a let step and let steps in a direction
 abbrev pub sided : Bool → Iso → Iso
@@ -66,62 +68,73 @@ pub record Spares (work work' : List ℕ) (from to : ℕ) : Type 0 where
 abbrev pub too_large : ℕ → ℕ → ℕ → Bool
 too_large depth at end = eqb depth 0 || ltb max_letters (end - at)
 
--- what is left of the budget, which falls with each application
-abbrev pub rest_of : G.Given → ℕ
-rest_of (given.Range b e left) = left
-rest_of given.Spent = 0
-rest_of given.Large = 0
+-- what an application or the right pattern of a clause gives, what let steps leave; or what they meet
+abbrev pub Giving : Type 0
+Giving = Outcome.Result G.Given S.Stop
 
-abbrev pub remaining : R.Reduced → ℕ
-remaining (reduced.Done top left) = left
-remaining reduced.Spent = 0
-remaining reduced.Large = 0
+abbrev pub Reducing : Type 0
+Reducing = Outcome.Result R.Reduced S.Stop
+
+abbrev pub given_at : ℕ → ℕ → ℕ → Giving
+given_at begin end left = Ok (record { at = begin; end = end; left = left })
+
+abbrev pub done_at : ℕ → ℕ → Reducing
+done_at top left = Ok (record { top = top; left = left })
+
+-- what is left of the budget, which falls with each application
+abbrev pub rest_of : Giving → ℕ
+rest_of (Ok g) = g.left
+rest_of (Err s) = 0
+
+abbrev pub remaining : Reducing → ℕ
+remaining (Ok r) = r.left
+remaining (Err s) = 0
 
 -- a result's letters stand where it says, before `dest` or from there on
-pub record Result (work' : List ℕ) (dest left : ℕ) (w : Val) (r : G.Given) : Type 0 where
+pub record Result (work' : List ℕ) (dest left : ℕ) (w : Val) (r : Giving) : Type 0 where
   pub begin : ℕ
-  pub gives : r ≡ given.Range begin (begin + length (letters w)) left
+  pub gives : r ≡ given_at begin (begin + length (letters w)) left
   pub stands : At work' begin w
   pub near : begin + length (letters w) ≤ dest + result_length
 
 -- What an application comes to with m applications, x, against a budget: "an application is counted against the budget, then its argument and
 -- depth are measured, its result when it is there". What has passed the budget before it ends or stops is spent.
-pub data Answers (work' : List ℕ) (dest left : ℕ) (x : Option Val) (m : ℕ) (r : G.Given) : Type 0 where
-  spent : left < m → r ≡ given.Spent → Answers work' dest left x m r
-  large : m ≤ left → x ≡ none → r ≡ given.Large → Answers work' dest left x m r
+pub data Answers (work' : List ℕ) (dest left : ℕ) (x : Option Val) (m : ℕ) (r : Giving) : Type 0 where
+  spent : left < m → r ≡ Err halt.Spent → Answers work' dest left x m r
+  large : m ≤ left → x ≡ none → r ≡ Err halt.Large → Answers work' dest left x m r
   gives : (w : Val) → m ≤ left → x ≡ some w → Result work' dest (left - m) w r → Answers work' dest left x m r
 
 -- An application touches no more than as many frames as calls may nest; what these hold beside the result, and all that they hold where there
 -- is none, is left open.
-pub record Applied (work work' : List ℕ) (dest depth left : ℕ) (x : Option Val) (m : ℕ) (r : G.Given) : Type 0 where
+pub record Applied (work work' : List ℕ) (dest depth left : ℕ) (x : Option Val) (m : ℕ) (r : Giving) : Type 0 where
   pub answers : Answers work' dest left x m r
   pub spares : Spares work work' dest (dest + depth * frame)
 
 -- let steps that end in the slots g, with at most n results more in the area
-pub record Reached (work' vars' : List ℕ) (top n left : ℕ) (g : Slots Val) (r : R.Reduced) : Type 0 where
+pub record Reached (work' vars' : List ℕ) (top n left : ℕ) (g : Slots Val) (r : Reducing) : Type 0 where
   pub next : ℕ
   pub further : top ≤ next
   pub near : next ≤ top + n * result_length
-  pub done : r ≡ reduced.Done next left
+  pub done : r ≡ done_at next left
   pub env : EnvAt work' next vars' g
 
 -- what n let steps come to with m applications, x, against a budget; of the variables nothing is said where they do not end
-pub data Comes (work' vars' : List ℕ) (top n left : ℕ) (x : Option (Slots Val)) (m : ℕ) (r : R.Reduced) : Type 0 where
-  spent : left < m → r ≡ reduced.Spent → Comes work' vars' top n left x m r
-  large : m ≤ left → x ≡ none → r ≡ reduced.Large → Comes work' vars' top n left x m r
+pub data Comes (work' vars' : List ℕ) (top n left : ℕ) (x : Option (Slots Val)) (m : ℕ) (r : Reducing) : Type 0 where
+  spent : left < m → r ≡ Err halt.Spent → Comes work' vars' top n left x m r
+  large : m ≤ left → x ≡ none → r ≡ Err halt.Large → Comes work' vars' top n left x m r
   ends : (g : Slots Val) → m ≤ left → x ≡ some g → Reached work' vars' top n (left - m) g r → Comes work' vars' top n left x m r
 
 -- they touch no more than their results and the frames of the calls that they make
-pub record Stepped (work work' vars' : List ℕ) (top n depth left : ℕ) (x : Option (Slots Val)) (m : ℕ) (r : R.Reduced) : Type 0 where
+pub record Stepped (work work' vars' : List ℕ) (top n depth left : ℕ) (x : Option (Slots Val)) (m : ℕ) (r : Reducing) : Type 0 where
   pub comes : Comes work' vars' top n left x m r
   pub spares : Spares work work' top (top + n * result_length + depth * frame)
 
 -- the result of a clause, where its right pattern builds w
-pub data Gives (work' : List ℕ) (dest left : ℕ) (w : Val) (r : G.Given) : Type 0 where
-  large : Over w → r ≡ given.Large → Gives work' dest left w r
+pub data Gives (work' : List ℕ) (dest left : ℕ) (w : Val) (r : Giving) : Type 0 where
+  large : Over w → r ≡ Err halt.Large → Gives work' dest left w r
   gives : Fitting w → Result work' dest left w r → Gives work' dest left w r
 
-pub record Gave (work work' : List ℕ) (top dest left : ℕ) (w : Val) (r : G.Given) : Type 0 where
+pub record Gave (work work' : List ℕ) (top dest left : ℕ) (w : Val) (r : Giving) : Type 0 where
   pub gives : Gives work' dest left w r
   pub spares : Spares work work' dest (top + result_length)
 
@@ -157,7 +170,7 @@ ChoiceSays t base index back from stop work at end vars vars' r =
 
 -- A let step, where calls nest at most `depth` deeper: where it comes to x from the slots e with m applications, it does so in the area, which
 -- has room for its result and a frame for each of these calls.
-abbrev pub StepSays : List ℕ → ℕ → List ℕ → Bool → ℕ → ℕ → List ℕ → List ℕ → ℕ → List ℕ → List ℕ → ℕ → R.Reduced → Type 0
+abbrev pub StepSays : List ℕ → ℕ → List ℕ → Bool → ℕ → ℕ → List ℕ → List ℕ → ℕ → List ℕ → List ℕ → ℕ → Reducing → Type 0
 StepSays t base index back depth row work work' top vars vars' left r =
     (os : List Iso) (l : Let) (e : Slots Val) (x : Option (Slots Val)) (m : ℕ)
     → Laid t base index back os → l ≡ sided_let back (let_at t base row) → LetTrace (Runs depth os) l e x m
@@ -165,7 +178,7 @@ StepSays t base index back depth row work work' top vars vars' left r =
     → Stepped work work' vars' top 1 depth left x m r
 
 -- The let steps in the rows from `from` up to `to`, the same for all of them.
-abbrev pub LetsSay : List ℕ → ℕ → List ℕ → Bool → ℕ → ℕ → ℕ → List ℕ → List ℕ → ℕ → List ℕ → List ℕ → ℕ → R.Reduced → Type 0
+abbrev pub LetsSay : List ℕ → ℕ → List ℕ → Bool → ℕ → ℕ → ℕ → List ℕ → List ℕ → ℕ → List ℕ → List ℕ → ℕ → Reducing → Type 0
 LetsSay t base index back depth from to work work' end vars vars' budget r =
     (os : List Iso) (ls : List Let) (e : Slots Val) (x : Option (Slots Val)) (m : ℕ)
     → Laid t base index back os → ls ≡ sided_lets back t base from (to - from) → LetsTrace (Runs depth os) ls e x m
@@ -174,7 +187,7 @@ LetsSay t base index back depth from to work work' end vars vars' budget r =
 
 -- An application of iso i to the value v from `at` up to `end`, where calls nest at most `depth` deep: where it comes to x with m applications,
 -- it does so in the area, which has a frame for each of these calls from `dest` on.
-abbrev pub ApplySays : List ℕ → ℕ → List ℕ → Bool → ℕ → ℕ → List ℕ → List ℕ → ℕ → ℕ → ℕ → ℕ → ℕ → G.Given → Type 0
+abbrev pub ApplySays : List ℕ → ℕ → List ℕ → Bool → ℕ → ℕ → List ℕ → List ℕ → ℕ → ℕ → ℕ → ℕ → ℕ → Giving → Type 0
 ApplySays t base index back i depth work work' at end dest free left r =
     (os : List Iso) (v : Val) (x : Option Val) (m : ℕ)
     → Laid t base index back os → Runs depth os i v x m → Handed work at end dest free v
@@ -182,12 +195,12 @@ ApplySays t base index back i depth work work' at end dest free left r =
     → Applied work work' dest depth left x m r
 
 -- the result of a clause, by its right pattern p: where it fits, and wherever
-abbrev pub SettleSays : Pat → List ℕ → List ℕ → List ℕ → ℕ → ℕ → ℕ → G.Given → Type 0
+abbrev pub SettleSays : Pat → List ℕ → List ℕ → List ℕ → ℕ → ℕ → ℕ → Giving → Type 0
 SettleSays p vars work work' top dest left r =
     (e f : Slots Val) (w : Val) → build p e ≡ some (w, f) → Fitting w → EnvAt work top vars e → dest ≤ top → top + result_length ≤ length work
     → Result work' dest left w r × Spares work work' dest (top + result_length)
 
-abbrev pub GiveSays : Pat → List ℕ → List ℕ → List ℕ → ℕ → ℕ → ℕ → G.Given → Type 0
+abbrev pub GiveSays : Pat → List ℕ → List ℕ → List ℕ → ℕ → ℕ → ℕ → Giving → Type 0
 GiveSays p vars work work' top dest left r =
     (e f : Slots Val) (w : Val) → build p e ≡ some (w, f) → EnvAt work top vars e → dest ≤ top → top + result_length ≤ length work
     → Gave work work' top dest left w r

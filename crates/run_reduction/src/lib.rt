@@ -12,7 +12,8 @@ ghost use Rattle.run_coding.specs.Coded.{Coded};
 ghost use Rattle.run_index.specs.Index.{place_at};
 ghost use Rattle.run_reduction.specs.Frames.{rest_of, remaining, too_large, SettleSays, GiveSays, ArgueSays, ChoiceSays, StepSays, LetsSay, ApplySays};
 
-use area_words::{wide, word_at};
+use area_cells::item_at;
+use area_words::wide;
 use codes::{
     CLAUSE_LEFT, CLAUSE_RIGHT, ELEMENT, FIRST, KIND, LEFT, LET_ISO, LET_P, LET_Q, PAIR, RIGHT,
     SECOND, VARIABLE,
@@ -22,21 +23,27 @@ use run_coding::{build_again, build_line, entry, match_again, match_line, variab
 use run_direction::{place, side};
 use run_flat::STOP;
 use run_values::copy_range;
-use table_trees::{cell, pattern_cell, smaller};
+use table_parts::pattern_part;
+use table_trees::{cell, pattern_cell};
 
-// Where a result begins and ends, and what is left of the budget; or what the reduction met first: a
-// spent budget, or what is too large.
+// Where a result begins and ends, and what is left of the budget.
 #[derive(Clone, Copy)]
-pub enum Given {
-    Range(usize, usize, u32),
-    Spent,
-    Large,
+pub struct Given {
+    pub at: usize,
+    pub end: usize,
+    pub left: u32,
 }
 
-// Where the letters that let steps leave end, and what is left of the budget; or what they met.
+// Where the letters that let steps leave end, and what is left of the budget.
 #[derive(Clone, Copy)]
-pub enum Reduced {
-    Done(usize, u32),
+pub struct Reduced {
+    pub top: usize,
+    pub left: u32,
+}
+
+// What a reduction meets that gives nothing: a spent budget, or what is too large.
+#[derive(Clone, Copy)]
+pub enum Stop {
     Spent,
     Large,
 }
@@ -52,6 +59,9 @@ pub struct Place {
 
 // Numbers of a flat pattern below this are variables; letters stand above.
 const LETTERS_FROM: u16 = VARIABLES as u16;
+
+// The first number of letters that is too large: measuring goes no further.
+const TOO_MANY: usize = MAX_LETTERS + 1;
 
 // Number m + 1 of the index.
 fn next_place(index: &[u16], m: usize) -> usize
@@ -70,25 +80,12 @@ fn line(t: &[u16], row: usize, back: bool, forth: usize, other: usize) -> usize
     cell(t, row, side(back, forth, other))
 }
 
-// The rows from one up to another, none where they are not in this order.
-fn span(from: usize, to: usize) -> usize
-    ensures { result ≡ to - from }
-{
-    if from < to {
-        return to - from;
-    }
-    0
-}
-
 // The row of let step k, where n L rows stand from row `from` on: on the way back from the last.
 fn let_row(back: bool, from: usize, n: usize, k: usize) -> usize
     requires { (from ≤ word_bound) × (n < word_bound) × (k < n) }
     ensures { result ≡ from + cond back (n - suc k) k }
 {
-    if back {
-        return from + (n - (k + 1));
-    }
-    from + k
+    if back { from + (n - (k + 1)) } else { from + k }
 }
 
 // The first clause from place `from` up to place `stop` of the index whose pattern matches, and its
@@ -110,13 +107,11 @@ fn choose(
         vars.old vars.new result }
 {
     let field = side(back, CLAUSE_LEFT, CLAUSE_RIGHT);
-    let mut m = from;
-    while m < stop {
+    for m in from..stop {
         let j = cell(t, place(index, m), field);
         if match_line(t, base, code, j, work, at, end, vars) {
             return m;
         }
-        m += 1;
     }
     stop
 }
@@ -125,7 +120,7 @@ fn choose(
 fn range_from(vars: &[u16], n: usize) -> usize
     ensures { result ≡ get_or vars.now n 0 }
 {
-    wide(word_at(vars, n))
+    wide(item_at(vars, n, 0))
 }
 
 // Where they end.
@@ -133,17 +128,7 @@ fn range_to(vars: &[u16], n: usize) -> usize
     requires { n < word_bound }
     ensures { result ≡ get_or vars.now (variables + n) 0 }
 {
-    wide(word_at(vars, VARIABLES + n))
-}
-
-// A number of letters, up to the first that is too large.
-fn capped(n: usize) -> usize
-    ensures { result ≡ min n (suc max_letters) }
-{
-    if MAX_LETTERS < n {
-        return MAX_LETTERS + 1;
-    }
-    n
+    wide(item_at(vars, VARIABLES + n, 0))
 }
 
 // How many letters variable n has, up to the first that is too large.
@@ -151,7 +136,9 @@ fn range_length(vars: &[u16], n: usize) -> usize
     requires { n < word_bound }
     ensures { result ≡ min (get_or vars.now (variables + n) 0 - get_or vars.now n 0) (suc max_letters) }
 {
-    capped(span(range_from(vars, n), range_to(vars, n)))
+    range_to(vars, n)
+        .saturating_sub(range_from(vars, n))
+        .min(TOO_MANY)
 }
 
 // How many letters the pattern that stands flat from place p on has with its variables' values put in.
@@ -159,38 +146,20 @@ fn flat_length(code: &[u16], p: usize, vars: &[u16]) -> usize
     ensures { (q : Pat) (s : List ℕ) → Stands code.now p q → Below vars.now (length s)
         → result ≡ min (length (built q s vars.now)) (suc max_letters) }
 {
-    let mut k = p;
     let mut n: usize = 0;
-    while k < code.len() {
+    for k in p..code.len() {
         let o = code[k];
-        k += 1;
-        if o < LETTERS_FROM {
-            n = capped(n + range_length(vars, wide(o)));
-            continue;
-        }
         if o == STOP {
             return n;
         }
-        n = capped(n + 1);
+        let more = if o < LETTERS_FROM {
+            range_length(vars, wide(o))
+        } else {
+            1
+        };
+        n = (n + more).min(TOO_MANY);
     }
     n
-}
-
-// The P line that number k of P line j names.
-fn part(t: &[u16], base: usize, j: usize, k: usize) -> usize
-    ensures { result ≡ smaller_of (cell_of t.now (base + j) k) j }
-{
-    smaller(pattern_cell(t, base, j, k), j)
-}
-
-// Whether a P line of this kind names two parts: a pair, or an element before a list.
-fn two_parts(kind: usize) -> bool
-    ensures { result ≡ (eqb kind 4 || eqb kind 6) }
-{
-    if kind == PAIR {
-        return true;
-    }
-    kind == ELEMENT
 }
 
 // The same for P line j by its rows.
@@ -199,17 +168,17 @@ fn line_length(t: &[u16], base: usize, j: usize, vars: &[u16]) -> usize
     ensures by_index { (s : List ℕ) → Below vars.now (length s)
         → result ≡ min (length (built (pattern_of t.now base j) s vars.now)) (suc max_letters) }
 {
-    let kind = pattern_cell(t, base, j, KIND);
-    if kind == VARIABLE {
-        return range_length(vars, pattern_cell(t, base, j, FIRST));
-    }
-    if two_parts(kind) {
-        let a = line_length(t, base, part(t, base, j, FIRST), vars);
-        let b = line_length(t, base, part(t, base, j, SECOND), vars);
-        return capped(1 + a + b);
-    }
-    match kind {
-        LEFT | RIGHT => capped(1 + line_length(t, base, part(t, base, j, FIRST), vars)),
+    match pattern_cell(t, base, j, KIND) {
+        VARIABLE => range_length(vars, pattern_cell(t, base, j, FIRST)),
+        PAIR | ELEMENT => {
+            let a = line_length(t, base, pattern_part(t, base, j, FIRST), vars);
+            let b = line_length(t, base, pattern_part(t, base, j, SECOND), vars);
+            (1 + a + b).min(TOO_MANY)
+        }
+        LEFT | RIGHT => {
+            let a = line_length(t, base, pattern_part(t, base, j, FIRST), vars);
+            (1 + a).min(TOO_MANY)
+        }
         _ => 1,
     }
 }
@@ -251,7 +220,7 @@ fn settle(
     top: usize,
     dest: usize,
     left: u32,
-) -> Given
+) -> Result<Given, Stop>
     ensures result_bound { rest_of result ≤ left }
     ensures settle_says { Coded t.now base code.now → SettleSays (pattern_of t.now base j)
         vars.now work.old work.new top dest left result }
@@ -261,19 +230,35 @@ fn settle(
         let from = range_from(vars, n);
         let to = range_to(vars, n);
         if to <= dest {
-            return Given::Range(from, to, left);
+            return Ok(Given {
+                at: from,
+                end: to,
+                left,
+            });
         }
         if dest <= from {
             let end = copy_range(work, from, to, dest);
-            return Given::Range(dest, end, left);
+            return Ok(Given {
+                at: dest,
+                end,
+                left,
+            });
         }
     }
     let last = build_again(t, base, code, j, vars, work, top);
     if top == dest {
-        return Given::Range(dest, last, left);
+        return Ok(Given {
+            at: dest,
+            end: last,
+            left,
+        });
     }
     let end = copy_range(work, top, last, dest);
-    Given::Range(dest, end, left)
+    Ok(Given {
+        at: dest,
+        end,
+        left,
+    })
 }
 
 // The result of a clause, measured before it is built or copied.
@@ -287,15 +272,16 @@ fn give(
     top: usize,
     dest: usize,
     left: u32,
-) -> Given
+) -> Result<Given, Stop>
     ensures result_bound { rest_of result ≤ left }
     ensures give_says { Coded t.now base code.now → GiveSays (pattern_of t.now base j)
         vars.now work.old work.new top dest left result }
 {
     if MAX_LETTERS < built_length(t, base, code, j, vars) {
-        return Given::Large;
+        Err(Stop::Large)
+    } else {
+        settle(t, base, code, j, vars, work, top, dest, left)
     }
-    settle(t, base, code, j, vars, work, top, dest, left)
 }
 
 // The argument of a let step: a variable's letters where they stand, or q built at `top`, unless it is
@@ -338,24 +324,11 @@ fn argument(
     }
 }
 
-// The further one of two places.
-fn further(a: usize, b: usize) -> usize
-    ensures { (a ≤ result) × (b ≤ result) × ((result ≡ a) ⊎ (result ≡ b)) }
-{
-    if a < b {
-        return b;
-    }
-    a
-}
-
 // Whether an application with so much depth left, or its argument from `at` up to `end`, is too large.
 fn too_large(depth: usize, at: usize, end: usize) -> bool
     ensures { result ≡ too_large depth at end }
 {
-    if depth == 0 {
-        return true;
-    }
-    MAX_LETTERS < span(at, end)
+    depth == 0 || MAX_LETTERS < end.saturating_sub(at)
 }
 
 // One let step: builds q at `top`, applies the iso to it with so much depth left, and matches what comes
@@ -373,14 +346,14 @@ fn let_step(
     top: usize,
     vars: &mut [u16],
     left: u32,
-) -> Reduced
+) -> Result<Reduced, Stop>
     ensures result_bound { remaining result ≤ left }
     ensures step_says { Coded t.now base code.now → StepSays t.now base index.now back depth row work.old
         work.new top vars.old vars.new left result }
 {
     let q = line(t, row, back, LET_Q, LET_P);
     let a = argument(t, base, code, q, vars, work, top);
-    match apply(
+    let g = apply(
         t,
         base,
         index,
@@ -394,15 +367,13 @@ fn let_step(
         top,
         a.free,
         left,
-    ) {
-        Given::Range(b, e, l) => {
-            let p = line(t, row, back, LET_P, LET_Q);
-            match_again(t, base, code, p, work, b, e, vars);
-            Reduced::Done(further(top, e), l)
-        }
-        Given::Spent => Reduced::Spent,
-        Given::Large => Reduced::Large,
-    }
+    )?;
+    let p = line(t, row, back, LET_P, LET_Q);
+    match_again(t, base, code, p, work, g.at, g.end, vars);
+    Ok(Reduced {
+        top: top.max(g.end),
+        left: g.left,
+    })
 }
 
 // The let steps of a clause, whose L rows stand from row `from` up to row `to`.
@@ -420,18 +391,19 @@ fn run_lets(
     end: usize,
     vars: &mut [u16],
     budget: u32,
-) -> Reduced
+) -> Result<Reduced, Stop>
     requires { (from ≤ word_bound) × (to < word_bound) }
     ensures result_bound { remaining result ≤ budget }
     ensures lets_say { Coded t.now base code.now → LetsSay t.now base index.now back depth from to work.old
         work.new end vars.old vars.new budget result }
 {
-    let n = span(from, to);
-    let mut top = end;
-    let mut left = budget;
-    let mut k: usize = 0;
-    while k < n {
-        match let_step(
+    let n = to.saturating_sub(from);
+    let mut r = Reduced {
+        top: end,
+        left: budget,
+    };
+    for k in 0..n {
+        r = let_step(
             t,
             base,
             index,
@@ -440,24 +412,12 @@ fn run_lets(
             depth,
             let_row(back, from, n, k),
             work,
-            top,
+            r.top,
             vars,
-            left,
-        ) {
-            Reduced::Done(e, l) => {
-                top = e;
-                left = l;
-                k += 1;
-            }
-            Reduced::Spent => {
-                return Reduced::Spent;
-            }
-            Reduced::Large => {
-                return Reduced::Large;
-            }
-        }
+            r.left,
+        )?;
     }
-    Reduced::Done(top, left)
+    Ok(r)
 }
 
 // Applies iso i to the value from `at` up to `end`, which lies before `free`, with calls nested at most
@@ -479,27 +439,27 @@ pub fn apply(
     dest: usize,
     free: usize,
     left: u32,
-) -> Given
+) -> Result<Given, Stop>
     ensures result_bound { rest_of result ≤ left }
     ensures apply_says { Coded t.now base code.now → ApplySays t.now base
         index.now back i depth work.old work.new at end dest free left result }
 {
     if left == 0 {
-        return Given::Spent;
+        return Err(Stop::Spent);
     }
     if too_large(depth, at, end) {
-        return Given::Large;
+        return Err(Stop::Large);
     }
     let mut v = [0u16; 2 * VARIABLES];
     let low = place(index, i) + 1;
     let stop = next_place(index, i);
     let m = choose(t, base, index, code, back, low, stop, work, at, end, &mut v);
     if stop <= m {
-        return Given::Spent;
+        return Err(Stop::Spent);
     }
     let row = place(index, m);
     let below = next_place(index, m);
-    match run_lets(
+    let r = run_lets(
         t,
         base,
         index,
@@ -512,12 +472,7 @@ pub fn apply(
         free,
         &mut v,
         left - 1,
-    ) {
-        Reduced::Done(top, l) => {
-            let p = line(t, row, back, CLAUSE_RIGHT, CLAUSE_LEFT);
-            give(t, base, code, p, &v, work, top, dest, l)
-        }
-        Reduced::Spent => Given::Spent,
-        Reduced::Large => Given::Large,
-    }
+    )?;
+    let p = line(t, row, back, CLAUSE_RIGHT, CLAUSE_LEFT);
+    give(t, base, code, p, &v, work, r.top, dest, r.left)
 }

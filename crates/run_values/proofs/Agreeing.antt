@@ -14,7 +14,7 @@ use lib.ListN.{length, get_or, set, take, drop, length-append, length-drop, leng
 use lib.Seq.{take-nil, take-append_seam, take-append-add, drop-append_seam, get_or-set_same, get_or-set_other, take-set-le, take-take, drop-drop, drop_at, length-take-le, sets, sets-eq, slice}
 use Rattle.calculus.specs.Tools.{◌>>=◌, guard}
 use Rattle.limits.specs.Limits.{variables}
-use Rattle.calculus.specs.Trees.{Ty, tunit, tlist, tsum, tprod, Leaf, unit_leaf, empty_leaf, Tag, left, right, Node, pair_node, element_node, Pat, pleaf, pvar, pinj, pnode, Val, vleaf, vinj}
+use Rattle.calculus.specs.Trees.{Ty, tunit, tlist, tsum, tprod, unit_leaf, empty_leaf, Tag, left, right, Node, pair_node, element_node, Pat, pleaf, pvar, pinj, pnode, Val, vleaf, vinj}
 use Rattle.calculus.specs.Trees.{vnode, same_leaf, same_tag, same_node}
 use Rattle.calculus.specs.Slots.{Slots, put, empty}
 use Rattle.calculus.specs.Letters.{letters, leaf_letter, letter_of, node_letter, value_of, inhabits}
@@ -30,7 +30,7 @@ use Rattle.run_values.specs.Agrees.{Agrees}
 
 -- ---- where a value's letters stand
 
-drop_take : (n m : ℕ) (l : List ℕ) → drop n (take (n + m) l) ≡ take m (drop n l)
+pub drop_take : (n m : ℕ) (l : List ℕ) → drop n (take (n + m) l) ≡ take m (drop n l)
 drop_take zero m l = ap (λ k. take k l) (zero-add m)
 drop_take (suc n) m [] = ap (drop (suc n)) (take-nil (suc n + m)) ∙ sym (take-nil m)
 drop_take (suc n) m (x ∷ xs) = ap (λ k. drop (suc n) (take k (x ∷ xs))) (suc-add n m) ∙ drop_take n m xs

@@ -9,9 +9,9 @@ use mathlib.Core.Option.{Option, none, some}
 use mathlib.Core.List.Memᴰ
 use mathlib.Core.List.{List, [], ◌∷◌, map, Memᴰ}
 use lib.ListN.{length, get_elem?}
-use Rattle.limits.specs.Limits.{max_lets, max_depth, max_letters, variables}
+use Rattle.limits.specs.Limits.{max_lets, max_depth, max_letters}
 use Rattle.calculus.specs.Tools.{◌>>=◌}
-use Rattle.calculus.specs.Trees.{Ty, Pat, pleaf, pvar, pinj, pnode, Val, vleaf, vinj, vnode, Let, Clause, Iso, same_leaf, same_tag, same_node}
+use Rattle.calculus.specs.Trees.{Ty, Pat, pleaf, pvar, pinj, pnode, Val, vleaf, vinj, vnode, Let, Clause, Iso, same_tag, same_node}
 use Rattle.calculus.specs.Slots.{Slots, empty}
 use Rattle.calculus.specs.Letters.{letters}
 use Rattle.calculus.specs.Refusals.{Kind, type_line, pattern_line, iso_line, clause_line, let_line}

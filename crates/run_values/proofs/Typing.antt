@@ -13,8 +13,7 @@ use borrow.Author.Tests.{eq-eqb, ne_eqb}
 use Rattle.calculus.specs.Tools.{◌>>=◌, guard}
 use Rattle.calculus.specs.Trees.{Ty, tunit, tlist, tsum, tprod}
 use Rattle.table_trees.specs.Unfolding.{cell_of, smaller_of, type_of}
-use Rattle.run_values.specs.declared.Upto as U
-use Rattle.run_values.specs.declared.Upto.TheVariants as upto
+use Rattle.std.specs.Prelude.{Option as Maybe, Some, None}
 use Rattle.run_values.specs.Texts.{as_upto, behind, behind_list}
 use Rattle.table_trees.proofs.Unfolding.{rank, type_call}
 use Rattle.run_values.proofs.Agreeing.{behind_shorter}
@@ -96,26 +95,16 @@ module _ (x : Ty) (b : ℕ) (bs : List ℕ) where
 
 -- a list that is read from one place on, as far as another, b being the letter there
 module _ (x : Ty) (s : List ℕ) (at next : ℕ) (going : behind (tlist x) (drop next s) ≡ behind (tlist x) (drop at s)) where
-  -- no letter
-  pub list_none : length s ≤ next → as_upto s upto.Nothing ≡ behind (tlist x) (drop at s)
-  list_none h = sym (ap (behind (tlist x)) (drop_of_length-le s h)) ∙ going
-
   module _ (h : next < length s) {b : ℕ} (f : b ≡ get_or s next 0) where
     from_here : {o : Option (List ℕ)} → behind (tlist x) (b ∷ drop (next + 1) s) ≡ o → o ≡ behind (tlist x) (drop at s)
     from_here q = sym (ap (behind (tlist x)) (drop-cons s next 0 h ∙ ap₂ (λ y n. y ∷ drop n s) (sym f) (sym (add-one next))) ∙ q) ∙ going
 
-    pub list_ends : b ≡ 78 → as_upto s (upto.Place (next + 1)) ≡ behind (tlist x) (drop at s)
-    list_ends e = from_here (list_empty x b (drop (next + 1) s) e)
-
-    pub list_other : (b ≡ 78 → ⊥) → (b ≡ 75 → ⊥) → as_upto s upto.Nothing ≡ behind (tlist x) (drop at s)
-    list_other n e = from_here (list_miss x b (drop (next + 1) s) n e)
-
-    module _ {q : U.Upto} (n : b ≡ 78 → ⊥) (e : b ≡ 75) (told : as_upto s q ≡ behind x (drop (next + 1) s)) where
+    module _ {q : Maybe ℕ} (n : b ≡ 78 → ⊥) (e : b ≡ 75) (told : as_upto s q ≡ behind x (drop (next + 1) s)) where
       -- no element
-      pub list_not_element : q ≡ upto.Nothing → as_upto s upto.Nothing ≡ behind (tlist x) (drop at s)
+      pub list_not_element : q ≡ None → as_upto s None ≡ behind (tlist x) (drop at s)
       list_not_element p = from_here (list_element x b (drop (next + 1) s) n e (sym told ∙ ap (as_upto s) p))
 
-      module _ {m : ℕ} (p : q ≡ upto.Place m) where
+      module _ {m : ℕ} (p : q ≡ Some m) where
         found : behind x (drop (next + 1) s) ≡ some (drop m s)
         found = sym told ∙ ap (as_upto s) p
 
@@ -131,28 +120,12 @@ module _ (x : Ty) (s : List ℕ) (at next : ℕ) (going : behind (tlist x) (drop
             list_enough x (length (drop m s)) (length (drop (next + 1) s)) (drop m s) (omega arith) (omega arith)
             ∙ from_here (list_element x b (drop (next + 1) s) n e found)
 
--- ---- measures: twice a line's rank; of a list of its values one more
-
--- the values of a list
-pub list_call : (t : List ℕ) (i u : ℕ) {k l m : ℕ} → 2 * rank i ≡ m → k ≡ cell_of t i 1 → (k ≡ 0 → ⊥) → l ≡ smaller_of u i → 2 * rank l + 1 < m
-list_call t i u {k} {l} {m} p e n f = lower (rank i) (rank l) p (type_call t i u refl e n f)
-  where
-    lower : (x y : ℕ) → 2 * x ≡ m → y < x → 2 * y + 1 < m
-    lower x y q h = omega arith
-
--- one of them
-pub element_call : (i : ℕ) {m : ℕ} → 2 * rank i + 1 ≡ m → 2 * rank i < m
-element_call i {m} p = lower (rank i) p
-  where
-    lower : (x : ℕ) → 2 * x + 1 ≡ m → 2 * x < m
-    lower x q = omega arith
-
 -- ---- T lines: k is the kind, l and r are the lines that line i names, b the first letter
 
 module _ (t : List ℕ) (i : ℕ) where
   module _ (s : List ℕ) (at : ℕ) where
     -- no letter
-    pub typed_none : length s ≤ at → as_upto s upto.Nothing ≡ behind (type_of t i) (drop at s)
+    pub typed_none : length s ≤ at → as_upto s None ≡ behind (type_of t i) (drop at s)
     typed_none h = sym (ap (behind (type_of t i)) (drop_of_length-le s h) ∙ behind_none (type_of t i))
 
     module _ (h : at < length s) {k b : ℕ} (e : k ≡ cell_of t i 1) (f : b ≡ get_or s at 0) where
@@ -165,34 +138,34 @@ module _ (t : List ℕ) (i : ℕ) where
       line x p q = sym (ap₂ behind p here ∙ q)
 
       -- a unit, or a number that is no kind
-      pub typed_unit : (k ≡ 1 → ⊥) → (k ≡ 2 → ⊥) → (k ≡ 3 → ⊥) → b ≡ 85 → as_upto s (upto.Place (at + 1)) ≡ behind (type_of t i) (drop at s)
+      pub typed_unit : (k ≡ 1 → ⊥) → (k ≡ 2 → ⊥) → (k ≡ 3 → ⊥) → b ≡ 85 → as_upto s (Some (at + 1)) ≡ behind (type_of t i) (drop at s)
       typed_unit n m l u = line tunit (line_other t i e n m l) (unit_hit b _ u)
 
       -- unit, and another letter
-      pub typed_not_unit : (k ≡ 1 → ⊥) → (k ≡ 2 → ⊥) → (k ≡ 3 → ⊥) → (b ≡ 85 → ⊥) → as_upto s upto.Nothing ≡ behind (type_of t i) (drop at s)
+      pub typed_not_unit : (k ≡ 1 → ⊥) → (k ≡ 2 → ⊥) → (k ≡ 3 → ⊥) → (b ≡ 85 → ⊥) → as_upto s None ≡ behind (type_of t i) (drop at s)
       typed_not_unit n m l x = line tunit (line_other t i e n m l) (unit_miss b _ x)
 
       -- a list
-      pub typed_list : {l : ℕ} → l ≡ smaller_of (cell_of t i 2) i → (o : U.Upto) → k ≡ 3 → as_upto s o ≡ behind (tlist (type_of t l)) (drop at s)
+      pub typed_list : {l : ℕ} → l ≡ smaller_of (cell_of t i 2) i → (o : Maybe ℕ) → k ≡ 3 → as_upto s o ≡ behind (tlist (type_of t l)) (drop at s)
           → as_upto s o ≡ behind (type_of t i) (drop at s)
       typed_list nl o z w = w ∙ ap (λ x. behind x (drop at s)) (sym (line_list t i e nl z))
 
       module _ {l r : ℕ} (nl : l ≡ smaller_of (cell_of t i 2) i) (nr : r ≡ smaller_of (cell_of t i 3) i) where
         -- left
-        pub typed_left : (o : U.Upto) → k ≡ 1 → b ≡ 76 → as_upto s o ≡ behind (type_of t l) (drop (at + 1) s) → as_upto s o ≡ behind (type_of t i) (drop at s)
+        pub typed_left : (o : Maybe ℕ) → k ≡ 1 → b ≡ 76 → as_upto s o ≡ behind (type_of t l) (drop (at + 1) s) → as_upto s o ≡ behind (type_of t i) (drop at s)
         typed_left o z q w = w ∙ line (tsum (type_of t l) (type_of t r)) (line_sum t i e nl nr z) (sum_left b (drop (at + 1) s) (type_of t l) (type_of t r) q)
 
         -- right
-        pub typed_right : (o : U.Upto) → k ≡ 1 → (b ≡ 76 → ⊥) → b ≡ 82 → as_upto s o ≡ behind (type_of t r) (drop (at + 1) s) → as_upto s o ≡ behind (type_of t i) (drop at s)
+        pub typed_right : (o : Maybe ℕ) → k ≡ 1 → (b ≡ 76 → ⊥) → b ≡ 82 → as_upto s o ≡ behind (type_of t r) (drop (at + 1) s) → as_upto s o ≡ behind (type_of t i) (drop at s)
         typed_right o z n q w = w ∙ line (tsum (type_of t l) (type_of t r)) (line_sum t i e nl nr z) (sum_right b (drop (at + 1) s) (type_of t l) (type_of t r) n q)
 
         -- a sum, and another letter
-        pub typed_not_sum : k ≡ 1 → (b ≡ 76 → ⊥) → (b ≡ 82 → ⊥) → as_upto s upto.Nothing ≡ behind (type_of t i) (drop at s)
+        pub typed_not_sum : k ≡ 1 → (b ≡ 76 → ⊥) → (b ≡ 82 → ⊥) → as_upto s None ≡ behind (type_of t i) (drop at s)
         typed_not_sum z n m = line (tsum (type_of t l) (type_of t r)) (line_sum t i e nl nr z) (sum_miss b (drop (at + 1) s) (type_of t l) (type_of t r) n m)
 
         module _ (kp : k ≡ 2) where
           -- a pair with its first part
-          pub typed_pair : (o : U.Upto) {q : U.Upto} {m : ℕ} → b ≡ 80 → q ≡ upto.Place m → as_upto s q ≡ behind (type_of t l) (drop (at + 1) s)
+          pub typed_pair : (o : Maybe ℕ) {q : Maybe ℕ} {m : ℕ} → b ≡ 80 → q ≡ Some m → as_upto s q ≡ behind (type_of t l) (drop (at + 1) s)
               → as_upto s o ≡ behind (type_of t r) (drop m s) → as_upto s o ≡ behind (type_of t i) (drop at s)
           typed_pair o z p w x =
               x
@@ -200,11 +173,11 @@ module _ (t : List ℕ) (i : ℕ) where
               ∙ line (tprod (type_of t l) (type_of t r)) (line_product t i e nl nr kp) (prod_hit b (drop (at + 1) s) (type_of t l) (type_of t r) z)
 
           -- a pair without its first part
-          pub typed_not_first : {q : U.Upto} → b ≡ 80 → q ≡ upto.Nothing → as_upto s q ≡ behind (type_of t l) (drop (at + 1) s) → as_upto s upto.Nothing ≡ behind (type_of t i) (drop at s)
+          pub typed_not_first : {q : Maybe ℕ} → b ≡ 80 → q ≡ None → as_upto s q ≡ behind (type_of t l) (drop (at + 1) s) → as_upto s None ≡ behind (type_of t i) (drop at s)
           typed_not_first z p w =
               ap (λ c. c >>= λ cs. behind (type_of t r) cs) (sym (ap (as_upto s) p) ∙ w)
               ∙ line (tprod (type_of t l) (type_of t r)) (line_product t i e nl nr kp) (prod_hit b (drop (at + 1) s) (type_of t l) (type_of t r) z)
 
           -- a product, and another letter
-          pub typed_not_pair : (b ≡ 80 → ⊥) → as_upto s upto.Nothing ≡ behind (type_of t i) (drop at s)
+          pub typed_not_pair : (b ≡ 80 → ⊥) → as_upto s None ≡ behind (type_of t i) (drop at s)
           typed_not_pair n = line (tprod (type_of t l) (type_of t r)) (line_product t i e nl nr kp) (prod_miss b (drop (at + 1) s) (type_of t l) (type_of t r) n)

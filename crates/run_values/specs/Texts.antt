@@ -1,5 +1,5 @@
 -- Closed values as letters in an area, and what matching and building do there.
-use Rattle.std.specs.Prelude.{ℕ, zero, suc, ◌+◌, ◌-◌, ◌%◌, ◌≤◌, ◌<◌, ◌≡◌, Bool, true, false, cond, ◌&&◌, List, [], ◌∷◌, ◌++◌, eqb, ltb, length, get_or, set, drop}
+use Rattle.std.specs.Prelude.{ℕ, zero, suc, ◌+◌, ◌%◌, ◌≤◌, ◌<◌, ◌≡◌, Bool, true, false, cond, ◌&&◌, List, [], ◌∷◌, ◌++◌, eqb, ltb, length, get_or, set, drop}
 use Rattle.std.proofs.Math.Option.{Option, none, some}
 use Rattle.std.proofs.Math.Seq.{slice}
 use Rattle.limits.specs.Limits.{variables, field_bound}
@@ -7,22 +7,22 @@ use Rattle.calculus.specs.Tools.{◌>>=◌, guard}
 use Rattle.calculus.specs.Trees.{Ty, tunit, tlist, tsum, tprod, unit_leaf, empty_leaf, left, right, pair_node, element_node, Pat, pleaf, pvar, pinj, pnode, Val, vleaf, vinj, vnode}
 use Rattle.calculus.specs.Trees.{same_leaf, same_tag, same_node}
 use Rattle.calculus.specs.Letters.{letters, leaf_letter, letter_of, node_letter}
-use Rattle.run_values.specs.declared.Upto as U
-use Rattle.run_values.specs.declared.Upto.TheVariants as upto
+use Rattle.std.specs.Prelude.{Option as Maybe, Some, None}
 
 -- the letters of a value stand from a place on
 pub record At (s : List ℕ) (at : ℕ) (v : Val) : Type 0 where
   pub rest : List ℕ
   pub spells : drop at s ≡ letters v ++ rest
 
--- a place that is that value's end, or 0 where none is told
-abbrev pub Ends : ℕ → ℕ → Val → Type 0
-Ends end at v = 0 < end → end ≡ at + length (letters v)
+-- a place that is that value's end, where one is told
+abbrev pub Ends : Maybe ℕ → ℕ → Val → Type 0
+Ends None at v = Unit
+Ends (Some end) at v = end ≡ at + length (letters v)
 
 -- the bytes behind a place
-abbrev pub as_upto : List ℕ → U.Upto → Option (List ℕ)
-as_upto s (upto.Place n) = some (drop n s)
-as_upto s upto.Nothing = none
+abbrev pub as_upto : List ℕ → Maybe ℕ → Option (List ℕ)
+as_upto s (Some n) = some (drop n s)
+as_upto s None = none
 
 -- the bytes behind the closed value of a type that begins here
 abbrev pub behind_unit : List ℕ → Option (List ℕ)
@@ -111,14 +111,7 @@ built (pnode k p q) s vars = node_letter k ∷ (built p s vars ++ built q s vars
 pub record Below (vars : List ℕ) (top : ℕ) : Type 0 where
   pub ends : (n : ℕ) → get_or vars (variables + n) 0 ≤ top
 
--- n letters, all of those from one place up to another if they fit behind a place, and else none
-pub record Span (len from to at n : ℕ) : Type 0 where
-  pub short : n ≤ to - from
-  pub from_in : 0 < n → from + n ≤ len
-  pub to_in : 0 < n → at + n ≤ len
-  pub all : to ≤ len → at + (to - from) ≤ len → n ≡ to - from
-
 -- what matching answers
-abbrev pub matched : Bool → ℕ → U.Upto
-matched true n = upto.Place n
-matched false n = upto.Nothing
+abbrev pub matched : Bool → ℕ → Maybe ℕ
+matched true n = Some n
+matched false n = None

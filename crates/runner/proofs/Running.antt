@@ -36,11 +36,11 @@ use Rattle.run_values.specs.Traces.{Runs}
 use Rattle.run_values.proofs.Alone.{alone_true, alone_false}
 use Rattle.run_values.proofs.Agreeing.{value_some, value_none, at_slice}
 use Rattle.run_values.proofs.Tracing.{traced}
-use Rattle.run_reduction.specs.declared.Given as D
-use Rattle.run_reduction.specs.declared.Given.TheVariants as given
-use Rattle.run_reduction.specs.Frames.{Laid, Spares, Answers, Applied, ApplySays}
+use Rattle.std.specs.Prelude.{Err}
+use Rattle.run_reduction.specs.declared.Stop.TheVariants as halt
+use Rattle.run_reduction.specs.Frames.{Giving, given_at, Laid, Spares, Answers, Applied, ApplySays}
 use Rattle.run_reduction.proofs.Laying.{inside, laid, from_at}
-use Rattle.run_reduction.proofs.Framing.{range_begin, range_end, range_left, range≢spent, range≢large, no_budget≢large, spares_more}
+use Rattle.run_reduction.proofs.Framing.{range_begin, range_end, range_left, ok≢spent, ok≢large, spent≢large, spares_more}
 use Rattle.runner.specs.declared.run.Ran as R
 use Rattle.runner.specs.RunSays.{Prepared, answer_for, RanAs}
 use Rattle.runner.proofs.Copying.{value_front, paste_front, copied_none, copied_all}
@@ -171,7 +171,7 @@ copied_few n {k} e = go (le_or_lt n max_letters)
     go (inr h) = let is = e ∙ sym (copied_none n h) in (omega (arith, is), omega (arith, is))
 
 -- the application in the work area
-applied : {t : List ℕ} {base : ℕ} {index : List ℕ} {i : ℕ} {back : Bool} {budget : ℕ} {value : List ℕ} {rs : List Row} (work : List ℕ) {work₁ work₂ : List ℕ} {k : ℕ} {r : D.Given}
+applied : {t : List ℕ} {base : ℕ} {index : List ℕ} {i : ℕ} {back : Bool} {budget : ℕ} {value : List ℕ} {rs : List Row} (work : List ℕ) {work₁ work₂ : List ℕ} {k : ℕ} {r : Giving}
     → (g : Begun t base index i back budget value rs) → run_room ≤ length work → length work ≤ work_length → length work₁ ≡ length work
     → k ≡ cond (ltb max_letters (length value)) 0 (length value) → (k ≤ length value → k ≤ length work → work₁ ≡ paste work 0 value k)
     → ApplySays t base index back i max_depth work₁ work₂ 0 (length value) 0 (length value) budget r → Applied work₁ work₂ 0 max_depth budget g.x g.m r
@@ -206,12 +206,12 @@ within_spent : (budget m : ℕ) (x : Option Val) → budget < m → within budge
 within_spent budget m x h = ap (λ b. cond b (ended x m) (fails spent)) (not_leb h)
 
 -- a result within the budget
-ran_done : {t : List ℕ} {base : ℕ} {index : List ℕ} {i : ℕ} {back : Bool} {budget : ℕ} {value : List ℕ} {rs : List Row} (work₂ part o o' : List ℕ) (b x left : ℕ) {z : D.Given} (r : R.Ran)
-    → (g : Begun t base index i back budget value rs) → Answers work₂ 0 budget g.x g.m z → z ≡ given.Range b x left → result_length ≤ length o → part ≡ drop b (take x work₂)
+ran_done : {t : List ℕ} {base : ℕ} {index : List ℕ} {i : ℕ} {back : Bool} {budget : ℕ} {value : List ℕ} {rs : List Row} (work₂ part o o' : List ℕ) (b x left : ℕ) {z : Giving} (r : R.Ran)
+    → (g : Begun t base index i back budget value rs) → Answers work₂ 0 budget g.x g.m z → z ≡ given_at b x left → result_length ≤ length o → part ≡ drop b (take x work₂)
     → (length part ≤ length part → length part ≤ length o → o' ≡ paste o 0 part (length part)) → refusal_view r.refusal ≡ none → r.count ≡ budget - left → r.length ≡ length part
     → RanAs (answer_for rs i back budget value) o o' r
-ran_done work₂ part o o' b x left r g (Answers.spent h n) told long ep copy e k l = absurd (range≢spent (sym told ∙ n))
-ran_done work₂ part o o' b x left r g (Answers.large h y n) told long ep copy e k l = absurd (range≢large (sym told ∙ n))
+ran_done work₂ part o o' b x left r g (Answers.spent h n) told long ep copy e k l = absurd (ok≢spent (sym told ∙ n))
+ran_done work₂ part o o' b x left r g (Answers.large h y n) told long ep copy e k l = absurd (ok≢large (sym told ∙ n))
 ran_done {i = i} {back = back} {budget = budget} {value = value} {rs = rs} work₂ part o o' b x left r g (Answers.gives w h y a) told long ep copy e k l =
     let bs : List ℕ = letters w in
     let less = a.near in
@@ -231,22 +231,22 @@ ran_done {i = i} {back = back} {budget = budget} {value = value} {rs = rs} work�
     }
 
 -- 17
-ran_spent : {t : List ℕ} {base : ℕ} {index : List ℕ} {i : ℕ} {back : Bool} {budget : ℕ} {value : List ℕ} {rs : List Row} (work₂ o : List ℕ) {z : D.Given} (r : R.Ran)
-    → (g : Begun t base index i back budget value rs) → Answers work₂ 0 budget g.x g.m z → z ≡ given.Spent
+ran_spent : {t : List ℕ} {base : ℕ} {index : List ℕ} {i : ℕ} {back : Bool} {budget : ℕ} {value : List ℕ} {rs : List Row} (work₂ o : List ℕ) {z : Giving} (r : R.Ran)
+    → (g : Begun t base index i back budget value rs) → Answers work₂ 0 budget g.x g.m z → z ≡ Err halt.Spent
     → refusal_view r.refusal ≡ some spent → r.count ≡ 0 → r.length ≡ 0 → RanAs (answer_for rs i back budget value) o o r
 ran_spent {budget = budget} work₂ o r g (Answers.spent h n) told e k l =
     ran_refused _ o r spent (g.answer ∙ ap answer_of_run (within_spent budget g.m g.x h)) e k l
-ran_spent work₂ o r g (Answers.large h y n) told e k l = absurd (no_budget≢large (sym told ∙ n))
-ran_spent work₂ o r g (Answers.gives w h y a) told e k l = absurd (range≢spent (sym a.gives ∙ told))
+ran_spent work₂ o r g (Answers.large h y n) told e k l = absurd (spent≢large (sym told ∙ n))
+ran_spent work₂ o r g (Answers.gives w h y a) told e k l = absurd (ok≢spent (sym a.gives ∙ told))
 
 -- 24
-ran_large : {t : List ℕ} {base : ℕ} {index : List ℕ} {i : ℕ} {back : Bool} {budget : ℕ} {value : List ℕ} {rs : List Row} (work₂ o : List ℕ) {z : D.Given} (r : R.Ran)
-    → (g : Begun t base index i back budget value rs) → Answers work₂ 0 budget g.x g.m z → z ≡ given.Large
+ran_large : {t : List ℕ} {base : ℕ} {index : List ℕ} {i : ℕ} {back : Bool} {budget : ℕ} {value : List ℕ} {rs : List Row} (work₂ o : List ℕ) {z : Giving} (r : R.Ran)
+    → (g : Begun t base index i back budget value rs) → Answers work₂ 0 budget g.x g.m z → z ≡ Err halt.Large
     → refusal_view r.refusal ≡ some too_large → r.count ≡ 0 → r.length ≡ 0 → RanAs (answer_for rs i back budget value) o o r
-ran_large work₂ o r g (Answers.spent h n) told e k l = absurd (no_budget≢large (sym n ∙ told))
+ran_large work₂ o r g (Answers.spent h n) told e k l = absurd (spent≢large (sym n ∙ told))
 ran_large {budget = budget} work₂ o r g (Answers.large h y n) told e k l =
     ran_refused _ o r too_large (g.answer ∙ ap answer_of_run (within_large budget g.m h y)) e k l
-ran_large work₂ o r g (Answers.gives w h y a) told e k l = absurd (range≢large (sym a.gives ∙ told))
+ran_large work₂ o r g (Answers.gives w h y a) told e k l = absurd (ok≢large (sym a.gives ∙ told))
 
 -- letters of a value copied to the front leave alone what is behind them
 front_spares : (work value : List ℕ) {work₁ : List ℕ} {n : ℕ} → n ≤ length value → work₁ ≡ paste work 0 value n → Spares work work₁ 0 n
@@ -256,7 +256,7 @@ front_spares work value {n = n} h e =
       behind = ap (drop n) (e ∙ paste_front work value n) ∙ drop_at (take n value) (drop n work) n (length-take-le n value h);
     }
 
-module _ (t : List ℕ) (base : ℕ) (index : List ℕ) (isos i : ℕ) (back : Bool) (budget : ℕ) (value work : List ℕ) {work₁ work₂ : List ℕ} {n : ℕ} {z : D.Given} (j row h f : ℕ) (b : Bool)
+module _ (t : List ℕ) (base : ℕ) (index : List ℕ) (isos i : ℕ) (back : Bool) (budget : ℕ) (value work : List ℕ) {work₁ work₂ : List ℕ} {n : ℕ} {z : Giving} (j row h f : ℕ) (b : Bool)
     (less : i < isos) (ej : j ≡ cell_of t row f) (er : row ≡ place_at index h) (eh : h ≡ place_at index i) (ef : f ≡ cond back 2 1) (eb : b ≡ alone (behind (type_of t j) value)) (yes' : b ≡ true)
     (wide : length work₁ ≡ length work) (en : n ≡ cond (ltb max_letters (length value)) 0 (length value)) (copy : n ≤ length value → n ≤ length work → work₁ ≡ paste work 0 value n)
     (says : ApplySays t base index back i max_depth work₁ work₂ 0 (length value) 0 (length value) budget z) (rs : List Row) (p : Prepared t base index isos rs)
@@ -268,15 +268,15 @@ module _ (t : List ℕ) (base : ℕ) (index : List ℕ) (isos i : ℕ) (back : B
   area : Applied work₁ work₂ 0 max_depth budget model.x model.m z
   area = applied work model long most wide en copy says
 
-  pub run_done : (mid part o o' : List ℕ) (c x left : ℕ) (r : R.Ran) → z ≡ given.Range c x left → mid ≡ take x work₂ → part ≡ drop c mid
+  pub run_done : (mid part o o' : List ℕ) (c x left : ℕ) (r : R.Ran) → z ≡ given_at c x left → mid ≡ take x work₂ → part ≡ drop c mid
       → (length part ≤ length part → length part ≤ length o → o' ≡ paste o 0 part (length part)) → refusal_view r.refusal ≡ none → r.count ≡ budget - left → r.length ≡ length part
       → result_length ≤ length o → RanAs (answer_for rs i back budget value) o o' r
   run_done mid part o o' c x left r told em ep copy' e k l room = ran_done work₂ part o o' c x left r model area.answers told room (ep ∙ ap (drop c) em) copy' e k l
 
-  pub run_spent : (o : List ℕ) (r : R.Ran) → z ≡ given.Spent → refusal_view r.refusal ≡ some spent → r.count ≡ 0 → r.length ≡ 0 → RanAs (answer_for rs i back budget value) o o r
+  pub run_spent : (o : List ℕ) (r : R.Ran) → z ≡ Err halt.Spent → refusal_view r.refusal ≡ some spent → r.count ≡ 0 → r.length ≡ 0 → RanAs (answer_for rs i back budget value) o o r
   run_spent o r told e k l = ran_spent work₂ o r model area.answers told e k l
 
-  pub run_large : (o : List ℕ) (r : R.Ran) → z ≡ given.Large → refusal_view r.refusal ≡ some too_large → r.count ≡ 0 → r.length ≡ 0 → RanAs (answer_for rs i back budget value) o o r
+  pub run_large : (o : List ℕ) (r : R.Ran) → z ≡ Err halt.Large → refusal_view r.refusal ≡ some too_large → r.count ≡ 0 → r.length ≡ 0 → RanAs (answer_for rs i back budget value) o o r
   run_large o r told e k l = ran_large work₂ o r model area.answers told e k l
 
   -- behind the frames of all calls the work area is as it was

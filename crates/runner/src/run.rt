@@ -6,8 +6,8 @@ ghost use Rattle.limits.specs.Limits.{max_letters};
 ghost use Rattle.run_index.specs.Index.{index_length};
 ghost use Rattle.runner.specs.RunSays.{OnChecked, OnAccepted, Prepares, answer_for, RanInto, RanWithin, RunSays};
 
-use area_cells::{byte_at, put_byte};
-use area_parts::{clear_bytes, front, tail};
+use area_cells::{item_at, store};
+use area_parts::{clear, front, tail};
 use checker::{Checked, check_file};
 use codes::{ISO_FROM, ISO_TO};
 use format::{Refusal, is_refused};
@@ -15,19 +15,19 @@ use limits::{INDEX_LENGTH, MAX_DEPTH, MAX_LETTERS, MAX_LINES, RESULT_LENGTH, WOR
 use run_coding::{AREA_LENGTH, code_patterns};
 use run_direction::{place, side};
 use run_index::index_isos;
-use run_reduction::{Given, apply};
+use run_reduction::{Stop, apply};
 use run_values::is_value;
 use table_trees::cell;
 
 // A refusal or none, the number of applications, and the number of letters in the result area.
 #[derive(Clone, Copy)]
 pub struct Ran {
-    pub refusal: Refusal,
+    pub refusal: Option<Refusal>,
     pub count: u32,
     pub length: usize,
 }
 
-fn refused(f: Refusal) -> Ran
+fn refused(f: Option<Refusal>) -> Ran
     ensures { (result.refusal ≡ f) × (result.count ≡ 0) × (result.length ≡ 0) }
 {
     Ran {
@@ -42,10 +42,8 @@ fn copy_front(from: &[u8], n: usize, to: &mut [u8])
     ensures { n ≤ length from.now → n ≤ length to.old
         → to.new ≡ paste to.old 0 from.now n }
 {
-    let mut i: usize = 0;
-    while i < n {
-        put_byte(to, i, byte_at(from, i));
-        i += 1;
+    for i in 0..n {
+        store(to, i, item_at(from, i, 0));
     }
 }
 
@@ -57,16 +55,6 @@ fn copied(n: usize) -> usize
         return 0;
     }
     n
-}
-
-// What a budget was spent of, where so much is left.
-fn used(budget: u32, left: u32) -> u32
-    ensures { result ≡ budget - left }
-{
-    if left < budget {
-        return budget - left;
-    }
-    0
 }
 
 // Indexes an accepted file, whose rows a check has left in the table, and writes its patterns flat behind
@@ -122,11 +110,11 @@ pub fn run_checked(
         work.old work.new res.old res.new result) }
 {
     if isos <= i {
-        return refused(Refusal::NoIso);
+        return refused(Some(Refusal::NoIso));
     }
     let row = place(index, place(index, i));
     if !is_value(t, cell(t, row, side(back, ISO_FROM, ISO_TO)), value) {
-        return refused(Refusal::NoValue);
+        return refused(Some(Refusal::NoValue));
     }
     let size = value.len();
     copy_front(value, copied(size), work);
@@ -134,18 +122,18 @@ pub fn run_checked(
     match apply(
         t, base, index, code, back, i, MAX_DEPTH, work, 0, size, 0, size, budget,
     ) {
-        Given::Range(b, e, left) => {
-            let letters = tail(front(work, e), b);
+        Ok(g) => {
+            let letters = tail(front(work, g.end), g.at);
             let n = letters.len();
             copy_front(letters, n, res);
             Ran {
-                refusal: Refusal::Nothing,
-                count: used(budget, left),
+                refusal: None,
+                count: budget.saturating_sub(g.left),
                 length: n,
             }
         }
-        Given::Spent => refused(Refusal::Spent),
-        Given::Large => refused(Refusal::TooLarge),
+        Err(Stop::Spent) => refused(Some(Refusal::Spent)),
+        Err(Stop::Large) => refused(Some(Refusal::TooLarge)),
     }
 }
 
@@ -200,7 +188,7 @@ pub fn run(
         res.new result }
 {
     if res.len() < RESULT_LENGTH {
-        return refused(Refusal::ShortArea);
+        return refused(Some(Refusal::ShortArea));
     }
     let c = check_file(file, table, work);
     let a = c.answer;
@@ -209,6 +197,6 @@ pub fn run(
         return refused(f);
     }
     let r = run_accepted(table, c, i, back, budget, value, work, WORK_LENGTH, res);
-    clear_bytes(work, WORK_LENGTH);
+    clear(work, WORK_LENGTH, 0);
     r
 }

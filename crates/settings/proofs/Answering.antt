@@ -1,4 +1,5 @@
 -- A setting's number and a number's letters on a checked table, case by case, against the model's outcome for the file's rows.
+use Rattle.std.specs.Prelude.{Option as CodeOption}
 use Prim.Native.Nat.{ℕ, ◌+◌, ◌≤◌, ◌<◌}
 use native.Mathlib.Nat.{zero-add}
 use native.Mathlib.Omega.{arith}
@@ -65,7 +66,7 @@ spelled {t} {rs = rs} f {i} n l few low =
     (SettingIs.setting (type_of t i) v (line_good f i l few) (inhabits_of v (type_of t i) (unrank_inhabits (type_of t i) n low)) (rank_unrank (type_of t i) (few_finite (type_of t i) few) n low))
 
 -- x is the refusal that the tests of T line i give
-module _ (t : List ℕ) (types i : ℕ) (x : F.Refusal) {b : Bool} (e : refusal_view x ≡ type_fault types i (type_of t i)) (h : b ≡ is_some (refusal_view x)) where
+module _ (t : List ℕ) (types i : ℕ) (x : CodeOption F.Refusal) {b : Bool} (e : refusal_view x ≡ type_fault types i (type_of t i)) (h : b ≡ is_some (refusal_view x)) where
   -- 15 and 18
   module _ (y : b ≡ true) where
     pub number_fault : (value : List ℕ) (r : N.Numbered) → r.refusal ≡ x → r.setting ≡ 0
@@ -117,7 +118,7 @@ module _ (t : List ℕ) (types i : ℕ) (x : F.Refusal) {b : Bool} (e : refusal_
 
     -- ---- a number
 
-    module _ (n : ℕ) {m : ℕ} (c : Counts (type_of t i) m) (r : F.Refusal) where
+    module _ (n : ℕ) {m : ℕ} (c : Counts (type_of t i) m) (r : CodeOption F.Refusal) where
       -- 19
       pub fault_high : m ≤ n → refusal_view r ≡ some too_high → FaultOf t types i n r
       fault_high l j =
@@ -138,7 +139,7 @@ module _ (t : List ℕ) (types i : ℕ) (x : F.Refusal) {b : Bool} (e : refusal_
 
 -- ---- number to letters
 
-module _ {t : List ℕ} {types i n : ℕ} {x : F.Refusal} (w : FaultOf t types i n x) {b : Bool} (h : b ≡ is_some (refusal_view x)) (o : List ℕ) where
+module _ {t : List ℕ} {types i n : ℕ} {x : CodeOption F.Refusal} (w : FaultOf t types i n x) {b : Bool} (h : b ≡ is_some (refusal_view x)) (o : List ℕ) where
   -- 15, 18 and 19
   pub setting_refused : b ≡ true → (r : L.Lettered) → r.refusal ≡ x → r.length ≡ 0
       → (patterns lines : ℕ) (rs : List Row) → FileIn t types patterns lines rs → 127 ≤ length o → LetteredAs (setting_on (accepted rs) i n) o o r

@@ -1,5 +1,5 @@
 -- The contracts of settings as numbers: on a checked table, and as services.
-use Rattle.std.specs.Prelude.{ℕ, ◌≤◌, ◌<◌, ◌≡◌, cond, List, leb, ltb, length}
+use Rattle.std.specs.Prelude.{Option as CodeOption, ℕ, ◌≤◌, ◌<◌, ◌≡◌, cond, List, leb, ltb, length}
 use Rattle.std.proofs.Math.Option.{Option, none, some}
 use Rattle.limits.specs.Limits.{max_values}
 use Rattle.calculus.specs.Trees.{Ty}
@@ -20,7 +20,7 @@ type_fault types i a = cond (leb types i) (some no_iso) (cond (ltb max_values (c
 
 -- 15, 18 or 19, for T line i of so many and number n: as number to letters answers for a file in the table; no refusal tells that the line is
 -- there, that its values are numbered, and that n is below their count
-pub record FaultOf (t : List ℕ) (types i n : ℕ) (r : F.Refusal) : Type 0 where
+pub record FaultOf (t : List ℕ) (types i n : ℕ) (r : CodeOption F.Refusal) : Type 0 where
   pub refusal : (patterns lines : ℕ) (rs : List Row) → FileIn t types patterns lines rs → refusal_view r ≡ refusal_of (setting_on (accepted rs) i n)
   pub passed : refusal_view r ≡ none → (i < types) × (count (type_of t i) ≤ max_values) × (n < count (type_of t i))
 

@@ -22,18 +22,18 @@ use run_values::is_value;
 // A refusal or none, and a setting's number.
 #[derive(Clone, Copy)]
 pub struct Numbered {
-    pub refusal: Refusal,
+    pub refusal: Option<Refusal>,
     pub setting: u32,
 }
 
 // A refusal or none, and the number of letters in the result area.
 #[derive(Clone, Copy)]
 pub struct Lettered {
-    pub refusal: Refusal,
+    pub refusal: Option<Refusal>,
     pub length: usize,
 }
 
-fn not_numbered(f: Refusal) -> Numbered
+fn not_numbered(f: Option<Refusal>) -> Numbered
     ensures { (result.refusal ≡ f) × (result.setting ≡ 0) }
 {
     Numbered {
@@ -42,7 +42,7 @@ fn not_numbered(f: Refusal) -> Numbered
     }
 }
 
-fn not_lettered(f: Refusal) -> Lettered
+fn not_lettered(f: Option<Refusal>) -> Lettered
     ensures { (result.refusal ≡ f) × (result.length ≡ 0) }
 {
     Lettered {
@@ -52,22 +52,28 @@ fn not_lettered(f: Refusal) -> Lettered
 }
 
 // Refusal 15 or 18 of T line i of a table that holds so many, or nothing.
-fn type_fault(t: &[u16], counts: &[usize], types: usize, i: usize) -> Refusal
+fn type_fault(t: &[u16], counts: &[usize], types: usize, i: usize) -> Option<Refusal>
     requires { Counted t.now counts.now }
     ensures { refusal_view result ≡ type_fault types i (type_of t.now i) }
 {
     if types <= i {
-        return Refusal::NoIso;
+        return Some(Refusal::NoIso);
     }
     if MAX_VALUES < count_values(t, counts, i) {
-        return Refusal::TooMany;
+        return Some(Refusal::TooMany);
     }
-    Refusal::Nothing
+    None
 }
 
 // Refusal 15, 18 or 19 of T line i and number n of a table that holds a checked file with so many T lines, or
 // nothing.
-pub fn setting_fault(t: &[u16], counts: &[usize], types: usize, i: usize, n: usize) -> Refusal
+pub fn setting_fault(
+    t: &[u16],
+    counts: &[usize],
+    types: usize,
+    i: usize,
+    n: usize,
+) -> Option<Refusal>
     requires { Counted t.now counts.now }
     ensures { FaultOf t.now types i n result }
 {
@@ -76,9 +82,9 @@ pub fn setting_fault(t: &[u16], counts: &[usize], types: usize, i: usize, n: usi
         return f;
     }
     if count_values(t, counts, i) <= n {
-        return Refusal::TooHigh;
+        return Some(Refusal::TooHigh);
     }
-    Refusal::Nothing
+    None
 }
 
 // The number of a value of T line i of such a table; counts is where those of the T lines before it are kept.
@@ -92,11 +98,11 @@ fn number_checked(t: &[u16], counts: &mut [usize], types: usize, i: usize, value
         return not_numbered(f);
     }
     if !is_value(t, i, value) {
-        return not_numbered(Refusal::NoValue);
+        return not_numbered(Some(Refusal::NoValue));
     }
     let r = rank_at(t, counts, i, value, 0);
     Numbered {
-        refusal: Refusal::Nothing,
+        refusal: None,
         setting: r.number as u32,
     }
 }
@@ -122,7 +128,7 @@ fn setting_checked(
     }
     let end = unrank_at(t, counts, i, n, res, 0);
     Lettered {
-        refusal: Refusal::Nothing,
+        refusal: None,
         length: end,
     }
 }
@@ -163,7 +169,7 @@ pub fn to_setting(
         res.old table.new work.new res.new result }
 {
     if res.len() < RESULT_LENGTH {
-        return not_lettered(Refusal::ShortArea);
+        return not_lettered(Some(Refusal::ShortArea));
     }
     let c = check_file(file, table, work);
     let a = c.answer;

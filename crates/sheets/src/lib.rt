@@ -13,8 +13,8 @@ ghost use Rattle.runner.specs.RunSays.{OnChecked, OnAccepted};
 ghost use Rattle.sheets.specs.Answering.{SheetRoom, OneAnswered, AllAnswered};
 ghost use Rattle.sheets.specs.SheetSays.{SheetSays};
 
-use area_cells::{narrow_number, store_number};
-use area_parts::clear_bytes;
+use area_cells::{narrow_number, store};
+use area_parts::clear;
 use checker::{Checked, check_file};
 use format::{Answer, Refusal, is_refused, number_of};
 use limits::{MAX_QUERIES, RESULT_LENGTH, TABLE_LENGTH, WORK_LENGTH};
@@ -32,7 +32,7 @@ pub struct Answered {
 }
 
 // A refusal of the whole call, at no line.
-fn refused(f: Refusal) -> Answered
+fn refused(f: Option<Refusal>) -> Answered
     ensures { (result.answer.refusal ≡ f) × (result.answer.place ≡ 0) × (result.queries ≡ 0) }
 {
     Answered {
@@ -48,23 +48,10 @@ fn refused(f: Refusal) -> Answered
 fn is_short(table: &[u16], work: &[u8], numbers: &[u32], letters: &[u8], n: usize) -> bool
     ensures { result ≡ (short table.now work.now || narrow_sheet n numbers.now letters.now) }
 {
-    if table.len() < TABLE_LENGTH {
-        return true;
-    }
-    if work.len() < WORK_LENGTH {
-        return true;
-    }
-    if numbers.len() / 3 < n {
-        return true;
-    }
-    letters.len() / RESULT_LENGTH < n
-}
-
-// A number of 8 bits in 32.
-fn widen(n: u8) -> u32
-    ensures { result ≡ n }
-{
-    n as u32
+    table.len() < TABLE_LENGTH
+        || work.len() < WORK_LENGTH
+        || numbers.len() / 3 < n
+        || letters.len() / RESULT_LENGTH < n
 }
 
 // Stores a run's number, count and length from place `at` on.
@@ -75,9 +62,9 @@ fn put_three(numbers: &mut [u32], at: usize, r: Ran)
 {
     let f = r.refusal;
     let n = number_of(f);
-    store_number(numbers, at, widen(n));
-    store_number(numbers, at + 1, r.count);
-    store_number(numbers, at + 2, narrow_number(r.length));
+    store(numbers, at, u32::from(n));
+    store(numbers, at + 1, r.count);
+    store(numbers, at + 2, narrow_number(r.length));
 }
 
 // Answers query k, whose line is given, into its three numbers and its 127 bytes.
@@ -185,10 +172,10 @@ pub fn sheet(
 {
     let n = count_lines(queries);
     if is_short(table, work, numbers, letters, n) {
-        return refused(Refusal::ShortArea);
+        return refused(Some(Refusal::ShortArea));
     }
     if MAX_QUERIES < n {
-        return refused(Refusal::TooLong);
+        return refused(Some(Refusal::TooLong));
     }
     let c = check_file(file, table, work);
     let a = c.answer;
@@ -200,7 +187,7 @@ pub fn sheet(
         };
     }
     answer_all(table, c, queries, work, WORK_LENGTH, numbers, letters);
-    clear_bytes(work, WORK_LENGTH);
+    clear(work, WORK_LENGTH, 0);
     Answered {
         answer: a,
         queries: n,

@@ -1,13 +1,10 @@
 -- What a read's answer means.
 use Rattle.std.specs.Prelude.{ℕ, ◌+◌, ◌^◌, ◌≤◌, ◌<◌, min, Bool, false, cond, ltb, eqb, ℤ, pos, negsuc, Option, None, Some, Result, Ok, Err}
+use Rattle.std.proofs.Common.{ControlFlow, Continue, Break}
 use Rattle.std.specs.IoError.{raw_os_error}
 use Rattle.std.specs.declared.io.Error.{Error}
 use Rattle.stdio.specs.declared.Input as I
 use Rattle.stdio.specs.declared.Input.TheVariants as inputs
-use Rattle.stdio.specs.declared.Step as S
-use Rattle.stdio.specs.declared.Step.TheVariants as steps
-use Rattle.stdio.specs.declared.Filled as F
-use Rattle.stdio.specs.declared.Filled.TheVariants as filled
 
 -- EINTR, by the error's number
 abbrev pub is_interrupt : ℤ → Bool
@@ -44,20 +41,20 @@ Within n inputs.Again = Unit {0}
 Within n inputs.End = Unit {0}
 Within n inputs.Failed = Unit {0}
 
-abbrev pub Fits : ℕ → F.Filled → Type 0
-Fits n (filled.Bytes k) = k ≤ n
-Fits n filled.Failed = Unit {0}
+abbrev pub Fits : ℕ → Option ℕ → Type 0
+Fits n (Some k) = k ≤ n
+Fits n None = Unit {0}
 
-abbrev pub Stays : ℕ → S.Step → Type 0
-Stays n (steps.More k) = k ≤ n
-Stays n (steps.Over f) = Fits n f
+abbrev pub Stays : ℕ → ControlFlow (Option ℕ) ℕ → Type 0
+Stays n (Continue k) = k ≤ n
+Stays n (Break f) = Fits n f
 
 -- behind the first `done` bytes of an area: more bytes are added to them, a signal changes nothing, the end leaves them, and after a read that failed there is nothing
-abbrev pub step_of : ℕ → I.Input → S.Step
-step_of done (inputs.Bytes n) = steps.More (done + n)
-step_of done inputs.Again = steps.More done
-step_of done inputs.End = steps.Over (filled.Bytes done)
-step_of done inputs.Failed = steps.Over filled.Failed
+abbrev pub step_of : ℕ → I.Input → ControlFlow (Option ℕ) ℕ
+step_of done (inputs.Bytes n) = Continue (done + n)
+step_of done inputs.Again = Continue done
+step_of done inputs.End = Break (Some done)
+step_of done inputs.Failed = Break None
 
 -- the bytes in all are a number of 64 bits
 abbrev pub Room : ℕ → I.Input → Type 0

@@ -2,14 +2,14 @@
 // input and a read that failed are two things, and standard error says what failed.
 #![tactic(auto)]
 
-ghost use Rattle.std.specs.Prelude.{◌≡◌, ◌≤◌, length, true, is_ok};
+ghost use Rattle.std.specs.Prelude.{◌≡◌, ◌≤◌, length, true, is_ok, None, Some};
+ghost use Rattle.std.proofs.Common.{Break};
 ghost use Rattle.stdio.specs.Reading.{is_interrupt, was_interrupt, answer_of, signal_of, input_of, Within, Room, step_of, Stays, Fits};
-ghost use Rattle.stdio.specs.declared.Step.TheVariants as steps;
-ghost use Rattle.stdio.specs.declared.Filled.TheVariants as filled;
 
 use area_parts::front;
 use std::io;
 use std::io::Read;
+use std::ops::ControlFlow;
 
 // The number of the error of a call that a signal interrupted.
 const EINTR: i32 = 4;
@@ -24,20 +24,6 @@ pub enum Input {
     Failed,
 }
 
-// What came of reading until an area is full or the input ends: so many bytes, or a read failed.
-#[derive(Clone, Copy)]
-pub enum Filled {
-    Bytes(usize),
-    Failed,
-}
-
-// What one read more gave: so many bytes in all, or what came of reading.
-#[derive(Clone, Copy)]
-enum Step {
-    More(usize),
-    Over(Filled),
-}
-
 // Whether a signal interrupted a call that failed, by its error's number.
 fn interrupted(error: i32) -> bool
     ensures { result ≡ is_interrupt error }
@@ -45,22 +31,20 @@ fn interrupted(error: i32) -> bool
     error == EINTR
 }
 
-// Whether a signal interrupted a call that failed, by its error. One without a number is none.
+// Whether a signal interrupted a call that failed, by its error. One without a number is none: its kind
+// alone may say Interrupted, and then `was_interrupt` says no.
 fn was_interrupted(error: &io::Error) -> bool
     ensures { result ≡ was_interrupt error.now }
 {
-    match error.raw_os_error() {
-        Some(number) => interrupted(number),
-        None => false,
-    }
+    error
+        .raw_os_error()
+        .is_some_and(|number| interrupted(number))
 }
 
 // The system's words for what failed, without the error's number that std puts behind them.
 fn words_alone(text: &str) -> &str {
-    match text.split_once(" (os error ") {
-        Some((words, _)) => words,
-        None => text,
-    }
+    text.split_once(" (os error ")
+        .map_or(text, |(words, _)| words)
 }
 
 // Writes a line to standard error: what failed, a colon and the system's words.
@@ -103,52 +87,51 @@ pub fn read_some(rt: &HostRuntime, area: &mut [u8]) -> Input
 
 // Says that a loop over the input, which has to end, has used up its turns: no run does. What came of
 // reading is then a failure.
-pub fn endless(rt: &HostRuntime) -> Filled
-    ensures { result ≡ filled.Failed }
+pub fn endless(rt: &HostRuntime) -> Option<usize>
+    ensures { result ≡ None }
 {
     let _ = eprintln!(rt; "standard input does not end");
-    Filled::Failed
+    None
 }
 
-// What a read behind the first `done` bytes of an area comes to, by what it gave.
-fn step_of(i: Input, done: usize) -> Step
+// What a read behind the first `done` bytes of an area comes to, by what it gave: so many bytes in all,
+// or the end of reading, with their number unless the read failed.
+fn step_of(i: Input, done: usize) -> ControlFlow<Option<usize>, usize>
     requires { Room done i }
     ensures { result ≡ step_of done i }
 {
     match i {
-        Input::Bytes(n) => Step::More(done + n),
-        Input::Again => Step::More(done),
-        Input::End => Step::Over(Filled::Bytes(done)),
-        Input::Failed => Step::Over(Filled::Failed),
+        Input::Bytes(n) => ControlFlow::Continue(done + n),
+        Input::Again => ControlFlow::Continue(done),
+        Input::End => ControlFlow::Break(Some(done)),
+        Input::Failed => ControlFlow::Break(None),
     }
 }
 
 // One read more behind the first `done` bytes of an area, unless it is full.
-fn read_more(rt: &HostRuntime, area: &mut [u8], done: usize) -> Step
+fn read_more(rt: &HostRuntime, area: &mut [u8], done: usize) -> ControlFlow<Option<usize>, usize>
     requires { done ≤ length area.old }
     ensures stays { Stays (length area.old) result }
-    ensures value { length area.old ≤ done → result ≡ steps.Over (filled.Bytes done) }
+    ensures value { length area.old ≤ done → result ≡ Break (Some done) }
 {
     if done >= area.len() {
-        return Step::Over(Filled::Bytes(done));
+        return ControlFlow::Break(Some(done));
     }
     let i = read_some(rt, &mut area[done..]);
     step_of(i, done)
 }
 
-// Reads until an area is full or the input ends.
-pub fn read_area(rt: &HostRuntime, area: &mut [u8]) -> Filled
+// Reads until an area is full or the input ends, and gives how many bytes came; none where a read failed.
+pub fn read_area(rt: &HostRuntime, area: &mut [u8]) -> Option<usize>
     ensures { Fits (length area.new) result }
 {
     let mut done: usize = 0;
-    let mut turns = u64::MAX;
-    while turns > 0 {
+    for _turn in 0..u64::MAX {
         let s = read_more(rt, area, done);
         match s {
-            Step::More(n) => done = n,
-            Step::Over(f) => return f,
+            ControlFlow::Continue(n) => done = n,
+            ControlFlow::Break(f) => return f,
         }
-        turns -= 1;
     }
     endless(rt)
 }

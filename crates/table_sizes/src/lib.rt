@@ -9,31 +9,21 @@ ghost use Rattle.table_sizes.specs.Joined.{join_tags};
 ghost use Rattle.table_trees.specs.Unfolding.{type_of, pattern_of};
 
 use codes::{ELEMENT, EMPTY, FIRST, KIND, LEFT, PAIR, PRODUCT, RIGHT, SECOND, SUM};
-use limits::{MANY_NODES, MANY_TAGS, MAX_NODES};
+use limits::{MANY_NODES, MANY_TAGS};
 use table_trees::{cell, pattern_cell, smaller};
 
 // One node above two trees, at most 128 nodes told apart.
 pub fn above(m: usize, n: usize) -> usize
     ensures { result ≡ min many_nodes (1 + m + n) }
 {
-    if m < MAX_NODES {
-        if n < MAX_NODES - m {
-            return 1 + m + n;
-        }
-    }
-    MANY_NODES
+    m.saturating_add(n).saturating_add(1).min(MANY_NODES)
 }
 
 // Two counts together, at most 41 told apart.
 pub fn together(m: usize, n: usize) -> usize
     ensures { result ≡ min many_tags (m + n) }
 {
-    if m < MANY_TAGS {
-        if n < MANY_TAGS - m {
-            return m + n;
-        }
-    }
-    MANY_TAGS
+    m.saturating_add(n).min(MANY_TAGS)
 }
 
 // The left and right nodes of the values of a sum (kind 1) or product, from the most of those of its parts.
@@ -41,12 +31,10 @@ fn joined(kind: usize, m: usize, n: usize) -> usize
     ensures { result ≡ min many_tags (join_tags kind m n) }
 {
     if kind == SUM {
-        if m < n {
-            return together(1, n);
-        }
-        return together(1, m);
+        together(1, m.max(n))
+    } else {
+        together(m, n)
     }
-    together(m, n)
 }
 
 // The most left and right nodes that a closed value of T line i has; 41 stands for more than 40.

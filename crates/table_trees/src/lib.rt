@@ -2,11 +2,12 @@
 // first one.
 #![tactic(auto)]
 
-ghost use Rattle.std.specs.Prelude.{◌≡◌, ◌+◌, ◌<◌};
-ghost use Rattle.limits.specs.Limits.{word_bound};
+ghost use Rattle.std.specs.Prelude.{◌≡◌, ◌+◌, ◌<◌, ◌≤◌, length};
+ghost use Rattle.limits.specs.Limits.{max_lines, row_width, table_length, word_bound};
 ghost use Rattle.table_trees.specs.Unfolding.{cell_of, smaller_of};
 
-use area_words::{wide, word_at};
+use area_cells::item_at;
+use area_words::wide;
 use limits::{MAX_LINES, ROW_WIDTH};
 
 // The rows of the table, and the line that unfolds to a unit for want of a row.
@@ -22,17 +23,22 @@ pub fn cell(t: &[u16], row: usize, k: usize) -> usize
     if ROW_WIDTH <= k {
         return 0;
     }
-    wide(word_at(t, row * ROW_WIDTH + k))
+    wide(item_at(t, row * ROW_WIDTH + k, 0))
+}
+
+// The same of a whole table, where there is such a number.
+pub fn field(t: &[u16], row: usize, k: usize) -> usize
+    requires { (table_length ≤ length t.now) × (row < max_lines) × (k < row_width) }
+    ensures { result ≡ cell_of t.now row k }
+{
+    wide(t[row * ROW_WIDTH + k])
 }
 
 // A named line if it stands earlier than the line that names it; else one that unfolds to a unit.
 pub fn smaller(a: usize, i: usize) -> usize
     ensures { result ≡ smaller_of a i }
 {
-    if a < i {
-        return a;
-    }
-    ROWS
+    if a < i { a } else { ROWS }
 }
 
 // Number k of the row of P line j.

@@ -8,20 +8,16 @@ use area_parts::front;
 use checker::check;
 use limits::{MAX_BYTES, TABLE_LENGTH, WORK_LENGTH};
 use std::io;
-use stdio::{Filled, read_area};
+use stdio::read_area;
 
 // The place of the next byte `=`, or the end.
 fn next_end(s: &[u8], from: usize) -> usize
     ensures { from ≤ length s.now → (from ≤ result) × (result ≤ length s.now) }
 {
-    let mut at = from;
-    while at < s.len() {
-        if s[at] == 61 {
-            return at;
-        }
-        at += 1;
-    }
-    at
+    let Some(n) = s.iter().skip(from).position(|b| *b == b'=') else {
+        return s.len();
+    };
+    from + n
 }
 
 fn print_answer(rt: &HostRuntime, number: u8, line: usize) -> io::Result<()> {
@@ -53,9 +49,8 @@ fn check_each(rt: &HostRuntime, s: &[u8]) -> io::Result<()> {
 
 fn main(rt: HostRuntime) -> io::Result<()> {
     let mut input = [0u8; MAX_BYTES];
-    let f = read_area(&rt, &mut input);
-    match f {
-        Filled::Bytes(n) => check_each(&rt, front(&input, n)),
-        Filled::Failed => Ok(()),
-    }
+    let Some(n) = read_area(&rt, &mut input) else {
+        return Ok(());
+    };
+    check_each(&rt, front(&input, n))
 }

@@ -7,7 +7,7 @@ use area_parts::front;
 use codes::{COMMA, LINE_FEED};
 use limits::{MAX_BYTES, TABLE_LENGTH, WORK_LENGTH};
 use print_text::put_number;
-use stdio::{Filled, read_area, write_front};
+use stdio::{read_area, write_front};
 use turner::turn;
 
 // Prints `number,line`; whether that was done.
@@ -35,9 +35,7 @@ fn print_turned(rt: &HostRuntime, file: &[u8]) {
 
 fn main(rt: HostRuntime) {
     let mut input = [0u8; MAX_BYTES + 1];
-    let f = read_area(&rt, &mut input);
-    match f {
-        Filled::Bytes(n) => print_turned(&rt, front(&input, n)),
-        Filled::Failed => {}
+    if let Some(n) = read_area(&rt, &mut input) {
+        print_turned(&rt, front(&input, n));
     }
 }

@@ -14,8 +14,8 @@ use Rattle.format.specs.declared.Kind as K
 use Rattle.calculus.proofs.Basic.{none≢some, some_inj}
 use Rattle.format.proofs.Printing.{kind_of_letter}
 use Rattle.read_forms.specs.Views.{as_letter}
-use Rattle.read_forms.specs.declared.Letter as L
-use Rattle.read_forms.specs.declared.Letter.TheVariants as letters
+use Rattle.std.specs.Prelude as P
+use Rattle.std.specs.Prelude.{Some, None}
 use Rattle.area_cells.specs.Areas.{Writes}
 use Rattle.table_trees.specs.Unfolding.{cell_of}
 use Rattle.table_walks.specs.Walk.{FileIn}
@@ -64,7 +64,7 @@ letter_byte iso_line = refl
 letter_byte clause_line = refl
 letter_byte let_line = refl
 
-module _ {t : List ℕ} {types patterns lines : ℕ} (rs : List Row) (n : ℕ) (r : Row) (l : L.Letter) (f : FileIn t types patterns lines rs)
+module _ {t : List ℕ} {types patterns lines : ℕ} (rs : List Row) (n : ℕ) (r : Row) (l : P.Option K.Kind) (f : FileIn t types patterns lines rs)
     (at : get_elem? rs n ≡ some r) {a b : ℕ} (cell : a ≡ cell_of t n 0) (byte : b ≡ a % 256) (read : as_letter l ≡ kind_of b) where
   -- the letter that the code reads is the row's
   read_letter : as_letter l ≡ some r.kind
@@ -73,10 +73,10 @@ module _ {t : List ℕ} {types patterns lines : ℕ} (rs : List Row) (n : ℕ) (
       read ∙ ap kind_of (byte ∙ ap (λ c. c % 256) there ∙ letter_byte r.kind) ∙ kind_of_letter r.kind
 
   -- a row's letter is one of the five
-  no_letter : l ≡ letters.Unknown → ⊥
+  no_letter : l ≡ None → ⊥
   no_letter e = none≢some (sym (ap as_letter e) ∙ read_letter)
 
-  kind_read : (k : K.Kind) → l ≡ letters.Of k → kind_view k ≡ r.kind
+  kind_read : (k : K.Kind) → l ≡ Some k → kind_view k ≡ r.kind
   kind_read k e = some_inj (sym (ap as_letter e) ∙ read_letter)
 
 -- fields that are equal, as one row
@@ -88,8 +88,8 @@ abbrev Puts : List ℕ → List ℕ → ℕ → ℕ → Row → Type 0
 Puts l l' at end r = r.x < numeral_bound → r.y < numeral_bound → r.z < numeral_bound → Writes l l' at end (print r)
 
 -- a row read from the table and written exchanged
-pub row_written : {t l l' : List ℕ} {n at end a b x y z : ℕ} {c : L.Letter} (k : K.Kind) (q : Row)
-    → a ≡ cell_of t n 0 → b ≡ a % 256 → as_letter c ≡ kind_of b → c ≡ letters.Of k
+pub row_written : {t l l' : List ℕ} {n at end a b x y z : ℕ} {c : P.Option K.Kind} (k : K.Kind) (q : Row)
+    → a ≡ cell_of t n 0 → b ≡ a % 256 → as_letter c ≡ kind_of b → c ≡ Some k
     → (x ≡ cell_of t n 1) × (x < 65536) → (y ≡ cell_of t n 2) × (y < 65536) → (z ≡ cell_of t n 3) × (z < 65536)
     → q ≡ exchange (kind_view k) (row (kind_view k) x y z) → Puts l l' at end q → RowWritten t l l' n at end
 row_written {t} {l} {l'} {n} {at} {end} {a} {b} {x} {y} {z} {c} k q cell byte read of hx hy hz made puts =
@@ -106,6 +106,6 @@ row_written {t} {l} {l'} {n} {at} {end} {a} {b} {x} {y} {z} {c} k q cell byte re
     }
 
 -- no row of a file has another letter
-pub row_unwritten : {t l l' : List ℕ} {n at end a b : ℕ} {c : L.Letter}
-    → a ≡ cell_of t n 0 → b ≡ a % 256 → as_letter c ≡ kind_of b → c ≡ letters.Unknown → RowWritten t l l' n at end
+pub row_unwritten : {t l l' : List ℕ} {n at end a b : ℕ} {c : P.Option K.Kind}
+    → a ≡ cell_of t n 0 → b ≡ a % 256 → as_letter c ≡ kind_of b → c ≡ None → RowWritten t l l' n at end
 row_unwritten {n = n} {c = c} cell byte read e = record { bytes = λ types patterns lines rs r f there. absurd (no_letter rs n r c f there cell byte read e) }

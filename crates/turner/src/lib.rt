@@ -12,7 +12,7 @@ use checker::check_file;
 use codes::{FIRST, KIND, LET_LINE, ROW_LETTER, SECOND};
 use format::{Answer, Kind, Refusal, Row, is_refused};
 use print_text::put_row;
-use read_forms::{Letter, kind_of};
+use read_forms::kind_of;
 use table_trees::cell;
 
 // The answer of Check, or a short area, and the number of bytes written.
@@ -27,34 +27,17 @@ fn exchanged(k: Kind, x: usize, y: usize, z: usize) -> Row
     ensures { row_view result ≡ exchange (kind_view k) (record { kind = kind_view k; x = x; y = y; z = z }) }
 {
     match k {
-        Kind::Type => Row {
-            kind: k,
-            x: x,
-            y: y,
-            z: z,
-        },
-        Kind::Pattern => Row {
-            kind: k,
-            x: x,
-            y: y,
-            z: z,
-        },
-        Kind::Iso => Row {
+        Kind::Type | Kind::Pattern => Row { kind: k, x, y, z },
+        Kind::Iso | Kind::Clause => Row {
             kind: k,
             x: y,
             y: x,
-            z: z,
-        },
-        Kind::Clause => Row {
-            kind: k,
-            x: y,
-            y: x,
-            z: z,
+            z,
         },
         Kind::Let => Row {
             kind: k,
             x: z,
-            y: y,
+            y,
             z: x,
         },
     }
@@ -65,12 +48,12 @@ fn put_turned_row(t: &[u16], n: usize, out: &mut [u8], at: usize) -> usize
     ensures { RowWritten t.now out.old out.new n at result }
 {
     match kind_of(narrow_byte(cell(t, n, ROW_LETTER))) {
-        Letter::Of(k) => put_row(
+        Some(k) => put_row(
             out,
             at,
             exchanged(k, cell(t, n, KIND), cell(t, n, FIRST), cell(t, n, SECOND)),
         ),
-        Letter::Unknown => at,
+        None => at,
     }
 }
 
@@ -78,24 +61,20 @@ fn put_turned_row(t: &[u16], n: usize, out: &mut [u8], at: usize) -> usize
 fn lets_end(t: &[u16], n: usize, lines: usize) -> usize
     ensures { LetsEnd t.now n lines result }
 {
-    let mut m = n;
-    while m < lines {
+    for m in n..lines {
         if cell(t, m, ROW_LETTER) != LET_LINE {
             return m;
         }
-        m += 1;
     }
-    m
+    n.max(lines)
 }
 
 // Writes the rows from row `from` up to row `to`, last to first, as the turned file has them.
 fn put_lets(t: &[u16], from: usize, to: usize, out: &mut [u8], at: usize) -> usize
     ensures { LetsWritten t.now out.old out.new from to at result }
 {
-    let mut n = to;
     let mut end = at;
-    while from < n {
-        n -= 1;
+    for n in (from..to).rev() {
         end = put_turned_row(t, n, out, end);
     }
     end
@@ -126,7 +105,7 @@ pub fn turn(file: &[u8], table: &mut [u16], work: &mut [u8], output: &mut [u8]) 
         return Turned {
             answer: Answer {
                 place: 0,
-                refusal: Refusal::ShortArea,
+                refusal: Some(Refusal::ShortArea),
             },
             length: 0,
         };

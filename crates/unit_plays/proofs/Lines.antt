@@ -21,16 +21,16 @@ use Rattle.read_fields.specs.Views.{LineEnd}
 use Rattle.law_units.specs.Units.{Planned, planned_of, script_of, Units, Holds, units_after, Visited, visit_to, moved}
 use Rattle.law_units.proofs.Playing.{AllHold, all_hold, visit_keeps, script_first}
 use Rattle.unit_script.specs.declared.Planned as P
-use Rattle.unit_script.specs.declared.Plan as R
-use Rattle.unit_script.specs.declared.Plan.TheVariants as plans
+use Rattle.std.specs.Prelude as O
+use Rattle.std.specs.Prelude.{Some, None}
 use Rattle.unit_script.specs.Views.{planned_view, as_planned}
 use Rattle.unit_visits.specs.Visiting.{Playable, marked, OneVisited, Played}
 use Rattle.unit_plays.specs.Playing.{units_in, LinePlayed, marks_of, ScriptPlayed, Ready}
 
 -- ---- a line
 
-module _ {t : List ℕ} {types : ℕ} {index : List ℕ} {isos k budget : ℕ} {w is ns w' is' ns' : List ℕ} (l : List ℕ) {r : R.Plan} (read : as_planned r ≡ planned_of l) where
-  pub line_played : {p : P.Planned} → r ≡ plans.Of p → OneVisited t types index isos p k budget w is ns w' is' ns' → LinePlayed t types index isos l k budget w is ns w' is' ns'
+module _ {t : List ℕ} {types : ℕ} {index : List ℕ} {isos k budget : ℕ} {w is ns w' is' ns' : List ℕ} (l : List ℕ) {r : O.Option P.Planned} (read : as_planned r ≡ planned_of l) where
+  pub line_played : {p : P.Planned} → r ≡ Some p → OneVisited t types index isos p k budget w is ns w' is' ns' → LinePlayed t types index isos l k budget w is ns w' is' ns'
   line_played {p} e one rs a q f =
       let same : planned_view p ≡ q = some_inj (sym (ap as_planned e) ∙ read ∙ f) in
       subst
@@ -38,7 +38,7 @@ module _ {t : List ℕ} {types : ℕ} {index : List ℕ} {isos k budget : ℕ} {
       (k < max_lines → Played rs budget z k w is ns w' is' ns'))
       same (one rs a)
 
-  pub line_bad : r ≡ plans.Bad → LinePlayed t types index isos l k budget w is ns w' is' ns'
+  pub line_bad : r ≡ None → LinePlayed t types index isos l k budget w is ns w' is' ns'
   line_bad e rs a q f = absurd (none≢some (sym (ap as_planned e) ∙ read ∙ f))
 
 -- ---- between two lines

@@ -1,4 +1,5 @@
 -- The tests of the units, and then of the script.
+use Rattle.std.specs.Prelude.{Option as CodeOption}
 use Prim.Native.Nat.{ℕ}
 use mathlib.Core.Path.{◌≡◌, sym, ap, ◌∙◌}
 use mathlib.Core.Bool.{Bool, true, false}
@@ -27,7 +28,7 @@ module _ {x y : Option Refusal} (f : x ≡ y) {b : Bool} (g : b ≡ is_some x) (
   second_fault k e = e ∙ sym (ap (λ u. or_else u z) (sym f ∙ flag_none b x g k))
 
 -- the isos that have to do with lists are marked, and the script's lines are tested by the marks
-pub script_told : (t index marks q : List ℕ) (types isos units : ℕ) (rs : List Row) (r : F.Refusal) → Prepared t types index isos rs → AllMarked t index isos (replicate 32 0) marks
+pub script_told : (t index marks q : List ℕ) (types isos units : ℕ) (rs : List Row) (r : CodeOption F.Refusal) → Prepared t types index isos rs → AllMarked t index isos (replicate 32 0) marks
     → ScriptTold units isos marks q r → refusal_view r ≡ script_fault units (isos_of rs) q
 script_told t index marks q types isos units rs r p m told =
     told (isos_of rs) p.count (λ i h. marks_of t index types isos rs p.good.passes p.indexed p.count marks m i)

@@ -1,4 +1,5 @@
 -- An accepted file: the part of the work area that is used, and the tests and the play against the definition.
+use Rattle.std.specs.Prelude.{Option as CodeOption}
 use Prim.Native.Nat.{ℕ, ◌+◌, ◌-◌, ◌≤◌, min}
 use native.Mathlib.Nat.{sub-zero}
 use native.Mathlib.Omega.{arith}
@@ -103,7 +104,8 @@ module _ {s t : List ℕ} {c : C.Checked} (a : Accepted s t c) (q : List ℕ) (b
   tests e =
       e ∙ sym (ap refusal_of (rows_result a.file budget us₀ q) ∙ refusal_of_lem a.file budget us₀ (units_fault a.file is ns) (script_of (length is) (isos_of a.file) (lines q)))
 
-  pub into_refused : (w : List ℕ) {r : F.Refusal} {b : Bool} → refusal_view r ≡ or_else (units_fault a.file is ns) (script_fault (length is) (isos_of a.file) q) → b ≡ is_some (refusal_view r)
+  pub into_refused : (w : List ℕ) {r : CodeOption F.Refusal} {b : Bool} → refusal_view r ≡ or_else (units_fault a.file is ns) (script_fault (length is) (isos_of a.file) q) → b
+      ≡ is_some (refusal_view r)
       → b ≡ true
       → Into told w is ns w is ns r
   into_refused w {r} e g y =
@@ -115,7 +117,8 @@ module _ {s t : List ℕ} {c : C.Checked} (a : Accepted s t c) (q : List ℕ) (b
         work = sym (take-append-drop run_room w) ∙ ap (λ ms. with_marks ms w) (sym z.1);
       }
 
-  module _ (r : F.Refusal) {b : Bool} (e : refusal_view r ≡ or_else (units_fault a.file is ns) (script_fault (length is) (isos_of a.file) q)) (g : b ≡ is_some (refusal_view r)) (y : b ≡ false) where
+  module _ (r : CodeOption F.Refusal) {b : Bool} (e : refusal_view r ≡ or_else (units_fault a.file is ns) (script_fault (length is) (isos_of a.file) q)) (g : b ≡ is_some (refusal_view r))
+      (y : b ≡ false) where
     passed : (units_fault a.file is ns ≡ none) × (script_fault (length is) (isos_of a.file) q ≡ none)
     passed = or_else_none (units_fault a.file is ns) (script_fault (length is) (isos_of a.file) q) (sym e ∙ flag_none b (refusal_view r) g y)
 
@@ -131,7 +134,7 @@ module _ {s t : List ℕ} {c : C.Checked} (a : Accepted s t c) (q : List ℕ) (b
         rows_result a.file budget us₀ q
         ∙ ap₂ (result a.file budget us₀) passed.0 read.1.script
 
-    pub into_played : (w w₁ : List ℕ) {w' is' ns' : List ℕ} {f : F.Refusal} → refusal_view f ≡ none → work_length ≤ length w₁ → take run_room w ≡ replicate run_room 0
+    pub into_played : (w w₁ : List ℕ) {w' is' ns' : List ℕ} {f : CodeOption F.Refusal} → refusal_view f ≡ none → work_length ≤ length w₁ → take run_room w ≡ replicate run_room 0
         → ScriptPlayed a.file budget read.0 w is ns w₁ is' ns' → w' ≡ cleared run_room w₁ → Into told w is ns w' is' ns' f
     into_played w w₁ n big zeros p d =
         let least : min run_room (length w₁) ≡ run_room = omega (arith, big) in

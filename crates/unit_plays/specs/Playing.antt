@@ -1,5 +1,5 @@
 -- The contracts of a play on an accepted file's table.
-use Rattle.std.specs.Prelude.{ℕ, ◌+◌, ◌≤◌, ◌<◌, ◌≡◌, true, List, [], ◌++◌, map, length, take, drop, get_or, replicate}
+use Rattle.std.specs.Prelude.{Option as CodeOption, ℕ, ◌+◌, ◌≤◌, ◌<◌, ◌≡◌, true, List, [], ◌++◌, map, length, take, drop, get_or, replicate}
 use Rattle.std.proofs.Math.Option.{Option, none, some}
 use Rattle.limits.specs.Limits.{run_room, work_length, max_lines}
 use Rattle.calculus.specs.Tools.{or_else}
@@ -62,10 +62,10 @@ AllPlayed t c q budget n w is ns w' is' ns' =
 abbrev pub script_fault : ℕ → List Iso → List ℕ → Option Refusal
 script_fault units os q = refusal_of (script_of units os (lines q))
 
-abbrev pub ScriptTested : List ℕ → C.Checked → List ℕ → ℕ → F.Refusal → Type 0
+abbrev pub ScriptTested : List ℕ → C.Checked → List ℕ → ℕ → CodeOption F.Refusal → Type 0
 ScriptTested t c q units r = (s : List ℕ) (a : Accepted s t c) → refusal_view r ≡ script_fault units (isos_of a.file) q
 
-abbrev pub Tested : List ℕ → C.Checked → List ℕ → List ℕ → List ℕ → F.Refusal → Type 0
+abbrev pub Tested : List ℕ → C.Checked → List ℕ → List ℕ → List ℕ → CodeOption F.Refusal → Type 0
 Tested t c q is ns r =
     (s : List ℕ) (a : Accepted s t c) → length is ≡ length ns → refusal_view r ≡ or_else (units_fault a.file is ns) (script_fault (length is) (isos_of a.file) q)
 
@@ -74,12 +74,12 @@ abbrev pub marks_from : Outcome Played → List ℕ
 marks_from (gives x) = map marked x.visits
 marks_from (fails f) = []
 
-pub record Into (x : Outcome Played) (w is ns w' is' ns' : List ℕ) (r : F.Refusal) : Type 0 where
+pub record Into (x : Outcome Played) (w is ns w' is' ns' : List ℕ) (r : CodeOption F.Refusal) : Type 0 where
   pub refusal : refusal_view r ≡ refusal_of x
   pub units : units_in is' ns' ≡ units_from x (units_in is ns)
   pub work : w' ≡ with_marks (marks_from x) w
 
-abbrev pub PlayedInto : List ℕ → C.Checked → List ℕ → ℕ → List ℕ → List ℕ → List ℕ → List ℕ → List ℕ → List ℕ → F.Refusal → Type 0
+abbrev pub PlayedInto : List ℕ → C.Checked → List ℕ → ℕ → List ℕ → List ℕ → List ℕ → List ℕ → List ℕ → List ℕ → CodeOption F.Refusal → Type 0
 PlayedInto t c q budget w is ns w' is' ns' r =
     (s : List ℕ) (a : Accepted s t c) → length is ≡ length ns → length (lines q) ≤ max_lines → take run_room w ≡ replicate run_room 0
     → Into (play_rows (units_in is ns) q budget a.file) w is ns w' is' ns' r

@@ -6,7 +6,7 @@ ghost use Rattle.limits.specs.Limits.{work_length};
 ghost use Rattle.number_values.specs.Numbers.{Counted};
 ghost use Rattle.unit_plays.specs.Playing.{LinePlayed, LinesPlayed, AllPlayed, ScriptTested, Tested, PlayedInto};
 
-use area_parts::clear_bytes;
+use area_parts::clear;
 use checker::Checked;
 use format::{Refusal, is_refused};
 use limits::{INDEX_LENGTH, MAX_ISOS, RUN_ROOM, WORK_LENGTH};
@@ -15,7 +15,7 @@ use read_fields::Cursor;
 use run_coding::AREA_LENGTH;
 use run_lists::mark_lists;
 use runner::run::prepare;
-use unit_script::{Plan, planned_of, script_fault};
+use unit_script::{planned_of, script_fault};
 use unit_settings::units_fault;
 use unit_visits::play_visit;
 
@@ -37,11 +37,10 @@ fn play_line(
     ensures { LinePlayed t.now types index.now isos line.now k budget work.old
         lines.old settings.old work.new lines.new settings.new }
 {
-    match planned_of(line) {
-        Plan::Of(p) => play_visit(
+    if let Some(p) = planned_of(line) {
+        play_visit(
             t, counts, types, index, isos, p, k, budget, work, lines, settings,
-        ),
-        Plan::Bad => {}
+        );
     }
 }
 
@@ -117,7 +116,7 @@ fn play_all(
 }
 
 // The refusal of a script, line by line, for so many units of an accepted file.
-fn script_tested(table: &[u16], c: Checked, script: &[u8], units: usize) -> Refusal
+fn script_tested(table: &[u16], c: Checked, script: &[u8], units: usize) -> Option<Refusal>
     ensures { ScriptTested table.now c script.now units result }
 {
     let mut index = [0u16; INDEX_LENGTH];
@@ -135,7 +134,7 @@ fn tested(
     script: &[u8],
     lines: &[u32],
     settings: &[u32],
-) -> Refusal
+) -> Option<Refusal>
     requires { Counted table.now counts.now }
     ensures { Tested table.now c script.now lines.now settings.now result }
 {
@@ -157,7 +156,7 @@ fn play_counted(
     work: &mut [u8],
     lines: &mut [u32],
     settings: &mut [u32],
-) -> Refusal
+) -> Option<Refusal>
     requires { work_length ≤ length work.old }
     ensures { PlayedInto table.now c script.now budget work.old lines.old
         settings.old work.new lines.new settings.new result }
@@ -178,8 +177,8 @@ fn play_counted(
         lines,
         settings,
     );
-    clear_bytes(work, RUN_ROOM);
-    Refusal::Nothing
+    clear(work, RUN_ROOM, 0);
+    None
 }
 
 // The same with counts of its own, found once for all units and visits.
@@ -191,7 +190,7 @@ pub fn play_accepted(
     work: &mut [u8],
     lines: &mut [u32],
     settings: &mut [u32],
-) -> Refusal
+) -> Option<Refusal>
     requires { work_length ≤ length work.old }
     ensures { PlayedInto table.now c script.now budget work.old lines.old
         settings.old work.new lines.new settings.new result }

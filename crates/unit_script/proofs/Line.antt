@@ -15,14 +15,12 @@ use Rattle.model.specs.Services.{gives, fails, refusal_of}
 use Rattle.calculus.proofs.Basic.{lt_ltb, not_ltb, eq_eqb, not_eqb}
 use Rattle.law_units.specs.Units.{Planned, planned_in, planned_of, names, planned_for, on_line, line_on}
 use Rattle.read_fields.specs.declared.Cursor as C
-use Rattle.read_fields.specs.declared.Skipped as S
-use Rattle.read_fields.specs.declared.Skipped.TheVariants as skips
 use Rattle.read_fields.specs.Views.{as_skipped, as_field, as_end}
 use Rattle.read_fields.proofs.Bytes.{is_end, not_end}
 use Rattle.read_fields.proofs.Fields.{onto, fields_some, fields_none}
 use Rattle.unit_script.specs.declared.Planned as P
-use Rattle.unit_script.specs.declared.Plan as R
-use Rattle.unit_script.specs.declared.Plan.TheVariants as plans
+use Rattle.std.specs.Prelude as O
+use Rattle.std.specs.Prelude.{Some, None}
 use Rattle.unit_script.specs.Views.{planned_view, as_planned, behind_letter, Marked}
 
 -- ---- the fields
@@ -55,13 +53,13 @@ module _ (bs : List ℕ) where
         by_end : behind_letter bs ≡ (ended es >>= λ _. some (record { unit = x; iso = y; back = eqb z 1 }))
         by_end = by_third ∙ ap (λ o. finish (onto x (onto y o))) (fields_some 2 [] ds third)
 
-        pub all_fields : (s : List ℕ) {r : S.Skipped} {c : C.Cursor} → r ≡ skips.Past c → as_skipped s r ≡ as_end es
+        pub all_fields : (s : List ℕ) {r : O.Option C.Cursor} {c : C.Cursor} → r ≡ Some c → as_skipped s r ≡ as_end es
             → {v : Bool} → v ≡ eqb z 1 → some (record { unit = x; iso = y; back = v }) ≡ behind_letter bs
         all_fields s e f g =
             ap (λ u. some (record { unit = x; iso = y; back = u })) g
             ∙ sym (by_end ∙ ap (λ o. o >>= λ _. some (record { unit = x; iso = y; back = eqb z 1 })) (is_end s es e f))
 
-        pub no_end : (s : List ℕ) {r : S.Skipped} → r ≡ skips.Other → as_skipped s r ≡ as_end es → none ≡ behind_letter bs
+        pub no_end : (s : List ℕ) {r : O.Option C.Cursor} → r ≡ None → as_skipped s r ≡ as_end es → none ≡ behind_letter bs
         no_end s e f = sym (by_end ∙ ap (λ o. o >>= λ _. some (record { unit = x; iso = y; back = eqb z 1 })) (not_end s es e f))
 
 -- ---- the letter
@@ -88,11 +86,11 @@ in_text l e p q = q ∙ ap planned_in p ∙ sym (ap (λ o. o >>= planned_in) e)
 abbrev naming : ℕ → ℕ → Option Planned → Option Planned
 naming units isos o = o >>= λ p. guard (names units isos p) >>= λ _. some p
 
-module _ (units isos : ℕ) (l : List ℕ) {r : R.Plan} (read : as_planned r ≡ planned_of l) where
-  pub not_planned : r ≡ plans.Bad → planned_for units isos l ≡ none
+module _ (units isos : ℕ) (l : List ℕ) {r : O.Option P.Planned} (read : as_planned r ≡ planned_of l) where
+  pub not_planned : r ≡ None → planned_for units isos l ≡ none
   not_planned e = ap (naming units isos) (sym read ∙ ap as_planned e)
 
-  module _ {p : P.Planned} (e : r ≡ plans.Of p) where
+  module _ {p : P.Planned} (e : r ≡ Some p) where
     by_names : (b c : Bool) → ltb p.unit units ≡ b → ltb p.iso isos ≡ c → planned_for units isos l ≡ (guard (b && c) >>= λ _. some (planned_view p))
     by_names b c f g =
         ap (naming units isos) (sym read ∙ ap as_planned e) ∙ ap₂ (λ x y. guard (x && y) >>= λ _. some (planned_view p)) f g

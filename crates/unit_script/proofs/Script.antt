@@ -1,4 +1,5 @@
 -- The lines of a script, one after the other.
+use Rattle.std.specs.Prelude.{Option as CodeOption}
 use Prim.Native.Nat.{ℕ, ◌-◌, ◌≤◌, ◌<◌}
 use native.Mathlib.Omega.{arith}
 use mathlib.Core.Path.{◌≡◌, refl, sym, ap, ◌∙◌}
@@ -41,7 +42,7 @@ module _ (units isos : ℕ) (ms s : List ℕ) where
   pub through_start : Through 0
   through_start = record { within = omega arith; so = λ os n m. refl }
 
-  module _ {at end : ℕ} (x : Through at) (h : at < length s) (e : LineEnd s at end) (f : F.Refusal) (told : LineTold units isos ms (take (end - at) (drop at s)) f)
+  module _ {at end : ℕ} (x : Through at) (h : at < length s) (e : LineEnd s at end) (f : CodeOption F.Refusal) (told : LineTold units isos ms (take (end - at) (drop at s)) f)
       {b : Bool} (g : b ≡ is_some (refusal_view f)) where
     by_line : (os : List Iso) → isos ≡ length os → Marked os ms → refusal_of (script_of units os (lines s)) ≡ or_else (refusal_view f) (refusal_of (script_of units os (lines (drop end s))))
     by_line os n m =

@@ -5,12 +5,12 @@ ghost use Rattle.std.specs.Prelude.{◌≡◌, drop};
 ghost use Rattle.law_units.specs.Units.{planned_in, planned_of};
 ghost use Rattle.unit_script.specs.Views.{as_planned, behind_letter, LineTold, ScriptTold};
 
-use area_cells::byte_at;
+use area_cells::item_at;
 use area_parts::front;
 use codes::LETTER_S;
 use format::{Refusal, is_refused};
 use limits::MAX_FIELD;
-use read_fields::{Cursor, Number, Skipped};
+use read_fields::Cursor;
 
 // A planned visit.
 #[derive(Clone, Copy)]
@@ -20,79 +20,59 @@ pub struct Planned {
     pub back: bool,
 }
 
-// What a line plans: a visit, or nothing that is one.
-#[derive(Clone, Copy)]
-pub enum Plan {
-    Of(Planned),
-    Bad,
-}
-
 // The three numbers of a visit, from behind its letter on, and nothing behind them.
-fn after_letter(c: Cursor, s: &[u8]) -> Plan
+fn after_letter(c: Cursor, s: &[u8]) -> Option<Planned>
     ensures { as_planned result ≡ behind_letter (drop c.at s.now) }
 {
-    let Number::Value(unit, d) = c.field(s, MAX_FIELD) else {
-        return Plan::Bad;
-    };
-    let Number::Value(iso, e) = d.field(s, MAX_FIELD) else {
-        return Plan::Bad;
-    };
-    let Number::Value(direction, f) = e.field(s, 1) else {
-        return Plan::Bad;
-    };
-    match f.end(s) {
-        Skipped::Past(_) => Plan::Of(Planned {
-            unit: unit,
-            iso: iso,
-            back: direction == 1,
-        }),
-        Skipped::Other => Plan::Bad,
-    }
+    let (unit, d) = c.field(s, MAX_FIELD)?;
+    let (iso, e) = d.field(s, MAX_FIELD)?;
+    let (direction, f) = e.field(s, 1)?;
+    f.end(s)?;
+    Some(Planned {
+        unit,
+        iso,
+        back: direction == 1,
+    })
 }
 
 // The visit in a text.
-fn planned_in(s: &[u8]) -> Plan
+fn planned_in(s: &[u8]) -> Option<Planned>
     ensures { as_planned result ≡ planned_in s.now }
 {
     let start = Cursor { at: 0 };
-    match start.skip(s, LETTER_S) {
-        Skipped::Past(c) => after_letter(c, s),
-        Skipped::Other => Plan::Bad,
-    }
+    after_letter(start.skip(s, LETTER_S)?, s)
 }
 
 // The visit in a line.
-pub fn planned_of(line: &[u8]) -> Plan
+pub fn planned_of(line: &[u8]) -> Option<Planned>
     ensures { as_planned result ≡ planned_of line.now }
 {
-    match Cursor::before_ending(line) {
-        Skipped::Past(c) => planned_in(front(line, c.at)),
-        Skipped::Other => Plan::Bad,
-    }
+    let c = Cursor::before_ending(line)?;
+    planned_in(front(line, c.at))
 }
 
 // The refusal of a line, where it plans no visit to one of so many units by one of so many isos, or one by an
 // iso that has to do with lists: those have a mark.
-fn line_fault(line: &[u8], units: usize, isos: usize, marks: &[u8]) -> Refusal
+fn line_fault(line: &[u8], units: usize, isos: usize, marks: &[u8]) -> Option<Refusal>
     ensures { LineTold units isos marks.now line.now result }
 {
-    let Plan::Of(p) = planned_of(line) else {
-        return Refusal::BadScript;
+    let Some(p) = planned_of(line) else {
+        return Some(Refusal::BadScript);
     };
     if units <= p.unit {
-        return Refusal::BadScript;
+        return Some(Refusal::BadScript);
     }
     if isos <= p.iso {
-        return Refusal::BadScript;
+        return Some(Refusal::BadScript);
     }
-    if byte_at(marks, p.iso) == 0 {
-        return Refusal::Nothing;
+    if item_at(marks, p.iso, 0) == 0 {
+        return None;
     }
-    Refusal::TooMany
+    Some(Refusal::TooMany)
 }
 
 // The refusal of the first line of a script that has one.
-pub fn script_fault(script: &[u8], units: usize, isos: usize, marks: &[u8]) -> Refusal
+pub fn script_fault(script: &[u8], units: usize, isos: usize, marks: &[u8]) -> Option<Refusal>
     ensures { ScriptTold units isos marks.now script.now result }
 {
     let mut at: usize = 0;
@@ -104,5 +84,5 @@ pub fn script_fault(script: &[u8], units: usize, isos: usize, marks: &[u8]) -> R
         }
         at = end;
     }
-    Refusal::Nothing
+    None
 }

@@ -8,7 +8,7 @@ ghost use Rattle.law_units.specs.Units.{units_fault};
 ghost use Rattle.table_walks.specs.Walk.{FileIn};
 ghost use Rattle.number_values.specs.Numbers.{Counted};
 
-use area_cells::wide_number;
+use area_cells::{item_at, wide_number};
 use format::{Refusal, is_refused};
 use settings::setting_fault;
 
@@ -16,10 +16,7 @@ use settings::setting_fault;
 pub fn number_at(numbers: &[u32], i: usize) -> usize
     ensures { result ≡ get_or numbers.now i 0 }
 {
-    if i < numbers.len() {
-        return wide_number(numbers[i]);
-    }
-    0
+    wide_number(item_at(numbers, i, 0))
 }
 
 // The first refusal among the units, in order.
@@ -29,25 +26,17 @@ pub fn units_fault(
     types: usize,
     lines: &[u32],
     settings: &[u32],
-) -> Refusal
+) -> Option<Refusal>
     requires { Counted t.now counts.now }
     ensures { (patterns rows : ℕ) (rs : List RowOf) → FileIn t.now types patterns rows rs
         → length lines.now ≡ length settings.now
         → refusal_view result ≡ units_fault rs lines.now settings.now }
 {
-    let mut k: usize = 0;
-    while k < lines.len() {
-        let f = setting_fault(
-            t,
-            counts,
-            types,
-            number_at(lines, k),
-            number_at(settings, k),
-        );
+    for (k, &line) in lines.iter().enumerate() {
+        let f = setting_fault(t, counts, types, wide_number(line), number_at(settings, k));
         if is_refused(f) {
             return f;
         }
-        k += 1;
     }
-    Refusal::Nothing
+    None
 }

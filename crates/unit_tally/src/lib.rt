@@ -3,10 +3,10 @@
 #![tactic(auto)]
 
 ghost use Rattle.std.specs.Prelude.{◌≡◌, get_or, set};
-ghost use Rattle.unit_tally.specs.Count.{up_of, added_of, begun_of, place_of, mark_of, visit_of, tallied, emptied};
+ghost use Rattle.unit_tally.specs.Count.{added_of, begun_of, place_of, mark_of, visit_of, tallied, emptied};
 
-use area_cells::{byte_at, put_byte};
-use limits::{MAX_LINES, MAX_NUMBER, RUN_ROOM};
+use area_cells::{item_at, put_byte};
+use limits::{MAX_LINES, RUN_ROOM};
 
 // The record that is lent.
 #[repr(C)]
@@ -25,32 +25,22 @@ pub enum Visit {
     Spent,
 }
 
-// One more, and no more than 32 bits hold.
-fn up(n: u32) -> u32
-    ensures { result ≡ up_of n }
-{
-    if n < MAX_NUMBER { n + 1 } else { n }
-}
-
 // The record with one visit more.
 fn added(t: Tally, v: Visit) -> Tally
     ensures { result ≡ added_of t v }
 {
     match v {
         Visit::Done => Tally {
-            done: up(t.done),
-            skipped: t.skipped,
-            spent: t.spent,
+            done: t.done.saturating_add(1),
+            ..t
         },
         Visit::Skipped => Tally {
-            done: t.done,
-            skipped: up(t.skipped),
-            spent: t.spent,
+            skipped: t.skipped.saturating_add(1),
+            ..t
         },
         Visit::Spent => Tally {
-            done: t.done,
-            skipped: t.skipped,
-            spent: up(t.spent),
+            spent: t.spent.saturating_add(1),
+            ..t
         },
     }
 }
@@ -60,13 +50,14 @@ fn begun(t: Tally, played: bool) -> Tally
     ensures { result ≡ begun_of t played }
 {
     if played {
-        return Tally {
+        Tally {
             done: 0,
             skipped: 0,
             spent: 0,
-        };
+        }
+    } else {
+        t
     }
-    t
 }
 
 // Adds one visit to the record that is lent.
@@ -87,13 +78,10 @@ pub fn begin(t: &mut Tally, played: bool)
 fn mark_place(k: usize) -> usize
     ensures { result ≡ place_of k }
 {
-    if k < MAX_LINES {
-        return RUN_ROOM + k;
-    }
-    RUN_ROOM + MAX_LINES
+    RUN_ROOM + k.min(MAX_LINES)
 }
 
-// The byte that marks a visit.
+// The byte that marks a visit; two functions and no From impls, which would hold the same tables behind a `from_gives`.
 fn mark_of(v: Visit) -> u8
     ensures { result ≡ mark_of v }
 {
@@ -129,7 +117,7 @@ fn take_mark(work: &mut [u8], k: usize) -> Visit
         × (work.new ≡ set work.old (place_of k) 0) }
 {
     let at = mark_place(k);
-    let mark = byte_at(work, at);
+    let mark = item_at(work, at, 0);
     put_byte(work, at, 0);
     visit_of(mark)
 }
@@ -140,10 +128,8 @@ pub fn count_visits(work: &mut [u8], n: usize, played: bool, tally: &mut Tally)
         × (tally.new ≡ tallied n 0 work.old (begun_of tally.old played)) }
 {
     begin(tally, played);
-    let mut i: usize = 0;
-    while i < n {
+    for i in 0..n {
         let v = take_mark(work, i);
         add_visit(tally, v);
-        i += 1;
     }
 }

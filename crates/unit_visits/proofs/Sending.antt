@@ -31,11 +31,12 @@ use Rattle.table_trees.specs.Unfolding.{type_of}
 use Rattle.run_values.specs.Texts.{At}
 use Rattle.run_values.specs.Traces.{Runs}
 use Rattle.run_values.proofs.Tracing.{Traced, traced, finite_fits}
-use Rattle.run_reduction.specs.declared.Given as D
-use Rattle.run_reduction.specs.declared.Given.TheVariants as given
-use Rattle.run_reduction.specs.Frames.{Spares, Answers, Applied, ApplySays}
+use Rattle.std.specs.Prelude.{Err}
+use Rattle.run_reduction.specs.declared.Stop as S
+use Rattle.run_reduction.specs.declared.Stop.TheVariants as halt
+use Rattle.run_reduction.specs.Frames.{Giving, given_at, Spares, Answers, Applied, ApplySays}
 use Rattle.run_reduction.proofs.Laying.{laid}
-use Rattle.run_reduction.proofs.Framing.{range_begin, range≢spent, range≢large, no_budget≢large, spares_more}
+use Rattle.run_reduction.proofs.Framing.{range_begin, ok≢spent, ok≢large, spent≢large, spares_more}
 use Rattle.number_values.specs.Numbers.{Ranks, Unranks}
 use Rattle.unit_script.specs.declared.Planned as P
 use Rattle.unit_script.specs.Views.{planned_view}
@@ -91,7 +92,7 @@ module _ {t : List ℕ} {types : ℕ} {index : List ℕ} {isos : ℕ} {rs : List
         let x = u h.line.few h.below fits in
         (x.0 ∙ sets-eq ls work 0 fits, x.1)
 
-    module _ {work₂ : List ℕ} {z : D.Given} (runs_there : ApplySays t types index p.back p.iso max_depth work₁ work₂ 0 size 0 size budget z) where
+    module _ {work₂ : List ℕ} {z : Giving} (runs_there : ApplySays t types index p.back p.iso max_depth work₁ work₂ 0 size 0 size budget z) where
       applied : Applied work₁ work₂ 0 max_depth budget (some w) m z
       applied =
           let s = small in
@@ -131,30 +132,35 @@ module _ {t : List ℕ} {types : ℕ} {index : List ℕ} {isos : ℕ} {rs : List
         by_end b d = ap (sent rs budget q i n) at ∙ sends rs g budget q h e free same b d
 
         -- the budget is passed
-        pub send_spent : z ≡ given.Spent → spent ≡ came_to j (sent rs budget q i n j)
+        send_spent : z ≡ Err halt.Spent → spent ≡ came_to j (sent rs budget q i n j)
         send_spent ez = go applied.answers
           where
             go : Answers work₂ 0 budget (some w) m z → spent ≡ came_to j (sent rs budget q i n j)
             go (Answers.spent k y) = sym (ap (came_to j) (by_end false (not_leb k)))
-            go (Answers.large k y x) = absurd (no_budget≢large (sym ez ∙ x))
-            go (Answers.gives u k y x) = absurd (range≢spent (sym x.gives ∙ ez))
+            go (Answers.large k y x) = absurd (spent≢large (sym ez ∙ x))
+            go (Answers.gives u k y x) = absurd (ok≢spent (sym x.gives ∙ ez))
 
         -- nothing is too large
-        pub send_large : z ≡ given.Large → spent ≡ came_to j (sent rs budget q i n j)
+        send_large : z ≡ Err halt.Large → spent ≡ came_to j (sent rs budget q i n j)
         send_large ez = go applied.answers
           where
             go : Answers work₂ 0 budget (some w) m z → spent ≡ came_to j (sent rs budget q i n j)
-            go (Answers.spent k y) = absurd (no_budget≢large (sym y ∙ ez))
+            go (Answers.spent k y) = absurd (spent≢large (sym y ∙ ez))
             go (Answers.large k y x) = absurd (none≢some (sym y))
-            go (Answers.gives u k y x) = absurd (range≢large (sym x.gives ∙ ez))
+            go (Answers.gives u k y x) = absurd (ok≢large (sym x.gives ∙ ez))
+
+        -- whatever stops it
+        pub send_stops : (s : S.Stop) → z ≡ Err s → spent ≡ came_to j (sent rs budget q i n j)
+        send_stops halt.Spent = send_spent
+        send_stops halt.Large = send_large
 
         -- it is not
-        pub send_done : {b x left : ℕ} → z ≡ given.Range b x left → {number end : ℕ} → Ranks (type_of t j) work₂ b number end → j < 65536
+        pub send_done : {b x left : ℕ} → z ≡ given_at b x left → {number end : ℕ} → Ranks (type_of t j) work₂ b number end → j < 65536
             → {c d : ℕ} → c ≡ j % 4294967296 → d ≡ number % 4294967296 → done c d ≡ came_to j (sent rs budget q i n j)
         send_done {b} ez {number} {end} ranks low {c} {d} ec ed = go applied.answers
           where
             go : Answers work₂ 0 budget (some w) m z → done c d ≡ came_to j (sent rs budget q i n j)
-            go (Answers.spent k y) = absurd (range≢spent (sym ez ∙ y))
+            go (Answers.spent k y) = absurd (ok≢spent (sym ez ∙ y))
             go (Answers.large k y x) = absurd (none≢some (sym y))
             go (Answers.gives u k y x) =
                 let begins : b ≡ x.begin = range_begin (sym ez ∙ x.gives) in

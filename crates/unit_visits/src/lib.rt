@@ -5,20 +5,21 @@ ghost use Rattle.std.specs.Prelude.{◌≡◌};
 ghost use Rattle.number_values.specs.Numbers.{Counted};
 ghost use Rattle.unit_visits.specs.Visiting.{OnUnit, OnWay, Sends, Visits, OneVisited};
 
-use area_cells::{narrow_number, store_number};
+use area_cells::{narrow_number, store};
 use check_shapes::same_type;
 use codes::{ISO_FROM, ISO_TO};
 use limits::MAX_DEPTH;
 use number_values::{rank_at, unrank_at};
 use run_direction::{place, side};
-use run_reduction::{Given, apply};
+use run_reduction::apply;
 use runner::run::code_part;
 use table_trees::cell;
 use unit_script::Planned;
 use unit_settings::number_at;
 use unit_tally::{Visit, put_mark};
 
-// What comes of a visit: the T line and the number that the unit then holds, or nothing.
+// What comes of a visit: the T line and the number that the unit then holds, or nothing, skipped or spent: three answers,
+// none of which is a failure.
 #[derive(Clone, Copy)]
 pub enum Visited {
     Done(u32, u32),
@@ -49,12 +50,11 @@ fn send(
     match apply(
         t, types, index, code, p.back, p.iso, MAX_DEPTH, work, 0, size, 0, size, budget,
     ) {
-        Given::Range(b, e, left) => {
-            let r = rank_at(t, counts, to, work, b);
+        Ok(g) => {
+            let r = rank_at(t, counts, to, work, g.at);
             Visited::Done(narrow_number(to), narrow_number(r.number))
         }
-        Given::Spent => Visited::Spent,
-        Given::Large => Visited::Spent,
+        Err(_) => Visited::Spent,
     }
 }
 
@@ -108,8 +108,8 @@ pub fn play_visit(
     let n = number_at(settings, unit);
     match visit(t, counts, types, index, isos, p, i, n, budget, work) {
         Visited::Done(to, m) => {
-            store_number(lines, unit, to);
-            store_number(settings, unit, m);
+            store(lines, unit, to);
+            store(settings, unit, m);
             put_mark(work, k, Visit::Done);
         }
         Visited::Skipped => put_mark(work, k, Visit::Skipped),

@@ -1,4 +1,5 @@
 -- What the service answers and leaves in the areas, case by case, against its definition.
+use Rattle.std.specs.Prelude.{Option as CodeOption}
 use Prim.Native.Nat.{ℕ, zero, suc, ◌≤◌, ◌<◌}
 use native.Mathlib.Omega.{arith}
 use mathlib.Core.Path.{◌≡◌, refl, sym, ap, ap₂, ◌∙◌, subst}
@@ -158,7 +159,7 @@ kept_low s t w r says fits h = kept_other (verdict s) (showing s) (λ f n e. uns
 
 -- ---- refusal 1 or 2
 
-pub early_answer : (s t w out : List ℕ) (x : F.Refusal) (b : Bool) → result_length ≤ length out → Early s (length t) (length w) x → b ≡ is_some (refusal_view x) → b ≡ true
+pub early_answer : (s t w out : List ℕ) (x : CodeOption F.Refusal) (b : Bool) → result_length ≤ length out → Early s (length t) (length w) x → b ≡ is_some (refusal_view x) → b ≡ true
     → (r : W.Witnessed) → r.answer.refusal ≡ x → r.answer.place ≡ 0 → r.length ≡ 0 → WitnessSays s t w out t w out r
 early_answer s t w out x b long h e k r f p l =
     let g = is_some_true (refusal_view x) (sym e ∙ k) in

@@ -7,7 +7,7 @@ ghost use Rattle.limits.specs.Limits.{table_length, max_lines, result_length};
 ghost use Rattle.format.specs.Lines.{lines};
 ghost use Rattle.witness.specs.WitnessSays.{WitnessSays, Measures, Searched};
 
-use area_parts::clear_bytes;
+use area_parts::clear;
 use checker::{early, entered, settled};
 use fault_values::show_fault;
 use format::{Answer, Refusal, is_refused, number_of};
@@ -21,7 +21,7 @@ pub struct Witnessed {
 }
 
 // A refusal without a line, and no letters.
-fn refused(f: Refusal) -> Witnessed
+fn refused(f: Option<Refusal>) -> Witnessed
     ensures { (result.answer.refusal ≡ f) × (result.answer.place ≡ 0) × (result.length ≡ 0) }
 {
     Witnessed {
@@ -38,12 +38,8 @@ fn refused(f: Refusal) -> Witnessed
 fn measured(answer: Answer, number: u8, n: usize) -> Witnessed
     ensures { Measures answer number n result }
 {
-    if n == 0 {
-        if 10 < number {
-            if number < 15 {
-                return refused(Refusal::TooLarge);
-            }
-        }
+    if n == 0 && 10 < number && number < 15 {
+        return refused(Some(Refusal::TooLarge));
     }
     Witnessed {
         answer: answer,
@@ -72,12 +68,12 @@ pub fn witness(file: &[u8], table: &mut [u16], work: &mut [u8], res: &mut [u8]) 
         table.new work.new res.new result }
 {
     if res.len() < RESULT_LENGTH {
-        return refused(Refusal::ShortArea);
+        return refused(Some(Refusal::ShortArea));
     }
     let f = early(file, table.len(), work.len());
     if is_refused(f) {
         return refused(f);
     }
-    clear_bytes(work, WORK_LENGTH);
+    clear(work, WORK_LENGTH, 0);
     searched(file, table, res)
 }

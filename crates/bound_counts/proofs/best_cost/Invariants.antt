@@ -4,6 +4,3 @@ use Rattle.bound_counts.proofs.best_cost.Given as goal
 
 abbrev pub invariant-loop-n : goal.invariant-loop-n
 invariant-loop-n l = Best (pick_of l.most) l.t l.known l.index l.m l.end l.n l.best
-
-abbrev pub decreases-loop-n : goal.decreases-loop-n
-decreases-loop-n l = l.n

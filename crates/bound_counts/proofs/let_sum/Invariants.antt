@@ -3,6 +3,3 @@ use Rattle.bound_counts.proofs.let_sum.Given as goal
 
 abbrev pub invariant-loop-n : goal.invariant-loop-n
 invariant-loop-n l = Summed l.t l.known l.row l.end l.n l.sum
-
-abbrev pub decreases-loop-n : goal.decreases-loop-n
-decreases-loop-n l = l.n

@@ -13,5 +13,5 @@ returns-then-not-is_free c =
 pub returns : goal.returns
 returns c =
     told c.args.t.now c.args.index.now c.reckon.new.least c.reckon.new.greatest c.args.isos c.args.i _ _ _ c.if-isos-i.false c.is_free.ensures c.if-not-is_free.false
-    (λ base few. c.reckon.ensures.all_reckoned base few (zeros 32)) (λ base few. c.reckon.ensures.all_reckoned_2 base few (zeros 32)) c.number_at-l.ensures c.number_at-g.ensures refl
-    c.stopped.ensures c.stopped-2.ensures c.is_over.ensures c.is_over-2.ensures
+    (λ base few. c.reckon.ensures.all_reckoned base few (zeros 32)) (λ base few. c.reckon.ensures.all_reckoned_2 base few (zeros 32)) c.item_at-l.ensures c.item_at-g.ensures refl
+    c.min.ensures c.min-2.ensures refl refl

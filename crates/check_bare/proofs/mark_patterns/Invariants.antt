@@ -1,9 +1,5 @@
 use Rattle.check_bare.proofs.Marking.{Patterning}
-use Prim.Native.Nat.{◌-◌}
 use Rattle.check_bare.proofs.mark_patterns.Given as goal
 
 abbrev pub invariant-loop-j : goal.invariant-loop-j
 invariant-loop-j l = Patterning l.t l.initial.g l.g l.base l.n l.j
-
-abbrev pub decreases-loop-j : goal.decreases-loop-j
-decreases-loop-j l = l.n - l.j

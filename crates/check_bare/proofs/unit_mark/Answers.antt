@@ -1,4 +1,3 @@
-use Prim.Native.Nat.{◌-◌}
 use Rattle.check_bare.proofs.Marking.{stands_at, unit_is}
 use Rattle.check_bare.proofs.unit_mark.Goals as goal
 

@@ -3,6 +3,3 @@ use Rattle.check_idle.proofs.walk_up.Given as goal
 
 abbrev pub invariant-loop-n : goal.invariant-loop-n
 invariant-loop-n l = Walking l.t l.base l.lines l.initial.marks l.n l.marks l.found
-
-abbrev pub decreases-loop-n : goal.decreases-loop-n
-decreases-loop-n l = l.n

@@ -1,12 +1,13 @@
+use native.Mathlib.Omega.{arith}
 use mathlib.Core.Path.{sym, ◌∙◌}
 use Rattle.check_isos.proofs.Stepping.{walked_let}
 use Rattle.check_isos.proofs.with_row.Goals as goal
 
-pub returns-then-letter-eq-CLAUSE_LINE : goal.returns-then-letter-eq-CLAUSE_LINE
-returns-then-letter-eq-CLAUSE_LINE c rs patterns lines f e h late s = c.with_clause.ensures rs patterns lines f e h (sym c.cell-letter.ensures.0 ∙ c.if-letter-eq-CLAUSE_LINE.true) s
+pub returns-in-67 : goal.returns-in-67
+returns-in-67 c rs patterns lines f e h late s = c.with_clause.ensures rs patterns lines f e h (sym c.cell.ensures.0 ∙ c.in-67.is) s
 
-pub returns-then-letter-eq-ISO_LINE : goal.returns-then-letter-eq-ISO_LINE
-returns-then-letter-eq-ISO_LINE c rs patterns lines f e h late s = c.with_iso.ensures rs patterns lines f h (sym c.cell-letter.ensures.0 ∙ c.if-letter-eq-ISO_LINE.true) s
+pub returns-in-73 : goal.returns-in-73
+returns-in-73 c rs patterns lines f e h late s = c.with_iso.ensures rs patterns lines f h (sym c.cell.ensures.0 ∙ c.in-73.is) s
 
-pub returns : goal.returns
-returns c rs patterns lines f e h late s = walked_let f h s late c.cell-letter.ensures.0 c.if-letter-eq-CLAUSE_LINE.false c.if-letter-eq-ISO_LINE.false
+pub returns-in_default : goal.returns-in_default
+returns-in_default c rs patterns lines f e h late s = walked_let f h s late c.cell.ensures.0 (λ z. omega arith) (λ z. omega arith)

@@ -1,11 +1,7 @@
 use Rattle.check_known.specs.Known.{Known}
 use mathlib.Core.Path.{◌≡◌}
 use lib.ListN.{length}
-use Prim.Native.Nat.{◌-◌}
 use Rattle.check_known.proofs.find_known.Given as goal
 
 abbrev pub invariant-loop-n : goal.invariant-loop-n
 invariant-loop-n l = (length l.k ≡ length l.initial.k) × Known l.t l.base l.k
-
-abbrev pub decreases-loop-n : goal.decreases-loop-n
-decreases-loop-n l = l.lines - l.n

@@ -1,20 +1,21 @@
 use native.Mathlib.Omega.{arith}
 use Rattle.check_recursion.proofs.Laws.{holds_var, holds_tag, holds_first, holds_second, holds_none}
+use mathlib.Core.Path.{◌∙◌}
 use mathlib.Core.Logic.{inl, inr}
 use Rattle.table_trees.proofs.Cases.{injects_beyond, joins_key, leaf_unit, leaf_beyond}
 use Rattle.check_recursion.proofs.+holds.Goals as goal
 
 pub returns-then-holds : goal.returns-then-holds
 returns-then-holds t c =
-    holds_first c.args.t.now c.args.base c.args.q c.args.n c.pattern_cell.ensures.0 (joins_key c.in-4.is) c.pattern_part.ensures c.holds.ensures c.if-holds.true
+    c.if-holds.true ∙ holds_first c.args.t.now c.args.base c.args.q c.args.n c.pattern_cell.ensures.0 (joins_key c.in-4.is) c.pattern_part.ensures c.holds.ensures c.if-holds.true
 
 pub returns-in-1 : goal.returns-in-1
 returns-in-1 t c = holds_var c.args.t.now c.args.base c.args.q c.args.n c.pattern_cell.ensures.0 c.in-1.is c.pattern_cell-in-1.ensures.0
 
 pub returns-else-holds : goal.returns-else-holds
 returns-else-holds t c =
-    holds_second c.args.t.now c.args.base c.args.q c.args.n c.pattern_cell.ensures.0 (joins_key c.in-4.is) c.pattern_part.ensures c.holds.ensures c.if-holds.false c.pattern_part-in-4.ensures
-    c.holds-in-4.ensures
+    holds_second c.args.t.now c.args.base c.args.q c.args.n c.pattern_cell.ensures.0 (joins_key c.in-4.is) c.pattern_part.ensures c.holds.ensures c.if-holds.false c.pattern_part-else-holds.ensures
+    c.holds-else-holds.ensures
 
 pub returns-in-2 : goal.returns-in-2
 returns-in-2 t c =

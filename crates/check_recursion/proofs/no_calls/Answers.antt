@@ -1,4 +1,3 @@
-use Prim.Native.Nat.{◌-◌}
 use Rattle.check_recursion.proofs.Laws.{calls_step}
 use Rattle.check_recursion.proofs.no_calls.Goals as goal
 

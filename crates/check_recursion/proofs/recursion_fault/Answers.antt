@@ -20,7 +20,7 @@ pub returns-then-k-rows : goal.returns-then-k-rows
 returns-then-k-rows c =
     fault_clause c.args.t.now c.args.base c.args.i c.args.row c.args.rows.now c.args.last c.is_quiet.ensures c.if-is_quiet.false c.cell.ensures.0 c.is_structural.ensures
     c.if-is_structural.false c.cell-2.ensures.0 c.is_structural-2.ensures c.if-is_structural-2.false c.cell-3.ensures.0 c.is_zoned.ensures c.if-is_zoned.true c.kept-k.ensures
-    c.if-k-rows.true (c.wide.ensures.value ∙ c.word_at.ensures) refl
+    c.if-k-rows.true (c.wide.ensures.value ∙ c.item_at.ensures) refl
 
 pub returns-then-is_zoned : goal.returns-then-is_zoned
 returns-then-is_zoned c =

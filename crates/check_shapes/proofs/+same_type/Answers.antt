@@ -1,3 +1,5 @@
+use mathlib.Core.Path.{◌∙◌}
+use Rattle.calculus.proofs.Basic.{eq_eqb}
 use Rattle.check_shapes.proofs.Sameness.{same_line, is_whole, is_naming, naming_two, same_whole, other_kind, other_first, same_list, same_second}
 use Rattle.check_shapes.proofs.+same_type.Goals as goal
 
@@ -16,18 +18,20 @@ returns-then-ka-kb t c =
 
 pub returns-then-ka-eq-LIST : goal.returns-then-ka-eq-LIST
 returns-then-ka-eq-LIST t c =
-    same_list c.args.t.now c.args.a c.args.b c.cell-ka.ensures.0 c.cell-kb.ensures.0 c.if-ka-eq-LIST.true c.if-ka-kb.false c.type_part-c.ensures c.type_part-d.ensures c.same_type.ensures
+    eq_eqb c.if-ka-eq-LIST.true
+    ∙ same_list c.args.t.now c.args.a c.args.b c.cell-ka.ensures.0 c.cell-kb.ensures.0 c.if-ka-eq-LIST.true c.if-ka-kb.false c.type_part-c.ensures c.type_part-d.ensures c.same_type.ensures
     c.if-same_type.true
 
-pub returns-then-same_type : goal.returns-then-same_type
-returns-then-same_type t c =
+pub returns-else-ka-eq-LIST : goal.returns-else-ka-eq-LIST
+returns-else-ka-eq-LIST t c =
     let s = (c.args) in
     same_second s.t.now s.a s.b (c.cell-ka.ensures.0) (c.cell-kb.ensures.0) (naming_two (is_naming _ (c.names_nothing.ensures) (c.if-names_nothing.false)) c.if-ka-eq-LIST.false) (c.if-ka-kb.false)
     (c.type_part-c.ensures)
-    (c.type_part-d.ensures) (c.same_type.ensures) (c.if-same_type.true) (c.type_part-e.ensures) (c.type_part-f.ensures) (c.same_type-then-same_type.ensures)
+    (c.type_part-d.ensures) (c.same_type.ensures) (c.if-same_type.true) (c.type_part.ensures) (c.type_part-else-ka-eq-LIST.ensures) (c.same_type-else-ka-eq-LIST.ensures)
 
-pub returns : goal.returns
-returns t c =
+pub returns-else-same_type : goal.returns-else-same_type
+returns-else-same_type t c =
     let s = (c.args) in
-    other_first s.t.now s.a s.b (c.cell-ka.ensures.0) (c.cell-kb.ensures.0) (is_naming _ (c.names_nothing.ensures) (c.if-names_nothing.false)) (c.if-ka-kb.false) (c.type_part-c.ensures)
+    c.if-same_type.false ∙ other_first s.t.now s.a s.b (c.cell-ka.ensures.0) (c.cell-kb.ensures.0) (is_naming _ (c.names_nothing.ensures) (c.if-names_nothing.false)) (c.if-ka-kb.false)
+    (c.type_part-c.ensures)
     (c.type_part-d.ensures) (c.same_type.ensures) (c.if-same_type.false)

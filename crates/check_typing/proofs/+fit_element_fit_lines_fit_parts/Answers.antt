@@ -1,6 +1,5 @@
 use native.Mathlib.Omega.{arith}
 use mathlib.Core.Path.{refl}
-use mathlib.Core.Logic.{⊎_elim}
 use Rattle.table_trees.proofs.Cases.{plain_unit, plain_past}
 use Rattle.check_typing.proofs.Meeting.{has_parts, parts_call}
 use Rattle.check_typing.proofs.Steps.{reached_rank, fitted_from, fitted_bare, fitted_var, fitted_unit, fitted_tag_not, fitted_tag, fitted_pair_not, fitted_pair, fitted_pair_stop}

@@ -14,5 +14,5 @@ returns-then-is_refused c =
 pub returns : goal.returns
 returns c =
     let k = early_passes _ _ _ _ _ c.early-f.ensures c.is_refused.ensures c.if-is_refused.false in
-    let s = c.filed.ensures.says _ _ k.1 k.2 c.clear_bytes.ensures in
+    let s = c.filed.ensures.says _ _ k.1 k.2 c.clear.ensures in
     (s, c.filed.ensures.accepts k.2, counts_said _ _ _ _ _ _ s (c.filed.ensures.accepts k.2) c.filed.ensures.refuses)

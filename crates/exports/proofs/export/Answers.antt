@@ -15,4 +15,4 @@ pub returns : goal.returns
 returns c =
     export_accepted c.args.file.now c.args.table.now c.args.work.now c.args.i c.args.budget c.args.output.now _ _ c.export_accepted-l.new.work _ _ c.check_file-c.result
     c.export_accepted-l.result _ _ c.if-output-lt-EXPORT_LENGTH.false c.check_file-c.auto.work c.check_file-c.ensures.0 c.check_file-c.ensures.1 c.is_refused.ensures
-    c.if-is_refused.false c.export_accepted-l.auto.work c.export_accepted-l.ensures.work_unchanged c.export_accepted-l.ensures.on_accepted c.clear_bytes.ensures refl refl refl
+    c.if-is_refused.false c.export_accepted-l.auto.work c.export_accepted-l.ensures.work_unchanged c.export_accepted-l.ensures.on_accepted c.clear.ensures refl refl refl

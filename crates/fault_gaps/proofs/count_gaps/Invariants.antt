@@ -1,4 +1,3 @@
-use Prim.Native.Nat.{◌-◌}
 use mathlib.Core.List.{[], ◌∷◌}
 use Rattle.table_trees.specs.Unfolding.{type_of}
 use Rattle.fault_stacks.specs.Stacks.{types_along}
@@ -7,6 +6,3 @@ use Rattle.fault_gaps.proofs.count_gaps.Given as goal
 
 abbrev pub invariant-loop-x : goal.invariant-loop-x
 invariant-loop-x l = RowsLeft l.m l.t l.base l.f l.rows l.k l.w (types_along l.w (type_of l.t l.i ∷ [])) l.x
-
-abbrev pub decreases-loop-x : goal.decreases-loop-x
-decreases-loop-x l = l.x

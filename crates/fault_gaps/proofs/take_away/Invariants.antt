@@ -1,10 +1,6 @@
-use Prim.Native.Nat.{◌-◌}
 use Rattle.fault_tallies.proofs.Shifting.{Each}
 use Rattle.fault_gaps.specs.Gaps.{minus_of}
 use Rattle.fault_gaps.proofs.take_away.Given as goal
 
 abbrev pub invariant-loop-i : goal.invariant-loop-i
 invariant-loop-i l = Each (minus_of l.m) l.initial.k l.o l.k l.i
-
-abbrev pub decreases-loop-i : goal.decreases-loop-i
-decreases-loop-i l = 128 - l.i

@@ -15,7 +15,7 @@ returns-then-top-gt-MAX_NODES c = never_written c.args.out.now c.loop-m.out (nev
 pub loop-m-preserved : goal.loop-m-preserved
 loop-m-preserved c =
     let e : c.loop-m.m + 1 - 0 ≡ c.loop-m.m + 1 = omega arith in
-    writing_next c.loop-m.invariant (search rules) c.requires.1 c.first_letter.ensures (search rules) c.requires.0 c.step_types-top.auto.ts c.step_types-top.ensures
+    writing_next c.loop-m.invariant (search rules) c.requires.1 c.first_letter.ensures (search rules) c.requires.0 (search rules) c.step_types-top.ensures
     (subst (λ z. Picks (type_of c.args.t.now c.args.i) (patterns_at c.args.t.now c.args.base c.args.f c.args.rows.now)
     (take z (set c.loop-m.out c.loop-m.m c.first_letter.result))
     (type_of c.args.t.now (get_or c.loop-m.ts c.loop-m.top 0)) (c.args.n - c.loop-m.m - 1) c.letter-c.result) e c.letter-c.ensures)

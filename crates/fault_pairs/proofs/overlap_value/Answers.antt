@@ -1,4 +1,5 @@
-use Prim.Native.Nat.{ℕ, ◌-◌}
+use Prim.Native.Nat.{ℕ, ◌-◌, ◌+◌}
+use native.Mathlib.Omega.{arith}
 use mathlib.Core.Path.{◌≡◌, refl, sym, ap, ◌∙◌, subst}
 use mathlib.Core.List.{List, [], ◌∷◌}
 use lib.ListN.{length, take, drop, length-drop}
@@ -24,4 +25,5 @@ loop-x-preserved c =
     let l = c.loop-x in outer_more c.args.t.now c.args.base c.args.f c.args.rows.now c.wide.result c.cell-p.result l.invariant (search rules) c.add_row-best.auto.out
     c.add_row-best.ensures.0 c.wide.ensures.value c.cell-p.ensures.0
     (subst (λ z. AddsAll (type_of c.args.t.now c.args.i) (pattern_of c.args.t.now c.args.base c.cell-p.result) (patterns_at c.args.t.now c.args.base c.args.f z) l.out
-    c.add_row-best.new.out l.best c.add_row-best.result) (take_rest c.args.rows.now l.x) c.add_row-best.ensures.1)
+    c.add_row-best.new.out l.best c.add_row-best.result)
+    (ap (λ n. take (length c.args.rows.now - n) (drop n c.args.rows.now)) (let e : l.x - 1 + 1 ≡ l.x = omega arith in e) ∙ take_rest c.args.rows.now l.x) c.add_row-best.ensures.1)

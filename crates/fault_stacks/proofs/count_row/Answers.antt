@@ -1,5 +1,4 @@
 use native.Mathlib.Omega.{arith}
-use mathlib.Core.Path.{◌∙◌}
 use Rattle.fault_stacks.proofs.Counting.{row_start, row_step}
 use borrow.Author.Rules.{rules}
 use Rattle.fault_stacks.proofs.count_row.Goals as goal
@@ -9,9 +8,9 @@ loop-c-init c =
     record {
       lower = search rules;
       upper = omega arith;
-      long = c.no_more.auto.k ∙ c.requires.2;
+      long = search rules;
       holds =
-          row_start c.args.t.now c.args.base c.args.ps.now c.args.ts.now c.args.m c.requires.0 c.requires.1 c.no_more.ensures;
+          row_start c.args.t.now c.args.base c.args.ps.now c.args.ts.now c.args.m (search rules) (search rules) c.no_more.ensures;
     }
 
 pub loop-c-preserved : goal.loop-c-preserved
@@ -19,7 +18,7 @@ loop-c-preserved c =
     record {
       lower = omega (arith, c.loop-c.invariant.upper);
       upper = omega (arith, c.loop-c.invariant.upper);
-      long = c.count_pattern.auto.k ∙ c.loop-c.invariant.long;
-      holds = row_step c.args.t.now c.args.base c.args.ps.now c.args.ts.now c.loop-c.c (omega arith) (omega (arith, c.loop-c.invariant.upper, c.requires.0))
-          (omega (arith, c.loop-c.invariant.upper, c.requires.1)) c.loop-c.invariant.holds c.count_pattern.ensures;
+      long = search rules;
+      holds = row_step c.args.t.now c.args.base c.args.ps.now c.args.ts.now c.loop-c.c (omega arith) (search rules)
+          (search rules) c.loop-c.invariant.holds c.count_pattern.ensures;
     }

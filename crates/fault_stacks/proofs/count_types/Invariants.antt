@@ -3,6 +3,3 @@ use Rattle.fault_stacks.proofs.count_types.Given as goal
 
 abbrev pub invariant-loop-c : goal.invariant-loop-c
 invariant-loop-c l = TypesAt l.m l.t l.ts l.k l.top l.c
-
-abbrev pub decreases-loop-c : goal.decreases-loop-c
-decreases-loop-c l = l.c

@@ -1,11 +1,11 @@
 use native.Mathlib.Nat.{zero-add}
-use Rattle.fault_tallies.proofs.Counting.{held_copy, held_as, held_zeros}
+use Rattle.fault_tallies.proofs.Counting.{held_as, held_zeros}
 use Rattle.fault_tallies.proofs.Adding.{going_start, going_end, going_list, going_sum, going_product}
 use borrow.Author.Rules.{rules}
 use Rattle.fault_tallies.proofs.+add_type_count_type.Goals as goal
 
 pub add_type-loop-k-init : goal.add_type-loop-k-init
-add_type-loop-k-init t c = going_start c.args.m c.args.t.now c.args.i (search rules) (search rules) c.copy.ensures
+add_type-loop-k-init t c = going_start c.args.m c.args.t.now c.args.i (search rules) (search rules)
 
 pub add_type-returns-then-kind-eq-LIST : goal.add_type-returns-then-kind-eq-LIST
 add_type-returns-then-kind-eq-LIST t c = going_list c.args.m c.args.t.now c.args.i c.loop-k.invariant c.count_list.ensures c.add.ensures
@@ -25,4 +25,4 @@ add_type-returns-else-kind-eq-PRODUCT t c =
     c.add-else-kind-eq-PRODUCT.ensures
 
 pub count_type-returns : goal.count_type-returns
-count_type-returns t c = λ z W h. held_copy c.copy.ensures (held_as _ (λ n. zero-add _) (c.add_type.ensures z W (λ n. 0) h (held_zeros h.wide)))
+count_type-returns t c = λ z W h. held_as _ (λ n. zero-add _) (c.add_type.ensures z W (λ n. 0) h (held_zeros h.wide))

@@ -1,10 +1,6 @@
 use Rattle.fault_tallies.specs.Tallies.{plus_of}
 use Rattle.fault_tallies.proofs.Shifting.{Each}
-use Prim.Native.Nat.{◌-◌}
 use Rattle.fault_tallies.proofs.add.Given as goal
 
 abbrev pub invariant-loop-i : goal.invariant-loop-i
 invariant-loop-i l = Each (plus_of l.m) l.initial.k l.o l.k l.i
-
-abbrev pub decreases-loop-i : goal.decreases-loop-i
-decreases-loop-i l = 128 - l.i

@@ -3,6 +3,3 @@ use Rattle.fault_values.proofs.clauses_from.Given as goal
 
 abbrev pub invariant-loop-n : goal.invariant-loop-n
 invariant-loop-n l = Walking l.t l.from l.lines l.n l.c
-
-abbrev pub decreases-loop-n : goal.decreases-loop-n
-decreases-loop-n l = l.n

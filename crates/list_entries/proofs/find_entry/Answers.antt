@@ -1,4 +1,3 @@
-use Prim.Native.Nat.{◌-◌}
 use Rattle.list_entries.proofs.Finding.{searched_step, searched_hit}
 use Rattle.list_entries.proofs.find_entry.Goals as goal
 

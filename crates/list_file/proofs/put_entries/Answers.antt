@@ -1,5 +1,4 @@
 use Rattle.list_file.proofs.Printing.{printed_start, printed_next}
-use Prim.Native.Nat.{◌-◌}
 use Rattle.list_file.proofs.put_entries.Goals as goal
 
 pub loop-i-init : goal.loop-i-init

@@ -1,9 +1,5 @@
 use Rattle.list_lines.proofs.Reading.{Past}
-use Prim.Native.Nat.{◌-◌}
 use Rattle.list_lines.proofs.is_among.Given as goal
 
 abbrev pub invariant-loop-i : goal.invariant-loop-i
 invariant-loop-i l = Past l.words l.n l.x l.i
-
-abbrev pub decreases-loop-i : goal.decreases-loop-i
-decreases-loop-i l = l.n - l.i

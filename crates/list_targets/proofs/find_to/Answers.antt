@@ -11,4 +11,4 @@ pub returns : goal.returns
 returns c =
     λ rs o run low long short.
     to_stored run low c.args.budget c.run_setting-r.result (c.run_setting-r.ensures rs o run low long short (omega arith)) c.is_refused.ensures c.if-is_refused.false
-    c.iso_cell.result c.rank_at-x.result.number c.rank_at-x.result.end c.iso_cell.ensures c.rank_at-x.ensures c.narrow.ensures c.store_word.ensures
+    c.iso_cell.result c.rank_at-x.result.number c.rank_at-x.result.end c.iso_cell.ensures c.rank_at-x.ensures c.narrow.ensures c.store.ensures

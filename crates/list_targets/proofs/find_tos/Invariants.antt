@@ -4,6 +4,3 @@ use Rattle.list_targets.proofs.find_tos.Given as goal
 
 abbrev pub invariant-loop-k : goal.invariant-loop-k
 invariant-loop-k l = Through l.t l.base l.index l.isos l.i l.n l.budget l.initial.work l.initial.tos l.work l.tos l.k
-
-abbrev pub decreases-loop-k : goal.decreases-loop-k
-decreases-loop-k l = l.n - l.k

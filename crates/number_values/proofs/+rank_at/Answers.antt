@@ -6,13 +6,13 @@ use Rattle.number_values.proofs.TypeLines.{line_rest}
 use Rattle.number_values.proofs.Ranking.{ranks_list, ranks_unit, ranks_left, ranks_right, ranks_pair}
 use Rattle.number_values.proofs.+rank_at.Goals as goal
 
-pub returns-then-byte_at-eq-LETTER_LEFT : goal.returns-then-byte_at-eq-LETTER_LEFT
-returns-then-byte_at-eq-LETTER_LEFT t c =
+pub returns-then-item_at-eq-LETTER_LEFT : goal.returns-then-item_at-eq-LETTER_LEFT
+returns-then-item_at-eq-LETTER_LEFT t c =
     let a = (c.args) in
     subst (λ x. Ranks x a.s.now a.at (c.rank_at.result.number) (c.rank_at.result.end))
     (sym (line_sum a.t.now a.i (c.cell-kind.ensures.0) (part_of a.i (c.cell.ensures.0) (c.smaller-left.ensures)) refl (c.if-kind-eq-SUM.true)))
-    (ranks_left a.s.now a.at (c.behind-next.ensures) (type_of a.t.now (c.smaller-left.result)) (type_of a.t.now (smaller_of (cell_of a.t.now a.i 3) a.i)) (c.byte_at.ensures)
-    (c.if-byte_at-eq-LETTER_LEFT.true) (c.rank_at.ensures))
+    (ranks_left a.s.now a.at (c.behind-next.ensures) (type_of a.t.now (c.smaller-left.result)) (type_of a.t.now (smaller_of (cell_of a.t.now a.i 3) a.i)) (c.item_at.ensures)
+    (c.if-item_at-eq-LETTER_LEFT.true) (c.rank_at.ensures))
 
 pub returns-then-kind-eq-SUM : goal.returns-then-kind-eq-SUM
 returns-then-kind-eq-SUM t c =
@@ -20,7 +20,7 @@ returns-then-kind-eq-SUM t c =
     subst (λ x. Ranks x a.s.now a.at (c.times_plus.result) (c.rank_at-r.result.end))
     (sym (line_sum a.t.now a.i (c.cell-kind.ensures.0) (part_of a.i (c.cell.ensures.0) (c.smaller-left.ensures)) (part_of a.i (c.cell-then-kind-eq-SUM.ensures.0) (c.smaller-right.ensures))
     (c.if-kind-eq-SUM.true)))
-    (ranks_right a.s.now a.at (c.behind-next.ensures) (type_of a.t.now (c.smaller-left.result)) (type_of a.t.now (c.smaller-right.result)) (c.byte_at.ensures) (c.if-byte_at-eq-LETTER_LEFT.false)
+    (ranks_right a.s.now a.at (c.behind-next.ensures) (type_of a.t.now (c.smaller-left.result)) (type_of a.t.now (c.smaller-right.result)) (c.item_at.ensures) (c.if-item_at-eq-LETTER_LEFT.false)
     (c.rank_at-r.ensures) (c.count_values.ensures) (c.times_plus.ensures))
 
 pub returns-then-kind-eq-PRODUCT : goal.returns-then-kind-eq-PRODUCT

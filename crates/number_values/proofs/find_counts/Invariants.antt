@@ -1,10 +1,5 @@
 use Rattle.number_values.proofs.Filling.{Filling}
-use Prim.Native.Nat.{◌-◌}
-use lib.ListN.{length}
 use Rattle.number_values.proofs.find_counts.Given as goal
 
 abbrev pub invariant-loop-i : goal.invariant-loop-i
 invariant-loop-i l = Filling l.t l.initial.counts l.counts l.i
-
-abbrev pub decreases-loop-i : goal.decreases-loop-i
-decreases-loop-i l = length l.counts - l.i

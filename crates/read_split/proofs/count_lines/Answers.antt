@@ -2,13 +2,13 @@ use native.Mathlib.Omega.{arith}
 use Rattle.read_split.proofs.Splitting.{counted_closed, counted_open}
 use Rattle.read_split.proofs.count_lines.Goals as goal
 
-pub returns-then-s-n-eq-LINE_FEED : goal.returns-then-s-n-eq-LINE_FEED
-returns-then-s-n-eq-LINE_FEED c = counted_closed c.args.s.now c.if-n-eq0.false c.count_feeds-feeds.ensures c.if-s-n-eq-LINE_FEED.true
-
 pub overflow_add-result : goal.overflow_add-result
 overflow_add-result c =
-    let l = (counted_open c.args.s.now c.if-n-eq0.false c.count_feeds-feeds.ensures c.if-s-n-eq-LINE_FEED.false).1 in
+    let l = (counted_open c.args.s.now (λ z. omega arith) c.count_feeds-feeds.ensures (λ e. omega arith)).1 in
     omega arith
 
-pub returns : goal.returns
-returns c = (counted_open c.args.s.now c.if-n-eq0.false c.count_feeds-feeds.ensures c.if-s-n-eq-LINE_FEED.false).0
+pub returns-in_default : goal.returns-in_default
+returns-in_default c = (counted_open c.args.s.now (λ z. omega arith) c.count_feeds-feeds.ensures (λ e. omega arith)).0
+
+pub returns-in-empty-2 : goal.returns-in-empty-2
+returns-in-empty-2 c = counted_closed c.args.s.now (λ z. omega arith) c.count_feeds-feeds.ensures (omega arith)

@@ -13,4 +13,4 @@ loop-j-preserved c = (
 pub returns : goal.returns
 returns c =
     all_coded c.args.t.now c.args.base c.args.patterns c.loop-j.invariant.0 c.loop-j-test.false c.if-patterns-gt-MAX_PATTERNS.false c.narrow.ensures
-    (let a = c.if-code-lt-LISTED.false in let b = c.loop-j.invariant.1 in let k = c.store_word.auto.words in omega (arith, a, b, k)) c.store_word-2.ensures
+    (let a = c.if-code-lt-LISTED.false in let b = c.loop-j.invariant.1 in let k = c.store.auto.items in omega (arith, a, b, k)) c.store-2.ensures

@@ -5,6 +5,3 @@ use Rattle.run_coding.proofs.code_patterns.Given as goal
 
 abbrev pub invariant-loop-j : goal.invariant-loop-j
 invariant-loop-j l = Listing l.t l.base l.code l.at l.j l.patterns × (length l.code ≡ length l.initial.code)
-
-abbrev pub decreases-loop-j : goal.decreases-loop-j
-decreases-loop-j l = l.j

@@ -1,4 +1,4 @@
-use Prim.Native.Nat.{ℕ, ◌+◌, ◌-◌, ◌≤◌}
+use Prim.Native.Nat.{ℕ, ◌+◌, ◌≤◌}
 use mathlib.Core.Path.{◌≡◌}
 use lib.ListN.{length, take}
 use Rattle.calculus.specs.Trees.{Pat}
@@ -11,6 +11,3 @@ abbrev pub invariant-loop-k : goal.invariant-loop-k
 invariant-loop-k l = ((q : Pat) (top : ℕ) → Stands l.code l.p q → Below l.vars top → top ≤ l.from → l.from + length (built q (take top l.initial.work) l.vars) ≤ length l.initial.work
     → Written l.code l.initial.work top l.vars l.from
     (built q (take top l.initial.work) l.vars) l.k l.work l.at) × (length l.work ≡ length l.initial.work)
-
-abbrev pub decreases-loop-k : goal.decreases-loop-k
-decreases-loop-k l = length l.code - l.k

@@ -1,9 +1,8 @@
-use Prim.Native.Nat.{◌-◌}
 use native.Mathlib.Omega.{arith}
 use mathlib.Core.Path.{refl, sym, ◌∙◌}
-use Rattle.run_values.specs.Texts.{put_range}
 use Rattle.run_flat.proofs.Following.{before_start, at_stop, code_within, var_next, letter_within, letter_differs, letter_next}
 use Rattle.run_flat.proofs.match_flat.Goals as goal
+use Rattle.run_flat.proofs.match_flat.Goals.{then-s-at-via-then-s-at, then-s-at-via-else-s-at+then-word_of-o}
 
 pub loop-k-init : goal.loop-k-init
 loop-k-init c = (λ q v st a e. before_start _ st a e, refl)
@@ -20,11 +19,11 @@ returns-then-o-eq-STOP c = λ q v st a e. at_stop (c.loop-k.invariant.0 q v st a
 
 pub returns-then-s-at : goal.returns-then-s-at
 returns-then-s-at c =
-    λ q v st a e. let w = letter_within (c.loop-k.invariant.0 q v st a e) refl c.if-o-eq-STOP.false in absurd (omega (arith, w, c.if-s-at.true))
-
-pub returns-then-word_of-o : goal.returns-then-word_of-o
-returns-then-word_of-o c =
-    λ q v st a e. letter_differs (c.loop-k.invariant.0 q v st a e) refl c.if-o-lt-LETTERS_FROM.false c.if-o-eq-STOP.false (λ z. c.if-word_of-o.true (c.word_of.ensures ∙ z))
+    elim c.then-s-at.branch [
+      | then-s-at-via-then-s-at w ↦ λ q v st a e. let k = letter_within (c.loop-k.invariant.0 q v st a e) refl c.if-o-eq-STOP.false in absurd (omega (arith, k, w.if-s-at.true))
+      | then-s-at-via-else-s-at+then-word_of-o w ↦
+          λ q v st a e. letter_differs (c.loop-k.invariant.0 q v st a e) refl c.if-o-lt-LETTERS_FROM.false c.if-o-eq-STOP.false (λ z. w.if-word_of-o.true (w.word_of.ensures ∙ z))
+    ]
 
 pub loop-k-preserved : goal.loop-k-preserved
 loop-k-preserved c =

@@ -5,7 +5,7 @@ use Rattle.run_index.proofs.Indexing.{indexing_start, indexing_step, indexing_en
 use Rattle.run_index.proofs.index_isos.Goals as goal
 
 pub loop-n-init : goal.loop-n-init
-loop-n-init c = (indexing_start _ _ c.args.index.now c.narrow.ensures c.store_word.ensures c.store_word-2.ensures, λ h. (refl, omega arith, omega (arith, h)))
+loop-n-init c = (indexing_start _ _ c.args.index.now c.narrow.ensures c.store.ensures c.store-2.ensures, λ h. (refl, omega arith, omega (arith, h)))
 
 pub loop-n-preserved : goal.loop-n-preserved
 loop-n-preserved c = (
@@ -16,11 +16,11 @@ loop-n-preserved c = (
 
 pub returns-clause-isos_indexed : goal.returns-clause-isos_indexed
 returns-clause-isos_indexed c =
-    let same = c.store_word-2.auto.words ∙ c.store_word.auto.words in
+    let same = c.store-2.auto.items ∙ c.store.auto.items in
     (λ rs types patterns f ea ei long. indexing_end c.loop-n.invariant.0 c.loop-n-test.false rs types patterns f ea ei (omega (arith, same, long)))
 
 pub returns-clause-index_unchanged : goal.returns-clause-index_unchanged
 returns-clause-index_unchanged c =
-    let same = c.store_word-2.auto.words ∙ c.store_word.auto.words in
+    let same = c.store-2.auto.items ∙ c.store.auto.items in
     λ h. (c.loop-n.invariant.1 h).0 ∙ tail_two
-    c.args.index.now 4161 c.narrow.result c.args.isos 4161 (omega arith) c.store_word.ensures h c.store_word-2.ensures
+    c.args.index.now 4161 c.narrow.result c.args.isos 4161 (omega arith) c.store.ensures h c.store-2.ensures

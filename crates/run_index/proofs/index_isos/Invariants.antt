@@ -8,6 +8,3 @@ use Rattle.run_index.proofs.index_isos.Given as goal
 abbrev pub invariant-loop-n : goal.invariant-loop-n
 invariant-loop-n l = Indexing l.t l.above l.lines l.isos l.initial.index l.n l.index l.l.first l.l.isos ×
     (l.isos < index_length → (drop index_length l.index ≡ drop index_length l.initial.index) × (l.l.first < index_length) × (l.l.isos ≤ index_length))
-
-abbrev pub decreases-loop-n : goal.decreases-loop-n
-decreases-loop-n l = l.n

@@ -10,12 +10,12 @@ returns-then-kind-eq-VARIABLE t c =
 
 pub returns-in-4 : goal.returns-in-4
 returns-in-4 t c =
-    build_node c.args.t.now c.args.base c.args.j c.pattern_cell-kind.ensures.0 c.letter.ensures (c.put_byte-next.ensures.bytes_after, c.put_byte-next.ensures.value) c.part.ensures
-    c.build_at-middle.ensures (joins_key c.in-4.is) c.part-in-4.ensures c.build_at.auto.work c.build_at.ensures
+    build_node c.args.t.now c.args.base c.args.j c.pattern_cell-kind.ensures.0 c.letter.ensures (c.put_byte-next.ensures.bytes_after, c.put_byte-next.ensures.value) c.pattern_part.ensures
+    c.build_at-middle.ensures (joins_key c.in-4.is) c.pattern_part-in-4.ensures c.build_at.auto.work c.build_at.ensures
 
 pub returns-in-2 : goal.returns-in-2
 returns-in-2 t c =
-    build_tag c.args.t.now c.args.base c.args.j c.pattern_cell-kind.ensures.0 c.letter.ensures (c.put_byte-next.ensures.bytes_after, c.put_byte-next.ensures.value) c.part-in-2.ensures
+    build_tag c.args.t.now c.args.base c.args.j c.pattern_cell-kind.ensures.0 c.letter.ensures (c.put_byte-next.ensures.bytes_after, c.put_byte-next.ensures.value) c.pattern_part-in-2.ensures
     c.build_at-in-2.ensures (injects c.pattern_cell-kind.result (omega arith) (omega arith))
 
 pub returns-in_default : goal.returns-in_default

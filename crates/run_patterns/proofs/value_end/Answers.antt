@@ -1,5 +1,4 @@
 use mathlib.Core.Path.{refl}
-use Prim.Native.Nat.{◌-◌}
 use Rattle.run_patterns.proofs.Spelling.{search_start, search_next, search_last, search_end}
 use Rattle.run_patterns.proofs.value_end.Goals as goal
 

@@ -1,6 +1,5 @@
 use Rattle.run_reduction.proofs.Framing.{side_found, choosing_next, choosing_found}
 use mathlib.Core.Path.{sym, ◌∙◌}
-use Prim.Native.Nat.{◌-◌}
 use Rattle.run_reduction.proofs.choose.Goals as goal
 
 pub returns-then-match_line : goal.returns-then-match_line

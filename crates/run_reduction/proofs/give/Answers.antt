@@ -6,6 +6,6 @@ pub returns-then-built_length-gt-MAX_LETTERS-clause-give_says : goal.returns-the
 returns-then-built_length-gt-MAX_LETTERS-clause-give_says c =
     λ z. give_large (pattern_of c.args.t.now c.args.base c.args.j) c.if-built_length-gt-MAX_LETTERS.true (c.built_length.ensures z)
 
-pub returns-clause-give_says : goal.returns-clause-give_says
-returns-clause-give_says c =
+pub returns-else-built_length-gt-MAX_LETTERS-clause-give_says : goal.returns-else-built_length-gt-MAX_LETTERS-clause-give_says
+returns-else-built_length-gt-MAX_LETTERS-clause-give_says c =
     λ z. give_settled (pattern_of c.args.t.now c.args.base c.args.j) c.if-built_length-gt-MAX_LETTERS.false (c.built_length.ensures z) (c.settle.ensures.settle_says z)

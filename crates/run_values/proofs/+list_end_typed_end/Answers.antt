@@ -1,20 +1,20 @@
 use Rattle.run_values.proofs.Typing.{typed_none, typed_unit, typed_not_unit, typed_list, typed_left, typed_right, typed_not_sum, typed_pair, typed_not_first, typed_not_pair}
 use Rattle.run_values.proofs.Typing.{list_falls, list_goes}
-use mathlib.Core.Path.{refl}
+use mathlib.Core.Path.{refl, ap, ◌∙◌}
+use Rattle.run_values.specs.Texts.{as_upto}
 use Rattle.table_trees.specs.Unfolding.{type_of}
 use Rattle.table_trees.proofs.Lines.{part_of}
-use Prim.Native.Nat.{◌-◌}
 use Rattle.run_values.proofs.+list_end_typed_end.Goals as goal
 
 pub list_end-loop-next-smaller : goal.list_end-loop-next-smaller
 list_end-loop-next-smaller t c =
     list_falls (type_of c.args.t.now c.args.i) c.args.s.now c.args.at c.loop-next.next c.loop-next.invariant c.loop-next-test.true refl c.if-b-eq-LETTER_EMPTY.false
-    c.if-b-ne-LETTER_ELEMENT.false c.typed_end.ensures c.in-Place.is
+    c.if-b-ne-LETTER_ELEMENT.false c.typed_end.ensures c.in_ok-next.was
 
 pub list_end-loop-next-preserved : goal.list_end-loop-next-preserved
 list_end-loop-next-preserved t c =
     list_goes (type_of c.args.t.now c.args.i) c.args.s.now c.args.at c.loop-next.next c.loop-next.invariant c.loop-next-test.true refl c.if-b-eq-LETTER_EMPTY.false
-    c.if-b-ne-LETTER_ELEMENT.false c.typed_end.ensures c.in-Place.is
+    c.if-b-ne-LETTER_ELEMENT.false c.typed_end.ensures c.in_ok-next.was
 
 pub typed_end-returns-then-s-at : goal.typed_end-returns-then-s-at
 typed_end-returns-then-s-at t c = typed_none c.args.t.now c.args.i c.args.s.now c.args.at c.if-s-at.true
@@ -34,16 +34,19 @@ pub typed_end-returns-then-kind-eq-SUM : goal.typed_end-returns-then-kind-eq-SUM
 typed_end-returns-then-kind-eq-SUM t c =
     typed_not_sum c.args.t.now c.args.i c.args.s.now c.args.at c.if-s-at.false c.cell-kind.ensures.0 refl refl refl c.if-kind-eq-SUM.true c.if-b-eq-LETTER_LEFT.false c.if-b-eq-LETTER_RIGHT.false
 
-pub typed_end-returns-in-Place : goal.typed_end-returns-in-Place
-typed_end-returns-in-Place t c =
+pub typed_end-returns-then-b-eq-LETTER_PAIR : goal.typed_end-returns-then-b-eq-LETTER_PAIR
+typed_end-returns-then-b-eq-LETTER_PAIR t c =
     typed_pair c.args.t.now c.args.i c.args.s.now c.args.at c.if-s-at.false c.cell-kind.ensures.0 refl
-    (part_of c.args.i c.cell-then-b-eq-LETTER_PAIR.ensures.0 c.smaller-then-b-eq-LETTER_PAIR.ensures) (part_of c.args.i c.cell-in-Place.ensures.0 c.smaller-in-Place.ensures)
-    c.if-kind-eq-PRODUCT.true c.typed_end-in-Place.result c.if-b-eq-LETTER_PAIR.true c.in-Place.is c.typed_end-then-b-eq-LETTER_PAIR.ensures c.typed_end-in-Place.ensures
+    (part_of c.args.i c.cell-then-b-eq-LETTER_PAIR.ensures.0 c.smaller-then-b-eq-LETTER_PAIR.ensures)
+    (part_of c.args.i c.cell-then-b-eq-LETTER_PAIR-2.ensures.0 c.smaller-then-b-eq-LETTER_PAIR-2.ensures)
+    c.if-kind-eq-PRODUCT.true c.typed_end-then-b-eq-LETTER_PAIR-2.result c.if-b-eq-LETTER_PAIR.true c.in_ok-m.was c.typed_end-then-b-eq-LETTER_PAIR.ensures
+    c.typed_end-then-b-eq-LETTER_PAIR-2.ensures
 
-pub typed_end-returns-in-Nothing : goal.typed_end-returns-in-Nothing
-typed_end-returns-in-Nothing t c =
-    typed_not_first c.args.t.now c.args.i c.args.s.now c.args.at c.if-s-at.false c.cell-kind.ensures.0 refl
-    (part_of c.args.i c.cell-then-b-eq-LETTER_PAIR.ensures.0 c.smaller-then-b-eq-LETTER_PAIR.ensures) refl c.if-kind-eq-PRODUCT.true c.if-b-eq-LETTER_PAIR.true c.in-Nothing.is
+pub typed_end-returns-in_err-m : goal.typed_end-returns-in_err-m
+typed_end-returns-in_err-m t c =
+    ap (as_upto c.args.s.now) c.from_residual.ensures
+    ∙ typed_not_first c.args.t.now c.args.i c.args.s.now c.args.at c.if-s-at.false c.cell-kind.ensures.0 refl
+    (part_of c.args.i c.cell-then-b-eq-LETTER_PAIR.ensures.0 c.smaller-then-b-eq-LETTER_PAIR.ensures) refl c.if-kind-eq-PRODUCT.true c.if-b-eq-LETTER_PAIR.true c.in_err-m.was
     c.typed_end-then-b-eq-LETTER_PAIR.ensures
 
 pub typed_end-returns-then-kind-eq-PRODUCT : goal.typed_end-returns-then-kind-eq-PRODUCT

@@ -23,4 +23,4 @@ pub returns : goal.returns
 returns c =
     sheet_accepted c.args.file.now c.args.table.now c.args.work.now c.args.queries.now c.args.numbers.now c.args.letters.now _ _ c.answer_all.new.work _ _ _ c.check_file-c.result _
     c.count_lines-n.ensures c.is_short.ensures c.if-is_short.false c.if-n-gt-MAX_QUERIES.false c.check_file-c.auto.work c.check_file-c.ensures.0 c.check_file-c.ensures.1
-    c.is_refused.ensures c.if-is_refused.false c.answer_all.auto.work c.answer_all.ensures.work_unchanged c.answer_all.ensures.on_accepted c.clear_bytes.ensures refl refl
+    c.is_refused.ensures c.if-is_refused.false c.answer_all.auto.work c.answer_all.ensures.work_unchanged c.answer_all.ensures.on_accepted c.clear.ensures refl refl

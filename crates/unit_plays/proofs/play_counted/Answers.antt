@@ -14,4 +14,4 @@ returns c =
     let d = read a c.args.script.now c.args.budget c.args.lines.now c.args.settings.now e few c.tested-f.result y c.is_refused.ensures c.if-is_refused.false in
     into_played a c.args.script.now c.args.budget c.args.lines.now c.args.settings.now e few c.tested-f.result y c.is_refused.ensures c.if-is_refused.false c.args.work.now c.play_all.new.work
     refl (omega (arith, c.requires, c.play_all.auto.work)) z
-    (c.play_all.ensures s a d.0 d.1 (omega arith) (omega arith)) c.clear_bytes.ensures
+    (c.play_all.ensures s a d.0 d.1 (omega arith) (omega arith)) c.clear.ensures

@@ -5,6 +5,3 @@ use Rattle.unit_settings.proofs.units_fault.Given as goal
 
 abbrev pub invariant-loop-k : goal.invariant-loop-k
 invariant-loop-k l = Through l.t l.types l.lines l.settings l.k
-
-abbrev pub decreases-loop-k : goal.decreases-loop-k
-decreases-loop-k l = length l.lines - l.k

@@ -1,5 +1,5 @@
-use Rattle.std.proofs.Common.{◌≡◌, ℕ, suc, ◌+◌, ◌-◌, ◌<◌, List, get_or, set, refl, ap, ◌∙◌, arith}
-use Rattle.unit_tally.specs.Count.{added_of, begun_of, place_of, visit_of, tallied, emptied}
+use Rattle.std.proofs.Common.{◌≡◌, ℕ, suc, ◌+◌, ◌-◌, ◌<◌, List, get_or, set, ap, ◌∙◌, arith}
+use Rattle.unit_tally.specs.Count.{added_of, place_of, visit_of, tallied, emptied}
 use Rattle.unit_tally.specs.declared.Tally.{Tally}
 use Rattle.unit_tally.proofs.count_visits.Goals as goal
 

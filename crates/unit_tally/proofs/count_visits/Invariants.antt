@@ -10,6 +10,3 @@ invariant-loop-i l =
       left : emptied (l.n - l.i) l.i l.work ≡ emptied l.n 0 l.fn.work;
       counted : tallied (l.n - l.i) l.i l.work l.tally ≡ tallied l.n 0 l.fn.work (begun_of l.fn.tally l.played);
     }
-
-abbrev pub decreases-loop-i : goal.decreases-loop-i
-decreases-loop-i l = l.n - l.i

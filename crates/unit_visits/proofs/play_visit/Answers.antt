@@ -10,7 +10,7 @@ returns-in-Done c =
     λ rs a h low free long short small.
     let u = c.visit.ensures rs a (held h c.number_at-i.ensures c.number_at-n.ensures) low free long short in
     played rs c.args.budget (planned_view c.args.p) c.args.k c.args.work.now c.args.lines.now c.args.settings.now _ (done _ _) small c.number_at-i.ensures c.number_at-n.ensures
-    (sym (ap visited_view c.in-Done.is) ∙ u.0) u.1 c.put_mark.ensures refl c.store_number.ensures c.store_number-in-Done.ensures
+    (sym (ap visited_view c.in-Done.is) ∙ u.0) u.1 c.put_mark.ensures refl c.store.ensures c.store-in-Done.ensures
 
 pub returns-in-Skipped : goal.returns-in-Skipped
 returns-in-Skipped c =

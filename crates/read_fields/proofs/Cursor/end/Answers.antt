@@ -1,5 +1,7 @@
-use Rattle.read_fields.proofs.Bytes.{before_end}
+use mathlib.Core.Path.{ap, ◌∙◌}
+use Rattle.read_fields.specs.Views.{as_skipped}
+use Rattle.read_fields.proofs.Bytes.{end_told}
 use Rattle.read_fields.proofs.Cursor.end.Goals as goal
 
 pub returns : goal.returns
-returns c = before_end _ _ c.if-s-at.false
+returns c = ap (as_skipped c.args.s.now) c.then_some.ensures ∙ end_told c.args.s.now c.args.self

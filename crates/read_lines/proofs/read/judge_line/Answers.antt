@@ -1,15 +1,13 @@
 use Rattle.read_lines.proofs.Forms.{form_refused, form_passed, no_form}
 use Rattle.read_lines.proofs.read.judge_line.Goals as goal
 
-pub returns-then-is_refused : goal.returns-then-is_refused
-returns-then-is_refused c =
-    form_refused c.args.t.now c.args.g.now c.args.c c.args.s.now c.args.at c.row_at.result c.row_at.ensures _ _ c.in-Form.is c.judge-f.result c.judge-f.ensures c.is_refused.ensures
-    c.if-is_refused.true
+pub returns-in-Some-judge : goal.returns-in-Some-judge
+returns-in-Some-judge c =
+    form_refused c.args.t.now c.args.g.now c.args.c c.args.s.now c.args.at c.row_at.result c.row_at.ensures _ _ c.in-Some.is c.judge.result c.judge.ensures _ c.in-Some-judge.is
 
-pub returns-else-is_refused : goal.returns-else-is_refused
-returns-else-is_refused c =
-    form_passed c.args.t.now c.args.g.now c.args.c c.args.s.now c.args.at c.row_at.result c.row_at.ensures _ _ c.in-Form.is c.judge-f.result c.judge-f.ensures c.is_refused.ensures
-    c.if-is_refused.false
+pub returns-in-None : goal.returns-in-None
+returns-in-None c =
+    form_passed c.args.t.now c.args.g.now c.args.c c.args.s.now c.args.at c.row_at.result c.row_at.ensures _ _ c.in-Some.is c.judge.result c.judge.ensures c.in-None.is
 
-pub returns-in-Bad : goal.returns-in-Bad
-returns-in-Bad c = no_form c.args.t.now c.args.g.now c.args.c c.args.s.now c.args.at c.row_at.result c.row_at.ensures c.in-Bad.is
+pub returns-in_default : goal.returns-in_default
+returns-in_default c = no_form c.args.t.now c.args.g.now c.args.c c.args.s.now c.args.at c.row_at.result c.row_at.ensures c.in_default.is

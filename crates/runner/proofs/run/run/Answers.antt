@@ -18,4 +18,4 @@ pub returns : goal.returns
 returns c =
     run_accepted c.args.file.now c.args.table.now c.args.work.now c.args.i c.args.back c.args.budget c.args.value.now c.args.res.now _ _ c.run_accepted-r.new.work _ _ c.check_file-c.result _
     _ c.if-res-lt-RESULT_LENGTH.false c.check_file-c.auto.work c.check_file-c.ensures.0 c.check_file-c.ensures.1 c.is_refused.ensures c.if-is_refused.false c.run_accepted-r.auto.work
-    c.run_accepted-r.ensures.work_unchanged c.run_accepted-r.ensures.on_accepted c.clear_bytes.ensures
+    c.run_accepted-r.ensures.work_unchanged c.run_accepted-r.ensures.on_accepted c.clear.ensures

@@ -1,7 +1,8 @@
 use Rattle.runner.proofs.Running.{no_iso_lem, no_value_lem, run_done, run_spent, run_large, run_spares}
 use Rattle.run_coding.specs.Coded.{Coded}
 use Rattle.format.specs.Code.{refusal_view}
-use mathlib.Core.Path.{refl, sym, ap, subst}
+use Rattle.std.specs.Prelude.{Err}
+use mathlib.Core.Path.{refl, sym, ap, ◌∙◌, subst}
 use Rattle.runner.proofs.run.run_checked.Goals as goal
 
 pub returns-then-isos-i : goal.returns-then-isos-i
@@ -21,40 +22,40 @@ returns-then-not-is_value c =
       refl,
     )
 
-pub returns-in-Range : goal.returns-in-Range
-returns-in-Range c =
+pub returns-in-Ok : goal.returns-in-Ok
+returns-in-Ok c =
     λ rs p long most room. let says = c.apply.ensures.apply_says (subst (Coded c.args.t.now c.args.base) (sym c.code_part-code.ensures) p.coded) in (
       run_done c.args.t.now c.args.base c.args.index.now c.args.isos c.args.i c.args.back c.args.budget c.args.value.now c.args.work.now
           c.cell.result c.place-row.result c.place.result c.side.result c.is_value.result c.if-isos-i.false c.cell.ensures.0 c.place-row.ensures.0 c.place.ensures.0 c.side.ensures
           c.is_value.ensures c.if-not-is_value.false c.copy_front.auto.to c.copied.ensures c.copy_front.ensures says rs p long most _ _ c.args.res.now _ _ _ _ _
-          c.in-Range.is c.front.ensures c.tail-letters.ensures c.copy_front-in-Range.ensures refl
-          c.used.ensures refl room,
+          c.in-Ok.is c.front.ensures c.tail-letters.ensures c.copy_front-in-Ok.ensures refl
+          c.saturating_sub.ensures refl room,
       run_spares c.args.t.now c.args.base c.args.index.now c.args.isos c.args.i c.args.back c.args.budget c.args.value.now c.args.work.now
           c.cell.result c.place-row.result c.place.result c.side.result c.is_value.result c.if-isos-i.false c.cell.ensures.0 c.place-row.ensures.0 c.place.ensures.0 c.side.ensures
           c.is_value.ensures c.if-not-is_value.false c.copy_front.auto.to c.copied.ensures c.copy_front.ensures says rs p long most,
     )
 
-pub returns-in-Spent : goal.returns-in-Spent
-returns-in-Spent c =
+pub returns-in-Err-Spent : goal.returns-in-Err-Spent
+returns-in-Err-Spent c =
     λ rs p long most room. let says = c.apply.ensures.apply_says (subst (Coded c.args.t.now c.args.base) (sym c.code_part-code.ensures) p.coded) in (
       run_spent c.args.t.now c.args.base c.args.index.now c.args.isos c.args.i c.args.back c.args.budget c.args.value.now c.args.work.now
           c.cell.result c.place-row.result c.place.result c.side.result c.is_value.result c.if-isos-i.false c.cell.ensures.0 c.place-row.ensures.0 c.place.ensures.0 c.side.ensures
-          c.is_value.ensures c.if-not-is_value.false c.copy_front.auto.to c.copied.ensures c.copy_front.ensures says rs p long most c.args.res.now c.refused-in-Spent.result
-          c.in-Spent.is (ap refusal_view c.refused-in-Spent.ensures.0)
-          c.refused-in-Spent.ensures.1 c.refused-in-Spent.ensures.2,
+          c.is_value.ensures c.if-not-is_value.false c.copy_front.auto.to c.copied.ensures c.copy_front.ensures says rs p long most c.args.res.now c.refused-in-Err-Spent.result
+          (c.in-Err-Spent.is ∙ ap Err c.in-Err-Spent.field-0-is) (ap refusal_view c.refused-in-Err-Spent.ensures.0)
+          c.refused-in-Err-Spent.ensures.1 c.refused-in-Err-Spent.ensures.2,
       run_spares c.args.t.now c.args.base c.args.index.now c.args.isos c.args.i c.args.back c.args.budget c.args.value.now c.args.work.now
           c.cell.result c.place-row.result c.place.result c.side.result c.is_value.result c.if-isos-i.false c.cell.ensures.0 c.place-row.ensures.0 c.place.ensures.0 c.side.ensures
           c.is_value.ensures c.if-not-is_value.false c.copy_front.auto.to c.copied.ensures c.copy_front.ensures says rs p long most,
     )
 
-pub returns-in-Large : goal.returns-in-Large
-returns-in-Large c =
+pub returns-in-Err-Large : goal.returns-in-Err-Large
+returns-in-Err-Large c =
     λ rs p long most room. let says = c.apply.ensures.apply_says (subst (Coded c.args.t.now c.args.base) (sym c.code_part-code.ensures) p.coded) in (
       run_large c.args.t.now c.args.base c.args.index.now c.args.isos c.args.i c.args.back c.args.budget c.args.value.now c.args.work.now
           c.cell.result c.place-row.result c.place.result c.side.result c.is_value.result c.if-isos-i.false c.cell.ensures.0 c.place-row.ensures.0 c.place.ensures.0 c.side.ensures
-          c.is_value.ensures c.if-not-is_value.false c.copy_front.auto.to c.copied.ensures c.copy_front.ensures says rs p long most c.args.res.now c.refused-in-Large.result
-          c.in-Large.is (ap refusal_view c.refused-in-Large.ensures.0)
-          c.refused-in-Large.ensures.1 c.refused-in-Large.ensures.2,
+          c.is_value.ensures c.if-not-is_value.false c.copy_front.auto.to c.copied.ensures c.copy_front.ensures says rs p long most c.args.res.now c.refused-in-Err-Large.result
+          (c.in-Err-Large.is ∙ ap Err c.in-Err-Large.field-0-is) (ap refusal_view c.refused-in-Err-Large.ensures.0)
+          c.refused-in-Err-Large.ensures.1 c.refused-in-Err-Large.ensures.2,
       run_spares c.args.t.now c.args.base c.args.index.now c.args.isos c.args.i c.args.back c.args.budget c.args.value.now c.args.work.now
           c.cell.result c.place-row.result c.place.result c.side.result c.is_value.result c.if-isos-i.false c.cell.ensures.0 c.place-row.ensures.0 c.place.ensures.0 c.side.ensures
           c.is_value.ensures c.if-not-is_value.false c.copy_front.auto.to c.copied.ensures c.copy_front.ensures says rs p long most,

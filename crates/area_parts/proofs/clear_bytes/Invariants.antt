@@ -1,9 +1,0 @@
-use Rattle.std.proofs.Common.{◌-◌, ◌≡◌, min, take, drop, ℕ, ◌+◌, ◌*◌, ◌<◌, ◌≤◌, length}
-use Rattle.area_parts.proofs.Filled.{Zeroed}
-use Rattle.area_parts.proofs.clear_bytes.Given as goal
-
-abbrev pub invariant-loop-i : goal.invariant-loop-i
-invariant-loop-i l = Zeroed l.n l.most l.i l.initial.bytes l.bytes
-
-abbrev pub decreases-loop-i : goal.decreases-loop-i
-decreases-loop-i l = l.most - l.i

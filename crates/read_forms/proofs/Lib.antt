@@ -1,2 +1,0 @@
--- The table of forms.
-pub mod Forms
