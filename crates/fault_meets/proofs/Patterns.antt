@@ -22,20 +22,9 @@ use Rattle.fault_meets.specs.Spelled.{SpellsLeast, SpellsIn}
 
 -- ---- the letter of a kind
 
-pub letter_left : {k : ℕ} → k ≡ 2 → 76 ≡ letter_for k
-letter_left e = sym (ap letter_for e)
-
-pub letter_right : {k : ℕ} → k ≡ 3 → 82 ≡ letter_for k
-letter_right e = sym (ap letter_for e)
-
-pub letter_pair : {k : ℕ} → k ≡ 4 → 80 ≡ letter_for k
-letter_pair e = sym (ap letter_for e)
-
-pub letter_empty : {k : ℕ} → k ≡ 5 → 78 ≡ letter_for k
-letter_empty e = sym (ap letter_for e)
-
-pub letter_element : {k : ℕ} → k ≡ 6 → 75 ≡ letter_for k
-letter_element e = sym (ap letter_for e)
+-- the letter of a kind whose number is known
+pub letter_from : {k : ℕ} (n : ℕ) → k ≡ n → letter_for n ≡ letter_for k
+letter_from n e = sym (ap letter_for e)
 
 pub letter_unit : {k : ℕ} → (k ≡ 2 → ⊥) → (k ≡ 3 → ⊥) → (k ≡ 4 → ⊥) → (k ≡ 5 → ⊥) → (k ≡ 6 → ⊥) → 85 ≡ letter_for k
 letter_unit {k} l r p n e = sym (letter_other k p l r n e)
@@ -53,20 +42,20 @@ module _ (t : List ℕ) (base p : ℕ) {k b : ℕ} (e : k ≡ cell_of t (base + 
       joined elements = inr refl
 
       go : (k ≡ 4) ⊎ (k ≡ 6) → (n : Node) × (pattern_of t base p ≡ pnode n (pattern_of t base q) (pattern_of t base r)) × (b ≡ node_letter n)
-      go (inl z) = (pair_node, is_pair t base p e z g h, f ∙ sym (letter_pair z))
-      go (inr z) = (element_node, is_element t base p e z g h, f ∙ sym (letter_element z))
+      go (inl z) = (pair_node, is_pair t base p e z g h, f ∙ sym (letter_from 4 z))
+      go (inr z) = (element_node, is_element t base p e z g h, f ∙ sym (letter_from 6 z))
 
   pub left_line : {q : ℕ} → k ≡ 2 → q ≡ smaller_of (cell_of t (base + p) 2) p → (pattern_of t base p ≡ pinj left (pattern_of t base q)) × (b ≡ letter_of left)
-  left_line z g = (is_left t base p e z g, f ∙ sym (letter_left z))
+  left_line z g = (is_left t base p e z g, f ∙ sym (letter_from 2 z))
 
   pub right_line : {q : ℕ} → k ≡ 3 → q ≡ smaller_of (cell_of t (base + p) 2) p → (pattern_of t base p ≡ pinj right (pattern_of t base q)) × (b ≡ letter_of right)
-  right_line z g = (is_right t base p e z g, f ∙ sym (letter_right z))
+  right_line z g = (is_right t base p e z g, f ∙ sym (letter_from 3 z))
 
   pub leaf_line : (k ≡ 1 → ⊥) → (k ≡ 4 → ⊥) → (k ≡ 6 → ⊥) → (k ≡ 2 → ⊥) → (k ≡ 3 → ⊥) → (n : Leaf) × (pattern_of t base p ≡ pleaf n) × (b ≡ leaf_letter n)
   leaf_line v c m l r = go (eq_or_ne k 5)
     where
       go : (k ≡ 5) ⊎ (k ≡ 5 → ⊥) → (n : Leaf) × (pattern_of t base p ≡ pleaf n) × (b ≡ leaf_letter n)
-      go (inl z) = (empty_leaf, is_empty t base p e z, f ∙ sym (letter_empty z))
+      go (inl z) = (empty_leaf, is_empty t base p e z, f ∙ sym (letter_from 5 z))
       go (inr n) = (unit_leaf, is_unit t base p e v l r c n m, f ∙ sym (letter_unit l r c n m))
 
 -- ---- its least value

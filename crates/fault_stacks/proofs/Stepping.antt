@@ -15,7 +15,7 @@ use Rattle.calculus.specs.Trees.{unit_leaf, empty_leaf, left, right, pair_node, 
 use Rattle.format.specs.Judge.{pattern_node}
 use Rattle.law_witnesses.specs.Showing.{Move, leaf, tag, node}
 use Rattle.law_witnesses.specs.Seeking.{after}
-use Rattle.calculus.proofs.Basic.{le_or_lt, not_eqb, drop_set_same}
+use Rattle.calculus.proofs.Basic.{le_or_lt, drop_set_same}
 use Rattle.table_trees.specs.Unfolding.{cell_of, smaller_of, type_of, pattern_of}
 use Rattle.table_trees.proofs.Cases as K
 use Rattle.table_trees.proofs.Unfolding.{pattern_node_lem}
@@ -32,30 +32,6 @@ pushed s top a b h p =
     ∙ ap (λ l. a ∷ l) (drop_set_same s top b h)
 
 -- ---- the letter
-
-pub kind_U : {c : ℕ} → c ≡ 85 → 0 ≡ kind_on c
-kind_U e = sym (ap kind_on e)
-
-pub kind_N : {c : ℕ} → c ≡ 78 → 5 ≡ kind_on c
-kind_N e = sym (ap kind_on e)
-
-pub kind_L : {c : ℕ} → c ≡ 76 → 2 ≡ kind_on c
-kind_L e = sym (ap kind_on e)
-
-pub kind_R : {c : ℕ} → c ≡ 82 → 3 ≡ kind_on c
-kind_R e = sym (ap kind_on e)
-
-pub kind_K : {c : ℕ} → c ≡ 75 → 6 ≡ kind_on c
-kind_K e = sym (ap kind_on e)
-
-pub kind_P : {c : ℕ} → (c ≡ 85 → ⊥) → (c ≡ 78 → ⊥) → (c ≡ 76 → ⊥) → (c ≡ 82 → ⊥) → (c ≡ 75 → ⊥) → 4 ≡ kind_on c
-kind_P {c} u n l r k =
-    sym
-    (ap (λ b. cond b 0 (cond (eqb c 78) 5 (cond (eqb c 76) 2 (cond (eqb c 82) 3 (cond (eqb c 75) 6 4))))) (not_eqb u)
-    ∙ ap (λ b. cond b 5 (cond (eqb c 76) 2 (cond (eqb c 82) 3 (cond (eqb c 75) 6 4)))) (not_eqb n)
-    ∙ ap (λ b. cond b 2 (cond (eqb c 82) 3 (cond (eqb c 75) 6 4))) (not_eqb l)
-    ∙ ap (λ b. cond b 3 (cond (eqb c 75) 6 4)) (not_eqb r)
-    ∙ ap (λ b. cond b 6 4) (not_eqb k))
 
 -- a kind of P lines, and what its letter does
 pub data Begins : ℕ → Move → Type 0 where

@@ -58,22 +58,14 @@ pub fn count_row(
 fn kind_on(c: u8) -> usize
     ensures { result ≡ kind_on c }
 {
-    if c == LETTER_UNIT {
-        return UNIT;
+    match c {
+        LETTER_UNIT => UNIT,
+        LETTER_EMPTY => EMPTY,
+        LETTER_LEFT => LEFT,
+        LETTER_RIGHT => RIGHT,
+        LETTER_ELEMENT => ELEMENT,
+        _ => PAIR,
     }
-    if c == LETTER_EMPTY {
-        return EMPTY;
-    }
-    if c == LETTER_LEFT {
-        return LEFT;
-    }
-    if c == LETTER_RIGHT {
-        return RIGHT;
-    }
-    if c == LETTER_ELEMENT {
-        return ELEMENT;
-    }
-    PAIR
 }
 
 // The T lines after one letter more; the place of the next one.

@@ -1,11 +1,11 @@
 -- The numbers behind an index's, as a part of its area.
 use Prim.Native.Nat.{ℕ, ◌-◌, ◌≤◌, ◌<◌}
 use native.Mathlib.Omega.{arith}
-use mathlib.Core.Path.{◌≡◌, refl, sym, ap, ◌∙◌, subst}
+use mathlib.Core.Path.{◌≡◌, sym, ap, ◌∙◌, subst}
 use mathlib.Core.List.{List, [], ◌++◌, append-nil}
 use lib.ListN.{length, take, drop, drop_of_length-le, length-drop}
 use lib.Seq.{take_all, drop_at, length-take-le}
-use borrow.Rule.Slice.PartMut.{mid_of, post_of, put_mid, same_len_mid}
+use borrow.Rule.Slice.PartMut.{mid_of, post_of, put_mid}
 use Rattle.run_index.specs.Index.{index_length}
 use Rattle.run_coding.specs.Coded.{Coded}
 

@@ -1,23 +1,23 @@
 -- A run on a checked table, case by case, against the model's run of the file's rows.
-use Prim.Native.Nat.{ℕ, suc, ◌+◌, ◌-◌, ◌*◌, ◌≤◌, ◌<◌}
+use Prim.Native.Nat.{ℕ, ◌+◌, ◌-◌, ◌*◌, ◌≤◌, ◌<◌}
 use native.Mathlib.Nat.{zero-add}
 use native.Mathlib.Omega.{arith}
-use mathlib.Core.Path.{◌≡◌, refl, sym, ap, ap₂, ◌∙◌, subst}
+use mathlib.Core.Path.{◌≡◌, refl, sym, ap, ap₂, ◌∙◌}
 use mathlib.Core.Bool.{Bool, true, false, cond}
 use mathlib.Core.Option.{Option, none, some}
 use mathlib.Core.Logic.{◌⊎◌, inl, inr}
 use mathlib.Core.List.{List, ◌++◌}
-use lib.ListN.{length, get_elem?, take, drop, length-map}
+use lib.ListN.{length, get_elem?, take, drop}
 use lib.Dec.{ltb}
 use lib.Seq.{paste, drop_at, take-length, length-take-le}
 use Rattle.limits.specs.Limits.{max_isos, max_depth, max_letters, run_room, work_length, result_length, frame}
-use Rattle.calculus.specs.Trees.{Val, Iso, invert}
+use Rattle.calculus.specs.Trees.{Val, Iso}
 use Rattle.calculus.specs.Refusals.{Refusal, no_iso, no_value, spent, too_large}
 use Rattle.format.specs.Lines.{Row}
 use Rattle.format.specs.Judge.{start}
 use Rattle.format.specs.Unfold.{isos_of}
 use Rattle.calculus.specs.Letters.{letters}
-use Rattle.model.specs.Services.{Ran, gives, fails, ended, within, argument, from, on_iso, run_rows, toward, RunAnswer, answer_of_run, written}
+use Rattle.model.specs.Services.{gives, fails, ended, within, argument, from, on_iso, run_rows, toward, RunAnswer, answer_of_run, written}
 use Rattle.format.specs.Code.{refusal_view, numbered}
 use Rattle.calculus.proofs.Basic.{le_leb, not_leb, le_or_lt}
 use Rattle.format.proofs.Passing.{Passes}
@@ -268,22 +268,25 @@ module _ (t : List ℕ) (base : ℕ) (index : List ℕ) (isos i : ℕ) (back : B
   area : Applied work₁ work₂ 0 max_depth budget model.x model.m z
   area = applied work model long most wide en copy says
 
-  pub run_done : (mid part o o' : List ℕ) (c x left : ℕ) (r : R.Ran) → z ≡ given_at c x left → mid ≡ take x work₂ → part ≡ drop c mid
-      → (length part ≤ length part → length part ≤ length o → o' ≡ paste o 0 part (length part)) → refusal_view r.refusal ≡ none → r.count ≡ budget - left → r.length ≡ length part
-      → result_length ≤ length o → RanAs (answer_for rs i back budget value) o o' r
-  run_done mid part o o' c x left r told em ep copy' e k l room = ran_done work₂ part o o' c x left r model area.answers told room (ep ∙ ap (drop c) em) copy' e k l
-
-  pub run_spent : (o : List ℕ) (r : R.Ran) → z ≡ Err halt.Spent → refusal_view r.refusal ≡ some spent → r.count ≡ 0 → r.length ≡ 0 → RanAs (answer_for rs i back budget value) o o r
-  run_spent o r told e k l = ran_spent work₂ o r model area.answers told e k l
-
-  pub run_large : (o : List ℕ) (r : R.Ran) → z ≡ Err halt.Large → refusal_view r.refusal ≡ some too_large → r.count ≡ 0 → r.length ≡ 0 → RanAs (answer_for rs i back budget value) o o r
-  run_large o r told e k l = ran_large work₂ o r model area.answers told e k l
-
   -- behind the frames of all calls the work area is as it was
-  pub run_spares : drop run_room work₂ ≡ drop run_room work
+  abbrev pub Spared : Type 0
+  Spared = drop run_room work₂ ≡ drop run_room work
+
+  run_spares : Spared
   run_spares =
       let few = copied_few (length value) en in
       let few₀ = few.0 in
       let few₁ = few.1 in
       let first = front_spares work value few₀ (copy few₀ (omega (arith, few₁, long))) in
       (spares_more 0 (0 + max_depth * frame) 0 run_room area.spares (omega arith) (omega arith)).behind ∙ (spares_more 0 n 0 run_room first (omega arith) (omega (arith, few₁))).behind
+
+  pub run_done : (mid part o o' : List ℕ) (c x left : ℕ) (r : R.Ran) → z ≡ given_at c x left → mid ≡ take x work₂ → part ≡ drop c mid
+      → (length part ≤ length part → length part ≤ length o → o' ≡ paste o 0 part (length part)) → refusal_view r.refusal ≡ none → r.count ≡ budget - left → r.length ≡ length part
+      → result_length ≤ length o → RanAs (answer_for rs i back budget value) o o' r × Spared
+  run_done mid part o o' c x left r told em ep copy' e k l room = (ran_done work₂ part o o' c x left r model area.answers told room (ep ∙ ap (drop c) em) copy' e k l, run_spares)
+
+  pub run_spent : (o : List ℕ) (r : R.Ran) → z ≡ Err halt.Spent → refusal_view r.refusal ≡ some spent → r.count ≡ 0 → r.length ≡ 0 → RanAs (answer_for rs i back budget value) o o r × Spared
+  run_spent o r told e k l = (ran_spent work₂ o r model area.answers told e k l, run_spares)
+
+  pub run_large : (o : List ℕ) (r : R.Ran) → z ≡ Err halt.Large → refusal_view r.refusal ≡ some too_large → r.count ≡ 0 → r.length ≡ 0 → RanAs (answer_for rs i back budget value) o o r × Spared
+  run_large o r told e k l = (ran_large work₂ o r model area.answers told e k l, run_spares)

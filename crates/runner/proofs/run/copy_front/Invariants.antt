@@ -1,5 +1,4 @@
 use Rattle.runner.proofs.Copying.{Copied}
-use Prim.Native.Nat.{◌-◌}
 use Rattle.runner.proofs.run.copy_front.Given as goal
 
 abbrev pub invariant-loop-i : goal.invariant-loop-i
