@@ -29,7 +29,7 @@ fn minus(m: u64, x: u64, y: u64) -> u64
 }
 
 // Counts less others.
-fn take_away(m: u64, k: &mut [u64; LENGTHS], o: &[u64; LENGTHS])
+pub fn take_away(m: u64, k: &mut [u64; LENGTHS], o: &[u64; LENGTHS])
     ensures { Takes m k.old o.now k.new }
 {
     for (i, x) in k.iter_mut().enumerate() {
@@ -38,7 +38,15 @@ fn take_away(m: u64, k: &mut [u64; LENGTHS], o: &[u64; LENGTHS])
 }
 
 // Counts less those that P line p matches, after some letters of a value of T line i.
-fn take_row(m: u64, t: &[u16], base: usize, p: usize, i: usize, w: &[u8], k: &mut [u64; LENGTHS])
+pub fn take_row(
+    m: u64,
+    t: &[u16],
+    base: usize,
+    p: usize,
+    i: usize,
+    w: &[u8],
+    k: &mut [u64; LENGTHS],
+)
     requires { length w.now ≤ max_nodes }
     ensures { RowTaken m t.now base p i w.now k.old k.new }
 {
@@ -53,7 +61,7 @@ fn take_row(m: u64, t: &[u16], base: usize, p: usize, i: usize, w: &[u8], k: &mu
 }
 
 // The ways to go on after some letters of a value of T line i that no pattern in field f of the rows matches.
-fn count_gaps(
+pub fn count_gaps(
     m: u64,
     t: &[u16],
     base: usize,
@@ -173,7 +181,7 @@ pub fn write_gap(t: &[u16], base: usize, f: usize, rows: &[u16], i: usize, n: us
 }
 
 // The place of the first count that is not 0; 128 where all are, so that the lesser of two places is that of both.
-fn first_count(k: &[u64; LENGTHS]) -> usize
+pub fn first_count(k: &[u64; LENGTHS]) -> usize
     ensures { FirstCount k.now result }
 {
     for (n, x) in k.iter().enumerate() {

@@ -17,7 +17,7 @@ use table_parts::pattern_part;
 use table_trees::pattern_cell;
 
 // Nothing is to come.
-fn no_more(k: &mut [u64; LENGTHS])
+pub fn no_more(k: &mut [u64; LENGTHS])
     ensures { NothingHeld k.new }
 {
     *k = [0; LENGTHS];
@@ -104,7 +104,7 @@ fn kind_of(t: &[u16], base: usize, p: usize) -> usize
 }
 
 // The P lines after one letter more, if the row begins with it; the next one then stands where the next T line does.
-fn step_row(t: &[u16], base: usize, ps: &mut [usize; LENGTHS], top: usize, c: u8) -> bool
+pub fn step_row(t: &[u16], base: usize, ps: &mut [usize; LENGTHS], top: usize, c: u8) -> bool
     requires { (0 < top) × (top < lengths) }
     ensures { RowStepped t.now base c ps.old ps.new top result }
 {

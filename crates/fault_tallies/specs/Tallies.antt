@@ -29,6 +29,9 @@ pub record Shifts (k l : List ℕ) : Type 0 where
 pub record Adds (m : ℕ) (k o l : List ℕ) : Type 0 where
   pub at : (j : ℕ) → j < lengths → get_or l j 0 ≡ plus_of m (get_or k j 0) (get_or o j 0)
 
+pub record Copies (k o : List ℕ) : Type 0 where
+  pub same : (j : ℕ) → j < lengths → get_or o j 0 ≡ get_or k j 0
+
 -- two lines, one way or the other
 pub record Halved (l r few many : ℕ) : Type 0 where
   pub turned : Bool

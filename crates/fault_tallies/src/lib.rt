@@ -6,7 +6,7 @@ ghost use Rattle.limits.specs.Fields.{first_field, second_field};
 ghost use Rattle.limits.specs.Limits.{max_nodes};
 ghost use Rattle.calculus.specs.Trees.{left, right};
 ghost use Rattle.table_trees.specs.Unfolding.{cell_of, smaller_of, type_of, pattern_of};
-ghost use Rattle.fault_tallies.specs.Tallies.{plus_of, Shifts, Adds, Halved, part_of, HasTwo, Lays, Steps, Flows, CountsType, AddsType, CountsIn};
+ghost use Rattle.fault_tallies.specs.Tallies.{plus_of, Shifts, Adds, Copies, Halved, part_of, HasTwo, Lays, Steps, Flows, CountsType, AddsType, CountsIn};
 
 use area_cells::item_at;
 use codes::{ELEMENT, FIRST, KIND, LEFT, LIST, PAIR, PRODUCT, RIGHT, SECOND, SIZE, SUM, VARIABLE};
@@ -31,7 +31,7 @@ pub fn plus(m: u64, x: u64, y: u64) -> u64
 }
 
 // One letter more before all.
-fn shift(k: &mut [u64; LENGTHS])
+pub fn shift(k: &mut [u64; LENGTHS])
     ensures { Shifts k.old k.new }
 {
     k.copy_within(..MAX_NODES, 1);
@@ -39,12 +39,19 @@ fn shift(k: &mut [u64; LENGTHS])
 }
 
 // Counts with others added.
-fn add(m: u64, k: &mut [u64; LENGTHS], o: &[u64; LENGTHS])
+pub fn add(m: u64, k: &mut [u64; LENGTHS], o: &[u64; LENGTHS])
     ensures { Adds m k.old o.now k.new }
 {
     for (i, x) in k.iter_mut().enumerate() {
         *x = plus(m, *x, o[i]);
     }
+}
+
+// The same counts once more.
+pub fn copy(k: &[u64; LENGTHS], o: &mut [u64; LENGTHS])
+    ensures { Copies k.now o.new }
+{
+    *o = *k;
 }
 
 // The two parts of a T line: the one with fewer nodes, by the table's sizes, and the other.
