@@ -13,7 +13,7 @@ ghost use Rattle.run_coding.specs.Coded.{entry_of, listed, Coded, NumberPut, Fla
 
 use area_cells::{item_at, store};
 use area_words::{narrow, wide, word_of};
-use codes::{ELEMENT, FIRST, KIND, LEFT, PAIR, RIGHT, SECOND, VARIABLE};
+use codes::{ELEMENT, FIRST, KIND, LEFT, PAIR, RIGHT, SECOND, SIZE, VARIABLE};
 use limits::{INDEX_LENGTH, MAX_PATTERNS, VARIABLES, WORD_BOUND};
 use run_flat::{STOP, build_flat, match_flat};
 use run_patterns::{build_at, build_var, letter, match_at, put_range};
@@ -73,10 +73,14 @@ fn flatten(t: &[u16], base: usize, j: usize, code: &mut [u16], at: usize) -> Opt
     }
 }
 
-// The same with the number behind a pattern's last one.
+// The same with the number behind a pattern's last one. A row has the number of its line's nodes: one for
+// which there is no room is not walked.
 fn flatten_stopped(t: &[u16], base: usize, j: usize, code: &mut [u16], at: usize) -> Option<usize>
     ensures { Stopped (pattern_of t.now base j) code.old code.new at result }
 {
+    if code.len().saturating_sub(at) <= pattern_cell(t, base, j, SIZE) {
+        return None;
+    }
     let end = flatten(t, base, j, code, at)?;
     put_number(code, end, STOP)
 }
