@@ -1,5 +1,5 @@
 -- A P line's numbers, written in prefix order: each node's, then those of its parts.
-use Prim.Native.Nat.{ℕ, ◌+◌, ◌%◌, ◌<◌}
+use Prim.Native.Nat.{ℕ, ◌+◌, ◌%◌, ◌≤◌, ◌<◌}
 use native.Mathlib.Omega.{arith}
 use mathlib.Core.Path.{◌≡◌, refl, sym, ap, ap₂, ◌∙◌, subst}
 use mathlib.Core.List.{List, [], ◌∷◌, ◌++◌}
@@ -9,7 +9,7 @@ use Rattle.std.specs.Prelude.{Option as Maybe, Some, None}
 use Rattle.calculus.specs.Trees.{Pat, pleaf, pvar, pinj, pnode}
 use Rattle.area_cells.proofs.Writing.{sets_append}
 use Rattle.table_trees.specs.Unfolding.{cell_of, smaller_of, pattern_of}
-use Rattle.table_trees.proofs.Unfolding.{pattern_var}
+use Rattle.table_trees.proofs.Unfolding.{pattern_var, pattern_call, rank}
 use Rattle.table_trees.proofs.Cases as cases
 use Rattle.table_trees.proofs.Cases.{Injects, Joins}
 use Rattle.run_values.specs.Texts.{letter_for}
@@ -53,6 +53,16 @@ flat_var n {v} at code code' (Some r) h e w =
 pub flat_stopped : (p : Pat) {code c₁ : List ℕ} (c₂ : List ℕ) {at m : ℕ} (r : Maybe ℕ) → Flattened p code c₁ at (Some m) → NumberPut c₁ c₂ m 128 r → Stopped p code c₂ at r
 flat_stopped p c₂ None f w = front_kept c₂ f.0 w
 flat_stopped p c₂ (Some r) f w = (stored_both f.0 w, f.1)
+
+-- ---- a P line's last part, written by the same loop
+
+-- what line i's numbers from place m on are for line j's
+abbrev pub Leads : (t : List ℕ) (base j : ℕ) (code : List ℕ) (at i : ℕ) (c₁ : List ℕ) (m : ℕ) → Type 0
+Leads t base j code at i c₁ m = (c₂ : List ℕ) (r : Maybe ℕ) → Flattened (pattern_of t base i) c₁ c₂ m r → Flattened (pattern_of t base j) code c₂ at r
+
+-- and what it names ranks no higher
+pub part_ranks : (t : List ℕ) (base i u m : ℕ) {k a : ℕ} → k ≡ cell_of t (base + i) 1 → (k ≡ 0 → ⊥) → a ≡ smaller_of u i → rank i ≤ m → rank a ≤ m
+part_ranks t base i u m e n s h = let l = pattern_call t base i u refl e n s in omega (arith, l, h)
 
 -- ---- P lines: k is the kind, b its letter, a and c the lines that line j names
 

@@ -54,22 +54,27 @@ fn put_variable(code: &mut [u16], at: usize, n: usize) -> Option<usize>
     put_number(code, at, narrow(n))
 }
 
-// Writes P line j in prefix order, where there is room; gives where it ends.
+// Writes P line j in prefix order, where there is room; gives where it ends. A line's last part is written by the same
+// loop: a call for it would be one more for each node.
 fn flatten(t: &[u16], base: usize, j: usize, code: &mut [u16], at: usize) -> Option<usize>
     ensures { Flattened (pattern_of t.now base j) code.old code.new at result }
 {
-    let kind = pattern_cell(t, base, j, KIND);
-    if kind == VARIABLE {
-        return put_variable(code, at, pattern_cell(t, base, j, FIRST));
-    }
-    let next = put_number(code, at, word_of(letter(kind)))?;
-    match kind {
-        PAIR | ELEMENT => {
-            let middle = flatten(t, base, pattern_part(t, base, j, FIRST), code, next)?;
-            flatten(t, base, pattern_part(t, base, j, SECOND), code, middle)
+    let mut line = j;
+    let mut end = at;
+    loop {
+        let kind = pattern_cell(t, base, line, KIND);
+        if kind == VARIABLE {
+            return put_variable(code, end, pattern_cell(t, base, line, FIRST));
         }
-        LEFT | RIGHT => flatten(t, base, pattern_part(t, base, j, FIRST), code, next),
-        _ => Some(next),
+        end = put_number(code, end, word_of(letter(kind)))?;
+        line = match kind {
+            PAIR | ELEMENT => {
+                end = flatten(t, base, pattern_part(t, base, line, FIRST), code, end)?;
+                pattern_part(t, base, line, SECOND)
+            }
+            LEFT | RIGHT => pattern_part(t, base, line, FIRST),
+            _ => return Some(end),
+        };
     }
 }
 
